@@ -1,0 +1,78 @@
+-- The laws of `store`: those that compose have no side condition. Assumes nothing.
+use mathlib.Core.Path.{_≡_, refl, sym, ap, _∙_}
+use mathlib.Core.List.{List, [], _∷_, _++_}
+use Prim.Native.Nat.{ℕ, zero, suc, _+_, _*_, _/_, _%_, _^_, _≤_, _<_}
+use native.Mathlib.Omega.{arith}
+use native.Mathlib.Numerals.{add-one}
+use borrow.Author.Needs.{needs}
+use lib.ListN.{length, take, drop, set, getD, length-set}
+use lib.Seq.{sets, sets-eq, length-sets, getD-set-same, getD-set-other}
+use Rattle.octets.specs.Numbers.{leAt, le}
+use Rattle.octets.specs.Stores.{store}
+use Rattle.octets.proofs.Numbering.{length-le, le-32, le-64}
+
+pub store-none : (s : List ℕ) (at : ℕ) → store s at [] ≡ s
+unfolding store
+store-none s at = refl
+
+pub length-store : (s : List ℕ) (at : ℕ) (vs : List ℕ) → length (store s at vs) ≡ length s
+unfolding store
+length-store s at vs = length-sets s at vs
+
+sets-append : (vs ws s : List ℕ) (at n : ℕ) → n ≡ at + length vs → sets (sets s at vs) n ws ≡ sets s at (vs ++ ws)
+sets-append [] ws s at n e = let z : n ≡ at = omega arith in rw z
+sets-append (v ∷ vs) ws s at n e = sets-append vs ws (set s at v) (suc at) n (omega arith)
+
+-- a run of stores is one store
+pub store-append : (s : List ℕ) (at n : ℕ) (vs ws : List ℕ) → n ≡ at + length vs → store (store s at vs) n ws ≡ store s at (vs ++ ws)
+unfolding store
+store-append s at n vs ws e = sets-append vs ws s at n e
+
+-- what a store comes to, where it fits
+pub store-is : (s : List ℕ) (at : ℕ) (vs : List ℕ) → at + length vs ≤ length s → store s at vs ≡ take at s ++ vs ++ drop (at + length vs) s
+unfolding store
+store-is s at vs h = sets-eq vs s at h
+
+-- ---- the stores of the code
+pub store-16 : (s : List ℕ) (at v : ℕ) → set (set s at (v % 256)) (at + 1) (v / 256 % 256) ≡ store s at (le 2 v)
+unfolding store le
+store-16 s at v = rw add-one
+
+pub store-32 : (s m r : List ℕ) (at v : ℕ) → m ≡ store s at (le 2 (v % 65536)) → r ≡ store m (at + 2) (le 2 (v / 65536)) → r ≡ store s at (le 4 v)
+store-32 s m r at v p q = cc (store-append s at (at + 2) (le 2 (v % 65536)) (le 2 (v / 65536)) (omega (arith, length-le 2 (v % 65536))), le-32 v)
+
+pub store-64 : (s m r : List ℕ) (at v : ℕ) → m ≡ store s at (le 4 (v % 4294967296)) → r ≡ store m (at + 4) (le 4 (v / 4294967296)) → r ≡ store s at (le 8 v)
+store-64 s m r at v p q = cc (store-append s at (at + 4) (le 4 (v % 4294967296)) (le 4 (v / 4294967296)) (omega (arith, length-le 4 (v % 4294967296))), le-64 v)
+
+pub ruleset storing = (needs, store-16, store-32, store-64)
+
+-- ---- what is read after a store
+sets-before : (vs s : List ℕ) (at i : ℕ) → i < at → getD (sets s at vs) i 0 ≡ getD s i 0
+sets-before [] s at i h = refl
+sets-before (v ∷ vs) s at i h =
+    sets-before vs (set s at v) (suc at) i (omega arith) ∙ getD-set-other s at i v 0 (λ e. absurd (omega (arith, e)))
+
+pub getD-store-before : (s : List ℕ) (at : ℕ) (vs : List ℕ) (i : ℕ) → i < at → getD (store s at vs) i 0 ≡ getD s i 0
+unfolding store
+getD-store-before s at vs i h = sets-before vs s at i h
+
+sets-in : (vs s : List ℕ) (at j i : ℕ) → at + length vs ≤ length s → j < length vs → i ≡ at + j → getD (sets s at vs) i 0 ≡ getD vs j 0
+sets-in [] s at j i h k e = absurd (omega arith)
+sets-in (v ∷ vs) s at zero i h k e =
+    let z : i ≡ at = omega arith in
+    rw z (sets-before vs (set s at v) (suc at) at (omega arith) ∙ getD-set-same s at v 0 (omega arith))
+sets-in (v ∷ vs) s at (suc j) i h k e =
+    sets-in vs (set s at v) (suc at) j i (simp length-set (omega arith)) (omega arith) (omega arith)
+
+pub getD-store-in : (s : List ℕ) (at : ℕ) (vs : List ℕ) (j i : ℕ) → at + length vs ≤ length s → j < length vs → i ≡ at + j → getD (store s at vs) i 0 ≡ getD vs j 0
+unfolding store
+getD-store-in s at vs j i h k e = sets-in vs s at j i h k e
+
+sets-after : (vs s : List ℕ) (at i : ℕ) → at + length vs ≤ i → getD (sets s at vs) i 0 ≡ getD s i 0
+sets-after [] s at i h = refl
+sets-after (v ∷ vs) s at i h =
+    sets-after vs (set s at v) (suc at) i (omega arith) ∙ getD-set-other s at i v 0 (λ e. absurd (omega (arith, e)))
+
+pub getD-store-after : (s : List ℕ) (at : ℕ) (vs : List ℕ) (i : ℕ) → at + length vs ≤ i → getD (store s at vs) i 0 ≡ getD s i 0
+unfolding store
+getD-store-after s at vs i h = sets-after vs s at i h

@@ -1,0 +1,39 @@
+use Rattle.octets.proofs.Laying.{laying}
+use borrow.Author.Needs.{needs}
+use Rattle.octets.proofs.sink.put8.Statement.{statement}
+use Rattle.octets.proofs.sink.put8.Tie as tie
+use Rattle.octets.proofs.sink.put8.Reads as reads
+use Rattle.octets.proofs.sink.put8.Lts as lts
+
+-- src/sink.rt:15:9
+returns : tie.Need-returns
+returns c = search laying
+
+-- src/sink.rt:18:9
+slice-write-out : tie.Need-slice-write-out
+slice-write-out c = search needs
+
+-- src/sink.rt:19:16
+add-result : tie.Need-add-result
+add-result c = search needs
+
+-- src/sink.rt:19:9
+same-length : tie.Need-same-length
+same-length c = search needs
+
+-- src/sink.rt:19:9
+returns-2 : tie.Need-returns-2
+returns-2 c = search laying
+
+-- src/sink.rt:21:5
+add-result-2 : tie.Need-add-result-2
+add-result-2 c = search needs
+
+-- src/sink.rt:10:1
+returns-3 : tie.Need-returns-3
+returns-3 c = search laying
+
+pub put8-spec : {M : Type 1} → statement M
+put8-spec =
+    tie.close
+    (tie.spec returns slice-write-out add-result same-length returns-2 add-result-2 returns-3)

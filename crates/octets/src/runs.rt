@@ -1,0 +1,35 @@
+// Runs of bytes in slices: compared, and set to zero.
+ghost use mathlib.Core.Path.{_≡_};
+ghost use Prim.Native.Nat.{_+_, _≤_};
+ghost use lib.ListN.{length, replicate};
+ghost use Rattle.octets.specs.Runs.{part, sameAs};
+
+// Whether the n bytes of s from a on are the n bytes of t from b on.
+pub fn same(s: &[u8], a: usize, t: &[u8], b: usize, n: usize) -> bool
+    requires { ⌜ (a + n ≤ length (now s)) × (b + n ≤ length (now t)) ⌝ }
+    ensures { λ r. ⌜ r ≡ sameAs (part a (a + n) (now (s .entry))) (part b (b + n) (now (t .entry))) ⌝ }
+{
+    let mut i = a;
+    let mut j = b;
+    let mut k = n;
+    while 0 < k {
+        if s[i] != t[j] {
+            return false;
+        }
+        i += 1;
+        j += 1;
+        k -= 1;
+    }
+    true
+}
+
+// Sets every byte to 0.
+pub fn clear(w: &mut [u8])
+    ensures { λ _. ⌜ now (w .exit) ≡ replicate (length (now (w .entry))) 0 ⌝ }
+{
+    let mut i = 0;
+    while i < w.len() {
+        w[i] = 0;
+        i += 1;
+    }
+}
