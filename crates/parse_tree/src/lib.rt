@@ -1,0 +1,2 @@
+// One command of a tape, to and from an enum; which command may stand where; and the text of an atom.
+pub mod syntax;
