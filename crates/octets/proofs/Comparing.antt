@@ -8,6 +8,7 @@ use borrow.Author.Needs.{needs}
 use borrow.Author.Tests.{eq-eqb, ne-eqb}
 use lib.Dec.{eqb}
 use lib.ListN.{length, getD}
+use lib.Seq.{take-all}
 use Rattle.octets.specs.Runs.{part, sameAs}
 use Rattle.octets.proofs.Parts.{part-none, part-one}
 
@@ -45,3 +46,27 @@ module _ (s t : List ℕ) (x : Bool) (i j k : ℕ) (c : Comparing s t x i j k) w
   same-done h = cc (part-none i (i + k) s (omega arith), part-none j (j + k) t (omega arith), c .rest)
 
 pub ruleset comparing = (needs, same-start, same-next, same-not, same-done)
+
+-- ---- `equal`
+sameAs-long : (x y : List ℕ) → (length x ≡ length y → ⊥) → sameAs x y ≡ false
+unfolding sameAs
+sameAs-long [] [] h = absurd (h refl)
+sameAs-long [] (b ∷ y) h = refl
+sameAs-long (a ∷ x) [] h = refl
+sameAs-long (a ∷ x) (b ∷ y) h = go (eqb a b) (sameAs-long x y (λ e. h (ap suc e)))
+  where
+    go : (t : Bool) → sameAs x y ≡ false → elim t [ true ↦ sameAs x y | false ↦ false ] ≡ false
+    go true i = i
+    go false i = refl
+
+part-whole : (x : List ℕ) (n m : ℕ) → n ≡ length x → m ≡ n → part 0 m x ≡ x
+unfolding part
+part-whole x n m p q = take-all (m - 0) x (omega arith)
+
+pub equal-not : (x y : List ℕ) → (length x ≡ length y → ⊥) → false ≡ sameAs x y
+equal-not x y h = sym (sameAs-long x y h)
+
+pub equal-done : (x y : List ℕ) (r : Bool) → length x ≡ length y → r ≡ sameAs (part 0 (0 + length x) x) (part 0 (0 + length x) y) → r ≡ sameAs x y
+equal-done x y r e p = cc (part-whole x (length x) (0 + length x) refl (omega arith), part-whole y (length x) (0 + length x) e (omega arith))
+
+pub ruleset equating = (needs, equal-not, equal-done)

@@ -1,15 +1,18 @@
 -- The laws of `store`: those that compose have no side condition. Assumes nothing.
 use mathlib.Core.Path.{_≡_, refl, sym, ap, _∙_}
-use mathlib.Core.List.{List, [], _∷_, _++_}
+use mathlib.Core.Logic.{_⊎_, inl, inr}
+use mathlib.Core.List.{List, [], _∷_, _++_, append-assoc}
 use Prim.Native.Nat.{ℕ, zero, suc, _+_, _*_, _/_, _%_, _^_, _≤_, _<_}
 use native.Mathlib.Omega.{arith}
 use native.Mathlib.Numerals.{add-one}
 use borrow.Author.Needs.{needs}
 use lib.ListN.{length, take, drop, set, getD, length-set}
-use lib.Seq.{sets, sets-eq, length-sets, getD-set-same, getD-set-other}
+use lib.Seq.{sets, sets-eq, length-sets, getD-set-same, getD-set-other, length-take-le, drop-at, drop-drop, drop-append-seam}
 use Rattle.octets.specs.Numbers.{leAt, le}
 use Rattle.octets.specs.Stores.{store}
+use Rattle.octets.specs.Runs.{Lies}
 use Rattle.octets.proofs.Numbering.{length-le, le-32, le-64}
+use Rattle.octets.proofs.Lying.{le-read}
 
 pub store-none : (s : List ℕ) (at : ℕ) → store s at [] ≡ s
 unfolding store
@@ -76,3 +79,25 @@ sets-after (v ∷ vs) s at i h =
 pub getD-store-after : (s : List ℕ) (at : ℕ) (vs : List ℕ) (i : ℕ) → at + length vs ≤ i → getD (store s at vs) i 0 ≡ getD s i 0
 unfolding store
 getD-store-after s at vs i h = sets-after vs s at i h
+
+-- a number is as it was where a store doesn't reach
+pub leAt-other : (w : ℕ) (s : List ℕ) (at : ℕ) (vs : List ℕ) (a : ℕ) → (a + w ≤ at) ⊎ (at + length vs ≤ a) → leAt w (store s at vs) a ≡ leAt w s a
+unfolding leAt
+leAt-other zero s at vs a h = refl
+leAt-other (suc w) s at vs a (inl h) =
+    cc (getD-store-before s at vs a (omega arith), leAt-other w s at vs (a + 1) (inl (omega arith)))
+leAt-other (suc w) s at vs a (inr h) =
+    cc (getD-store-after s at vs a h, leAt-other w s at vs (a + 1) (inr (omega arith)))
+
+-- what was stored lies there
+pub lies-store : (s : List ℕ) (at : ℕ) (vs : List ℕ) → at + length vs ≤ length s → Lies (store s at vs) at vs (at + length vs)
+lies-store s at vs h =
+    let e : store s at vs ≡ take at s ++ (vs ++ drop (at + length vs) s) = store-is s at vs h ∙ append-assoc (take at s) vs (drop (at + length vs) s) in
+    let l = length-take-le at s (omega arith) in
+    let d : drop at (store s at vs) ≡ vs ++ drop (at + length vs) s = rw e (drop-at (take at s) (vs ++ drop (at + length vs) s) at l) in
+    let f : drop (at + length vs) (store s at vs) ≡ drop (at + length vs) s = sym (drop-drop (length vs) at (store s at vs)) ∙ ap (drop (length vs)) d ∙ drop-append-seam vs (drop (at + length vs) s) in
+    record { is = d ∙ ap (λ (l : List ℕ). vs ++ l) (sym f); end = refl }
+
+-- and a number that was stored is read
+pub leAt-same : (w : ℕ) (s : List ℕ) (at v : ℕ) → at + w ≤ length s → v < 256 ^ w → leAt w (store s at (le w v)) at ≡ v
+leAt-same w s at v h k = le-read w (store s at (le w v)) at v (at + length (le w v)) k (lies-store s at (le w v) (omega (arith, length-le w v)))

@@ -23,6 +23,17 @@ pub fn same(s: &[u8], a: usize, t: &[u8], b: usize, n: usize) -> bool
     true
 }
 
+// Whether two slices hold the same bytes.
+pub fn equal(x: &[u8], y: &[u8]) -> bool
+    ensures { λ r. ⌜ r ≡ sameAs (now (x .entry)) (now (y .entry)) ⌝ }
+{
+    let n = x.len();
+    if n != y.len() {
+        return false;
+    }
+    same(x, 0, y, 0, n)
+}
+
 // Sets every byte to 0.
 pub fn clear(w: &mut [u8])
     ensures { λ _. ⌜ now (w .exit) ≡ replicate (length (now (w .entry))) 0 ⌝ }

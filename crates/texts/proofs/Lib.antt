@@ -1,0 +1,5 @@
+-- What the proofs of several functions, and of the crates above, use.
+pub mod Classing
+pub mod Judging
+pub mod Hashing
+pub mod Tabling

@@ -1,0 +1,18 @@
+use Rattle.texts.proofs.Tabling.{tabling}
+use borrow.Author.Needs.{needs}
+use Rattle.texts.proofs.table.class.Statement.{statement}
+use Rattle.texts.proofs.table.class.Tie as tie
+use Rattle.texts.proofs.table.class.Reads as reads
+use Rattle.texts.proofs.table.class.Lts as lts
+use Rattle.texts.proofs.entries.get.Reads as get-reads
+
+-- src/table.rt:48:5
+get-requires : tie.Need-get-requires
+get-requires c κs = search needs
+
+-- src/table.rt:44:1
+returns : tie.Need-returns
+returns c = search tabling
+
+pub class-spec : {M : Type 1} → statement M
+class-spec = tie.close (tie.spec get-requires returns)

@@ -1,0 +1,18 @@
+use Rattle.texts.proofs.Tabling.{tabling}
+use borrow.Author.Needs.{needs}
+use Rattle.texts.proofs.table.place.Statement.{statement}
+use Rattle.texts.proofs.table.place.Tie as tie
+use Rattle.texts.proofs.table.place.Reads as reads
+use Rattle.texts.proofs.table.place.Lts as lts
+use Rattle.texts.proofs.entries.get.Reads as get-reads
+
+-- src/table.rt:40:5
+get-requires : tie.Need-get-requires
+get-requires c κs = search needs
+
+-- src/table.rt:36:1
+returns : tie.Need-returns
+returns c = search tabling
+
+pub place-spec : {M : Type 1} → statement M
+place-spec = tie.close (tie.spec get-requires returns)

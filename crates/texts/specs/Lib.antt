@@ -1,0 +1,4 @@
+-- What the contracts of texts, and of the crates above it, cite.
+pub mod Atoms
+pub mod Classes
+pub mod Table

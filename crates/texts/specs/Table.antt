@@ -1,0 +1,37 @@
+-- The table of a tape's atoms. Assumes nothing: these are definitions.
+use mathlib.Core.Path.{_≡_}
+use Prim.Native.Nat.{ℕ, zero, suc, _+_, _*_, _%_, _≤_, _<_}
+use mathlib.Core.List.{List, [], _∷_}
+use lib.Dec.{eqb}
+use lib.ListN.{length}
+use Rattle.octets.specs.Choice.{pick}
+use Rattle.octets.specs.Numbers.{leAt}
+use Rattle.parse_tree.specs.Tree.{Text}
+use Rattle.texts.specs.Atoms.{atomEnd, atomText, placeOf}
+use Rattle.texts.specs.Classes.{textClass}
+
+-- the i-th entry of eight bytes
+unfoldable pub entry : List ℕ → ℕ → ℕ
+entry w i = leAt 8 w (8 * i)
+
+unfoldable pub hashOf : ℕ → Text → ℕ
+hashOf h [] = h
+hashOf h (b ∷ bs) = hashOf ((h * 31 + b) % 4294967296) bs
+
+-- which of c buckets a text falls into
+unfoldable pub bucket : ℕ → Text → ℕ
+bucket c t = hashOf 0 t % c
+
+-- the number of the last of the first k atoms of s in bucket b, and one; 0 for none
+unfoldable pub last : List ℕ → ℕ → ℕ → ℕ → ℕ
+last s c b zero = 0
+last s c b (suc k) = pick (eqb (bucket c (atomText s (placeOf s k))) b) (suc k) (last s c b k)
+
+-- w is the table of the first k atoms of s, with room for c
+pub record Table (s w : List ℕ) (c k : ℕ) : Type 0 where
+  pub room : 8 * (c + c + c) ≤ length w
+  pub few : k ≤ c
+  pub whole : (i : ℕ) → i < k → placeOf s (suc i) ≤ length s
+  pub marks : (i : ℕ) → i < k → entry w i ≡ 4 * placeOf s i + textClass (atomText s (placeOf s i))
+  pub links : (i : ℕ) → i < k → entry w (c + i) ≡ last s c (bucket c (atomText s (placeOf s i))) i
+  pub heads : (b : ℕ) → b < c → entry w (c + c + b) ≡ last s c b k

@@ -1,0 +1,34 @@
+// The bucket of a text.
+ghost use mathlib.Core.Path.{_≡_};
+ghost use Prim.Native.Nat.{_≤_, _<_};
+ghost use lib.ListN.{length};
+ghost use Rattle.octets.specs.Runs.{part};
+ghost use Rattle.texts.specs.Table.{hashOf, bucket};
+
+fn wide(b: u8) -> usize
+    ensures { λ r. ⌜ (r ≡ b) × (r < 256) ⌝ }
+{
+    b as usize
+}
+
+// The hash of the bytes from a up to e.
+fn hash(tape: &[u8], a: usize, e: usize) -> usize
+    requires { ⌜ (a ≤ e) × (e ≤ length (now tape)) ⌝ }
+    ensures { λ r. ⌜ r ≡ hashOf 0 (part a e (now (tape .entry))) ⌝ }
+{
+    let mut h: usize = 0;
+    let mut i = a;
+    while i < e {
+        h = (h * 31 + wide(tape[i])) % 4294967296;
+        i += 1;
+    }
+    h
+}
+
+// Which of c buckets it falls into.
+pub fn bucket_of(tape: &[u8], a: usize, e: usize, c: usize) -> usize
+    requires { ⌜ (a ≤ e) × (e ≤ length (now tape)) × (0 < c) ⌝ }
+    ensures { λ r. ⌜ r ≡ bucket c (part a e (now (tape .entry))) ⌝ }
+{
+    hash(tape, a, e) % c
+}

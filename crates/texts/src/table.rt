@@ -1,0 +1,58 @@
+// The table of a tape's atoms: an atom is looked up by its text and by its number, and entered.
+use crate::class::class_of;
+use crate::entries::get;
+use crate::entries::put;
+use crate::hash::bucket_of;
+use octets::numbers::u16_at;
+use octets::runs::equal;
+ghost use mathlib.Core.Path.{_≡_};
+ghost use mathlib.Core.List.{[]};
+ghost use Prim.Native.Nat.{suc, _+_, _*_, _≤_, _<_};
+ghost use lib.ListN.{length, getD};
+ghost use Rattle.octets.specs.Runs.{part, sameAs};
+ghost use Rattle.parse_tree.specs.Texts.{has};
+ghost use Rattle.texts.specs.Atoms.{atomEnd, atomText, atomsOf, placeOf};
+ghost use Rattle.texts.specs.Classes.{textClass};
+ghost use Rattle.texts.specs.Table.{Table};
+
+fn wide(n: u16) -> usize
+    ensures { λ r. ⌜ r ≡ n ⌝ }
+{
+    n as usize
+}
+
+// The text of the atom whose command stands at a place.
+pub fn atom_text(tape: &[u8], at: usize) -> &[u8]
+    requires { ⌜ (at + 3 ≤ length (now tape)) × (atomEnd (now tape) at ≤ length (now tape)) ⌝ }
+    ensures { λ r. ⌜ now r ≡ atomText (now (tape .entry)) at ⌝ }
+{
+    let n = wide(u16_at(tape, at + 1));
+    let a = at + 3;
+    let e = a + n;
+    &tape[a..e]
+}
+
+// The place of the k-th of n atoms.
+pub fn place(tape: &[u8], work: &[u8], c: usize, n: usize, k: usize) -> usize
+    requires { ⌜ Table (now tape) (now work) c n × (k < n) ⌝ }
+    ensures { λ r. ⌜ r ≡ placeOf (now (tape .entry)) k ⌝ }
+{
+    get(work, k) / 4
+}
+
+// The class of its text.
+pub fn class(tape: &[u8], work: &[u8], c: usize, n: usize, k: usize) -> usize
+    requires { ⌜ Table (now tape) (now work) c n × (k < n) ⌝ }
+    ensures { λ r. ⌜ r ≡ textClass (getD (atomsOf (now (tape .entry)) n) k []) ⌝ }
+{
+    get(work, k) % 4
+}
+
+// The text of the k-th of n atoms, as that part of the tape.
+pub fn text<'a>(tape: &'a [u8], work: &[u8], c: usize, n: usize, k: usize) -> &'a [u8]
+    requires { ⌜ Table (now tape) (now work) c n × (k < n) ⌝ }
+    ensures { λ r. ⌜ now r ≡ getD (atomsOf (now (tape .entry)) n) k [] ⌝ }
+{
+    let at = place(tape, work, c, n, k);
+    atom_text(tape, at)
+}
