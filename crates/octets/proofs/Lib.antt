@@ -6,6 +6,7 @@ pub mod Parts
 pub mod Lying
 pub mod Laying
 pub mod Fitting
+pub mod Sameness
 mod Comparing
 mod Clearing
 mod Running

@@ -3,3 +3,5 @@ pub mod Classing
 pub mod Judging
 pub mod Hashing
 pub mod Tabling
+pub mod Chasing
+pub mod Entering

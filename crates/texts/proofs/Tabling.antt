@@ -51,7 +51,7 @@ pub text-done : (s : List ℕ) (a m n : ℕ) → m ≡ leAt 2 s (a + 1) → n �
 unfolding atomText part atomEnd
 text-done s a m n e p = let z : n ≡ leAt 2 s (a + 1) = p ∙ e in rw z
 
-class-small : (t : Text) → textClass t < 4
+pub class-small : (t : Text) → textClass t < 4
 unfolding textClass
 class-small t =
     by-pick (λ r. r < 4) _ (λ _. omega arith) (λ _. by-pick (λ r. r < 4) _ (λ _. omega arith) (λ _. by-pick (λ r. r < 4) _ (λ _. omega arith) (λ _. omega arith)))

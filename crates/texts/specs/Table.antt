@@ -35,3 +35,20 @@ pub record Table (s w : List ℕ) (c k : ℕ) : Type 0 where
   pub marks : (i : ℕ) → i < k → entry w i ≡ 4 * placeOf s i + textClass (atomText s (placeOf s i))
   pub links : (i : ℕ) → i < k → entry w (c + i) ≡ last s c (bucket c (atomText s (placeOf s i))) i
   pub heads : (b : ℕ) → b < c → entry w (c + c + b) ≡ last s c b k
+
+-- what `enter` asks: the k-th atom stands from at to e, and there is room for it
+pub record Entering (s w : List ℕ) (c k at e : ℕ) : Type 0 where
+  pub table : Table s w c k
+  pub one : k < c
+  pub here : at ≡ placeOf s k
+  pub behind : e ≡ atomEnd s at
+  pub start : at + 3 ≤ e
+  pub inside : e ≤ length s
+  pub small : 8 * length s ≤ length w
+
+-- what `link` leaves of w: the k-th mark, its link to the former head of bucket b, and the new head
+pub record Linked (w : List ℕ) (c k b m : ℕ) (w′ : List ℕ) : Type 0 where
+  pub mark : entry w′ k ≡ m
+  pub link : entry w′ (c + k) ≡ entry w (c + c + b)
+  pub head : entry w′ (c + c + b) ≡ k + 1
+  pub others : (j : ℕ) → (j ≡ k → ⊥) → (j ≡ c + k → ⊥) → (j ≡ c + c + b → ⊥) → entry w′ j ≡ entry w j

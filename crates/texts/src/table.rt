@@ -13,7 +13,7 @@ ghost use Rattle.octets.specs.Runs.{part, sameAs};
 ghost use Rattle.parse_tree.specs.Texts.{has};
 ghost use Rattle.texts.specs.Atoms.{atomEnd, atomText, atomsOf, placeOf};
 ghost use Rattle.texts.specs.Classes.{textClass};
-ghost use Rattle.texts.specs.Table.{Table};
+ghost use Rattle.texts.specs.Table.{Entering, Linked, Table};
 
 fn wide(n: u16) -> usize
     ensures { λ r. ⌜ r ≡ n ⌝ }
@@ -55,4 +55,43 @@ pub fn text<'a>(tape: &'a [u8], work: &[u8], c: usize, n: usize, k: usize) -> &'
 {
     let at = place(tape, work, c, n, k);
     atom_text(tape, at)
+}
+
+// Whether the bytes from a up to e are the text of one of the first k atoms.
+pub fn known(tape: &[u8], work: &[u8], c: usize, k: usize, a: usize, e: usize) -> bool
+    requires { ⌜ Table (now tape) (now work) c k × (0 < c) × (a ≤ e) × (e ≤ length (now tape)) ⌝ }
+    ensures { λ r. ⌜ r ≡ has (part a e (now (tape .entry))) (atomsOf (now (tape .entry)) k) ⌝ }
+{
+    let b = bucket_of(tape, a, e, c);
+    let mut j = get(work, c + c + b);
+    while 0 < j {
+        let i = j - 1;
+        if equal(text(tape, work, c, k, i), &tape[a..e]) {
+            return true;
+        }
+        j = get(work, c + i);
+    }
+    false
+}
+
+// Puts the k-th atom, with its mark, before the others of bucket b.
+fn link(work: &mut [u8], c: usize, k: usize, b: usize, mark: usize)
+    requires { ⌜ (8 * (c + c + c) ≤ length (now work)) × (k < c) × (b < c) ⌝ }
+    ensures { λ _. ⌜ Linked (now (work .entry)) c k b mark (now (work .exit)) ⌝ }
+{
+    let before = get(work, c + c + b);
+    put(work, k, mark);
+    put(work, c + k, before);
+    put(work, c + c + b, k + 1);
+}
+
+// Enters the atom whose command stands from at to e as the k-th.
+pub fn enter(tape: &[u8], work: &mut [u8], c: usize, k: usize, at: usize, e: usize)
+    requires { ⌜ Entering (now tape) (now work) c k at e ⌝ }
+    ensures { λ _. ⌜ Table (now (tape .entry)) (now (work .exit)) c (k + 1) ⌝ }
+{
+    let a = at + 3;
+    let b = bucket_of(tape, a, e, c);
+    let m = 4 * at + class_of(tape, a, e);
+    link(work, c, k, b, m);
 }
