@@ -5,3 +5,4 @@ pub mod Hashing
 pub mod Tabling
 pub mod Chasing
 pub mod Entering
+mod Starting

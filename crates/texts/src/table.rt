@@ -95,3 +95,15 @@ pub fn enter(tape: &[u8], work: &mut [u8], c: usize, k: usize, at: usize, e: usi
     let m = 4 * at + class_of(tape, a, e);
     link(work, c, k, b, m);
 }
+
+// The table of no atoms.
+pub fn start(tape: &[u8], work: &mut [u8], c: usize)
+    requires { ⌜ 8 * (c + c + c) ≤ length (now work) ⌝ }
+    ensures { λ _. ⌜ Table (now (tape .entry)) (now (work .exit)) c 0 ⌝ }
+{
+    let mut b = 0;
+    while b < c {
+        put(work, c + c + b, 0);
+        b += 1;
+    }
+}
