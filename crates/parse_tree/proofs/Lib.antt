@@ -4,4 +4,5 @@ pub mod Spans
 pub mod Fields
 pub mod NodeSays
 pub mod NodeBack
+mod Noding
 mod Cases

@@ -1,2 +1,3 @@
 // One command of a tape, to and from an enum; which command may stand where; and the text of an atom.
+pub mod node;
 pub mod syntax;
