@@ -5,4 +5,5 @@ pub mod Fields
 pub mod NodeSays
 pub mod NodeBack
 mod Noding
+pub mod Sizing
 mod Cases
