@@ -190,3 +190,48 @@ module _ (s : List ℕ) (a e m : ℕ) (p : m ≡ least 3 (part a e s)) (h : 3 �
       rw t (is-name (getD s a 0) (part (a + 1) e s) (sym q ∙ not-false x u) (rw t at n) (rw t at (sym i ∙ j)) (rw t at (sym y ∙ z)))
 
 pub ruleset judging = (needs, class-least, class-empty, class-digit, class-mut, class-error, class-name)
+
+-- ---- the classes are nested, so a number tells them
+name-all : (t : Text) → isName t ≡ true → every inName t ≡ true
+name-all t h = go (every inName t) refl
+  where
+    go : (x : Bool) → every inName t ≡ x → every inName t ≡ true
+    go true e = e
+    go false e = absurd (let z : _≡_ {A = Bool} false true = sym (name-every t e) ∙ h in let u : _≡_ {A = ℕ} 0 1 = cc in omega arith)
+
+name-literal : (t : Text) → isName t ≡ true → isLiteral t ≡ true
+name-literal t h = sym (least-literal t) ∙ le-leb 2 (least 3 t) (omega (arith, leb-true 3 (least 3 t) (least-name t ∙ name-all t h)))
+
+literal-ascii : (t : Text) → isLiteral t ≡ true → isAscii t ≡ true
+literal-ascii t h = sym (least-ascii t) ∙ le-leb 1 (least 3 t) (omega (arith, leb-true 2 (least 3 t) (least-literal t ∙ h)))
+
+module _ (t : Text) where
+  pub class-is-name : eqb (textClass t) 3 ≡ isName t
+  unfolding textClass pick
+  class-is-name = go (isName t) (isLiteral t) (isAscii t)
+    where
+      go : (x y z : Bool) → eqb (pick x 3 (pick y 2 (pick z 1 0))) 3 ≡ x
+      go true y z = refl
+      go false true z = refl
+      go false false true = refl
+      go false false false = refl
+
+  pub class-is-literal : leb 2 (textClass t) ≡ isLiteral t
+  unfolding textClass pick
+  class-is-literal = go (isName t) refl (isLiteral t) refl (isAscii t)
+    where
+      go : (x : Bool) → isName t ≡ x → (y : Bool) → isLiteral t ≡ y → (z : Bool) → leb 2 (pick x 3 (pick y 2 (pick z 1 0))) ≡ y
+      go true e y f z = sym (sym f ∙ name-literal t e)
+      go false e true f z = refl
+      go false e false f true = refl
+      go false e false f false = refl
+
+  pub class-is-ascii : leb 1 (textClass t) ≡ isAscii t
+  unfolding textClass pick
+  class-is-ascii = go (isName t) refl (isLiteral t) refl (isAscii t) refl
+    where
+      go : (x : Bool) → isName t ≡ x → (y : Bool) → isLiteral t ≡ y → (z : Bool) → isAscii t ≡ z → leb 1 (pick x 3 (pick y 2 (pick z 1 0))) ≡ z
+      go true e y f z i = sym (sym i ∙ literal-ascii t (name-literal t e))
+      go false e true f z i = sym (sym i ∙ literal-ascii t f)
+      go false e false f true i = refl
+      go false e false f false i = refl

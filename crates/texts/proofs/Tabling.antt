@@ -8,7 +8,7 @@ use native.Mathlib.Omega.{arith}
 use borrow.Author.Needs.{needs}
 use borrow.Author.Tests.{ltb-true, ltb-false}
 use lib.Dec.{ltb}
-use lib.ListN.{length, getD, take, drop, length-append, List·getD-append}
+use lib.ListN.{length, getD, take, drop, length-append, List·getD-append, List·getD-eq-default}
 use lib.Seq.{getD-append-seam}
 use Rattle.octets.specs.Numbers.{leAt, le}
 use Rattle.octets.specs.Runs.{part}
@@ -18,6 +18,7 @@ use Rattle.octets.proofs.Choices.{by-pick}
 use Rattle.octets.proofs.Numbering.{length-le}
 use Rattle.octets.proofs.Storing.{leAt-other, leAt-same}
 use Rattle.parse_tree.specs.Tree.{Text}
+use Rattle.parse_tree.specs.Texts.{every, nameBytes, isName, isLiteral}
 use Rattle.texts.specs.Atoms.{atomEnd, atomText, placeOf, atomsOf}
 use Rattle.texts.specs.Classes.{textClass}
 use Rattle.texts.specs.Table.{entry, Table}
@@ -93,4 +94,8 @@ module _ (s w : List ℕ) (c n k : ℕ) (t : Table s w c n) (h : k < n) where
   pub text-is : (r : ℕ) (x : List ℕ) → r ≡ placeOf s k → x ≡ atomText s r → x ≡ getD (atomsOf s n) k []
   text-is r x e p = p ∙ ap (atomText s) e ∙ sym (atoms-at s n k h)
 
-pub ruleset tabling = (needs, entry-done, text-end, text-done, place-done, class-done, text-whole, text-starts, text-is)
+pub class-beyond : (s : List ℕ) (n k : ℕ) → n ≤ k → 2 ≡ textClass (getD (atomsOf s n) k [])
+unfolding textClass isName nameBytes isLiteral every pick
+class-beyond s n k h = rw (List·getD-eq-default (atomsOf s n) [] {n = k} (omega (arith, length-atoms s n)))
+
+pub ruleset tabling = (needs, entry-done, text-end, text-done, place-done, class-done, class-beyond, text-whole, text-starts, text-is)

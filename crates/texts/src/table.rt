@@ -40,11 +40,14 @@ pub fn place(tape: &[u8], work: &[u8], c: usize, n: usize, k: usize) -> usize
     get(work, k) / 4
 }
 
-// The class of its text.
+// The class of the text of the k-th of n atoms; of the empty text where there is no such atom.
 pub fn class(tape: &[u8], work: &[u8], c: usize, n: usize, k: usize) -> usize
-    requires { ⌜ Table (now tape) (now work) c n × (k < n) ⌝ }
+    requires { ⌜ Table (now tape) (now work) c n ⌝ }
     ensures { λ r. ⌜ r ≡ textClass (getD (atomsOf (now (tape .entry)) n) k []) ⌝ }
 {
+    if n <= k {
+        return 2;
+    }
     get(work, k) % 4
 }
 
