@@ -1,0 +1,31 @@
+use Rattle.validate.proofs.Defining.{conditions}
+use borrow.Author.Needs.{needs}
+use Rattle.validate.proofs.questions.condition_defined.Statement.{statement}
+use Rattle.validate.proofs.questions.condition_defined.Tie as tie
+use Rattle.validate.proofs.questions.condition_defined.Reads as reads
+use Rattle.validate.proofs.questions.condition_defined.Lts as lts
+use Rattle.validate.proofs.questions.wide.Reads as wide-reads
+
+-- src/questions.rt:121:17
+wide-requires : tie.Need-wide-requires
+wide-requires c κs = search needs
+
+-- src/questions.rt:122:9
+returns : tie.Need-returns
+returns c = search conditions
+
+-- src/questions.rt:125:9
+returns-2 : tie.Need-returns-2
+returns-2 c = search conditions
+
+-- src/questions.rt:127:5
+wide-requires-2 : tie.Need-wide-requires-2
+wide-requires-2 c κs = search needs
+
+-- src/questions.rt:116:1
+returns-3 : tie.Need-returns-3
+returns-3 c = search conditions
+
+pub condition-defined-spec : {M : Type 1} → statement M
+condition-defined-spec =
+    tie.close (tie.spec wide-requires returns returns-2 wide-requires-2 returns-3)

@@ -1,0 +1,35 @@
+use Rattle.validate.proofs.Defining.{symbols}
+use borrow.Author.Needs.{needs}
+use Rattle.validate.proofs.questions.over_defined.Statement.{statement}
+use Rattle.validate.proofs.questions.over_defined.Tie as tie
+use Rattle.validate.proofs.questions.over_defined.Reads as reads
+use Rattle.validate.proofs.questions.over_defined.Lts as lts
+use Rattle.validate.proofs.questions.wide.Reads as wide-reads
+
+-- src/questions.rt:52:21
+enum-known-o : tie.Need-enum-known-o
+enum-known-o c = search needs
+
+-- src/questions.rt:53:25
+wide-requires : tie.Need-wide-requires
+wide-requires c κs = search needs
+
+-- src/questions.rt:54:17
+returns : tie.Need-returns
+returns c = search symbols
+
+-- src/questions.rt:58:27
+enum-told : tie.Need-enum-told
+enum-told c = search needs
+
+-- src/questions.rt:48:1
+returns-2 : tie.Need-returns-2
+returns-2 c = search symbols
+
+-- src/questions.rt:48:1
+returns-3 : tie.Need-returns-3
+returns-3 c = search symbols
+
+pub over-defined-spec : {M : Type 1} → statement M
+over-defined-spec =
+    tie.close (tie.spec enum-known-o wide-requires returns enum-told returns-2 returns-3)

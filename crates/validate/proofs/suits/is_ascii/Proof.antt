@@ -1,0 +1,23 @@
+use Rattle.validate.proofs.Suiting.{texts}
+use borrow.Author.Needs.{needs}
+use Rattle.validate.proofs.suits.is_ascii.Statement.{statement}
+use Rattle.validate.proofs.suits.is_ascii.Tie as tie
+use Rattle.validate.proofs.suits.is_ascii.Reads as reads
+use Rattle.validate.proofs.suits.is_ascii.Lts as lts
+use Rattle.texts.proofs.table.class.Reads as class-reads
+use Rattle.validate.proofs.suits.wide.Reads as wide-reads
+
+-- src/suits.rt:44:45
+wide-requires : tie.Need-wide-requires
+wide-requires c κs = search needs
+
+-- src/suits.rt:44:10
+class-requires : tie.Need-class-requires
+class-requires c κs = search needs
+
+-- src/suits.rt:40:1
+returns : tie.Need-returns
+returns c = search texts
+
+pub is-ascii-spec : {M : Type 1} → statement M
+is-ascii-spec = tie.close (tie.spec wide-requires class-requires returns)

@@ -1,0 +1,2 @@
+-- What the contracts of validate cite.
+pub mod Steps
