@@ -1,4 +1,5 @@
 -- What the proofs of several functions, and of the crates above, use.
+-- One command:
 pub mod NodeFits
 pub mod Spans
 pub mod Fields
@@ -6,4 +7,18 @@ pub mod NodeSays
 pub mod NodeBack
 mod Noding
 pub mod Sizing
+-- Trees and their tapes; RoundTrip has the theorems.
+pub mod TextLaws
+pub mod ReadingLaws
+pub mod Asking
+pub mod Expecting
+pub mod SymLists
+pub mod ToCommands
+pub mod ItemBack
+pub mod ReadBack
+pub mod FromCommands
+pub mod ItemFound
+pub mod Written
+pub mod NothingNew
+pub mod RoundTrip
 mod Cases
