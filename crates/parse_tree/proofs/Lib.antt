@@ -6,6 +6,7 @@ pub mod Fields
 pub mod NodeSays
 pub mod NodeBack
 mod Noding
+mod Putting
 pub mod Sizing
 -- Trees and their tapes; RoundTrip has the theorems.
 pub mod TextLaws
