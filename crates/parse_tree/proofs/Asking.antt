@@ -35,7 +35,7 @@ pick-got true r k p q = (refl, q)
 pick-got false r k p q = absurd (never q)
 
 -- a command that is defined is known
-stands : (k w : ℕ) (s : List ℕ) (a : ℕ) (n : Node) → defined k n ≡ true → NodeSays w s a n → Stands w s a n
+pub stands : (k w : ℕ) (s : List ℕ) (a : ℕ) (n : Node) → defined k n ≡ true → NodeSays w s a n → Stands w s a n
 unfolding defined
 stands k w s a (Node.Text n) d h = h
 stands k w s a (Node.Nonterminal n) d h = h

@@ -1,3 +1,7 @@
 -- What the proofs of several functions, and of the crates above, use.
 mod Defining
 mod Suiting
+pub mod Onward
+pub mod Commanding
+mod Walking
+mod Others

@@ -1,11 +1,24 @@
--- What the pass knows of the atoms. Assumes nothing: these are definitions.
+-- What the pass knows of the atoms, and how it answers. Assumes nothing: these are definitions.
 use Prim.Native.Nat.{ℕ, _≤_}
 use mathlib.Core.List.{List}
+use Rattle.parse_tree.specs.Reading.{Reading, got, refused}
+use Rattle.parse_tree.specs.declared.syntax.Node.{Node}
 use Rattle.texts.specs.Table.{Table}
 use Rattle.validate.specs.declared.Atoms.{Atoms}
+use Rattle.validate.specs.declared.Asked.{Asked}
+use Rattle.validate.specs.declared.Step.{Step}
 
 -- w is the table of the first atoms of s, whose numbers have two or three bytes
 pub record Ready (s w : List ℕ) (m : Atoms) : Type 0 where
   pub table : Table s w (m .room) (m .count)
   pub narrow : 2 ≤ m .width
   pub wide : m .width ≤ 3
+
+-- a reading's answer, without what was read
+unfoldable pub stepOf : {A : Type 0} → Reading A → Step
+stepOf (got x e) = Step.Next e
+stepOf (refused k p) = Step.Refused k p
+
+unfoldable pub askedOf : Reading Node → Asked
+askedOf (got n e) = Asked.Is n e
+askedOf (refused k p) = Asked.Refused k p

@@ -1,0 +1,100 @@
+-- The ways out of `command`, and its answers taken apart. Assumes nothing.
+use mathlib.Core.Path.{_≡_, refl, sym, ap, _∙_}
+use mathlib.Core.Bool.{Bool, true, false, _&&_, not}
+use mathlib.Core.List.{List}
+use Prim.Native.Nat.{ℕ, zero, suc, _+_, _^_, _<_, _≤_}
+use native.Mathlib.Omega.{arith}
+use borrow.Author.Needs.{needs}
+use borrow.Author.Tests.{le-leb, lt-leb, not-true, not-false}
+use lib.Dec.{leb}
+use lib.ListN.{length, getD}
+use mir.Syntax.{w8, w64}
+use mir.Val.{Fits}
+use Rattle.octets.specs.Choice.{pick}
+use Rattle.parse_tree.specs.Tree.{Text}
+use Rattle.parse_tree.specs.Nodes.{nodeAt, sizeOf}
+use Rattle.parse_tree.specs.Places.{classOf, allowedAt}
+use Rattle.parse_tree.specs.Questions.{defined, suits}
+use Rattle.parse_tree.specs.Reading.{Reading, got, refused}
+use Rattle.parse_tree.specs.Decode.{ask}
+use Rattle.parse_tree.specs.declared.syntax.Node.{Node}
+use Rattle.texts.specs.Atoms.{atomsOf}
+use Rattle.texts.proofs.Tabling.{length-atoms}
+use Rattle.validate.specs.Steps.{askedOf, stepOf}
+use Rattle.validate.specs.declared.Asked.{Asked}
+use Rattle.validate.specs.declared.Step.{Step}
+use Rattle.validate.proofs.Onward.{node-inside}
+
+-- ---- n is the command, c its class, o whether it may stand there
+module _ (s : List ℕ) (w atoms place left at : ℕ) (n : Node) (p : n ≡ nodeAt w s at) (c : ℕ) (q : c ≡ classOf n) (o : Bool) (r : o ≡ allowedAt place c) where
+  o-is : o ≡ allowedAt place (classOf (nodeAt w s at))
+  o-is = r ∙ ap (allowedAt place) q ∙ ap (λ (x : Node). allowedAt place (classOf x)) p
+
+  pub not-allowed : not o ≡ true → Asked.Refused 2 at ≡ askedOf (ask true w s (atomsOf s atoms) place left at)
+  unfolding ask pick askedOf
+  not-allowed h = simp (← o-is, not-true o h)
+
+  -- d is whether its operands are defined
+  module _ (h : not o ≡ false) (d : Bool) (x : d ≡ defined atoms n) where
+    d-is : d ≡ defined (length (atomsOf s atoms)) (nodeAt w s at)
+    d-is = x ∙ ap (defined atoms) p ∙ ap (λ (k : ℕ). defined k (nodeAt w s at)) (sym (length-atoms s atoms))
+
+    pub not-defined : not d ≡ true → Asked.Refused 3 at ≡ askedOf (ask true w s (atomsOf s atoms) place left at)
+    unfolding ask pick askedOf
+    not-defined g = simp (← o-is, not-false o h, ← d-is, not-true d g)
+
+    pub too-deep : not d ≡ false → left < 1 → Asked.Refused 3 at ≡ askedOf (ask true w s (atomsOf s atoms) place left at)
+    unfolding ask pick askedOf
+    too-deep g k = simp (← o-is, not-false o h, ← d-is, not-false d g, lt-leb 1 left k)
+
+    -- u is whether its texts suit
+    module _ (g : not d ≡ false) (k : 1 ≤ left) (u : Bool) (y : u ≡ suits (atomsOf s atoms) n) where
+      u-is : u ≡ suits (atomsOf s atoms) (nodeAt w s at)
+      u-is = y ∙ ap (suits (atomsOf s atoms)) p
+
+      pub not-suited : not u ≡ true → Asked.Refused 4 at ≡ askedOf (ask true w s (atomsOf s atoms) place left at)
+      unfolding ask pick askedOf
+      not-suited f = simp (← o-is, not-false o h, ← d-is, not-false d g, le-leb 1 left k, ← u-is, not-true u f)
+
+      ask-is : not u ≡ false → ask true w s (atomsOf s atoms) place left at ≡ got n (at + sizeOf w n)
+      unfolding ask pick
+      ask-is f =
+          let here : ask true w s (atomsOf s atoms) place left at ≡ got (nodeAt w s at) (at + sizeOf w (nodeAt w s at)) = simp (← o-is, not-false o h, ← d-is, not-false d g, le-leb 1 left k, ← u-is, not-false u f) in
+          here ∙ ap (λ (x : Node). got x (at + sizeOf w x)) (sym p)
+
+      pub asked-is : (z : ℕ) → not u ≡ false → z ≡ sizeOf w n → Asked.Is n (at + z) ≡ askedOf (ask true w s (atomsOf s atoms) place left at)
+      unfolding askedOf
+      asked-is z f e = rw (e, ask-is f)
+
+-- a command that is defined lies inside
+pub asked-fits : (s : List ℕ) (w atoms at : ℕ) (n : Node) → n ≡ nodeAt w s at → (d : Bool) → d ≡ defined atoms n → not d ≡ false → (z : ℕ) → z ≡ sizeOf w n
+    → ((i : ℕ) → Fits w8 (getD s i 0)) → length s < 2 ^ 64 → Fits w64 (at + z)
+asked-fits s w atoms at n p d x g z e b l = record { fits = omega (arith, node-inside w s (λ i. b i .fits) atoms at n p (sym x ∙ not-false d g)) }
+
+pub ruleset commanding = (needs, not-allowed, not-defined, too-deep, not-suited, asked-is)
+
+-- ---- an answer, taken apart
+pub asked-got : (r : Reading Node) (n : Node) (e : ℕ) → Asked.Is n e ≡ askedOf r → r ≡ got n e
+unfolding askedOf
+asked-got (got m d) n e h = cc
+asked-got (refused k p) n e h = absurd (let z : _≡_ {A = ℕ} 0 1 = cc in omega arith)
+
+pub asked-refused : (r : Reading Node) (k p : ℕ) → Asked.Refused k p ≡ askedOf r → r ≡ refused k p
+unfolding askedOf
+asked-refused (got m d) k p h = absurd (let z : _≡_ {A = ℕ} 0 1 = cc in omega arith)
+asked-refused (refused j q) k p h = cc
+
+pub step-refused : {A : Type 0} (r : Reading A) (k p : ℕ) → Step.Refused k p ≡ stepOf r → r ≡ refused k p
+unfolding stepOf
+step-refused (got m d) k p h = absurd (let z : _≡_ {A = ℕ} 0 1 = cc in omega arith)
+step-refused (refused j q) k p h = cc
+
+-- what was read, where it is not told
+pub record Read {A : Type 0} (r : Reading A) (e : ℕ) : Type 0 where
+  pub value : A
+  pub is : r ≡ got value e
+
+pub step-got : {A : Type 0} (r : Reading A) (e : ℕ) → Step.Next e ≡ stepOf r → Read r e
+unfolding stepOf
+step-got (got m d) e h = record { value = m; is = cc }
+step-got (refused j q) e h = absurd (let z : _≡_ {A = ℕ} 0 1 = cc in omega arith)

@@ -1,0 +1,82 @@
+// A symbol and a list of symbols call each other; the nesting left falls.
+use crate::Asked;
+use crate::Atoms;
+use crate::Step;
+use crate::command::command;
+use parse_tree::places::SYMBOLS;
+use parse_tree::syntax::Node;
+use parse_tree::syntax::Over;
+use parse_tree::syntax::SymbolKind;
+ghost use mathlib.Core.Path.{_≡_};
+ghost use mathlib.Core.Bool.{true};
+ghost use Rattle.parse_tree.specs.Decode.{readSym};
+ghost use Rattle.parse_tree.specs.Operands.{insideOf};
+ghost use Rattle.parse_tree.specs.Reading.{times};
+ghost use Rattle.texts.specs.Atoms.{atomsOf};
+ghost use Rattle.validate.specs.Steps.{Ready, stepOf};
+
+fn wide8(x: u8) -> usize
+    ensures { λ r. ⌜ r ≡ x ⌝ }
+{
+    x as usize
+}
+
+fn wide16(x: u16) -> usize
+    ensures { λ r. ⌜ r ≡ x ⌝ }
+{
+    x as usize
+}
+
+// How many symbols stand inside.
+fn inside(o: Over) -> usize
+    ensures { λ r. ⌜ r ≡ insideOf o ⌝ }
+{
+    match o {
+        Over::Macro(_, k) => wide8(k),
+        Over::Group(k) => wide16(k),
+    }
+}
+
+// The symbol at a place, with `left` levels of nesting left.
+pub fn symbol(tape: &[u8], work: &[u8], m: Atoms, at: usize, left: usize) -> Step
+    requires { ⌜ Ready (now tape) (now work) m ⌝ }
+    ensures { λ r. ⌜ r ≡ stepOf (readSym true (m .width) (now (tape .entry)) (atomsOf (now (tape .entry)) (m .count)) left at) ⌝ }
+{
+    match command(tape, work, m, SYMBOLS, left, at) {
+        Asked::Refused(q, p) => Step::Refused(q, p),
+        Asked::Is(n, e) => {
+            if left == 0 {
+                return Step::Refused(3, at);
+            }
+            let Node::Symbol(_, k) = n else {
+                return Step::Refused(2, at);
+            };
+            match k {
+                SymbolKind::Leaf(_) => Step::Next(e),
+                SymbolKind::Around(_) => symbol(tape, work, m, e, left - 1),
+                SymbolKind::Over(o) => symbols(tape, work, m, e, inside(o), left - 1),
+            }
+        }
+    }
+}
+
+// n symbols, one behind another.
+pub fn symbols(tape: &[u8], work: &[u8], m: Atoms, at: usize, n: usize, left: usize) -> Step
+    requires { ⌜ Ready (now tape) (now work) m ⌝ }
+    ensures { λ r. ⌜ r ≡ stepOf (times (readSym true (m .width) (now (tape .entry)) (atomsOf (now (tape .entry)) (m .count)) left) n at) ⌝ }
+{
+    let mut p = at;
+    let mut k = n;
+    while 0 < k {
+        match symbol(tape, work, m, p, left) {
+            Step::Next(e) => {
+                p = e;
+                k -= 1;
+            }
+            Step::Refused(q, w) => {
+                return Step::Refused(q, w);
+            }
+        }
+    }
+    Step::Next(p)
+}
