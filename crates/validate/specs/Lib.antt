@@ -1,2 +1,4 @@
--- What the contracts of validate cite.
+-- What the contracts of validate cite. Whole has the entry's.
 pub mod Steps
+pub mod Front
+pub mod Whole

@@ -2,6 +2,9 @@
 use parse_tree::syntax::Node;
 
 pub mod command;
+pub mod entry;
+pub mod front;
+pub mod items;
 pub mod questions;
 pub mod suits;
 pub mod symbols;
@@ -23,4 +26,29 @@ pub enum Asked {
 pub enum Step {
     Next(usize),
     Refused(u8, usize),
+}
+
+// Another atom and the place behind it, the end of the atoms, or one that was there before.
+pub enum Next {
+    Atom(usize),
+    End,
+    Known,
+}
+
+// How many atoms there are and the place behind them, or a refusal.
+pub enum Entered {
+    All(usize, usize),
+    Refused(u8, usize),
+}
+
+// The table of the atoms and the place of the first item, or a refusal.
+pub enum Validated {
+    Valid(Atoms, usize),
+    Refused(u8, usize),
+}
+
+// The tape's length, or the number of the question that it fails and the place.
+pub enum Answer {
+    Yes(usize),
+    No(u8, usize, usize),
 }

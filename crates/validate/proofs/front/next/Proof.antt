@@ -1,0 +1,91 @@
+use borrow.Author.Needs.{needs}
+use Rattle.validate.proofs.front.next.Statement.{statement}
+use Rattle.validate.proofs.front.next.Tie as tie
+use Rattle.validate.proofs.front.next.Reads as reads
+use Rattle.validate.proofs.front.next.Lts as lts
+use Rattle.parse_tree.proofs.node.node.Reads as node-reads
+use Rattle.parse_tree.proofs.places.allowed.Reads as allowed-reads
+use Rattle.parse_tree.proofs.places.class.Reads as class-reads
+use Rattle.texts.proofs.table.enter.Reads as enter-reads
+use Rattle.texts.proofs.table.known.Reads as known-reads
+use Rattle.validate.proofs.front.wide.Reads as wide-reads
+
+-- src/front.rt:28:9
+node-requires : tie.Need-node-requires
+node-requires c κs = search needs
+
+-- src/front.rt:29:24
+class-requires : tie.Need-class-requires
+class-requires c κs = search needs
+
+-- src/front.rt:29:9
+allowed-requires : tie.Need-allowed-requires
+allowed-requires c κs = search needs
+
+-- src/front.rt:30:9
+returns : tie.Need-returns
+returns c = ?
+
+-- src/front.rt:32:20
+enum-known-n : tie.Need-enum-known-n
+enum-known-n c = search needs
+
+-- src/front.rt:33:9
+returns-2 : tie.Need-returns-2
+returns-2 c = ?
+
+-- src/front.rt:35:13
+add-a : tie.Need-add-a
+add-a c = search needs
+
+-- src/front.rt:36:17
+wide-requires : tie.Need-wide-requires
+wide-requires c κs = search needs
+
+-- src/front.rt:36:13
+add-e : tie.Need-add-e
+add-e c = search needs
+
+-- src/front.rt:37:8
+known-requires : tie.Need-known-requires
+known-requires c κs = ?
+
+-- src/front.rt:38:9
+same-length : tie.Need-same-length
+same-length c = search needs
+
+-- src/front.rt:38:9
+returns-3 : tie.Need-returns-3
+returns-3 c = ?
+
+-- src/front.rt:40:5
+enter-requires : tie.Need-enter-requires
+enter-requires c κs = ?
+
+-- src/front.rt:24:1
+same-length-2 : tie.Need-same-length-2
+same-length-2 c = search needs
+
+-- src/front.rt:24:1
+returns-4 : tie.Need-returns-4
+returns-4 c = ?
+
+pub next-spec : {M : Type 1} → statement M
+next-spec =
+    tie.close
+    (tie.spec
+    node-requires
+    class-requires
+    allowed-requires
+    returns
+    enum-known-n
+    returns-2
+    add-a
+    wide-requires
+    add-e
+    known-requires
+    same-length
+    returns-3
+    enter-requires
+    same-length-2
+    returns-4)

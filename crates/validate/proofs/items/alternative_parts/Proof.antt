@@ -1,0 +1,79 @@
+use borrow.Author.Needs.{needs}
+use Rattle.validate.proofs.items.alternative_parts.Statement.{statement}
+use Rattle.validate.proofs.items.alternative_parts.Tie as tie
+use Rattle.validate.proofs.items.alternative_parts.Reads as reads
+use Rattle.validate.proofs.items.alternative_parts.Lts as lts
+use Rattle.validate.proofs.command.commands.Reads as commands-reads
+use Rattle.validate.proofs.items.wide16.Reads as wide16-reads
+use Rattle.validate.proofs.items.wide8.Reads as wide8-reads
+use Rattle.validate.proofs.symbols.symbols.Reads as symbols-reads
+
+-- src/items.rt:41:47
+wide8-requires : tie.Need-wide8-requires
+wide8-requires c κs = search needs
+
+-- src/items.rt:41:11
+commands-requires : tie.Need-commands-requires
+commands-requires c κs = search needs
+
+-- src/items.rt:42:23
+enum-known-q : tie.Need-enum-known-q
+enum-known-q c = search needs
+
+-- src/items.rt:43:20
+enum-known-e : tie.Need-enum-known-e
+enum-known-e c = search needs
+
+-- src/items.rt:43:68
+wide8-requires-2 : tie.Need-wide8-requires-2
+wide8-requires-2 c κs = search needs
+
+-- src/items.rt:43:32
+commands-requires-2 : tie.Need-commands-requires-2
+commands-requires-2 c κs = search needs
+
+-- src/items.rt:44:27
+enum-known-q-2 : tie.Need-enum-known-q-2
+enum-known-q-2 c = search needs
+
+-- src/items.rt:45:24
+enum-known-d : tie.Need-enum-known-d
+enum-known-d c = search needs
+
+-- src/items.rt:45:56
+wide16-requires : tie.Need-wide16-requires
+wide16-requires c κs = search needs
+
+-- src/items.rt:45:30
+symbols-requires : tie.Need-symbols-requires
+symbols-requires c κs = search needs
+
+-- src/items.rt:37:1
+returns : tie.Need-returns
+returns c = ?
+
+-- src/items.rt:37:1
+returns-2 : tie.Need-returns-2
+returns-2 c = ?
+
+-- src/items.rt:37:1
+returns-3 : tie.Need-returns-3
+returns-3 c = ?
+
+pub alternative-parts-spec : {M : Type 1} → statement M
+alternative-parts-spec =
+    tie.close
+    (tie.spec
+    wide8-requires
+    commands-requires
+    enum-known-q
+    enum-known-e
+    wide8-requires-2
+    commands-requires-2
+    enum-known-q-2
+    enum-known-d
+    wide16-requires
+    symbols-requires
+    returns
+    returns-2
+    returns-3)

@@ -1,0 +1,63 @@
+use Rattle.validate.proofs.items.alternatives.Statement.{statement}
+use Rattle.validate.proofs.items.alternatives.Tie as tie
+use Rattle.validate.proofs.items.alternatives.Reads as reads
+use Rattle.validate.proofs.items.alternatives.Lts as lts
+use Rattle.validate.proofs.items.alternative.Reads as alternative-reads
+
+abbrev Inv-loop : tie.InvT-loop
+Inv-loop tape work m n at p₀ k₀ p k = ?
+
+abbrev μ-loop : tie.MeasureT-loop
+μ-loop tape work m n at p₀ k₀ p k = ?
+
+-- src/items.rt:73:5
+loop-holds : tie.Need-loop-holds Inv-loop μ-loop
+loop-holds c = ?
+
+-- src/items.rt:74:15
+alternative-requires : tie.Need-alternative-requires Inv-loop μ-loop
+alternative-requires c κs = ?
+
+-- src/items.rt:75:24
+enum-known-e : tie.Need-enum-known-e Inv-loop μ-loop
+enum-known-e c = ?
+
+-- src/items.rt:77:17
+sub-k : tie.Need-sub-k Inv-loop μ-loop
+sub-k c = ?
+
+-- src/items.rt:73:5
+loop-less : tie.Need-loop-less Inv-loop μ-loop
+loop-less c = ?
+
+-- src/items.rt:73:5
+loop-again : tie.Need-loop-again Inv-loop μ-loop
+loop-again c = ?
+
+-- src/items.rt:79:27
+enum-known-q : tie.Need-enum-known-q Inv-loop μ-loop
+enum-known-q c = ?
+
+-- src/items.rt:80:17
+returns : tie.Need-returns Inv-loop μ-loop
+returns c = ?
+
+-- src/items.rt:67:1
+returns-2 : tie.Need-returns-2 Inv-loop μ-loop
+returns-2 c = ?
+
+pub alternatives-spec : {M : Type 1} → statement M
+alternatives-spec =
+    tie.close
+    (tie.spec
+    Inv-loop
+    μ-loop
+    loop-holds
+    alternative-requires
+    enum-known-e
+    sub-k
+    loop-less
+    loop-again
+    enum-known-q
+    returns
+    returns-2)

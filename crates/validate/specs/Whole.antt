@@ -1,0 +1,38 @@
+-- What `validate` and `check` say of a tape. Assumes nothing: these are definitions.
+use mathlib.Core.Path.{_≡_}
+use mathlib.Core.Bool.{true}
+use mathlib.Core.List.{List}
+use Prim.Native.Nat.{ℕ, _*_}
+use lib.Dec.{leb}
+use lib.ListN.{length, replicate}
+use Rattle.octets.specs.Choice.{pick}
+use Rattle.parse_tree.specs.Tree.{Item, Stage}
+use Rattle.parse_tree.specs.Reading.{Reading, got, refused}
+use Rattle.parse_tree.specs.Decode.{decode, readItems}
+use Rattle.texts.specs.Atoms.{atomsOf}
+use Rattle.validate.specs.Steps.{Itemed}
+use Rattle.validate.specs.declared.Atoms.{Atoms}
+use Rattle.validate.specs.declared.Validated.{Validated}
+use Rattle.validate.specs.declared.Answer.{Answer}
+
+-- the tape holds these atoms, and items from a place on
+pub record Valid (s w : List ℕ) (m : Atoms) (at : ℕ) : Type 0 where
+  pub items : List Item
+  pub width : m .width ≡ 2
+  pub ready : Itemed s w m at
+  pub read : readItems true 2 s (atomsOf s (m .count)) (length s) at ≡ got items (length s)
+  pub decoded : decode s ≡ got (record { atoms = atomsOf s (m .count); items = items }) (length s)
+
+unfoldable pub Validates : List ℕ → Validated → List ℕ → Type 0
+Validates s (Validated.Valid m at) w = Valid s w m at
+Validates s (Validated.Refused q p) w = decode s ≡ refused q p
+
+-- the answer to a tape: the length, or the refusal 2, 3 or 4 with "the command's offset twice"
+unfoldable pub answerOf : Reading Stage → Answer
+answerOf (got g e) = Answer.Yes e
+answerOf (refused q p) = Answer.No q p p
+
+-- "Is work at least 8 × (tape + output) bytes? 1, work untouched"; there is no output here
+pub record Checked (s w : List ℕ) (r : Answer) (w′ : List ℕ) : Type 0 where
+  pub answered : r ≡ pick (leb (8 * length s) (length w)) (answerOf (decode s)) (Answer.No 1 0 0)
+  pub work : w′ ≡ pick (leb (8 * length s) (length w)) (replicate (length w) 0) w

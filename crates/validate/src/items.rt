@@ -1,0 +1,134 @@
+// Alternatives, nonterminals and the items of a tape.
+use crate::Asked;
+use crate::Atoms;
+use crate::Step;
+use crate::command::command;
+use crate::command::commands;
+use crate::symbols::symbols;
+use parse_tree::places::ALTERNATIVES;
+use parse_tree::places::ARGUMENTS;
+use parse_tree::places::ATTRIBUTES;
+use parse_tree::places::CONDITIONS;
+use parse_tree::places::ITEMS;
+use parse_tree::syntax::Alternative;
+use parse_tree::syntax::Node;
+use parse_tree::syntax::NonterminalData;
+ghost use mathlib.Core.Path.{_≡_};
+ghost use mathlib.Core.Bool.{true};
+ghost use lib.ListN.{length};
+ghost use Rattle.parse_tree.specs.Decode.{readAlternative, readItem, readItems};
+ghost use Rattle.parse_tree.specs.Reading.{times};
+ghost use Rattle.texts.specs.Atoms.{atomsOf};
+ghost use Rattle.validate.specs.Steps.{Itemed, Ready, alternativeParts, nonterminalParts, stepOf};
+
+fn wide8(x: u8) -> usize
+    ensures { λ r. ⌜ r ≡ x ⌝ }
+{
+    x as usize
+}
+
+fn wide16(x: u16) -> usize
+    ensures { λ r. ⌜ r ≡ x ⌝ }
+{
+    x as usize
+}
+
+// What stands behind the command of an alternative: attributes, condition, symbols.
+fn alternative_parts(tape: &[u8], work: &[u8], m: Atoms, a: Alternative, at: usize) -> Step
+    requires { ⌜ Ready (now tape) (now work) m ⌝ }
+    ensures { λ r. ⌜ r ≡ stepOf (alternativeParts (m .width) (now (tape .entry)) (atomsOf (now (tape .entry)) (m .count)) a at) ⌝ }
+{
+    match commands(tape, work, m, ATTRIBUTES, wide8(a.attributes), at) {
+        Step::Refused(q, p) => Step::Refused(q, p),
+        Step::Next(e) => match commands(tape, work, m, CONDITIONS, wide8(a.conditions), e) {
+            Step::Refused(q, p) => Step::Refused(q, p),
+            Step::Next(d) => symbols(tape, work, m, d, wide16(a.symbols), 64),
+        },
+    }
+}
+
+// The alternative at a place.
+fn alternative(tape: &[u8], work: &[u8], m: Atoms, at: usize) -> Step
+    requires { ⌜ Ready (now tape) (now work) m ⌝ }
+    ensures { λ r. ⌜ r ≡ stepOf (readAlternative true (m .width) (now (tape .entry)) (atomsOf (now (tape .entry)) (m .count)) at) ⌝ }
+{
+    match command(tape, work, m, ALTERNATIVES, 1, at) {
+        Asked::Refused(q, p) => Step::Refused(q, p),
+        Asked::Is(n, e) => {
+            let Node::Alternative(a) = n else {
+                return Step::Refused(2, at);
+            };
+            alternative_parts(tape, work, m, a, e)
+        }
+    }
+}
+
+// n alternatives, one behind another.
+fn alternatives(tape: &[u8], work: &[u8], m: Atoms, n: usize, at: usize) -> Step
+    requires { ⌜ Ready (now tape) (now work) m ⌝ }
+    ensures { λ r. ⌜ r ≡ stepOf (times (readAlternative true (m .width) (now (tape .entry)) (atomsOf (now (tape .entry)) (m .count))) n at) ⌝ }
+{
+    let mut p = at;
+    let mut k = n;
+    while 0 < k {
+        match alternative(tape, work, m, p) {
+            Step::Next(e) => {
+                p = e;
+                k -= 1;
+            }
+            Step::Refused(q, w) => {
+                return Step::Refused(q, w);
+            }
+        }
+    }
+    Step::Next(p)
+}
+
+// What stands behind the command of a nonterminal: arguments, alternatives.
+fn nonterminal_parts(tape: &[u8], work: &[u8], m: Atoms, d: NonterminalData, at: usize) -> Step
+    requires { ⌜ Ready (now tape) (now work) m ⌝ }
+    ensures { λ r. ⌜ r ≡ stepOf (nonterminalParts (m .width) (now (tape .entry)) (atomsOf (now (tape .entry)) (m .count)) d at) ⌝ }
+{
+    match commands(tape, work, m, ARGUMENTS, wide8(d.args), at) {
+        Step::Refused(q, p) => Step::Refused(q, p),
+        Step::Next(e) => alternatives(tape, work, m, wide16(d.alternatives), e),
+    }
+}
+
+// The item at a place.
+fn item(tape: &[u8], work: &[u8], m: Atoms, at: usize) -> Step
+    requires { ⌜ Ready (now tape) (now work) m ⌝ }
+    ensures { λ r. ⌜ r ≡ stepOf (readItem true (m .width) (now (tape .entry)) (atomsOf (now (tape .entry)) (m .count)) at) ⌝ }
+{
+    match command(tape, work, m, ITEMS, 1, at) {
+        Asked::Refused(q, p) => Step::Refused(q, p),
+        Asked::Is(n, e) => {
+            if let Node::Terminal(_) = n {
+                return Step::Next(e);
+            }
+            let Node::Nonterminal(d) = n else {
+                return Step::Refused(2, at);
+            };
+            nonterminal_parts(tape, work, m, d, e)
+        }
+    }
+}
+
+// The items from a place to the tape's end.
+pub fn items(tape: &[u8], work: &[u8], m: Atoms, at: usize) -> Step
+    requires { ⌜ Itemed (now tape) (now work) m at ⌝ }
+    ensures { λ r. ⌜ r ≡ stepOf (readItems true (m .width) (now (tape .entry)) (atomsOf (now (tape .entry)) (m .count)) (length (now (tape .entry))) at) ⌝ }
+{
+    let mut p = at;
+    while p < tape.len() {
+        match item(tape, work, m, p) {
+            Step::Next(e) => {
+                p = e;
+            }
+            Step::Refused(q, w) => {
+                return Step::Refused(q, w);
+            }
+        }
+    }
+    Step::Next(p)
+}
