@@ -1,11 +1,9 @@
 -- How many bytes each command has. Assumes nothing.
-use mathlib.Core.Path.{_≡_, refl, sym, ap, _∙_}
-use mathlib.Core.List.{List, [], _∷_, _++_}
-use Prim.Native.Nat.{ℕ, suc, _+_, _≤_}
+use mathlib.Core.Path.{_≡_}
+use Prim.Native.Nat.{ℕ, _+_}
 use native.Mathlib.Omega.{arith}
 use borrow.Author.Needs.{needs}
 use lib.ListN.{length, length-append}
-use Rattle.octets.specs.Numbers.{le}
 use Rattle.octets.proofs.Numbering.{length-le}
 use Rattle.parse_tree.specs.Nodes.{spanBytes, leafOperand, symbolBytes, nodeBytes, sizeOf}
 use Rattle.parse_tree.specs.declared.syntax.Span.{Span}
