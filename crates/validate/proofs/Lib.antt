@@ -5,3 +5,6 @@ pub mod Onward
 pub mod Commanding
 mod Walking
 mod Others
+mod Fronting
+mod Gathering
+mod Wholes

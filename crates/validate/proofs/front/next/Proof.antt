@@ -1,3 +1,4 @@
+use Rattle.validate.proofs.Fronting.{nexts}
 use borrow.Author.Needs.{needs}
 use Rattle.validate.proofs.front.next.Statement.{statement}
 use Rattle.validate.proofs.front.next.Tie as tie
@@ -24,7 +25,7 @@ allowed-requires c κs = search needs
 
 -- src/front.rt:30:9
 returns : tie.Need-returns
-returns c = ?
+returns c = search nexts
 
 -- src/front.rt:32:20
 enum-known-n : tie.Need-enum-known-n
@@ -32,7 +33,7 @@ enum-known-n c = search needs
 
 -- src/front.rt:33:9
 returns-2 : tie.Need-returns-2
-returns-2 c = ?
+returns-2 c = search nexts
 
 -- src/front.rt:35:13
 add-a : tie.Need-add-a
@@ -48,7 +49,7 @@ add-e c = search needs
 
 -- src/front.rt:37:8
 known-requires : tie.Need-known-requires
-known-requires c κs = ?
+known-requires c κs = search nexts
 
 -- src/front.rt:38:9
 same-length : tie.Need-same-length
@@ -56,11 +57,11 @@ same-length c = search needs
 
 -- src/front.rt:38:9
 returns-3 : tie.Need-returns-3
-returns-3 c = ?
+returns-3 c = search nexts
 
 -- src/front.rt:40:5
 enter-requires : tie.Need-enter-requires
-enter-requires c κs = ?
+enter-requires c κs = search nexts
 
 -- src/front.rt:24:1
 same-length-2 : tie.Need-same-length-2
@@ -68,7 +69,7 @@ same-length-2 c = search needs
 
 -- src/front.rt:24:1
 returns-4 : tie.Need-returns-4
-returns-4 c = ?
+returns-4 c = search nexts
 
 pub next-spec : {M : Type 1} → statement M
 next-spec =

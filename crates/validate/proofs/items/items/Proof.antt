@@ -1,0 +1,58 @@
+use Rattle.validate.proofs.items.items.Statement.{statement}
+use Rattle.validate.proofs.items.items.Tie as tie
+use Rattle.validate.proofs.items.items.Reads as reads
+use Rattle.validate.proofs.items.items.Lts as lts
+use Rattle.validate.proofs.items.item.Reads as item-reads
+
+abbrev Inv-loop : tie.InvT-loop
+Inv-loop tape work m at p₀ p = ?
+
+abbrev μ-loop : tie.MeasureT-loop
+μ-loop tape work m at p₀ p = ?
+
+-- src/items.rt:123:5
+loop-holds : tie.Need-loop-holds Inv-loop μ-loop
+loop-holds c = ?
+
+-- src/items.rt:124:15
+item-requires : tie.Need-item-requires Inv-loop μ-loop
+item-requires c κs = ?
+
+-- src/items.rt:125:24
+enum-known-e : tie.Need-enum-known-e Inv-loop μ-loop
+enum-known-e c = ?
+
+-- src/items.rt:123:5
+loop-less : tie.Need-loop-less Inv-loop μ-loop
+loop-less c = ?
+
+-- src/items.rt:123:5
+loop-again : tie.Need-loop-again Inv-loop μ-loop
+loop-again c = ?
+
+-- src/items.rt:128:27
+enum-known-q : tie.Need-enum-known-q Inv-loop μ-loop
+enum-known-q c = ?
+
+-- src/items.rt:129:17
+returns : tie.Need-returns Inv-loop μ-loop
+returns c = ?
+
+-- src/items.rt:118:1
+returns-2 : tie.Need-returns-2 Inv-loop μ-loop
+returns-2 c = ?
+
+pub items-spec : {M : Type 1} → statement M
+items-spec =
+    tie.close
+    (tie.spec
+    Inv-loop
+    μ-loop
+    loop-holds
+    item-requires
+    enum-known-e
+    loop-less
+    loop-again
+    enum-known-q
+    returns
+    returns-2)

@@ -1,0 +1,54 @@
+use borrow.Author.Needs.{needs}
+use Rattle.validate.proofs.items.nonterminal_parts.Statement.{statement}
+use Rattle.validate.proofs.items.nonterminal_parts.Tie as tie
+use Rattle.validate.proofs.items.nonterminal_parts.Reads as reads
+use Rattle.validate.proofs.items.nonterminal_parts.Lts as lts
+use Rattle.validate.proofs.command.commands.Reads as commands-reads
+use Rattle.validate.proofs.items.alternatives.Reads as alternatives-reads
+use Rattle.validate.proofs.items.wide16.Reads as wide16-reads
+use Rattle.validate.proofs.items.wide8.Reads as wide8-reads
+
+-- src/items.rt:92:46
+wide8-requires : tie.Need-wide8-requires
+wide8-requires c κs = search needs
+
+-- src/items.rt:92:11
+commands-requires : tie.Need-commands-requires
+commands-requires c κs = search needs
+
+-- src/items.rt:93:23
+enum-known-q : tie.Need-enum-known-q
+enum-known-q c = search needs
+
+-- src/items.rt:94:20
+enum-known-e : tie.Need-enum-known-e
+enum-known-e c = search needs
+
+-- src/items.rt:94:54
+wide16-requires : tie.Need-wide16-requires
+wide16-requires c κs = search needs
+
+-- src/items.rt:94:26
+alternatives-requires : tie.Need-alternatives-requires
+alternatives-requires c κs = search needs
+
+-- src/items.rt:88:1
+returns : tie.Need-returns
+returns c = ?
+
+-- src/items.rt:88:1
+returns-2 : tie.Need-returns-2
+returns-2 c = ?
+
+pub nonterminal-parts-spec : {M : Type 1} → statement M
+nonterminal-parts-spec =
+    tie.close
+    (tie.spec
+    wide8-requires
+    commands-requires
+    enum-known-q
+    enum-known-e
+    wide16-requires
+    alternatives-requires
+    returns
+    returns-2)
