@@ -1,7 +1,7 @@
 -- The ways out of `validate` and `check`. Assumes nothing.
 use mathlib.Core.Path.{_≡_, refl, sym, ap, _∙_}
 use mathlib.Core.Bool.{Bool, true, false}
-use mathlib.Core.List.{List, []}
+use mathlib.Core.List.{List, [], _∷_}
 use Prim.Native.Nat.{ℕ, _+_, _*_, _/_, _<_, _≤_}
 use native.Mathlib.Omega.{arith}
 use borrow.Author.Needs.{needs}
@@ -18,7 +18,7 @@ use Rattle.parse_tree.proofs.Written.{written}
 use Rattle.texts.specs.Atoms.{atomsOf}
 use Rattle.validate.specs.Steps.{Ready, Itemed, stepOf}
 use Rattle.validate.specs.Front.{Front, All, Fronted}
-use Rattle.validate.specs.Whole.{Valid, Validates, answerOf, Checked}
+use Rattle.validate.specs.Whole.{Valid, Validates, answerOf, checked, cleared, answerWords, Checked, Exported}
 use Rattle.validate.specs.declared.Atoms.{Atoms}
 use Rattle.validate.specs.declared.Step.{Step}
 use Rattle.validate.specs.declared.Entered.{Entered}
@@ -74,7 +74,7 @@ pub ruleset wholes = (needs, atoms-refused, items-ready, items-refused, items-va
 
 -- ---- `check`
 pub check-short : (s w : List ℕ) → length w / 8 < length s → Checked s w (Answer.No 1 0 0) w
-unfolding pick
+unfolding checked cleared pick
 check-short s w h = let z = lt-leb (8 * length s) (length w) (omega arith) in record { answered = simp z; work = simp z }
 
 module _ (s w w1 w2 : List ℕ) (v : Validated) (h : length s ≤ length w / 8) (i : Validates s v w1) (l : length w1 ≡ length w) (c : w2 ≡ replicate (length w1) 0) where
@@ -82,15 +82,27 @@ module _ (s w w1 w2 : List ℕ) (v : Validated) (h : length s ≤ length w / 8) 
   enough = le-leb (8 * length s) (length w) (omega arith)
 
   pub check-refused : (q p : ℕ) → v ≡ Validated.Refused q p → Checked s w (Answer.No q p p) w2
-  unfolding Validates answerOf pick
+  unfolding Validates answerOf checked cleared pick
   check-refused q p e =
       let z : decode s ≡ refused q p = rw e at i in
       record { answered = simp (enough, z); work = simp (enough, c, l) }
 
   pub check-valid : (m : Atoms) (at : ℕ) → v ≡ Validated.Valid m at → Checked s w (Answer.Yes (length s)) w2
-  unfolding Validates answerOf pick
+  unfolding Validates answerOf checked cleared pick
   check-valid m at e =
       let z : Valid s w1 m at = rw e at i in
       record { answered = simp (enough, z .decoded); work = simp (enough, c, l) }
 
 pub ruleset checks = (needs, check-short, check-refused, check-valid)
+
+-- ---- the export: the words of an answer
+module _ (s w : List ℕ) (r : Answer) (w′ : List ℕ) (c : Checked s w r w′) where
+  pub words-yes : (n m : ℕ) → r ≡ Answer.Yes n → m ≡ n → Exported s w (1 ∷ m ∷ 0 ∷ 0 ∷ []) w′
+  unfolding answerWords
+  words-yes n m e p = record { answered = cc (c .answered); work = c .work }
+
+  pub words-no : (q k a b x y : ℕ) → r ≡ Answer.No q a b → k ≡ q → x ≡ a → y ≡ b → Exported s w (0 ∷ k ∷ x ∷ y ∷ []) w′
+  unfolding answerWords
+  words-no q k a b x y e p t u = record { answered = cc (c .answered); work = c .work }
+
+pub ruleset exports = (needs, words-yes, words-no)

@@ -1,7 +1,7 @@
 -- What `validate` and `check` say of a tape. Assumes nothing: these are definitions.
 use mathlib.Core.Path.{_≡_}
 use mathlib.Core.Bool.{true}
-use mathlib.Core.List.{List}
+use mathlib.Core.List.{List, [], _∷_}
 use Prim.Native.Nat.{ℕ, _*_}
 use lib.Dec.{leb}
 use lib.ListN.{length, replicate}
@@ -32,7 +32,23 @@ unfoldable pub answerOf : Reading Stage → Answer
 answerOf (got g e) = Answer.Yes e
 answerOf (refused q p) = Answer.No q p p
 
--- "Is work at least 8 × (tape + output) bytes? 1, work untouched"; there is no output here
+-- "Is work at least 8 × (tape + output) bytes? 1, work untouched"; there is no output here, and n bytes of work
+unfoldable pub checked : List ℕ → ℕ → Answer
+checked s n = pick (leb (8 * length s) n) (answerOf (decode s)) (Answer.No 1 0 0)
+
+-- work is zero after every call that found it long enough
+unfoldable pub cleared : List ℕ → List ℕ → List ℕ
+cleared s w = pick (leb (8 * length s) (length w)) (replicate (length w) 0) w
+
 pub record Checked (s w : List ℕ) (r : Answer) (w′ : List ℕ) : Type 0 where
-  pub answered : r ≡ pick (leb (8 * length s) (length w)) (answerOf (decode s)) (Answer.No 1 0 0)
-  pub work : w′ ≡ pick (leb (8 * length s) (length w)) (replicate (length w) 0) w
+  pub answered : r ≡ checked s (length w)
+  pub work : w′ ≡ cleared s w
+
+-- an answer in four words: 1, the length, 0, 0; or 0, the number, the place
+unfoldable pub answerWords : Answer → List ℕ
+answerWords (Answer.Yes n) = 1 ∷ n ∷ 0 ∷ 0 ∷ []
+answerWords (Answer.No q a b) = 0 ∷ q ∷ a ∷ b ∷ []
+
+pub record Exported (s w words w′ : List ℕ) : Type 0 where
+  pub answered : words ≡ answerWords (checked s (length w))
+  pub work : w′ ≡ cleared s w

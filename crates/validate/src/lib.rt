@@ -3,6 +3,7 @@ use parse_tree::syntax::Node;
 
 pub mod command;
 pub mod entry;
+pub mod export;
 pub mod front;
 pub mod items;
 pub mod questions;
