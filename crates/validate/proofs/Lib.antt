@@ -8,3 +8,5 @@ mod Others
 mod Fronting
 mod Gathering
 mod Wholes
+mod Alike
+mod Parting

@@ -1,3 +1,4 @@
+use Rattle.validate.proofs.Parting.{alternative}
 use borrow.Author.Needs.{needs}
 use Rattle.validate.proofs.items.alternative.Statement.{statement}
 use Rattle.validate.proofs.items.alternative.Tie as tie
@@ -24,7 +25,7 @@ enum-known-n-2 c = search needs
 
 -- src/items.rt:59:17
 returns : tie.Need-returns
-returns c = ?
+returns c = search alternative
 
 -- src/items.rt:61:13
 alternative-parts-requires : tie.Need-alternative-parts-requires
@@ -32,11 +33,11 @@ alternative-parts-requires c κs = search needs
 
 -- src/items.rt:51:1
 returns-2 : tie.Need-returns-2
-returns-2 c = ?
+returns-2 c = search alternative
 
 -- src/items.rt:51:1
 returns-3 : tie.Need-returns-3
-returns-3 c = ?
+returns-3 c = search alternative
 
 pub alternative-spec : {M : Type 1} → statement M
 alternative-spec =

@@ -1,3 +1,4 @@
+use Rattle.validate.proofs.Parting.{alternative-parts}
 use borrow.Author.Needs.{needs}
 use Rattle.validate.proofs.items.alternative_parts.Statement.{statement}
 use Rattle.validate.proofs.items.alternative_parts.Tie as tie
@@ -50,15 +51,15 @@ symbols-requires c κs = search needs
 
 -- src/items.rt:37:1
 returns : tie.Need-returns
-returns c = ?
+returns c = search alternative-parts
 
 -- src/items.rt:37:1
 returns-2 : tie.Need-returns-2
-returns-2 c = ?
+returns-2 c = search alternative-parts
 
 -- src/items.rt:37:1
 returns-3 : tie.Need-returns-3
-returns-3 c = ?
+returns-3 c = search alternative-parts
 
 pub alternative-parts-spec : {M : Type 1} → statement M
 alternative-parts-spec =
