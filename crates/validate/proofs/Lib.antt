@@ -10,3 +10,4 @@ mod Gathering
 mod Wholes
 mod Alike
 mod Parting
+mod Itemizing

@@ -1,4 +1,4 @@
--- Where `let .. else` finds another kind of command than the one wanted, the answer is 2. Assumes nothing.
+-- Where `let .. else` or a match finds another kind of command than the one wanted, the answer is 2. Assumes nothing.
 use mathlib.Core.Path.{_≡_, refl}
 use mathlib.Core.List.{List, [], _∷_}
 use Prim.Native.Nat.{ℕ}
@@ -38,3 +38,15 @@ module _ {B : Type 0} (at e : ℕ) where
   no-alternative f (Node.Condition c) h = refl
   no-alternative f (Node.Symbol s k) h = refl
   no-alternative f Node.Unknown h = refl
+
+  pub no-item : (f : NonterminalData → ℕ → Reading B) (g : TerminalData → ℕ → Reading B) (n : Node) → OneOf (0 ∷ 3 ∷ 4 ∷ 5 ∷ 6 ∷ 7 ∷ 8 ∷ []) (tagOf the-type n) → expectItem at f g n e ≡ refused 2 at
+  unfolding expectItem
+  no-item f g (Node.Text k) h = refl
+  no-item f g (Node.Nonterminal d) h = absurd (miss (0 ∷ 3 ∷ 4 ∷ 5 ∷ 6 ∷ 7 ∷ 8 ∷ []) 1 tt h)
+  no-item f g (Node.Terminal t) h = absurd (miss (0 ∷ 3 ∷ 4 ∷ 5 ∷ 6 ∷ 7 ∷ 8 ∷ []) 2 tt h)
+  no-item f g (Node.Argument a) h = refl
+  no-item f g (Node.Alternative a) h = refl
+  no-item f g (Node.Attribute a) h = refl
+  no-item f g (Node.Condition c) h = refl
+  no-item f g (Node.Symbol s k) h = refl
+  no-item f g Node.Unknown h = refl

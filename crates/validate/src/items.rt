@@ -102,15 +102,11 @@ fn item(tape: &[u8], work: &[u8], m: Atoms, at: usize) -> Step
 {
     match command(tape, work, m, ITEMS, 1, at) {
         Asked::Refused(q, p) => Step::Refused(q, p),
-        Asked::Is(n, e) => {
-            if let Node::Terminal(_) = n {
-                return Step::Next(e);
-            }
-            let Node::Nonterminal(d) = n else {
-                return Step::Refused(2, at);
-            };
-            nonterminal_parts(tape, work, m, d, e)
-        }
+        Asked::Is(n, e) => match n {
+            Node::Terminal(_) => Step::Next(e),
+            Node::Nonterminal(d) => nonterminal_parts(tape, work, m, d, e),
+            _ => Step::Refused(2, at),
+        },
     }
 }
 
