@@ -98,7 +98,7 @@ module _ (s : List ℕ) (w atoms p : ℕ) (x : Step) (inv : Left s w atoms p x) 
     where
       go : (n : ℕ) → stepOf (readItems true w s (atomsOf s atoms) n p) ≡ x → Step.Next p ≡ x
       go zero z = z
-      go (suc n) z = rw (le-leb (length s) p h) at z
+      go (suc n) z = cc (le-leb (length s) p h)
 
   -- r is the step over the next item
   module _ (h : p < length s) (r : Step) (i : r ≡ stepOf (readItem true w s (atomsOf s atoms) p)) where
@@ -108,7 +108,7 @@ module _ (s : List ℕ) (w atoms p : ℕ) (x : Step) (inv : Left s w atoms p x) 
       where
         go : (n : ℕ) → length s ≤ p + n → readItems true w s (atomsOf s atoms) n p ≡ then (readItem true w s (atomsOf s atoms) p) (λ y e. then (readItems true w s (atomsOf s atoms) (n - 1) e) (λ ys d. got (y ∷ ys) d))
         go zero z = absurd (omega arith)
-        go (suc n) z = let q : suc n - 1 ≡ n = omega arith in rw (lt-leb (length s) p h, q)
+        go (suc n) z = let q : suc n - 1 ≡ n = omega arith in rw q (cc (lt-leb (length s) p h))
 
     pub items-stop : (q v : ℕ) → r ≡ Step.Refused q v → Step.Refused q v ≡ x
     items-stop q v u = step-off (readItem true w s (atomsOf s atoms) p) _ q v (sym u ∙ i) ∙ sym (ap stepOf opened) ∙ inv .rest
