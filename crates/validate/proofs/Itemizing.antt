@@ -122,7 +122,7 @@ module _ (s : List ℕ) (w atoms p : ℕ) (x : Step) (inv : Left s w atoms p x) 
         fuel = inv .fuel - 1;
         enough = omega (arith, inv .enough, behind .0);
         rest = step-on (readItem true w s (atomsOf s atoms) p) (λ y e. then (readItems true w s (atomsOf s atoms) (inv .fuel - 1) e) (λ ys d. got (y ∷ ys) d)) e (stepOf (readItems true w s (atomsOf s atoms) (inv .fuel - 1) e)) (sym u ∙ i)
-        (λ y. sym (step-then (readItems true w s (atomsOf s atoms) (inv .fuel - 1) e) (λ ys. y ∷ ys))) ∙ sym (ap stepOf opened) ∙ inv .rest;
+            (λ y. sym (step-then (readItems true w s (atomsOf s atoms) (inv .fuel - 1) e) (λ ys. y ∷ ys))) ∙ sym (ap stepOf opened) ∙ inv .rest;
         inside = behind .1;
       }
 

@@ -1,7 +1,4 @@
-<<<<<<< HEAD
 use Rattle.validate.proofs.Wholes.{checks}
-=======
->>>>>>> 74302b4 (validate: nonterminal_parts and item, proved)
 use borrow.Author.Needs.{needs}
 use Rattle.validate.proofs.entry.check.Statement.{statement}
 use Rattle.validate.proofs.entry.check.Tie as tie
@@ -12,11 +9,7 @@ use Rattle.validate.proofs.entry.validate.Reads as validate-reads
 
 -- src/entry.rt:43:9
 returns : tie.Need-returns
-<<<<<<< HEAD
 returns c = search checks
-=======
-returns c = ?
->>>>>>> 74302b4 (validate: nonterminal_parts and item, proved)
 
 -- src/entry.rt:45:9
 validate-requires : tie.Need-validate-requires
@@ -40,11 +33,7 @@ same-length c = search needs
 
 -- src/entry.rt:39:1
 returns-2 : tie.Need-returns-2
-<<<<<<< HEAD
 returns-2 c = search checks
-=======
-returns-2 c = ?
->>>>>>> 74302b4 (validate: nonterminal_parts and item, proved)
 
 -- src/entry.rt:39:1
 same-length-2 : tie.Need-same-length-2
@@ -52,11 +41,7 @@ same-length-2 c = search needs
 
 -- src/entry.rt:39:1
 returns-3 : tie.Need-returns-3
-<<<<<<< HEAD
 returns-3 c = search checks
-=======
-returns-3 c = ?
->>>>>>> 74302b4 (validate: nonterminal_parts and item, proved)
 
 pub check-spec : {M : Type 1} → statement M
 check-spec =

@@ -1,7 +1,4 @@
-<<<<<<< HEAD
 use Rattle.validate.proofs.Wholes.{wholes}
-=======
->>>>>>> 74302b4 (validate: nonterminal_parts and item, proved)
 use borrow.Author.Needs.{needs}
 use Rattle.validate.proofs.entry.validate.Statement.{statement}
 use Rattle.validate.proofs.entry.validate.Tie as tie
@@ -24,11 +21,7 @@ enum-known-k c = search needs
 
 -- src/entry.rt:30:19
 items-requires : tie.Need-items-requires
-<<<<<<< HEAD
 items-requires c κs = search wholes
-=======
-items-requires c κs = ?
->>>>>>> 74302b4 (validate: nonterminal_parts and item, proved)
 
 -- src/entry.rt:31:31
 enum-known-q-2 : tie.Need-enum-known-q-2
@@ -44,11 +37,7 @@ same-length c = search needs
 
 -- src/entry.rt:17:1
 returns : tie.Need-returns
-<<<<<<< HEAD
 returns c = search wholes
-=======
-returns c = ?
->>>>>>> 74302b4 (validate: nonterminal_parts and item, proved)
 
 -- src/entry.rt:17:1
 same-length-2 : tie.Need-same-length-2
@@ -56,11 +45,7 @@ same-length-2 c = search needs
 
 -- src/entry.rt:17:1
 returns-2 : tie.Need-returns-2
-<<<<<<< HEAD
 returns-2 c = search wholes
-=======
-returns-2 c = ?
->>>>>>> 74302b4 (validate: nonterminal_parts and item, proved)
 
 -- src/entry.rt:17:1
 same-length-3 : tie.Need-same-length-3
@@ -68,11 +53,7 @@ same-length-3 c = search needs
 
 -- src/entry.rt:17:1
 returns-3 : tie.Need-returns-3
-<<<<<<< HEAD
 returns-3 c = search wholes
-=======
-returns-3 c = ?
->>>>>>> 74302b4 (validate: nonterminal_parts and item, proved)
 
 pub validate-spec : {M : Type 1} → statement M
 validate-spec =

@@ -1,7 +1,4 @@
-<<<<<<< HEAD
-=======
 use Rattle.validate.proofs.Itemizing.{item}
->>>>>>> 74302b4 (validate: nonterminal_parts and item, proved)
 use borrow.Author.Needs.{needs}
 use Rattle.validate.proofs.items.item.Statement.{statement}
 use Rattle.validate.proofs.items.item.Tie as tie
@@ -22,25 +19,6 @@ enum-known-q c = search needs
 enum-known-n : tie.Need-enum-known-n
 enum-known-n c = search needs
 
-<<<<<<< HEAD
--- src/items.rt:107:17
-enum-told : tie.Need-enum-told
-enum-told c = search needs
-
--- src/items.rt:107:17
-returns : tie.Need-returns
-returns c = ?
-
--- src/items.rt:109:35
-enum-known-n-2 : tie.Need-enum-known-n-2
-enum-known-n-2 c = search needs
-
--- src/items.rt:110:17
-returns-2 : tie.Need-returns-2
-returns-2 c = ?
-
--- src/items.rt:112:13
-=======
 -- src/items.rt:106:34
 enum-told : tie.Need-enum-told
 enum-told c = search needs
@@ -50,19 +28,10 @@ enum-known-n-2 : tie.Need-enum-known-n-2
 enum-known-n-2 c = search needs
 
 -- src/items.rt:107:37
->>>>>>> 74302b4 (validate: nonterminal_parts and item, proved)
 nonterminal-parts-requires : tie.Need-nonterminal-parts-requires
 nonterminal-parts-requires c κs = search needs
 
 -- src/items.rt:99:1
-<<<<<<< HEAD
-returns-3 : tie.Need-returns-3
-returns-3 c = ?
-
--- src/items.rt:99:1
-returns-4 : tie.Need-returns-4
-returns-4 c = ?
-=======
 returns : tie.Need-returns
 returns c = search item
 
@@ -77,7 +46,6 @@ returns-3 c = search item
 -- src/items.rt:99:1
 returns-4 : tie.Need-returns-4
 returns-4 c = search item
->>>>>>> 74302b4 (validate: nonterminal_parts and item, proved)
 
 pub item-spec : {M : Type 1} → statement M
 item-spec =
@@ -87,16 +55,9 @@ item-spec =
     enum-known-q
     enum-known-n
     enum-told
-<<<<<<< HEAD
-    returns
-    enum-known-n-2
-    returns-2
-    nonterminal-parts-requires
-=======
     enum-known-n-2
     nonterminal-parts-requires
     returns
     returns-2
->>>>>>> 74302b4 (validate: nonterminal_parts and item, proved)
     returns-3
     returns-4)

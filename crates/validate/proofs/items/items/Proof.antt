@@ -1,5 +1,3 @@
-<<<<<<< HEAD
-=======
 use Rattle.validate.specs.Steps.{stepOf}
 use Rattle.texts.specs.Atoms.{atomsOf}
 use Rattle.parse_tree.specs.Decode.{readItems}
@@ -7,7 +5,6 @@ use mathlib.Core.Bool.{true}
 use lib.ListN.{length}
 use Prim.Native.Nat.{_-_}
 use Rattle.validate.proofs.Itemizing.{Left, items}
->>>>>>> 74302b4 (validate: nonterminal_parts and item, proved)
 use Rattle.validate.proofs.items.items.Statement.{statement}
 use Rattle.validate.proofs.items.items.Tie as tie
 use Rattle.validate.proofs.items.items.Reads as reads
@@ -15,44 +12,6 @@ use Rattle.validate.proofs.items.items.Lts as lts
 use Rattle.validate.proofs.items.item.Reads as item-reads
 
 abbrev Inv-loop : tie.InvT-loop
-<<<<<<< HEAD
-Inv-loop tape work m at p₀ p = ?
-
-abbrev μ-loop : tie.MeasureT-loop
-μ-loop tape work m at p₀ p = ?
-
--- src/items.rt:123:5
-loop-holds : tie.Need-loop-holds Inv-loop μ-loop
-loop-holds c = ?
-
--- src/items.rt:124:15
-item-requires : tie.Need-item-requires Inv-loop μ-loop
-item-requires c κs = ?
-
--- src/items.rt:125:24
-enum-known-e : tie.Need-enum-known-e Inv-loop μ-loop
-enum-known-e c = ?
-
--- src/items.rt:123:5
-loop-less : tie.Need-loop-less Inv-loop μ-loop
-loop-less c = ?
-
--- src/items.rt:123:5
-loop-again : tie.Need-loop-again Inv-loop μ-loop
-loop-again c = ?
-
--- src/items.rt:128:27
-enum-known-q : tie.Need-enum-known-q Inv-loop μ-loop
-enum-known-q c = ?
-
--- src/items.rt:129:17
-returns : tie.Need-returns Inv-loop μ-loop
-returns c = ?
-
--- src/items.rt:118:1
-returns-2 : tie.Need-returns-2 Inv-loop μ-loop
-returns-2 c = ?
-=======
 Inv-loop tape work m at p₀ p = Left tape (m .width) (m .count) p (stepOf (readItems true (m .width) tape (atomsOf tape (m .count)) (length tape) at))
 
 abbrev μ-loop : tie.MeasureT-loop
@@ -89,7 +48,6 @@ returns c = search items
 -- src/items.rt:118:1
 returns-2 : tie.Need-returns-2 Inv-loop μ-loop
 returns-2 c = search items
->>>>>>> 74302b4 (validate: nonterminal_parts and item, proved)
 
 pub items-spec : {M : Type 1} → statement M
 items-spec =

@@ -1,7 +1,4 @@
-<<<<<<< HEAD
-=======
 use Rattle.validate.proofs.Itemizing.{nonterminal-parts}
->>>>>>> 74302b4 (validate: nonterminal_parts and item, proved)
 use borrow.Author.Needs.{needs}
 use Rattle.validate.proofs.items.nonterminal_parts.Statement.{statement}
 use Rattle.validate.proofs.items.nonterminal_parts.Tie as tie
@@ -38,19 +35,11 @@ alternatives-requires c κs = search needs
 
 -- src/items.rt:88:1
 returns : tie.Need-returns
-<<<<<<< HEAD
-returns c = ?
-
--- src/items.rt:88:1
-returns-2 : tie.Need-returns-2
-returns-2 c = ?
-=======
 returns c = search nonterminal-parts
 
 -- src/items.rt:88:1
 returns-2 : tie.Need-returns-2
 returns-2 c = search nonterminal-parts
->>>>>>> 74302b4 (validate: nonterminal_parts and item, proved)
 
 pub nonterminal-parts-spec : {M : Type 1} → statement M
 nonterminal-parts-spec =
