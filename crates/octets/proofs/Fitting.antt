@@ -1,18 +1,17 @@
 -- Where everything fits a lay is a store, and is read back. Assumes nothing.
-use mathlib.Core.Path.{_≡_, refl, sym, ap, _∙_}
-use mathlib.Core.Bool.{Bool, true, false}
+use mathlib.Core.Path.{_≡_, refl, _∙_}
 use mathlib.Core.Logic.{_⊎_, inl, inr}
 use mathlib.Core.List.{List, [], _∷_, _++_, append-assoc}
 use Prim.Native.Nat.{ℕ, zero, suc, _+_, _-_, _<_, _≤_}
 use native.Mathlib.Omega.{arith}
 use native.Mathlib.Numerals.{add-one}
-use borrow.Author.Tests.{lt-ltb, le-ltb, ltb-true, ltb-false}
+use borrow.Author.Tests.{lt-ltb, le-ltb, ltb-true}
 use lib.Dec.{ltb}
 use lib.ListN.{length, set, take, drop, length-set}
-use lib.Seq.{take-set-le, drop-set-lt, drop-set-add, drop-at, length-take-le, take-append-seam}
+use lib.Seq.{drop-at, length-take-le, take-append-seam}
 use Rattle.octets.specs.Choice.{pick}
 use Rattle.octets.specs.Stores.{store}
-use Rattle.octets.specs.Sink.{step, adv, lay1, lay, Laid}
+use Rattle.octets.specs.Sink.{step, adv, lay1, lay}
 use Rattle.octets.proofs.Choices.{by-pick}
 use Rattle.octets.proofs.Storing.{store-is}
 

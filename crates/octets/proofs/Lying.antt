@@ -9,7 +9,6 @@ use lib.ListN.{length, getD, take, drop, length-append, length-drop, take-append
 use lib.Seq.{drop-cons, drop-drop, drop-append-seam, take-append-seam, length-take-le}
 use Rattle.octets.specs.Numbers.{leAt, le, Bytes}
 use Rattle.octets.specs.Runs.{part, Lies}
-use Rattle.octets.proofs.Numbering.{length-le}
 
 pub lies-none : (s : List ℕ) (a : ℕ) → Lies s a [] a
 lies-none s a = record { is = refl; end = omega arith }

@@ -1,5 +1,5 @@
 -- The laws of `part`; and of a part of a slice that was lent, `&mut s[a..]`: what was lent, and what the whole is once the part is back. Assumes nothing.
-use mathlib.Core.Path.{_≡_, refl, sym, ap, _∙_}
+use mathlib.Core.Path.{_≡_}
 use mathlib.Core.List.{List, [], _∷_, _++_, append-nil}
 use Prim.Native.Nat.{ℕ, suc, _+_, _-_, _<_, _≤_}
 use native.Mathlib.Omega.{arith}

@@ -1,19 +1,19 @@
 -- A tree with every command, computed to its tape and back.
 use mathlib.Core.Path.{_≡_, refl}
-use mathlib.Core.Bool.{Bool, true, false, _&&_, _||_, not}
-use mathlib.Core.List.{List, [], _∷_, _++_}
-use mathlib.Core.Option.{Option, none, some}
-use Prim.Native.Nat.{ℕ, zero, suc, _+_}
+use mathlib.Core.Bool.{true, false}
+use mathlib.Core.List.{List, [], _∷_}
+use mathlib.Core.Option.{none, some}
+use Prim.Native.Nat.{ℕ}
 use lib.ListN.{length}
 use Rattle.octets.specs.Choice.{pick}
 use Rattle.octets.specs.Numbers.{le, leAt}
 use Rattle.octets.specs.Runs.{part, sameAs}
-use Rattle.parse_tree.specs.Tree.{Text, Sym, Syms, Alternative, Nonterminal, Item, Stage, star, plus, question, ambiguous, bare, quoted, regex, nonterminal, lookahead, lookbehind, error, repeat, choose, name, macro, group, leaf, around, over, nil, cons, noAction, user, fallible, lookaheadAction, lookbehindAction, item, terminal, extern, match, count, symsOf}
+use Rattle.parse_tree.specs.Tree.{Syms, Alternative, Item, plus, ambiguous, bare, quoted, regex, nonterminal, lookahead, lookbehind, error, repeat, choose, name, macro, group, leaf, around, over, nil, cons, user, item, terminal, extern, match, count, symsOf}
 use Rattle.parse_tree.specs.Texts.{every, startsName, inName, nameBytes, isName, isLiteral, isAscii, has, number, withNew}
 use Rattle.parse_tree.specs.Nodes.{spanBytes, leafCode, leafOperand, symbolBytes, nodeBytes, sizeOf, whole, spanAt, namedLeaf, bareLeaf, symbolAt, textNode, nonterminalAt, terminalAt, argumentAt, alternativeAt, attributeAt, conditionAt, nodeBy, nodeAt}
 use Rattle.parse_tree.specs.Places.{classOf, table, allowedAt}
 use Rattle.parse_tree.specs.Questions.{leafDefined, symbolDefined, alternativeDefined, attributeDefined, defined, leafSuits, symbolSuits, suits}
-use Rattle.parse_tree.specs.Reading.{Reading, got, refused, then, times}
+use Rattle.parse_tree.specs.Reading.{got, then, times}
 use Rattle.parse_tree.specs.Expect.{expectItem, expectArgument, expectAlternative, expectAttribute, expectCondition, expectSymbol}
 use Rattle.parse_tree.specs.Operands.{opOf, insideOf, leafOf, aroundOf, overOf, actionOf, attributeOf, conditionOf, alternativeOf, nonterminalOf, terminalOf}
 use Rattle.parse_tree.specs.Decode.{ask, readSym, readArgument, readAttribute, readCondition, readAlternative, readItem, readItems, readAtoms, decodeBy, decode}

@@ -7,7 +7,6 @@ use lib.ListN.{length}
 use Rattle.octets.specs.Runs.{Lies}
 use Rattle.parse_tree.specs.Nodes.{nodeBytes, sizeOf}
 use Rattle.parse_tree.specs.Within.{SpanWithin}
-use Rattle.parse_tree.specs.declared.syntax.Span.{Span}
 use Rattle.parse_tree.specs.declared.syntax.Leaf.{Leaf}
 use Rattle.parse_tree.specs.declared.syntax.Around.{Around}
 use Rattle.parse_tree.specs.declared.syntax.Over.{Over}

@@ -7,7 +7,7 @@ use lib.ListN.{length}
 use lib.Dec.{leb}
 use Rattle.octets.specs.Choice.{pick}
 use Rattle.octets.specs.Runs.{part}
-use Rattle.parse_tree.specs.Tree.{Text, Sym, Syms, Attribute, Condition, Alternative, Item, Stage, symsOf}
+use Rattle.parse_tree.specs.Tree.{Text, Sym, Attribute, Condition, Alternative, Item, Stage, symsOf}
 use Rattle.parse_tree.specs.Texts.{has}
 use Rattle.parse_tree.specs.Nodes.{nodeAt, sizeOf}
 use Rattle.parse_tree.specs.Places.{classOf, allowedAt, itemsPlace, argumentsPlace, alternativesPlace, attributesPlace, conditionsPlace, symbolsPlace}

@@ -6,11 +6,8 @@ use mathlib.Core.Option.{Option, none, some}
 use lib.ListN.{length}
 use Rattle.octets.specs.Choice.{pick}
 use Rattle.parse_tree.specs.Tree.{Text, Op, Leaf, Around, Over, Sym, Syms, Action, Attribute, Condition, Alternative, Nonterminal, Source, Item, Stage, star, plus, question, ambiguous, bare, quoted, regex, nonterminal, lookahead, lookbehind, error, repeat, choose, name, macro, group, leaf, around, over, nil, cons, noAction, user, fallible, lookaheadAction, lookbehindAction, extern, match, item, terminal, count}
-use Rattle.parse_tree.specs.Texts.{number, withNew}
+use Rattle.parse_tree.specs.Texts.{number}
 use Rattle.parse_tree.specs.Nodes.{nodeBytes}
-use Rattle.parse_tree.specs.declared.syntax.Atom.{Atom}
-use Rattle.parse_tree.specs.declared.syntax.NonterminalString.{NonterminalString}
-use Rattle.parse_tree.specs.declared.syntax.TerminalString.{TerminalString}
 use Rattle.parse_tree.specs.declared.syntax.Leaf.{Leaf as LeafNode}
 use Rattle.parse_tree.specs.declared.syntax.Around.{Around as AroundNode}
 use Rattle.parse_tree.specs.declared.syntax.Over.{Over as OverNode}

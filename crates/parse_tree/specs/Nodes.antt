@@ -6,9 +6,6 @@ use lib.Dec.{leb, ltb, eqb}
 use Rattle.octets.specs.Choice.{pick}
 use Rattle.octets.specs.Numbers.{leAt, le}
 use Rattle.parse_tree.specs.declared.syntax.Span.{Span}
-use Rattle.parse_tree.specs.declared.syntax.Atom.{Atom}
-use Rattle.parse_tree.specs.declared.syntax.NonterminalString.{NonterminalString}
-use Rattle.parse_tree.specs.declared.syntax.TerminalString.{TerminalString}
 use Rattle.parse_tree.specs.declared.syntax.Leaf.{Leaf}
 use Rattle.parse_tree.specs.declared.syntax.Around.{Around}
 use Rattle.parse_tree.specs.declared.syntax.Over.{Over}

@@ -2,7 +2,7 @@
 use Prim.Native.Nat.{ℕ}
 use mathlib.Core.Bool.{Bool, true, false, _&&_}
 use mathlib.Core.List.{List, []}
-use lib.ListN.{length, getD}
+use lib.ListN.{getD}
 use lib.Dec.{leb, ltb, eqb}
 use Rattle.octets.specs.Choice.{pick}
 use Rattle.parse_tree.specs.Tree.{Text}

@@ -1,19 +1,18 @@
 -- The class of a text is found from the least class of its bytes. Assumes nothing.
-use mathlib.Core.Path.{_≡_, refl, sym, ap, ap₂, _∙_}
-use mathlib.Core.Bool.{Bool, true, false, _&&_, _||_, not}
-use mathlib.Core.List.{List, [], _∷_}
-use Prim.Native.Nat.{ℕ, zero, suc, _+_, _-_, _<_, _≤_}
+use mathlib.Core.Path.{_≡_, refl, sym, _∙_}
+use mathlib.Core.Bool.{Bool, true, false, _||_}
+use mathlib.Core.List.{List}
+use Prim.Native.Nat.{ℕ, _+_, _-_, _<_, _≤_}
 use native.Mathlib.Omega.{arith}
 use borrow.Author.Needs.{needs}
-use borrow.Author.Tests.{lt-ltb, le-ltb, le-leb, lt-leb, eq-eqb, ne-eqb, ltb-true, ltb-false, leb-true, leb-false}
-use lib.Dec.{eqb, leb, ltb}
+use borrow.Author.Tests.{lt-ltb, le-ltb, le-leb, lt-leb, eq-eqb, ne-eqb}
+use lib.Dec.{leb}
 use lib.ListN.{length, getD}
 use Rattle.octets.specs.Choice.{pick}
-use Rattle.octets.specs.Runs.{part, sameAs}
+use Rattle.octets.specs.Runs.{part}
 use Rattle.octets.proofs.Parts.{part-none, part-one}
-use Rattle.parse_tree.specs.Tree.{Text}
-use Rattle.parse_tree.specs.Texts.{every, between, startsName, inName, nameBytes, isName, isLiteral, isAscii, mutText, errorText}
-use Rattle.texts.specs.Classes.{textClass, byteClass, least, lesser}
+use Rattle.parse_tree.specs.Texts.{startsName, inName}
+use Rattle.texts.specs.Classes.{byteClass, least, lesser}
 
 -- ---- `starts_name`, `in_name`
 module _ (b : ℕ) where

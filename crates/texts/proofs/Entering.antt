@@ -1,12 +1,12 @@
 -- An atom more in the table. Assumes nothing.
 use mathlib.Core.Path.{_≡_, refl, sym, ap, _∙_}
 use mathlib.Core.Bool.{Bool, true, false}
-use mathlib.Core.List.{List, [], _∷_}
-use Prim.Native.Nat.{ℕ, zero, suc, _+_, _*_, _-_, _%_, _^_, _<_, _≤_}
+use mathlib.Core.List.{List}
+use Prim.Native.Nat.{ℕ, suc, _+_, _*_, _-_, _^_, _<_, _≤_}
 use native.Mathlib.Omega.{arith}
 use native.Mathlib.Numerals.{add-one}
 use borrow.Author.Needs.{needs}
-use borrow.Author.Tests.{ltb-true, ltb-false, eqb-true, eqb-false, eq-eqb, ne-eqb}
+use borrow.Author.Tests.{ltb-true, ltb-false, eqb-true, eqb-false}
 use lib.Dec.{eqb, ltb}
 use lib.ListN.{length}
 use mir.Syntax.{w64}
@@ -16,8 +16,7 @@ use Rattle.octets.specs.Numbers.{le}
 use Rattle.octets.specs.Runs.{part}
 use Rattle.octets.specs.Stores.{store}
 use Rattle.octets.proofs.Storing.{length-store}
-use Rattle.parse_tree.specs.Tree.{Text}
-use Rattle.texts.specs.Atoms.{atomEnd, atomText, placeOf}
+use Rattle.texts.specs.Atoms.{atomText, placeOf}
 use Rattle.texts.specs.Classes.{textClass}
 use Rattle.texts.specs.Table.{entry, bucket, last, Table, Entering, Linked}
 use Rattle.texts.proofs.Tabling.{entry-same, entry-other, class-small}

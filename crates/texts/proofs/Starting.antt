@@ -1,8 +1,8 @@
 -- The loop of `start`. Assumes nothing.
-use mathlib.Core.Path.{_≡_, refl, sym, ap, _∙_}
+use mathlib.Core.Path.{_≡_, refl, _∙_}
 use mathlib.Core.Bool.{Bool, true, false}
 use mathlib.Core.List.{List}
-use Prim.Native.Nat.{ℕ, zero, suc, _+_, _*_, _^_, _<_, _≤_}
+use Prim.Native.Nat.{ℕ, _+_, _*_, _<_, _≤_}
 use native.Mathlib.Omega.{arith}
 use borrow.Author.Needs.{needs}
 use borrow.Author.Tests.{ltb-true, ltb-false}
@@ -10,7 +10,6 @@ use lib.Dec.{ltb}
 use lib.ListN.{length}
 use Rattle.octets.specs.Numbers.{le}
 use Rattle.octets.specs.Stores.{store}
-use Rattle.octets.proofs.Storing.{length-store}
 use Rattle.texts.specs.Table.{entry, last, Table}
 use Rattle.texts.proofs.Tabling.{entry-same, entry-other}
 

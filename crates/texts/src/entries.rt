@@ -2,7 +2,7 @@
 use octets::numbers::store64;
 use octets::numbers::u64_at;
 ghost use mathlib.Core.Path.{_≡_};
-ghost use Prim.Native.Nat.{_+_, _*_, _≤_, _^_, _<_};
+ghost use Prim.Native.Nat.{_+_, _*_, _≤_};
 ghost use lib.ListN.{length};
 ghost use Rattle.octets.specs.Numbers.{le};
 ghost use Rattle.octets.specs.Stores.{store};

@@ -1,7 +1,7 @@
 -- A command with nothing inside: the step of reading it is the step of asking it. Assumes nothing.
-use mathlib.Core.Path.{_≡_, refl, ap, _∙_, sym}
+use mathlib.Core.Path.{_≡_, refl}
 use mathlib.Core.Bool.{Bool, true, false, _&&_, false≢true}
-use mathlib.Core.List.{List, [], _∷_}
+use mathlib.Core.List.{List}
 use Prim.Native.Nat.{ℕ, zero, suc, _+_}
 use native.Mathlib.Omega.{arith}
 use lib.Dec.{leb}
@@ -18,7 +18,7 @@ use Rattle.parse_tree.specs.Decode.{ask, readArgument, readAttribute, readCondi
 use Rattle.parse_tree.specs.declared.syntax.Node.{Node}
 use Rattle.validate.specs.Steps.{stepOf}
 use Rattle.validate.specs.declared.Step.{Step}
-use Rattle.validate.proofs.Commanding.{step-got, step-refused}
+use Rattle.validate.proofs.Commanding.{step-refused}
 
 -- what is read behind a command goes on from it, if it is of a kind that may stand at its place
 module _ {B : Type 0} (place at : ℕ) (f : Node → ℕ → Reading B) (on : (n : Node) (e : ℕ) → allowedAt place (classOf n) ≡ true → stepOf (f n e) ≡ Step.Next e) where

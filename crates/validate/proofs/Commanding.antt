@@ -1,17 +1,15 @@
 -- The ways out of `command`, and its answers taken apart. Assumes nothing.
-use mathlib.Core.Path.{_≡_, refl, sym, ap, _∙_}
-use mathlib.Core.Bool.{Bool, true, false, _&&_, not}
+use mathlib.Core.Path.{_≡_, sym, ap, _∙_}
+use mathlib.Core.Bool.{Bool, true, false, not}
 use mathlib.Core.List.{List}
-use Prim.Native.Nat.{ℕ, zero, suc, _+_, _^_, _<_, _≤_}
+use Prim.Native.Nat.{ℕ, _+_, _^_, _<_, _≤_}
 use native.Mathlib.Omega.{arith}
 use borrow.Author.Needs.{needs}
 use borrow.Author.Tests.{le-leb, lt-leb, not-true, not-false}
-use lib.Dec.{leb}
 use lib.ListN.{length, getD}
 use mir.Syntax.{w8, w64}
 use mir.Val.{Fits}
 use Rattle.octets.specs.Choice.{pick}
-use Rattle.parse_tree.specs.Tree.{Text}
 use Rattle.parse_tree.specs.Nodes.{nodeAt, sizeOf}
 use Rattle.parse_tree.specs.Places.{classOf, allowedAt}
 use Rattle.parse_tree.specs.Questions.{defined, suits}

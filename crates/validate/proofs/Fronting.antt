@@ -1,8 +1,8 @@
 -- The ways out of `next`: one atom more, or none. Assumes nothing.
-use mathlib.Core.Path.{_≡_, refl, sym, ap, ap₂, _∙_}
+use mathlib.Core.Path.{_≡_, sym, ap, _∙_}
 use mathlib.Core.Bool.{Bool, true, false, not, false≢true}
 use mathlib.Core.List.{List, [], _∷_, _++_}
-use Prim.Native.Nat.{ℕ, zero, suc, _+_, _*_, _/_, _^_, _<_, _≤_}
+use Prim.Native.Nat.{ℕ, suc, _+_, _<_, _≤_}
 use native.Mathlib.Omega.{arith}
 use native.Mathlib.Numerals.{add-one}
 use borrow.Author.Needs.{needs}
@@ -19,16 +19,16 @@ use Rattle.parse_tree.specs.Tree.{Text}
 use Rattle.parse_tree.specs.Texts.{has, distinct}
 use Rattle.parse_tree.specs.Nodes.{nodeAt, nodeBytes, sizeOf}
 use Rattle.parse_tree.specs.Places.{classOf, table, allowedAt}
-use Rattle.parse_tree.specs.Reading.{Reading, got, refused}
+use Rattle.parse_tree.specs.Reading.{got, refused}
 use Rattle.parse_tree.specs.Decode.{readAtoms}
 use Rattle.parse_tree.specs.declared.syntax.Node.{Node}
 use Rattle.parse_tree.proofs.syntax.Node.{the-type}
-use Rattle.parse_tree.proofs.NodeFits.{Stands, NodeSays}
+use Rattle.parse_tree.proofs.NodeFits.{Stands}
 use Rattle.parse_tree.proofs.NodeSays.{node-says}
 use Rattle.parse_tree.proofs.TextLaws.{distinct-more}
 use Rattle.texts.specs.Atoms.{atomEnd, atomText, atomsOf, placeOf}
 use Rattle.texts.specs.Table.{Table, Entering}
-use Rattle.validate.specs.Front.{Starts, Front, More, Ends, Nexts}
+use Rattle.validate.specs.Front.{Front, Nexts}
 use Rattle.validate.specs.declared.Next.{Next}
 
 -- ---- an atom that stands at a place, whole

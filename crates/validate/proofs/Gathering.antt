@@ -1,24 +1,22 @@
 -- The loop of `atoms`. Assumes nothing.
 use mathlib.Core.Path.{_≡_, refl, sym, ap, _∙_}
-use mathlib.Core.Bool.{Bool, true, false}
-use mathlib.Core.List.{List, [], _∷_}
-use Prim.Native.Nat.{ℕ, zero, suc, _+_, _*_, _/_, _-_, _<_, _≤_}
+use mathlib.Core.Bool.{true}
+use mathlib.Core.List.{List, []}
+use Prim.Native.Nat.{ℕ, zero, suc, _+_, _*_, _-_, _<_, _≤_}
 use native.Mathlib.Omega.{arith}
 use borrow.Author.Needs.{needs}
 use lib.ListN.{length}
 use Rattle.octets.specs.Choice.{pick}
 use Rattle.parse_tree.specs.Texts.{distinct}
 use Rattle.parse_tree.specs.Nodes.{nodeAt}
-use Rattle.parse_tree.specs.Reading.{Reading, got, refused}
+use Rattle.parse_tree.specs.Reading.{got, refused}
 use Rattle.parse_tree.specs.Decode.{readAtoms}
-use Rattle.parse_tree.specs.declared.syntax.Node.{Node}
 use Rattle.texts.specs.Atoms.{atomsOf, placeOf}
 use Rattle.texts.specs.Table.{Table}
 use Rattle.validate.specs.Front.{Starts, Front, More, Ends, Nexts, All, Fronted}
 use Rattle.validate.specs.declared.Next.{Next}
 use Rattle.validate.specs.declared.Entered.{Entered}
 use borrow.Author.Tests.{le-leb}
-use lib.Dec.{leb}
 
 ended : (s : List ℕ) (w k at n : ℕ) → length s ≤ at → readAtoms true w s n (atomsOf s k) at ≡ got (atomsOf s k) at
 unfolding readAtoms nodeAt pick

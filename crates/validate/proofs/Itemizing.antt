@@ -1,22 +1,21 @@
 -- The ways out of `nonterminal_parts`, `item` and `items`. Assumes nothing.
 use mathlib.Core.Path.{_≡_, refl, sym, ap, _∙_}
-use mathlib.Core.Bool.{true, false}
+use mathlib.Core.Bool.{true}
 use mathlib.Core.List.{List, [], _∷_}
 use Prim.Native.Nat.{ℕ, zero, suc, _+_, _-_, _<_, _≤_}
 use native.Mathlib.Omega.{arith}
 use borrow.Author.Needs.{needs}
 use borrow.Author.Tests.{le-leb, lt-leb}
 use denote.Enum.Declared.{tagOf}
-use lib.Dec.{leb}
 use lib.ListN.{length, getD}
 use mir.Syntax.{w8}
 use mir.Val.{Fits}
 use types.Run.{OneOf}
 use Rattle.parse_tree.proofs.syntax.Node.{the-type}
-use Rattle.parse_tree.specs.Tree.{Text, Item}
+use Rattle.parse_tree.specs.Tree.{Item}
 use Rattle.parse_tree.specs.Texts.{distinct}
 use Rattle.parse_tree.specs.Places.{itemsPlace, argumentsPlace}
-use Rattle.parse_tree.specs.Reading.{Reading, got, refused, then, times}
+use Rattle.parse_tree.specs.Reading.{got, then, times}
 use Rattle.parse_tree.specs.Expect.{expectItem}
 use Rattle.parse_tree.specs.Operands.{nonterminalOf, terminalOf}
 use Rattle.parse_tree.specs.Decode.{ask, readArgument, readAlternative, readItem, readItems}
@@ -117,14 +116,14 @@ module _ (s : List ℕ) (w atoms p : ℕ) (x : Step) (inv : Left s w atoms p x) 
       behind : (p < e) × (e ≤ length s)
       behind = let y = step-got (readItem true w s (atomsOf s atoms) p) e (sym u ∙ i) in item-inside w s (λ k. b k .fits) (atomsOf s atoms) apart p (y .value) e (y .is)
 
+      onward : stepOf (readItems true w s (atomsOf s atoms) (inv .fuel - 1) e) ≡ x
+      onward =
+          step-on (readItem true w s (atomsOf s atoms) p) _ e (stepOf (readItems true w s (atomsOf s atoms) (inv .fuel - 1) e)) (sym u ∙ i)
+          (λ y. sym (step-then (readItems true w s (atomsOf s atoms) (inv .fuel - 1) e) (λ ys. y ∷ ys)))
+          ∙ sym (ap stepOf opened) ∙ inv .rest
+
       pub items-next : Left s w atoms e x
-      items-next = record {
-        fuel = inv .fuel - 1;
-        enough = omega (arith, inv .enough, behind .0);
-        rest = step-on (readItem true w s (atomsOf s atoms) p) (λ y e. then (readItems true w s (atomsOf s atoms) (inv .fuel - 1) e) (λ ys d. got (y ∷ ys) d)) e (stepOf (readItems true w s (atomsOf s atoms) (inv .fuel - 1) e)) (sym u ∙ i)
-            (λ y. sym (step-then (readItems true w s (atomsOf s atoms) (inv .fuel - 1) e) (λ ys. y ∷ ys))) ∙ sym (ap stepOf opened) ∙ inv .rest;
-        inside = behind .1;
-      }
+      items-next = record { fuel = inv .fuel - 1; enough = omega (arith, inv .enough, behind .0); rest = onward; inside = behind .1 }
 
       pub items-less : length s - e < length s - p
       items-less = omega (arith, behind .0, behind .1)

@@ -1,5 +1,5 @@
 -- The ways out of `alternative_parts`, `alternative` and `alternatives`. Assumes nothing.
-use mathlib.Core.Path.{_≡_, refl, sym, ap, _∙_}
+use mathlib.Core.Path.{_≡_, sym, ap, _∙_}
 use mathlib.Core.Bool.{true}
 use mathlib.Core.List.{List, [], _∷_}
 use Prim.Native.Nat.{ℕ, _-_, _<_, _≤_}
@@ -7,9 +7,9 @@ use borrow.Author.Needs.{needs}
 use denote.Enum.Declared.{tagOf}
 use types.Run.{OneOf}
 use Rattle.parse_tree.proofs.syntax.Node.{the-type}
-use Rattle.parse_tree.specs.Tree.{Text, Alternative, symsOf}
+use Rattle.parse_tree.specs.Tree.{symsOf}
 use Rattle.parse_tree.specs.Places.{alternativesPlace, attributesPlace, conditionsPlace}
-use Rattle.parse_tree.specs.Reading.{Reading, got, refused, then, times}
+use Rattle.parse_tree.specs.Reading.{Reading, then, times}
 use Rattle.parse_tree.specs.Expect.{expectAlternative}
 use Rattle.parse_tree.specs.Operands.{alternativeOf}
 use Rattle.parse_tree.specs.Decode.{ask, firstOf, readSym, readAttribute, readCondition, readAlternative}

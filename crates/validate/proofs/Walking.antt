@@ -1,8 +1,8 @@
 -- The loops over commands and symbols, and the ways out of `symbol`. Assumes nothing.
 use mathlib.Core.Path.{_≡_, refl, sym, ap, _∙_}
-use mathlib.Core.Bool.{Bool, true, false}
+use mathlib.Core.Bool.{true}
 use mathlib.Core.List.{List, [], _∷_}
-use Prim.Native.Nat.{ℕ, zero, suc, _+_, _-_, _*_, _<_, _≤_}
+use Prim.Native.Nat.{ℕ, zero, suc, _-_, _<_, _≤_}
 use native.Mathlib.Omega.{arith}
 use borrow.Author.Needs.{needs}
 use denote.Enum.Declared.{tagOf}
@@ -26,7 +26,7 @@ use Rattle.validate.specs.Steps.{askedOf, stepOf}
 use Rattle.validate.specs.declared.Asked.{Asked}
 use Rattle.validate.specs.declared.Step.{Step}
 use Rattle.validate.proofs.Others.{no-symbol}
-use Rattle.validate.proofs.Commanding.{asked-got, asked-refused, step-got, step-refused, Read}
+use Rattle.validate.proofs.Commanding.{asked-got, asked-refused, step-got, step-refused}
 
 -- ---- one reading behind another
 pub then-is : {A B : Type 0} (m : Reading A) (f : A → ℕ → Reading B) (x : A) (e : ℕ) → m ≡ got x e → then m f ≡ f x e

@@ -1,8 +1,8 @@
 -- The ways out of `validate` and `check`. Assumes nothing.
 use mathlib.Core.Path.{_≡_, refl, sym, ap, _∙_}
-use mathlib.Core.Bool.{Bool, true, false}
+use mathlib.Core.Bool.{true}
 use mathlib.Core.List.{List, [], _∷_}
-use Prim.Native.Nat.{ℕ, _+_, _*_, _/_, _<_, _≤_}
+use Prim.Native.Nat.{ℕ, _*_, _/_, _<_, _≤_}
 use native.Mathlib.Omega.{arith}
 use borrow.Author.Needs.{needs}
 use borrow.Author.Tests.{le-leb, lt-leb}
@@ -11,13 +11,12 @@ use lib.ListN.{length, getD, replicate}
 use mir.Syntax.{w8}
 use mir.Val.{Fits}
 use Rattle.octets.specs.Choice.{pick}
-use Rattle.parse_tree.specs.Tree.{Text, Item, Stage}
-use Rattle.parse_tree.specs.Reading.{Reading, got, refused, then}
+use Rattle.parse_tree.specs.Reading.{got, refused, then}
 use Rattle.parse_tree.specs.Decode.{readAtoms, readItems, decodeBy, decode}
 use Rattle.parse_tree.proofs.Written.{written}
 use Rattle.texts.specs.Atoms.{atomsOf}
-use Rattle.validate.specs.Steps.{Ready, Itemed, stepOf}
-use Rattle.validate.specs.Front.{Front, All, Fronted}
+use Rattle.validate.specs.Steps.{Itemed, stepOf}
+use Rattle.validate.specs.Front.{All, Fronted}
 use Rattle.validate.specs.Whole.{Valid, Validates, answerOf, checked, cleared, answerWords, Checked, Exported}
 use Rattle.validate.specs.declared.Atoms.{Atoms}
 use Rattle.validate.specs.declared.Step.{Step}

@@ -7,9 +7,7 @@ use crate::Validated;
 use crate::front::atoms;
 use crate::items::items;
 use octets::runs::clear;
-ghost use mathlib.Core.Path.{_≡_};
 ghost use Prim.Native.Nat.{_*_, _≤_};
-ghost use lib.Dec.{leb};
 ghost use lib.ListN.{length};
 ghost use Rattle.validate.specs.Whole.{Validates, Checked};
 

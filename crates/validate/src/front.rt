@@ -10,8 +10,7 @@ use texts::table::enter;
 use texts::table::known;
 use texts::table::start;
 ghost use mathlib.Core.Path.{_≡_};
-ghost use Prim.Native.Nat.{_*_, _/_, _≤_};
-ghost use lib.ListN.{length};
+ghost use Prim.Native.Nat.{_/_};
 ghost use Rattle.validate.specs.Front.{Front, Nexts, Starts, Fronted};
 
 fn wide(n: u16) -> usize
