@@ -2,15 +2,16 @@
 .PHONY: run test bench clean
 
 run:
-	rt check list
-	target/bin/list < docs/examples/listing.tape
+	@mkdir -p target
+	@rt check list > target/run.log 2>&1 || { cat target/run.log; exit 1; }
+	@target/bin/list < docs/examples/listing.tape
 
 test:
-	cargo build --quiet --release --offline --manifest-path rust/Cargo.toml --target-dir target/rust || true
+	python3 tools/trust.py
 	rt ci
 
 bench:
-	rt staticlib validate
+	rt staticlib validate > /dev/null
 	cargo run --quiet --release --offline --manifest-path rust/Cargo.toml --target-dir target/rust -p bench
 
 clean:
