@@ -1,0 +1,1 @@
+// The passes on trees and what a tree derives: definitions only, in specs/. No code.
