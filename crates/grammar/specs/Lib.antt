@@ -7,3 +7,4 @@ pub mod Resolve
 pub mod Levels
 pub mod Macros
 pub mod Passes
+pub mod Premises

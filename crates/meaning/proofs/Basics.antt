@@ -1,0 +1,92 @@
+-- Small laws of tests, texts, outcomes and items. Assumes nothing.
+use mathlib.Core.Path.{_≡_, refl, sym, ap, _∙_}
+use mathlib.Core.Logic.{_⊎_, inl, inr}
+use mathlib.Core.Bool.{Bool, true, false, _&&_, _||_}
+use mathlib.Core.Option.{Option, none, some}
+use mathlib.Core.List.{List, [], _∷_}
+use Prim.Native.Nat.{ℕ}
+use native.Mathlib.Omega.{arith}
+use lib.Dec.{T}
+use Rattle.octets.specs.Runs.{sameAs}
+use Rattle.octets.proofs.Sameness.{sameAs-eq, sameAs-refl}
+use Rattle.parse_tree.specs.Tree.{Text, Nonterminal, Source, Item, item}
+use Rattle.parse_tree.specs.Texts.{has}
+use Rattle.parse_tree.specs.declared.syntax.Span.{Span}
+use Rattle.grammar.specs.Outcome.{Outcome, yes, no, after}
+
+-- ---- tests
+pub test : (b : Bool) → (b ≡ true) ⊎ (b ≡ false)
+test true = inl refl
+test false = inr refl
+
+pub T-is : (b : Bool) → T b → b ≡ true
+T-is true h = refl
+T-is false h = absurd h
+
+pub is-T : (b : Bool) → b ≡ true → T b
+is-T b e = rw e tt
+
+pub and-l : (a b : Bool) → (a && b) ≡ true → a ≡ true
+and-l true b h = refl
+and-l false b h = h
+
+pub and-r : (a b : Bool) → (a && b) ≡ true → b ≡ true
+and-r true b h = h
+and-r false b h = absurd (let z : _≡_ {A = ℕ} 0 1 = cc in omega arith)
+
+pub or-left : (a b : Bool) → a ≡ true → (a || b) ≡ true
+or-left a b h = rw h
+
+pub or-right : (a b : Bool) → b ≡ true → (a || b) ≡ true
+or-right true b h = refl
+or-right false b h = h
+
+pub or-cases : (a b : Bool) → (a || b) ≡ true → (a ≡ true) ⊎ (b ≡ true)
+or-cases true b h = inl refl
+or-cases false b h = inr h
+
+-- ---- a text among others
+pub has-here : (x : Text) (ts : List Text) → has x (x ∷ ts) ≡ true
+unfolding has
+has-here x ts = cc (sameAs-refl x)
+
+pub has-later : (x t : Text) (ts : List Text) → has x ts ≡ true → has x (t ∷ ts) ≡ true
+unfolding has
+has-later x t ts h = go (sameAs t x)
+  where
+    go : (b : Bool) → elim b [ true ↦ true | false ↦ has x ts ] ≡ true
+    go true = refl
+    go false = h
+
+pub has-cases : (x t : Text) (ts : List Text) → has x (t ∷ ts) ≡ true → (t ≡ x) ⊎ (has x ts ≡ true)
+unfolding has
+has-cases x t ts h = go (sameAs t x) refl h
+  where
+    go : (b : Bool) → sameAs t x ≡ b → elim b [ true ↦ true | false ↦ has x ts ] ≡ true → (t ≡ x) ⊎ (has x ts ≡ true)
+    go true e k = inl (sameAs-eq t x e)
+    go false e k = inr k
+
+-- ---- outcomes
+pub no≢yes : {A : Type 0} (n : ℕ) (s : Span) (a : A) → _≡_ {A = Outcome A} (no n s) (yes a) → ⊥
+no≢yes n s a e = let z : _≡_ {A = ℕ} 0 1 = cc in omega arith
+
+pub yes-inj : {A : Type 0} (a b : A) → _≡_ {A = Outcome A} (yes a) (yes b) → a ≡ b
+yes-inj a b e = cc
+
+-- where a sequel gave a yes, so did what came before
+pub after-yes : {A B : Type 0} (r : Outcome A) (f : A → Outcome B) (b : B) → after r f ≡ yes b → (a : A) × (r ≡ yes a) × (f a ≡ yes b)
+after-yes (yes a) f b e = (a, refl, e)
+after-yes (no n s) f b e = absurd (no≢yes n s b e)
+
+pub some-inj : {A : Type 0} (a b : A) → _≡_ {A = Option A} (some a) (some b) → a ≡ b
+some-inj a b e = cc
+
+pub none≢some : {A : Type 0} (a : A) → _≡_ {A = Option A} none (some a) → ⊥
+none≢some a e = let z : _≡_ {A = ℕ} 0 1 = cc in omega arith
+
+-- ---- items
+pub item-inj : (d e : Nonterminal) → item d ≡ item e → d ≡ e
+item-inj d e p = cc
+
+pub item≢terminal : (d : Nonterminal) (s : Span) (o : Source) (t : Text) → item d ≡ Item.terminal s o t → ⊥
+item≢terminal d s o t p = let z : _≡_ {A = ℕ} 0 1 = cc in omega arith

@@ -1,0 +1,3 @@
+-- Demand 3 over trees.
+pub mod Basics
+pub mod Predicates

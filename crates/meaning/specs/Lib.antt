@@ -1,0 +1,1 @@
+-- The statements are over the definitions of the crate grammar.

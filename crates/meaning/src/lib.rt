@@ -1,0 +1,1 @@
+// Demand 3 over trees: proofs only, in proofs/. No code.
