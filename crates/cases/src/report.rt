@@ -1,0 +1,68 @@
+// One case run, and its answer printed.
+use libc::STDOUT_FILENO;
+use validate::Answer;
+use validate::entry::check;
+
+// What the work buffer holds before a case.
+const BEFORE: u8 = 0xAA;
+
+fn fill(work: &mut [u8]) {
+    let mut i = 0;
+    while i < work.len() {
+        work[i] = BEFORE;
+        i += 1;
+    }
+}
+
+// Whether every byte of the work buffer is this one.
+fn is_all(work: &[u8], byte: u8) -> bool {
+    let mut i = 0;
+    while i < work.len() {
+        if work[i] != byte {
+            return false;
+        }
+        i += 1;
+    }
+    true
+}
+
+// What the work buffer must hold afterwards: it is zeroed where it suffices, and otherwise untouched.
+fn after(tape: usize, work: usize) -> u8 {
+    if work / 8 < tape {
+        return BEFORE;
+    }
+    0
+}
+
+fn wide(q: u8) -> u64 {
+    q as u64
+}
+
+fn print_number(before: &[u8], n: u64) {
+    io::write_all(STDOUT_FILENO, before);
+    io::print_decimal(STDOUT_FILENO, n);
+}
+
+fn print_answer(a: Answer) {
+    match a {
+        Answer::Yes(n) => {
+            print_number(b" yes ", n as u64);
+        }
+        Answer::No(q, s, e) => {
+            print_number(b" refused ", wide(q));
+            print_number(b" ", s as u64);
+            print_number(b" ", e as u64);
+        }
+    }
+}
+
+pub fn run_case(name: &[u8], tape: &[u8], work: &mut [u8]) {
+    fill(work);
+    let a = check(tape, work);
+    io::write_all(STDOUT_FILENO, name);
+    print_answer(a);
+    if !is_all(work, after(tape.len(), work.len())) {
+        io::write_all(STDOUT_FILENO, b" work");
+    }
+    io::write_all(STDOUT_FILENO, b"\n");
+}
