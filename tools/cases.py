@@ -1,6 +1,6 @@
 #!/usr/bin/env python3
 """tools/cases.py: writes crates/cases/stdin, the cases that the program `cases` puts to `validate`, and crates/cases/stdout.
-The answers are stated here, from docs/01-scope.md ("From boxes and vectors to a tape", "Questions put to a tape"): a case says yes
+The answers are stated here, from document 01 ("From boxes and vectors to a tape", "Questions put to a tape"): a case says yes
 or the number of the question, and HERE stands among its commands where the refusal points. Nothing here reads a tape."""
 import os
 

@@ -1,5 +1,5 @@
 #!/usr/bin/env python3
-"""Writes docs/examples/: the grammar of document 01's listing."""
+"""Writes docs/examples/, the grammar of document 01's listing, and the same as what the program list is run on."""
 import os
 from tape import Tape
 
@@ -10,5 +10,8 @@ t.alternative((4, 6), 1)
 t.repeat((4, 6), 0)
 t.named(0x20, (4, 5), "n")
 t.named(0x30, (0, 0), "n")
-with open(f"{root}/docs/examples/listing.tape", "wb") as f:
-    f.write(t.bytes())
+for path in ("docs/examples/listing.tape", "crates/list/stdin"):
+    with open(f"{root}/{path}", "wb") as f:
+        f.write(t.bytes())
+with open(f"{root}/crates/list/stdout", "w") as f:
+    f.write(f"yes {len(t.bytes())}\n")
