@@ -8,3 +8,5 @@ pub mod Levels
 pub mod Macros
 pub mod Passes
 pub mod Premises
+pub mod Sizes
+pub mod Calls

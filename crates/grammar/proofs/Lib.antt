@@ -1,0 +1,2 @@
+-- Computed cases.
+mod Starred
