@@ -150,6 +150,7 @@ WHOLE = {
     0x25: [macro(), LEAF], 0x26: [repeat(), LEAF], 0x27: [choose(), LEAF], 0x28: [name(), LEAF], 0x29: [group()],
     0x2A: [bare(0x2A)], 0x2B: [bare(0x2B)], 0x2C: [bare(0x2C)], 0x30: [named(0x30)], 0x31: [named(0x31)],
 }
+CAN_BE_UNDEFINED = [c for c in WHOLE if c not in [0x01, 0x27, 0x29, 0x2A, 0x2B, 0x2C]]
 # the commands before a place, and the codes that are allowed there
 PLACES = {
     "atom": ([], [0x01] + ITEMS),                      # "All atoms come first"
@@ -190,14 +191,22 @@ def before(code):
 
 # ---- 2: "Is each command known, allowed there and whole?"
 
+def out_of_values(code):
+    """a command with every operand undefined or out of its values"""
+    return [u8(code)] + [b"\xff" * len(c) for c in WHOLE[code][0][1:]]
+
+
 def commands_by_places():
     for place, (front, allowed) in PLACES.items():
+        is_main = place in ["atom", "item", "argument", "alternative", "attribute", "condition", "symbol", "group"]
         for code, command in WHOLE.items():
             if code in allowed:
                 yes(f"place-{place}-{code:02x}", N, *front, *command)
             else:
                 no(2, f"place-{place}-{code:02x}", N, *front, HERE, *command)
-        for code in UNKNOWN:
+            if is_main and code not in allowed and code in CAN_BE_UNDEFINED:          # 2 comes before 3
+                no(2, f"place-{place}-{code:02x}-undefined", N, *front, HERE, out_of_values(code))
+        for code in UNKNOWN if is_main else []:
             no(2, f"place-{place}-{code:02x}", N, *front, HERE, [u8(code)] + [bytes(20)])
         if 0x30 in allowed:      # "The empty tape is a grammar without items"; a tape may end between items
             yes(f"place-{place}-end", N, *front)
@@ -214,7 +223,7 @@ def unknown_codes():
 def cut_off():
     """cut off before and in each operand, where all operands that stand there are out of their values too: 2 comes before 3"""
     for code, command in WHOLE.items():
-        chunks = [u8(code)] + [b"\xff" * len(c) for c in command[0][1:]]
+        chunks = out_of_values(code)
         for k in range(1, len(chunks)):
             no(2, f"cut-{code:02x}-before-{k}", *before(code), HERE, chunks[:k])
             if len(chunks[k]) > 1:
@@ -371,11 +380,15 @@ def nesting():
         no(3, f"deep-{kind}-66", *front, Times(64, c), HERE, c, LEAF)
         no(2, f"deep-{kind}-65-cut", *front, Times(64, c), HERE, bare(0x2A)[:2])
         no(2, f"deep-{kind}-65-missing", *front, Times(64, c), HERE)
-        no(2, f"deep-{kind}-65-not-allowed", *front, Times(64, c), HERE, attribute())
         no(2, f"deep-{kind}-65-unknown", *front, Times(64, c), HERE, [u8(0xFF)])
         no(2, f"deep-{kind}-64-missing", *front, Times(63, c), HERE)
         no(3, f"deep-{kind}-65-undefined", *front, Times(64, c), HERE, named(0x20, 9))
         no(3, f"deep-{kind}-65-nothing-inside", *front, Times(64, c), HERE, repeat())
+    for code in WHOLE:
+        if code not in SYMBOLS:
+            no(2, f"deep-65-not-allowed-{code:02x}", *front, Times(64, repeat()), HERE, *WHOLE[code])
+            if code in CAN_BE_UNDEFINED:
+                no(2, f"deep-65-not-allowed-{code:02x}-undefined", *front, Times(64, repeat()), HERE, out_of_values(code))
     no(3, "deep-65-unsuited", atom(b"-"), N, nonterminal(1, alts=1), alternative(syms=1), Times(64, choose()), HERE, named(0x20, 0))
     yes("deep-group-empty-64", *front, Times(63, group(1)), group(0))
     no(3, "deep-group-empty-65", *front, Times(64, group(1)), HERE, group(0))
