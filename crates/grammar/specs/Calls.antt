@@ -71,7 +71,7 @@ rounds cap G (suc limit) ts old fresh keys =
     let q = replaceItems fresh (record { keys = keys; pile = [] }) in
     let replaced = stage cap ts (old ++ q .0) in
     let more =
-        next replaced (λ g. next (passed (drain G (q .1 .pile))) (λ new. next (stage cap (g .atoms) (old ++ q .0 ++ new)) (λ h. rounds cap G limit (h .atoms) (old ++ q .0) new (q .1 .keys)))) in
+    next replaced (λ g. next (passed (drain G (q .1 .pile))) (λ new. next (stage cap (g .atoms) (old ++ q .0 ++ new)) (λ h. rounds cap G limit (h .atoms) (old ++ q .0) new (q .1 .keys)))) in
     pending replaced (q .1 .pile) more
 
 unfoldable pub expanded : ℕ → ℕ → Stage → Answer Stage
