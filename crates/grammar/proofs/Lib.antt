@@ -1,2 +1,4 @@
 -- Computed cases.
+mod Build
 mod Starred
+mod Needed

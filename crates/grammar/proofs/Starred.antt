@@ -20,16 +20,13 @@ use Rattle.parse_tree.specs.Decode.{ask, readSym, readArgument, readAttribute, 
 use Rattle.parse_tree.specs.Encode.{bytesOfEach, atomBytes, leafNode, aroundNode, overNode, actionText, alternativeNode, attributeNode, conditionNode, nonterminalNode, symBytes, argumentBytes, attributeBytes, conditionBytes, alternativeBytes, itemBytes, stageBytes}
 use Rattle.parse_tree.specs.References.{textsOfEach, leafTexts, aroundTexts, overTexts, symTexts, actionTexts, attributeTexts, conditionTexts, alternativeTexts, itemTexts, stageOf, encode}
 use Rattle.parse_tree.specs.declared.syntax.Span.{Span}
-use Rattle.grammar.specs.Grades.{precedence, assoc}
 use Rattle.grammar.specs.Resolve.{checkGlobals, validateSymbol, validateAlternatives, validateItems, resolve}
 use Rattle.grammar.specs.Levels.{levelsOf, ofLevel, levelName, occurs, replaceOccurrences, substituted, levelItem, levelItems, levelled, checkLowest, checkLevels, levels}
 use Rattle.grammar.specs.Macros.{push, replaceSymbol, replaceAlternatives, replaceItems, macroExpandSymbol, expandAlternatives, expandSymbol, drain, vecNone, vecOne, pushed, vName, eName}
 use Rattle.grammar.specs.Sizes.{stageFits}
 use Rattle.grammar.specs.Calls.{Answer, done, denied, admit, resolved, levelsCall, again, expanded}
 use Rattle.grammar.specs.Calls as calls
-
-abbrev at : ℕ → ℕ → Span
-at a b = record { 0 = a; 1 = b }
+use Rattle.grammar.proofs.Build.{at, name, to, quote, fall, list, level, side, alternative, nt}
 
 -- ---- texts
 abbrev e : Text
@@ -52,36 +49,6 @@ noneText = 110 ∷ 111 ∷ 110 ∷ 101 ∷ []
 
 abbrev allText : Text
 allText = 97 ∷ 108 ∷ 108 ∷ []
-
--- ---- symbols: a name as it is written, a name as it is resolved, and quoted texts
-abbrev name : Text → Sym
-name n = leaf (at 0 0) (ambiguous n)
-
-abbrev to : Text → Sym
-to n = leaf (at 0 0) (nonterminal n)
-
-abbrev quote : ℕ → Sym
-quote b = leaf (at 0 0) (quoted (b ∷ []))
-
--- a symbol of the fall-through has the nonterminal's span
-abbrev fall : Span → Text → Sym
-fall s n = leaf s (nonterminal n)
-
-abbrev list : List Sym → Syms
-list xs = symsOf xs
-
--- ---- alternatives and items
-abbrev level : Text → Attribute
-level v = record { id = precedence; argument = some (108 ∷ [], v) }
-
-abbrev side : Text → Attribute
-side v = record { id = assoc; argument = some (115 ∷ [], v) }
-
-abbrev alternative : Span → List Attribute → List Sym → Alternative
-alternative s as′ xs = record { span = s; attributes = as′; condition = none; action = noAction; symbols = list xs }
-
-abbrev nt : Span → Text → List Text → List Alternative → Item
-nt s n ps as′ = item (record { span = s; name = n; inline = false; public = false; args = ps; alternatives = as′ })
 
 -- E is `"n"` at level 1, then an alternative at level 2
 abbrev first : Alternative
