@@ -78,6 +78,9 @@ pub after-yes : {A B : Type 0} (r : Outcome A) (f : A → Outcome B) (b : B) →
 after-yes (yes a) f b e = (a, refl, e)
 after-yes (no n s) f b e = absurd (no≢yes n s b e)
 
+pub after-is : {A B : Type 0} (r : Outcome A) (f : A → Outcome B) (a : A) (b : B) → r ≡ yes a → f a ≡ yes b → after r f ≡ yes b
+after-is {A = A} r f a b e h = ap (λ (x : Outcome A). after x f) e ∙ h
+
 pub some-inj : {A : Type 0} (a b : A) → _≡_ {A = Option A} (some a) (some b) → a ≡ b
 some-inj a b e = cc
 

@@ -20,6 +20,7 @@ use Rattle.grammar.specs.Macros.{Expander, replaceItems, drain, atLimit, unless
 use Rattle.grammar.specs.Macros as Macros
 use Rattle.grammar.specs.Passes.{passes}
 use Rattle.grammar.specs.Sizes.{stageFits}
+use Rattle.meaning.proofs.Basics.{after-is}
 use Rattle.grammar.specs.Calls.{Answer, done, denied, next, read, passed, admit, stage, resolved, levelled, again, limited, pending, rounds, expanded, opened, whole}
 
 -- ---- answers taken apart
@@ -119,9 +120,6 @@ opened-done tape cap work g e = go (leb (8 * (length tape + cap)) work) e
     go : (b : Bool) → cond b (read (decode tape)) (denied 1 0 0) ≡ done g → (b ≡ true) × (read (decode tape) ≡ done g)
     go true h = (refl, h)
     go false h = absurd (denied≢done 1 0 0 g h)
-
-after-is : {A B : Type 0} (r : Outcome A) (f : A → Outcome B) (a : A) (b : B) → r ≡ yes a → f a ≡ yes b → after r f ≡ yes b
-after-is {A = A} r f a b e h = ap (λ (x : Outcome A). after x f) e ∙ h
 
 passes-are : (limit : ℕ) (U R L A X : Tree) → resolve U ≡ yes R → levels R ≡ yes L → resolve L ≡ yes A → macros limit A ≡ yes X → passes limit U ≡ yes X
 unfolding passes
