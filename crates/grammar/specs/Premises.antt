@@ -10,7 +10,33 @@ use Rattle.grammar.specs.Outcome.{Tree}
 use Rattle.grammar.specs.Grades.{annotated}
 use Rattle.grammar.specs.Meaning.{isTerminal}
 
--- ---- "identifiers are unresolved where no 21 or 24 stands"; names are names, as question 4 asks
+-- ---- "identifiers are unresolved where no 21 or 24 stands"
+abbrev pub UnmarkedLeaf : Leaf → Type 0
+UnmarkedLeaf (ambiguous n) = Unit {0}
+UnmarkedLeaf (bare n) = ⊥
+UnmarkedLeaf (quoted t) = Unit {0}
+UnmarkedLeaf (regex t) = Unit {0}
+UnmarkedLeaf (nonterminal n) = ⊥
+UnmarkedLeaf lookahead = Unit {0}
+UnmarkedLeaf lookbehind = Unit {0}
+UnmarkedLeaf error = Unit {0}
+
+abbrev mutual
+  pub UnmarkedSym : Sym → Type 0
+  UnmarkedSym (leaf s l) = UnmarkedLeaf l
+  UnmarkedSym (around s a x) = UnmarkedSym x
+  UnmarkedSym (over s o xs) = UnmarkedSyms xs
+
+  pub UnmarkedSyms : Syms → Type 0
+  UnmarkedSyms nil = Unit {0}
+  UnmarkedSyms (cons x xs) = UnmarkedSym x × UnmarkedSyms xs
+
+-- "with every identifier still unresolved and no annotated nonterminal taking arguments": what demand 3 asks of a tape's tree
+pub record Unmarked (U : Tree) : Type 0 where
+  pub symbols : (d : Nonterminal) → List·Memᴰ (item d) U → (a : Alternative) → List·Memᴰ a (d .alternatives) → UnmarkedSyms (a .symbols)
+  pub noMacro : (d : Nonterminal) → List·Memᴰ (item d) U → annotated d ≡ true → d .args ≡ []
+
+-- ---- the same with every name a name, as question 4 asks of a tape: what it comes to for a tree by itself
 abbrev pub UnresolvedLeaf : Leaf → Type 0
 UnresolvedLeaf (ambiguous n) = isName n ≡ true
 UnresolvedLeaf (bare n) = ⊥
@@ -40,7 +66,6 @@ abbrev mutual
   UnresolvedSyms nil = Unit {0}
   UnresolvedSyms (cons x xs) = UnresolvedSym x × UnresolvedSyms xs
 
--- "with every identifier still unresolved and no annotated nonterminal taking arguments"
 pub record Unresolved (U : Tree) : Type 0 where
   pub symbols : (d : Nonterminal) → List·Memᴰ (item d) U → (a : Alternative) → List·Memᴰ a (d .alternatives) → UnresolvedSyms (a .symbols)
   pub names : (d : Nonterminal) → List·Memᴰ (item d) U → isName (d .name) ≡ true

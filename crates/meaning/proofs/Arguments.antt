@@ -16,17 +16,9 @@ use Rattle.grammar.specs.Meaning.{isTerminal, named, meanLeaf, meanAround, mean
 use Rattle.grammar.specs.Macros.{at, argumentOf, orName, macroExpandLeaf, macroExpandSymbol, macroExpandSymbols, evaluateLeaf, evaluateArgument, evaluateCondition, expanded, expandAlternatives}
 use Rattle.grammar.specs.Premises.{HasItem}
 use Rattle.meaning.proofs.Basics.{test, has-here, has-later, has-cases, no≢yes, yes-inj, after-yes}
-use Rattle.meaning.proofs.Predicates.{Ident, Arity, OkayLeaf, OkayOver, Okay, Okays}
+use Rattle.meaning.proofs.Predicates.{Ident, Arity, OkayLeaf, OkayOver, Okay, Okays, named-parameter, named-reference}
 use Rattle.meaning.proofs.Sources.{Name, SrcLeaf, Src, Srcs, s-leaf, s-around, s-over, s-nil, s-cons}
 use Rattle.meaning.proofs.Certificate.{anywhere}
-
-named-parameter : (G : Tree) (ps : List Text) (n : Text) → has n ps ≡ true → named G ps n ≡ parameter n
-unfolding named
-named-parameter G ps n e = rw e
-
-named-reference : (G : Tree) (ps : List Text) (n : Text) → has n ps ≡ false → isTerminal G n ≡ false → named G ps n ≡ reference n none
-unfolding named
-named-reference G ps n e t = rw (e, t)
 
 -- a name that is not among others is not the first, nor a later one
 not-first : (n p : Text) (ps : List Text) → has n (p ∷ ps) ≡ false → sameAs n p ≡ false

@@ -15,18 +15,10 @@ use Rattle.grammar.specs.Phrases.{Token, Phrase, Phrases, token, parameter, ref
 use Rattle.grammar.specs.Meaning.{isTerminal, named, meanLeaf, meanAround, meanOver, mean, means, argument, put, puts, ofQuoted, holds, count, counts, mark, marks, own}
 use Rattle.grammar.specs.Levels.{levelName, occursLeaf, occurs, occursIn, replaceLeaf, replaceOccurrences, replaceOccurrencesIn, ceilingIn, substituted, levelItem, levelled}
 use Rattle.grammar.specs.Premises.{HasItem}
-use Rattle.meaning.proofs.Predicates.{OkayLeaf, Okay, Okays, Resolved}
+use Rattle.meaning.proofs.Predicates.{OkayLeaf, Okay, Okays, Resolved, named-parameter, named-reference}
 use Rattle.meaning.proofs.Simulation.{All2, a-nil, a-cons}
 use Rattle.meaning.proofs.LevelFacts.{Level, Sided, ceiling-level}
 use Rattle.meaning.proofs.LevelItems.{levelled-terminals, levelled-at}
-
-named-parameter : (G : Tree) (ps : List Text) (n : Text) → has n ps ≡ true → named G ps n ≡ parameter n
-unfolding named
-named-parameter G ps n e = rw e
-
-pub named-reference : (G : Tree) (ps : List Text) (n : Text) → has n ps ≡ false → isTerminal G n ≡ false → named G ps n ≡ reference n none
-unfolding named
-named-reference G ps n e t = rw (e, t)
 
 nothing-had : (n : Text) → has n [] ≡ false
 unfolding has

@@ -33,4 +33,5 @@ pub mod Draining
 pub mod Rounding
 -- the passes, the call and its bytes
 pub mod Staged
+pub mod Tapes
 pub mod Demand3

@@ -3,13 +3,14 @@ use mathlib.Core.Path.{_≡_, refl}
 use mathlib.Core.Logic.{_⊎_, _≢_}
 use mathlib.Core.Bool.{Bool, true, false, _&&_, _||_}
 use mathlib.Core.List.{List, [], _∷_, List·Memᴰ}
+use mathlib.Core.Option.{none}
 use Prim.Native.Nat.{ℕ}
 use Rattle.octets.specs.Runs.{sameAs}
 use Rattle.parse_tree.specs.Tree.{Text, Leaf, Around, Over, Sym, Syms, ambiguous, bare, quoted, regex, nonterminal, lookahead, lookbehind, error, repeat, choose, name, macro, group, leaf, around, over, nil, cons, Alternative, Nonterminal, item}
 use Rattle.parse_tree.specs.Texts.{every, startsName, inName, mutText, errorText, has}
 use Rattle.grammar.specs.Outcome.{Tree}
 use Rattle.grammar.specs.Phrases.{Phrase, token, parameter, reference, call, repeated, sequence}
-use Rattle.grammar.specs.Meaning.{isTerminal}
+use Rattle.grammar.specs.Meaning.{isTerminal, named}
 use Rattle.grammar.specs.Premises.{HasItem}
 
 abbrev pub startsWell : Text → Bool
@@ -102,3 +103,12 @@ pub record Resolved (G : Tree) : Type 0 where
   pub distinct : (d e : Nonterminal) → List·Memᴰ (item d) G → List·Memᴰ (item e) G → d .name ≡ e .name → d ≡ e
   pub idents : (n : Text) → isTerminal G n ≡ true → Ident n
   pub names : (d : Nonterminal) → List·Memᴰ (item d) G → Ident (d .name) × (isTerminal G (d .name) ≡ false)
+
+-- ---- a name that is an argument, and one that is a nonterminal
+pub named-parameter : (G : Tree) (ps : List Text) (n : Text) → has n ps ≡ true → named G ps n ≡ parameter n
+unfolding named
+named-parameter G ps n e = rw e
+
+pub named-reference : (G : Tree) (ps : List Text) (n : Text) → has n ps ≡ false → isTerminal G n ≡ false → named G ps n ≡ reference n none
+unfolding named
+named-reference G ps n e t = rw (e, t)
