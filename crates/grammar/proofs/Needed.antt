@@ -3,10 +3,9 @@ use mathlib.Core.Path.{_≡_, refl}
 use mathlib.Core.Bool.{Bool, true, false}
 use mathlib.Core.List.{List, [], _∷_}
 use mathlib.Core.Option.{none}
-use Prim.Native.Nat.{ℕ}
 use Rattle.octets.specs.Choice.{pick}
 use Rattle.octets.specs.Runs.{sameAs}
-use Rattle.parse_tree.specs.Tree.{Text, Around, Sym, Alternative, Item, ambiguous, bare, nonterminal, repeat, star, plus, macro, leaf, around, over, user, item, count, symsOf}
+use Rattle.parse_tree.specs.Tree.{Text, Around, Sym, Alternative, Item, bare, repeat, star, macro, leaf, around, over, user, item, count, symsOf}
 use Rattle.parse_tree.specs.Texts.{has, distinct}
 use Rattle.parse_tree.specs.Display.{escaped, shownLeaf, shownBefore, shownBehind, opening, shown, print}
 use Rattle.grammar.specs.Outcome.{yes}
@@ -14,7 +13,7 @@ use Rattle.grammar.specs.Resolve.{checkGlobals, validateSymbol, validate
 use Rattle.grammar.specs.Levels.{levelsOf, ofLevel, levelName, occurs, replaceOccurrences, substituted, levelItem, levelItems, levelled, checkLowest, checkLevels, levels}
 use Rattle.grammar.specs.Macros.{push, replaceSymbol, replaceAlternatives, replaceItems, macroExpandSymbol, expandAlternatives, expandSymbol, drain, atLimit, rounds, macros, vecNone, vecOne, pushed, vName, eName}
 use Rattle.grammar.specs.Passes.{passes}
-use Rattle.grammar.proofs.Build.{at, name, to, quote, fall, list, level, alternative, nt}
+use Rattle.grammar.proofs.Build.{at, name, to, quote, list, level, alternative, nt}
 
 abbrev plain : Text → List Sym → Item
 plain n xs = nt (at 0 0) n [] (alternative (at 0 0) [] xs ∷ [])

@@ -2,12 +2,12 @@
 use mathlib.Core.Path.{_≡_, refl}
 use mathlib.Core.Bool.{Bool, true, false}
 use mathlib.Core.List.{List, [], _∷_, _++_, map}
-use mathlib.Core.Option.{Option, none, some}
+use mathlib.Core.Option.{none}
 use Prim.Native.Nat.{ℕ}
 use Rattle.octets.specs.Choice.{pick}
 use Rattle.octets.specs.Numbers.{le, leAt}
 use Rattle.octets.specs.Runs.{part, sameAs}
-use Rattle.parse_tree.specs.Tree.{Text, Leaf, Around, Action, Sym, Syms, Attribute, Alternative, Nonterminal, Item, Stage, ambiguous, bare, quoted, nonterminal, lookahead, lookbehind, repeat, star, macro, leaf, around, over, nil, cons, noAction, user, lookaheadAction, lookbehindAction, item, extern, count, symsOf}
+use Rattle.parse_tree.specs.Tree.{Text, Around, Action, Sym, Attribute, Alternative, Item, Stage, ambiguous, bare, nonterminal, lookahead, lookbehind, repeat, star, macro, leaf, around, over, nil, user, lookaheadAction, lookbehindAction, item, extern, count, symsOf}
 use Rattle.parse_tree.specs.Texts.{every, startsName, inName, nameBytes, isName, isLiteral, isAscii, has, number, distinct, withNew}
 use Rattle.parse_tree.specs.Display.{escaped, shownLeaf, shownBefore, shownBehind, opening, shown, print}
 use Rattle.parse_tree.specs.Nodes.{spanBytes, leafCode, leafOperand, symbolBytes, nodeBytes, sizeOf, whole, spanAt, namedLeaf, bareLeaf, symbolAt, textNode, nonterminalAt, terminalAt, argumentAt, alternativeAt, attributeAt, conditionAt, nodeBy, nodeAt}

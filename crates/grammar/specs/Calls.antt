@@ -1,6 +1,6 @@
 -- The calls: from a tape, a limit and the buffers' lengths to the answer and to what output and work hold afterwards. Assumes nothing: these are definitions.
 use Prim.Native.Nat.{ℕ, zero, suc, _+_, _*_}
-use mathlib.Core.Bool.{Bool, true, false, cond}
+use mathlib.Core.Bool.{cond}
 use mathlib.Core.List.{List, [], _∷_, _++_}
 use lib.Dec.{leb}
 use lib.ListN.{length, drop, replicate}
@@ -12,7 +12,7 @@ use Rattle.parse_tree.specs.References.{stageOf}
 use Rattle.grammar.specs.Outcome.{Tree, Outcome, yes, no}
 use Rattle.grammar.specs.Resolve.{resolve}
 use Rattle.grammar.specs.Levels.{levels}
-use Rattle.grammar.specs.Macros.{Expander, replaceItems, drain, spanOf, withoutMacros}
+use Rattle.grammar.specs.Macros.{replaceItems, drain, spanOf, withoutMacros}
 use Rattle.grammar.specs.Sizes.{stageFits}
 
 -- a yes, or "a no gives the number and a place of two 64-bit numbers"

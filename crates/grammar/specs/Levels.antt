@@ -6,7 +6,6 @@ use mathlib.Core.Option.{Option, none, some}
 use lib.Dec.{eqb, ltb, leb}
 use Rattle.octets.specs.Runs.{sameAs}
 use Rattle.parse_tree.specs.Tree.{Text, Leaf, Sym, Syms, ambiguous, bare, quoted, regex, nonterminal, lookahead, lookbehind, error, leaf, around, over, nil, cons, Attribute, Alternative, Nonterminal, Item, item, noAction}
-use Rattle.parse_tree.specs.declared.syntax.Span.{Span}
 use Rattle.grammar.specs.Outcome.{Tree, Outcome, yes, no, after}
 use Rattle.grammar.specs.Grades.{Side, all, non, left, right, levelIn, sideIn, precedence, assoc, valueOf, annotated, Graded, graded, below, ceiling}
 

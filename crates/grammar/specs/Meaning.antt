@@ -6,7 +6,7 @@ use mathlib.Core.Bool.{Bool, true, false, cond, not, _&&_, _||_}
 use mathlib.Core.List.{List, [], _∷_, List·Memᴰ}
 use mathlib.Core.Option.{Option, none, some}
 use Rattle.octets.specs.Runs.{sameAs}
-use Rattle.parse_tree.specs.Tree.{Text, Op, star, plus, question, Leaf, Around, Over, Sym, Syms, ambiguous, bare, quoted, regex, nonterminal, lookahead, lookbehind, error, repeat, choose, name, macro, group, leaf, around, over, nil, cons, Condition, Alternative, Nonterminal, Item, item}
+use Rattle.parse_tree.specs.Tree.{Text, star, plus, question, Leaf, Around, Over, Sym, Syms, ambiguous, bare, quoted, regex, nonterminal, lookahead, lookbehind, error, repeat, choose, name, macro, group, leaf, around, over, nil, cons, Condition, Alternative, Nonterminal, Item, item}
 use Rattle.parse_tree.specs.Texts.{has}
 use Rattle.grammar.specs.Outcome.{Tree}
 use Rattle.grammar.specs.Grades.{annotated, Graded, graded, below, ceiling}

@@ -1,8 +1,7 @@
 -- What a pass answers, and records with one part changed. Assumes nothing: these are definitions.
 use Prim.Native.Nat.{ℕ}
 use mathlib.Core.List.{List}
-use mathlib.Core.Option.{Option}
-use Rattle.parse_tree.specs.Tree.{Text, Syms, Attribute, Condition, Alternative, Nonterminal, Item}
+use Rattle.parse_tree.specs.Tree.{Syms, Alternative, Nonterminal, Item}
 use Rattle.parse_tree.specs.declared.syntax.Span.{Span}
 
 -- a tree is its items

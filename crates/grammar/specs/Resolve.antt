@@ -1,12 +1,12 @@
 -- Name resolution: questions 5 to 13, and the tree with each name looked up. Assumes nothing: these are definitions.
 use Prim.Native.Nat.{ℕ, zero, suc}
-use mathlib.Core.Bool.{Bool, true, false, cond}
+use mathlib.Core.Bool.{cond}
 use mathlib.Core.List.{List, [], _∷_, _++_}
 use mathlib.Core.Option.{Option, none, some}
 use lib.Dec.{eqb}
 use lib.ListN.{length}
 use Rattle.octets.specs.Runs.{sameAs}
-use Rattle.parse_tree.specs.Tree.{Text, Leaf, Around, Over, Sym, Syms, ambiguous, bare, quoted, regex, nonterminal, lookahead, lookbehind, error, macro, group, leaf, around, over, nil, cons, count, Condition, Alternative, Nonterminal, Item, item, extern, match}
+use Rattle.parse_tree.specs.Tree.{Text, Leaf, Over, Sym, Syms, ambiguous, bare, quoted, regex, nonterminal, lookahead, lookbehind, error, macro, group, leaf, around, over, nil, cons, count, Condition, Alternative, Nonterminal, Item, item, extern, match}
 use Rattle.parse_tree.specs.Texts.{has, distinct}
 use Rattle.parse_tree.specs.declared.syntax.Span.{Span}
 use Rattle.grammar.specs.Outcome.{Tree, Outcome, yes, no, after, withSymbols, withAlternatives}

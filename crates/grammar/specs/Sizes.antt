@@ -4,7 +4,7 @@ use mathlib.Core.Bool.{Bool, true, false, _&&_}
 use mathlib.Core.List.{List, [], _∷_}
 use lib.Dec.{leb, ltb}
 use lib.ListN.{length}
-use Rattle.parse_tree.specs.Tree.{Text, Over, Sym, Syms, macro, group, leaf, around, over, nil, cons, count, Alternative, Nonterminal, Item, item, Stage}
+use Rattle.parse_tree.specs.Tree.{Text, Over, Sym, Syms, macro, group, leaf, around, over, nil, cons, count, Alternative, Item, item, Stage}
 
 -- whether a test holds of each element
 abbrev pub each : {A : Type 0} → (A → Bool) → List A → Bool

@@ -11,7 +11,7 @@ use Rattle.parse_tree.specs.Texts.{has}
 use Rattle.parse_tree.specs.Display.{shownLeaf, shown, print}
 use Rattle.parse_tree.specs.declared.syntax.Span.{Span}
 use Rattle.grammar.specs.Outcome.{Tree, yes}
-use Rattle.grammar.specs.Phrases.{Phrase, Phrases, token, bareToken, parameter, reference}
+use Rattle.grammar.specs.Phrases.{Phrase, Phrases, token, bareToken, reference}
 use Rattle.grammar.specs.Meaning.{isTerminal, named, meanLeaf, meanAround, meanOver, mean, means, argument, put, puts, ofQuoted, holds}
 use Rattle.grammar.specs.Macros.{at, argumentOf, orName, macroExpandLeaf, macroExpandSymbol, macroExpandSymbols, evaluateLeaf, evaluateArgument, evaluateCondition, expanded, expandAlternatives}
 use Rattle.grammar.specs.Premises.{HasItem}

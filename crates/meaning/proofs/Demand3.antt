@@ -1,10 +1,10 @@
 -- Demand 3 over trees: the expanded tree derives what the written one means, a higher limit changes nothing, and nothing is left to expand. Assumes nothing.
-use mathlib.Core.Path.{_≡_, refl, sym, ap, _∙_}
+use mathlib.Core.Path.{_≡_}
 use mathlib.Core.Logic.{_↔_}
 use mathlib.Core.List.{List}
 use Prim.Native.Nat.{ℕ, _≤_}
 use Rattle.parse_tree.specs.Tree.{Text}
-use Rattle.grammar.specs.Outcome.{Tree, Outcome, yes, after}
+use Rattle.grammar.specs.Outcome.{Tree, yes}
 use Rattle.grammar.specs.Phrases.{Token}
 use Rattle.grammar.specs.Meaning.{Derives, Derives-expanded}
 use Rattle.grammar.specs.Resolve.{resolve}

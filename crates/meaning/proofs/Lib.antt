@@ -1,4 +1,4 @@
--- Demand 3 over trees, and on the bytes of the call for all: Demand3 has the theorems.
+-- Demand 3: Demand3 has it over trees, OnBytes on the bytes of the call for all.
 pub mod Basics
 pub mod Predicates
 pub mod Idents
@@ -34,4 +34,9 @@ pub mod Rounding
 -- the passes, the call and its bytes
 pub mod Staged
 pub mod Tapes
+pub mod Spans
+pub mod RoundSpans
+pub mod Atoms
+pub mod Output
 pub mod Demand3
+pub mod OnBytes

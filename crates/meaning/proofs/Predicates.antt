@@ -1,10 +1,9 @@
 -- What the proofs carry along: identifiers, symbols whose names are looked up, and trees that passed questions 5 to 13. Assumes nothing.
-use mathlib.Core.Path.{_≡_, refl}
+use mathlib.Core.Path.{_≡_}
 use mathlib.Core.Logic.{_⊎_, _≢_}
-use mathlib.Core.Bool.{Bool, true, false, _&&_, _||_}
+use mathlib.Core.Bool.{Bool, true, false}
 use mathlib.Core.List.{List, [], _∷_, List·Memᴰ}
 use mathlib.Core.Option.{none}
-use Prim.Native.Nat.{ℕ}
 use Rattle.octets.specs.Runs.{sameAs}
 use Rattle.parse_tree.specs.Tree.{Text, Leaf, Around, Over, Sym, Syms, ambiguous, bare, quoted, regex, nonterminal, lookahead, lookbehind, error, repeat, choose, name, macro, group, leaf, around, over, nil, cons, Alternative, Nonterminal, item}
 use Rattle.parse_tree.specs.Texts.{every, startsName, inName, mutText, errorText, has}

@@ -114,7 +114,7 @@ pub record Run (tape : List ℕ) (limit : ℕ) (g : Stage) : Type 0 where
   pub decoded : decode tape ≡ got from end
   pub passes-to : passes limit (from .items) ≡ yes (g .items)
 
-opened-done : (tape : List ℕ) (cap work : ℕ) (g : Stage) → opened tape cap work ≡ done g → (leb (8 * (length tape + cap)) work ≡ true) × (read (decode tape) ≡ done g)
+pub opened-done : (tape : List ℕ) (cap work : ℕ) (g : Stage) → opened tape cap work ≡ done g → (leb (8 * (length tape + cap)) work ≡ true) × (read (decode tape) ≡ done g)
 opened-done tape cap work g e = go (leb (8 * (length tape + cap)) work) e
   where
     go : (b : Bool) → cond b (read (decode tape)) (denied 1 0 0) ≡ done g → (b ≡ true) × (read (decode tape) ≡ done g)

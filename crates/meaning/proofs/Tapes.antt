@@ -1,19 +1,19 @@
 -- A tree that was read from a tape has names where names stand: so what demand 3 asks of it is all that the proofs need. Assumes nothing.
-use mathlib.Core.Path.{_≡_, refl, sym, ap, subst, _∙_}
+use mathlib.Core.Path.{_≡_, sym, ap, subst, _∙_}
 use mathlib.Core.Logic.{_⊎_, inl, inr}
-use mathlib.Core.Bool.{Bool, true, false, _||_, false≢true}
+use mathlib.Core.Bool.{true, false≢true}
 use mathlib.Core.List.{List, [], _∷_, List·Memᴰ, List·Memᴰ·head, List·Memᴰ·tail, List·Memᴰ·not-nil}
 use Prim.Native.Nat.{ℕ, zero, suc}
 use Rattle.octets.specs.Choice.{pick}
 use Rattle.octets.specs.Runs.{sameAs}
 use Rattle.octets.proofs.Sameness.{sameAs-eq}
-use Rattle.parse_tree.specs.Tree.{Text, Leaf, Around, Over, Sym, Syms, ambiguous, bare, quoted, regex, nonterminal, lookahead, lookbehind, error, repeat, choose, name, macro, group, leaf, around, over, nil, cons, Alternative, Nonterminal, Item, item, Stage}
+use Rattle.parse_tree.specs.Tree.{Text, Leaf, Around, Over, Sym, Syms, ambiguous, bare, quoted, regex, nonterminal, lookahead, lookbehind, error, repeat, choose, name, macro, group, leaf, around, over, nil, cons, Item, item, Stage}
 use Rattle.parse_tree.specs.Texts.{isName}
 use Rattle.parse_tree.specs.Within.{Each, Uses, LeafWithin, AroundWithin, OverWithin, SymWithin, SymsWithin, NonterminalWithin, ItemWithin, StageWithin}
 use Rattle.grammar.specs.Outcome.{Tree}
 use Rattle.grammar.specs.Meaning.{isTerminal}
 use Rattle.grammar.specs.Premises.{UnmarkedLeaf, UnmarkedSym, UnmarkedSyms, Unmarked, UnresolvedLeaf, NamedAround, NamedOver, UnresolvedSym, UnresolvedSyms, Unresolved}
-use Rattle.meaning.proofs.Basics.{item-inj, or-cases}
+use Rattle.meaning.proofs.Basics.{or-cases}
 
 each-at : {A : Type 0} (P : A → Type 0) (xs : List A) (x : A) → Each P xs → List·Memᴰ x xs → P x
 each-at P [] x h i = absurd (List·Memᴰ·not-nil i)

@@ -3,3 +3,4 @@
 pub mod numbers;
 pub mod runs;
 pub mod sink;
+pub mod wide;

@@ -16,18 +16,13 @@ use crate::syntax::TerminalString;
 use octets::numbers::atom_at;
 use octets::numbers::u16_at;
 use octets::numbers::u32_at;
+use octets::wide::from16;
 ghost use mathlib.Core.Path.{_≡_};
 ghost use Prim.Native.Nat.{_+_, _≤_, _<_};
 ghost use lib.ListN.{length, getD};
 ghost use Rattle.octets.specs.Numbers.{leAt};
 ghost use Rattle.parse_tree.specs.Nodes.{nodeAt, textNode, nonterminalAt, terminalAt, argumentAt, alternativeAt, attributeAt, conditionAt};
 ghost use Rattle.parse_tree.specs.Nodes.{whole, spanAt, symbolAt, namedLeaf, bareLeaf};
-
-fn wide(x: u16) -> usize
-    ensures { λ r. ⌜ (r ≡ x) × (r < 65536) ⌝ }
-{
-    x as usize
-}
 
 fn span_at(tape: &[u8], at: usize) -> Span
     requires { ⌜ at + 8 ≤ length (now tape) ⌝ }
@@ -46,7 +41,7 @@ fn text_node(tape: &[u8], at: usize) -> Node
         return Node::Unknown;
     }
     let n = u16_at(tape, at + 1);
-    if room < 3 + wide(n) {
+    if room < 3 + from16(n) {
         return Node::Unknown;
     }
     Node::Text(n)

@@ -1,15 +1,10 @@
 // The bucket of a text.
+use octets::wide::from8;
 ghost use mathlib.Core.Path.{_≡_};
 ghost use Prim.Native.Nat.{_≤_, _<_};
 ghost use lib.ListN.{length};
 ghost use Rattle.octets.specs.Runs.{part};
 ghost use Rattle.texts.specs.Table.{hashOf, bucket};
-
-fn wide(b: u8) -> usize
-    ensures { λ r. ⌜ (r ≡ b) × (r < 256) ⌝ }
-{
-    b as usize
-}
 
 // The hash of the bytes from a up to e.
 fn hash(tape: &[u8], a: usize, e: usize) -> usize
@@ -19,7 +14,7 @@ fn hash(tape: &[u8], a: usize, e: usize) -> usize
     let mut h: usize = 0;
     let mut i = a;
     while i < e {
-        h = (h * 31 + wide(tape[i])) % 4294967296;
+        h = (h * 31 + from8(tape[i])) % 4294967296;
         i += 1;
     }
     h

@@ -5,6 +5,7 @@ use crate::entries::put;
 use crate::hash::bucket_of;
 use octets::numbers::u16_at;
 use octets::runs::equal;
+use octets::wide::from16;
 ghost use mathlib.Core.Path.{_≡_};
 ghost use mathlib.Core.List.{[]};
 ghost use Prim.Native.Nat.{_+_, _*_, _≤_, _<_};
@@ -15,18 +16,12 @@ ghost use Rattle.texts.specs.Atoms.{atomEnd, atomText, atomsOf, placeOf}
 ghost use Rattle.texts.specs.Classes.{textClass};
 ghost use Rattle.texts.specs.Table.{Entering, Linked, Table};
 
-fn wide(n: u16) -> usize
-    ensures { λ r. ⌜ r ≡ n ⌝ }
-{
-    n as usize
-}
-
 // The text of the atom whose command stands at a place.
 pub fn atom_text(tape: &[u8], at: usize) -> &[u8]
     requires { ⌜ (at + 3 ≤ length (now tape)) × (atomEnd (now tape) at ≤ length (now tape)) ⌝ }
     ensures { λ r. ⌜ now r ≡ atomText (now (tape .entry)) at ⌝ }
 {
-    let n = wide(u16_at(tape, at + 1));
+    let n = from16(u16_at(tape, at + 1));
     let a = at + 3;
     let e = a + n;
     &tape[a..e]

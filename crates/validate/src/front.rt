@@ -1,6 +1,7 @@
 // The atoms at the front of a tape, each new, entered in the table.
 use crate::Entered;
 use crate::Next;
+use octets::wide::from16;
 use parse_tree::node::node;
 use parse_tree::places::ATOMS;
 use parse_tree::places::allowed;
@@ -12,12 +13,6 @@ use texts::table::start;
 ghost use mathlib.Core.Path.{_≡_};
 ghost use Prim.Native.Nat.{_/_};
 ghost use Rattle.validate.specs.Front.{Front, Nexts, Starts, Fronted};
-
-fn wide(n: u16) -> usize
-    ensures { λ r. ⌜ r ≡ n ⌝ }
-{
-    n as usize
-}
 
 // The atom at a place, as the k-th.
 fn next(tape: &[u8], work: &mut [u8], c: usize, k: usize, at: usize, width: usize) -> Next
@@ -32,7 +27,7 @@ fn next(tape: &[u8], work: &mut [u8], c: usize, k: usize, at: usize, width: usiz
         return Next::End;
     };
     let a = at + 3;
-    let e = a + wide(l);
+    let e = a + from16(l);
     if known(tape, work, c, k, a, e) {
         return Next::Known;
     }

@@ -5,6 +5,8 @@ use crate::Step;
 use crate::command::command;
 use crate::command::commands;
 use crate::symbols::symbols;
+use octets::wide::from8;
+use octets::wide::from16;
 use parse_tree::places::ALTERNATIVES;
 use parse_tree::places::ARGUMENTS;
 use parse_tree::places::ATTRIBUTES;
@@ -21,28 +23,16 @@ ghost use Rattle.parse_tree.specs.Reading.{times};
 ghost use Rattle.texts.specs.Atoms.{atomsOf};
 ghost use Rattle.validate.specs.Steps.{Itemed, Ready, alternativeParts, nonterminalParts, stepOf};
 
-fn wide8(x: u8) -> usize
-    ensures { λ r. ⌜ r ≡ x ⌝ }
-{
-    x as usize
-}
-
-fn wide16(x: u16) -> usize
-    ensures { λ r. ⌜ r ≡ x ⌝ }
-{
-    x as usize
-}
-
 // What stands behind the command of an alternative: attributes, condition, symbols.
 fn alternative_parts(tape: &[u8], work: &[u8], m: Atoms, a: Alternative, at: usize) -> Step
     requires { ⌜ Ready (now tape) (now work) m ⌝ }
     ensures { λ r. ⌜ r ≡ stepOf (alternativeParts (m .width) (now (tape .entry)) (atomsOf (now (tape .entry)) (m .count)) a at) ⌝ }
 {
-    match commands(tape, work, m, ATTRIBUTES, wide8(a.attributes), at) {
+    match commands(tape, work, m, ATTRIBUTES, from8(a.attributes), at) {
         Step::Refused(q, p) => Step::Refused(q, p),
-        Step::Next(e) => match commands(tape, work, m, CONDITIONS, wide8(a.conditions), e) {
+        Step::Next(e) => match commands(tape, work, m, CONDITIONS, from8(a.conditions), e) {
             Step::Refused(q, p) => Step::Refused(q, p),
-            Step::Next(d) => symbols(tape, work, m, d, wide16(a.symbols), 64),
+            Step::Next(d) => symbols(tape, work, m, d, from16(a.symbols), 64),
         },
     }
 }
@@ -89,9 +79,9 @@ fn nonterminal_parts(tape: &[u8], work: &[u8], m: Atoms, d: NonterminalData, at:
     requires { ⌜ Ready (now tape) (now work) m ⌝ }
     ensures { λ r. ⌜ r ≡ stepOf (nonterminalParts (m .width) (now (tape .entry)) (atomsOf (now (tape .entry)) (m .count)) d at) ⌝ }
 {
-    match commands(tape, work, m, ARGUMENTS, wide8(d.args), at) {
+    match commands(tape, work, m, ARGUMENTS, from8(d.args), at) {
         Step::Refused(q, p) => Step::Refused(q, p),
-        Step::Next(e) => alternatives(tape, work, m, wide16(d.alternatives), e),
+        Step::Next(e) => alternatives(tape, work, m, from16(d.alternatives), e),
     }
 }
 

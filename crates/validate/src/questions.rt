@@ -1,4 +1,5 @@
 // Question 3 of one command: each operand defined and in its values.
+use octets::wide::from32;
 use parse_tree::syntax::Alternative;
 use parse_tree::syntax::Around;
 use parse_tree::syntax::Attribute;
@@ -10,21 +11,15 @@ use parse_tree::syntax::SymbolKind;
 ghost use mathlib.Core.Path.{_≡_};
 ghost use Rattle.parse_tree.specs.Questions.{defined, leafDefined, symbolDefined, alternativeDefined, attributeDefined};
 
-fn wide(x: u32) -> usize
-    ensures { λ r. ⌜ r ≡ x ⌝ }
-{
-    x as usize
-}
-
 fn leaf_defined(l: Leaf, atoms: usize) -> bool
     ensures { λ r. ⌜ r ≡ leafDefined atoms l ⌝ }
 {
     match l {
-        Leaf::AmbiguousId(a) => wide(a.0) < atoms,
-        Leaf::Bare(a) => wide(a.0) < atoms,
-        Leaf::Quoted(a) => wide(a.0) < atoms,
-        Leaf::Regex(a) => wide(a.0) < atoms,
-        Leaf::Nonterminal(a) => wide(a.0) < atoms,
+        Leaf::AmbiguousId(a) => from32(a.0) < atoms,
+        Leaf::Bare(a) => from32(a.0) < atoms,
+        Leaf::Quoted(a) => from32(a.0) < atoms,
+        Leaf::Regex(a) => from32(a.0) < atoms,
+        Leaf::Nonterminal(a) => from32(a.0) < atoms,
         Leaf::Lookahead => true,
         Leaf::Lookbehind => true,
         Leaf::Error => true,
@@ -41,7 +36,7 @@ fn around_defined(a: Around, atoms: usize) -> bool
             if 1 < m {
                 return false;
             }
-            wide(n.0) < atoms
+            from32(n.0) < atoms
         }
     }
 }
@@ -51,7 +46,7 @@ fn over_defined(o: Over, atoms: usize) -> bool
 {
     match o {
         Over::Macro(n, k) => {
-            if atoms <= wide(n.0) {
+            if atoms <= from32(n.0) {
                 return false;
             }
             1 <= k
@@ -81,10 +76,10 @@ fn alternative_defined(a: Alternative, atoms: usize) -> bool
     }
     let text = a.text;
     if a.action == 1 {
-        return wide(text.0) < atoms;
+        return from32(text.0) < atoms;
     }
     if a.action == 2 {
-        return wide(text.0) < atoms;
+        return from32(text.0) < atoms;
     }
     text.0 == 0
 }
@@ -95,17 +90,17 @@ fn attribute_defined(a: Attribute, atoms: usize) -> bool
     let id = a.id;
     let key = a.key;
     let value = a.value;
-    if atoms <= wide(id.0) {
+    if atoms <= from32(id.0) {
         return false;
     }
     if 1 < a.kind {
         return false;
     }
     if a.kind == 1 {
-        if atoms <= wide(key.0) {
+        if atoms <= from32(key.0) {
             return false;
         }
-        return wide(value.0) < atoms;
+        return from32(value.0) < atoms;
     }
     if key.0 != 0 {
         return false;
@@ -118,13 +113,13 @@ fn condition_defined(c: Condition, atoms: usize) -> bool
 {
     let lhs = c.lhs;
     let rhs = c.rhs;
-    if atoms <= wide(lhs.0) {
+    if atoms <= from32(lhs.0) {
         return false;
     }
     if 1 < c.op {
         return false;
     }
-    wide(rhs.0) < atoms
+    from32(rhs.0) < atoms
 }
 
 // Whether every operand of a command is defined, where there are so many atoms, and in its values.
@@ -135,16 +130,16 @@ pub fn is_defined(n: Node, atoms: usize) -> bool
         Node::Text(_) => true,
         Node::Nonterminal(d) => {
             let name = d.name;
-            if atoms <= wide(name.0) {
+            if atoms <= from32(name.0) {
                 return false;
             }
             d.flags <= 3
         }
         Node::Terminal(t) => {
             let name = t.name;
-            wide(name.0) < atoms
+            from32(name.0) < atoms
         }
-        Node::Argument(a) => wide(a.0) < atoms,
+        Node::Argument(a) => from32(a.0) < atoms,
         Node::Alternative(a) => alternative_defined(a, atoms),
         Node::Attribute(a) => attribute_defined(a, atoms),
         Node::Condition(c) => condition_defined(c, atoms),

@@ -1,5 +1,6 @@
 // Question 4 of one command: does each text suit its use?
 use crate::Atoms;
+use octets::wide::from32;
 use parse_tree::syntax::Alternative;
 use parse_tree::syntax::Around;
 use parse_tree::syntax::Attribute;
@@ -17,31 +18,25 @@ ghost use Rattle.parse_tree.specs.Questions.{suits, leafSuits, symbolSuits};
 ghost use Rattle.texts.specs.Atoms.{atomsOf};
 ghost use Rattle.validate.specs.Steps.{Ready};
 
-fn wide(x: u32) -> usize
-    ensures { λ r. ⌜ r ≡ x ⌝ }
-{
-    x as usize
-}
-
 fn is_name(tape: &[u8], work: &[u8], m: Atoms, k: u32) -> bool
     requires { ⌜ Ready (now tape) (now work) m ⌝ }
     ensures { λ r. ⌜ r ≡ isName (getD (atomsOf (now (tape .entry)) (m .count)) k []) ⌝ }
 {
-    class(tape, work, m.room, m.count, wide(k)) == 3
+    class(tape, work, m.room, m.count, from32(k)) == 3
 }
 
 fn is_literal(tape: &[u8], work: &[u8], m: Atoms, k: u32) -> bool
     requires { ⌜ Ready (now tape) (now work) m ⌝ }
     ensures { λ r. ⌜ r ≡ isLiteral (getD (atomsOf (now (tape .entry)) (m .count)) k []) ⌝ }
 {
-    2 <= class(tape, work, m.room, m.count, wide(k))
+    2 <= class(tape, work, m.room, m.count, from32(k))
 }
 
 fn is_ascii(tape: &[u8], work: &[u8], m: Atoms, k: u32) -> bool
     requires { ⌜ Ready (now tape) (now work) m ⌝ }
     ensures { λ r. ⌜ r ≡ isAscii (getD (atomsOf (now (tape .entry)) (m .count)) k []) ⌝ }
 {
-    1 <= class(tape, work, m.room, m.count, wide(k))
+    1 <= class(tape, work, m.room, m.count, from32(k))
 }
 
 fn leaf_suits(tape: &[u8], work: &[u8], m: Atoms, l: Leaf) -> bool

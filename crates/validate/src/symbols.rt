@@ -3,6 +3,8 @@ use crate::Asked;
 use crate::Atoms;
 use crate::Step;
 use crate::command::command;
+use octets::wide::from8;
+use octets::wide::from16;
 use parse_tree::places::SYMBOLS;
 use parse_tree::syntax::Node;
 use parse_tree::syntax::Over;
@@ -15,25 +17,13 @@ ghost use Rattle.parse_tree.specs.Reading.{times};
 ghost use Rattle.texts.specs.Atoms.{atomsOf};
 ghost use Rattle.validate.specs.Steps.{Ready, stepOf};
 
-fn wide8(x: u8) -> usize
-    ensures { λ r. ⌜ r ≡ x ⌝ }
-{
-    x as usize
-}
-
-fn wide16(x: u16) -> usize
-    ensures { λ r. ⌜ r ≡ x ⌝ }
-{
-    x as usize
-}
-
 // How many symbols stand inside.
 fn inside(o: Over) -> usize
     ensures { λ r. ⌜ r ≡ insideOf o ⌝ }
 {
     match o {
-        Over::Macro(_, k) => wide8(k),
-        Over::Group(k) => wide16(k),
+        Over::Macro(_, k) => from8(k),
+        Over::Group(k) => from16(k),
     }
 }
 

@@ -6,7 +6,7 @@ use Rattle.parse_tree.proofs.node.text_node.Tie as tie
 use Rattle.parse_tree.proofs.node.text_node.Reads as reads
 use Rattle.parse_tree.proofs.node.text_node.Lts as lts
 use Rattle.octets.proofs.numbers.u16_at.Reads as u16-at-reads
-use Rattle.parse_tree.proofs.node.wide.Reads as wide-reads
+use Rattle.octets.proofs.wide.from16.Reads as from16-reads
 
 -- src/node.rt:28:16
 sub-room : tie.Need-sub-room
@@ -26,8 +26,8 @@ u16-at-requires : tie.Need-u16-at-requires
 u16-at-requires c κs = search needs
 
 -- src/node.rt:33:19
-wide-requires : tie.Need-wide-requires
-wide-requires c κs = search needs
+from16-requires : tie.Need-from16-requires
+from16-requires c κs = search needs
 
 -- src/node.rt:33:15
 add-if2 : tie.Need-add-if2
@@ -49,7 +49,7 @@ text-node-spec =
     returns
     add-u16-at
     u16-at-requires
-    wide-requires
+    from16-requires
     add-if2
     returns-2
     returns-3)

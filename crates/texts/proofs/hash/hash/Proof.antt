@@ -6,7 +6,7 @@ use Rattle.texts.proofs.hash.hash.Statement.{statement}
 use Rattle.texts.proofs.hash.hash.Tie as tie
 use Rattle.texts.proofs.hash.hash.Reads as reads
 use Rattle.texts.proofs.hash.hash.Lts as lts
-use Rattle.texts.proofs.hash.wide.Reads as wide-reads
+use Rattle.octets.proofs.wide.from8.Reads as from8-reads
 
 abbrev Inv-loop : tie.InvT-loop
 Inv-loop tape a e h₀ i₀ h i = Hashing tape (hashOf 0 (part a e tape)) e h i
@@ -23,12 +23,12 @@ mul-h : tie.Need-mul-h Inv-loop μ-loop
 mul-h c = search hashing
 
 -- src/hash.rt:22:28
-shared-slice-read-wide : tie.Need-shared-slice-read-wide Inv-loop μ-loop
-shared-slice-read-wide c = search hashing
+shared-slice-read-from8 : tie.Need-shared-slice-read-from8 Inv-loop μ-loop
+shared-slice-read-from8 c = search hashing
 
 -- src/hash.rt:22:23
-wide-requires : tie.Need-wide-requires Inv-loop μ-loop
-wide-requires c κs = search hashing
+from8-requires : tie.Need-from8-requires Inv-loop μ-loop
+from8-requires c κs = search hashing
 
 -- src/hash.rt:22:14
 add-h : tie.Need-add-h Inv-loop μ-loop
@@ -58,8 +58,8 @@ hash-spec =
     μ-loop
     loop-holds
     mul-h
-    shared-slice-read-wide
-    wide-requires
+    shared-slice-read-from8
+    from8-requires
     add-h
     add-i
     loop-less

@@ -5,7 +5,7 @@ use Rattle.texts.proofs.table.atom_text.Tie as tie
 use Rattle.texts.proofs.table.atom_text.Reads as reads
 use Rattle.texts.proofs.table.atom_text.Lts as lts
 use Rattle.octets.proofs.numbers.u16_at.Reads as u16-at-reads
-use Rattle.texts.proofs.table.wide.Reads as wide-reads
+use Rattle.octets.proofs.wide.from16.Reads as from16-reads
 
 -- src/table.rt:29:31
 add-u16-at : tie.Need-add-u16-at
@@ -16,8 +16,8 @@ u16-at-requires : tie.Need-u16-at-requires
 u16-at-requires c κs = search needs
 
 -- src/table.rt:29:9
-wide-requires : tie.Need-wide-requires
-wide-requires c κs = search needs
+from16-requires : tie.Need-from16-requires
+from16-requires c κs = search needs
 
 -- src/table.rt:30:13
 add-a : tie.Need-add-a
@@ -49,7 +49,7 @@ atom-text-spec =
     (tie.spec
     add-u16-at
     u16-at-requires
-    wide-requires
+    from16-requires
     add-a
     add-e
     sub-result

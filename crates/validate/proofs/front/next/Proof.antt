@@ -9,7 +9,7 @@ use Rattle.parse_tree.proofs.places.allowed.Reads as allowed-reads
 use Rattle.parse_tree.proofs.places.class.Reads as class-reads
 use Rattle.texts.proofs.table.enter.Reads as enter-reads
 use Rattle.texts.proofs.table.known.Reads as known-reads
-use Rattle.validate.proofs.front.wide.Reads as wide-reads
+use Rattle.octets.proofs.wide.from16.Reads as from16-reads
 
 -- src/front.rt:28:9
 node-requires : tie.Need-node-requires
@@ -40,8 +40,8 @@ add-a : tie.Need-add-a
 add-a c = search needs
 
 -- src/front.rt:36:17
-wide-requires : tie.Need-wide-requires
-wide-requires c κs = search needs
+from16-requires : tie.Need-from16-requires
+from16-requires c κs = search needs
 
 -- src/front.rt:36:13
 add-e : tie.Need-add-e
@@ -82,7 +82,7 @@ next-spec =
     enum-known-n
     returns-2
     add-a
-    wide-requires
+    from16-requires
     add-e
     known-requires
     same-length

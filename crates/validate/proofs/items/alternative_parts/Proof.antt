@@ -5,13 +5,13 @@ use Rattle.validate.proofs.items.alternative_parts.Tie as tie
 use Rattle.validate.proofs.items.alternative_parts.Reads as reads
 use Rattle.validate.proofs.items.alternative_parts.Lts as lts
 use Rattle.validate.proofs.command.commands.Reads as commands-reads
-use Rattle.validate.proofs.items.wide16.Reads as wide16-reads
-use Rattle.validate.proofs.items.wide8.Reads as wide8-reads
+use Rattle.octets.proofs.wide.from16.Reads as from16-reads
+use Rattle.octets.proofs.wide.from8.Reads as from8-reads
 use Rattle.validate.proofs.symbols.symbols.Reads as symbols-reads
 
 -- src/items.rt:41:47
-wide8-requires : tie.Need-wide8-requires
-wide8-requires c κs = search needs
+from8-requires : tie.Need-from8-requires
+from8-requires c κs = search needs
 
 -- src/items.rt:41:11
 commands-requires : tie.Need-commands-requires
@@ -26,8 +26,8 @@ enum-known-e : tie.Need-enum-known-e
 enum-known-e c = search needs
 
 -- src/items.rt:43:68
-wide8-requires-2 : tie.Need-wide8-requires-2
-wide8-requires-2 c κs = search needs
+from8-requires-2 : tie.Need-from8-requires-2
+from8-requires-2 c κs = search needs
 
 -- src/items.rt:43:32
 commands-requires-2 : tie.Need-commands-requires-2
@@ -42,8 +42,8 @@ enum-known-d : tie.Need-enum-known-d
 enum-known-d c = search needs
 
 -- src/items.rt:45:56
-wide16-requires : tie.Need-wide16-requires
-wide16-requires c κs = search needs
+from16-requires : tie.Need-from16-requires
+from16-requires c κs = search needs
 
 -- src/items.rt:45:30
 symbols-requires : tie.Need-symbols-requires
@@ -65,15 +65,15 @@ pub alternative-parts-spec : {M : Type 1} → statement M
 alternative-parts-spec =
     tie.close
     (tie.spec
-    wide8-requires
+    from8-requires
     commands-requires
     enum-known-q
     enum-known-e
-    wide8-requires-2
+    from8-requires-2
     commands-requires-2
     enum-known-q-2
     enum-known-d
-    wide16-requires
+    from16-requires
     symbols-requires
     returns
     returns-2

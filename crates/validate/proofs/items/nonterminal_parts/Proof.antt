@@ -6,12 +6,12 @@ use Rattle.validate.proofs.items.nonterminal_parts.Reads as reads
 use Rattle.validate.proofs.items.nonterminal_parts.Lts as lts
 use Rattle.validate.proofs.command.commands.Reads as commands-reads
 use Rattle.validate.proofs.items.alternatives.Reads as alternatives-reads
-use Rattle.validate.proofs.items.wide16.Reads as wide16-reads
-use Rattle.validate.proofs.items.wide8.Reads as wide8-reads
+use Rattle.octets.proofs.wide.from16.Reads as from16-reads
+use Rattle.octets.proofs.wide.from8.Reads as from8-reads
 
 -- src/items.rt:92:46
-wide8-requires : tie.Need-wide8-requires
-wide8-requires c κs = search needs
+from8-requires : tie.Need-from8-requires
+from8-requires c κs = search needs
 
 -- src/items.rt:92:11
 commands-requires : tie.Need-commands-requires
@@ -26,8 +26,8 @@ enum-known-e : tie.Need-enum-known-e
 enum-known-e c = search needs
 
 -- src/items.rt:94:54
-wide16-requires : tie.Need-wide16-requires
-wide16-requires c κs = search needs
+from16-requires : tie.Need-from16-requires
+from16-requires c κs = search needs
 
 -- src/items.rt:94:26
 alternatives-requires : tie.Need-alternatives-requires
@@ -45,11 +45,11 @@ pub nonterminal-parts-spec : {M : Type 1} → statement M
 nonterminal-parts-spec =
     tie.close
     (tie.spec
-    wide8-requires
+    from8-requires
     commands-requires
     enum-known-q
     enum-known-e
-    wide16-requires
+    from16-requires
     alternatives-requires
     returns
     returns-2)

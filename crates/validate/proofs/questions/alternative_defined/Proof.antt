@@ -4,7 +4,7 @@ use Rattle.validate.proofs.questions.alternative_defined.Statement.{sta
 use Rattle.validate.proofs.questions.alternative_defined.Tie as tie
 use Rattle.validate.proofs.questions.alternative_defined.Reads as reads
 use Rattle.validate.proofs.questions.alternative_defined.Lts as lts
-use Rattle.validate.proofs.questions.wide.Reads as wide-reads
+use Rattle.octets.proofs.wide.from32.Reads as from32-reads
 
 -- src/questions.rt:76:9
 returns : tie.Need-returns
@@ -15,16 +15,16 @@ returns-2 : tie.Need-returns-2
 returns-2 c = search alternatives
 
 -- src/questions.rt:83:16
-wide-requires : tie.Need-wide-requires
-wide-requires c κs = search needs
+from32-requires : tie.Need-from32-requires
+from32-requires c κs = search needs
 
 -- src/questions.rt:83:9
 returns-3 : tie.Need-returns-3
 returns-3 c = search alternatives
 
 -- src/questions.rt:86:16
-wide-requires-2 : tie.Need-wide-requires-2
-wide-requires-2 c κs = search needs
+from32-requires-2 : tie.Need-from32-requires-2
+from32-requires-2 c κs = search needs
 
 -- src/questions.rt:86:9
 returns-4 : tie.Need-returns-4
@@ -37,4 +37,4 @@ returns-5 c = search alternatives
 pub alternative-defined-spec : {M : Type 1} → statement M
 alternative-defined-spec =
     tie.close
-    (tie.spec returns returns-2 wide-requires returns-3 wide-requires-2 returns-4 returns-5)
+    (tie.spec returns returns-2 from32-requires returns-3 from32-requires-2 returns-4 returns-5)

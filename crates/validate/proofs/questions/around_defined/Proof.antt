@@ -4,7 +4,7 @@ use Rattle.validate.proofs.questions.around_defined.Statement.{statemen
 use Rattle.validate.proofs.questions.around_defined.Tie as tie
 use Rattle.validate.proofs.questions.around_defined.Reads as reads
 use Rattle.validate.proofs.questions.around_defined.Lts as lts
-use Rattle.validate.proofs.questions.wide.Reads as wide-reads
+use Rattle.octets.proofs.wide.from32.Reads as from32-reads
 
 -- src/questions.rt:37:24
 enum-known-a : tie.Need-enum-known-a
@@ -23,8 +23,8 @@ returns : tie.Need-returns
 returns c = search symbols
 
 -- src/questions.rt:43:13
-wide-requires : tie.Need-wide-requires
-wide-requires c κs = search needs
+from32-requires : tie.Need-from32-requires
+from32-requires c κs = search needs
 
 -- src/questions.rt:33:1
 returns-2 : tie.Need-returns-2
@@ -46,7 +46,7 @@ around-defined-spec =
     enum-told
     enum-known-a-2
     returns
-    wide-requires
+    from32-requires
     returns-2
     returns-3
     returns-4)

@@ -4,11 +4,11 @@ use Rattle.validate.proofs.questions.attribute_defined.Statement.{state
 use Rattle.validate.proofs.questions.attribute_defined.Tie as tie
 use Rattle.validate.proofs.questions.attribute_defined.Reads as reads
 use Rattle.validate.proofs.questions.attribute_defined.Lts as lts
-use Rattle.validate.proofs.questions.wide.Reads as wide-reads
+use Rattle.octets.proofs.wide.from32.Reads as from32-reads
 
 -- src/questions.rt:97:17
-wide-requires : tie.Need-wide-requires
-wide-requires c κs = search needs
+from32-requires : tie.Need-from32-requires
+from32-requires c κs = search needs
 
 -- src/questions.rt:98:9
 returns : tie.Need-returns
@@ -19,16 +19,16 @@ returns-2 : tie.Need-returns-2
 returns-2 c = search attributes
 
 -- src/questions.rt:104:21
-wide-requires-2 : tie.Need-wide-requires-2
-wide-requires-2 c κs = search needs
+from32-requires-2 : tie.Need-from32-requires-2
+from32-requires-2 c κs = search needs
 
 -- src/questions.rt:105:13
 returns-3 : tie.Need-returns-3
 returns-3 c = search attributes
 
 -- src/questions.rt:107:16
-wide-requires-3 : tie.Need-wide-requires-3
-wide-requires-3 c κs = search needs
+from32-requires-3 : tie.Need-from32-requires-3
+from32-requires-3 c κs = search needs
 
 -- src/questions.rt:107:9
 returns-4 : tie.Need-returns-4
@@ -46,12 +46,12 @@ pub attribute-defined-spec : {M : Type 1} → statement M
 attribute-defined-spec =
     tie.close
     (tie.spec
-    wide-requires
+    from32-requires
     returns
     returns-2
-    wide-requires-2
+    from32-requires-2
     returns-3
-    wide-requires-3
+    from32-requires-3
     returns-4
     returns-5
     returns-6)

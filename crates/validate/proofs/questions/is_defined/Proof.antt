@@ -8,7 +8,7 @@ use Rattle.validate.proofs.questions.alternative_defined.Reads as alter
 use Rattle.validate.proofs.questions.attribute_defined.Reads as attribute-defined-reads
 use Rattle.validate.proofs.questions.condition_defined.Reads as condition-defined-reads
 use Rattle.validate.proofs.questions.symbol_defined.Reads as symbol-defined-reads
-use Rattle.validate.proofs.questions.wide.Reads as wide-reads
+use Rattle.octets.proofs.wide.from32.Reads as from32-reads
 
 -- src/questions.rt:135:26
 enum-told : tie.Need-enum-told
@@ -19,8 +19,8 @@ enum-known-n : tie.Need-enum-known-n
 enum-known-n c = search needs
 
 -- src/questions.rt:138:25
-wide-requires : tie.Need-wide-requires
-wide-requires c κs = search needs
+from32-requires : tie.Need-from32-requires
+from32-requires c κs = search needs
 
 -- src/questions.rt:139:17
 returns : tie.Need-returns
@@ -31,16 +31,16 @@ enum-known-n-2 : tie.Need-enum-known-n-2
 enum-known-n-2 c = search needs
 
 -- src/questions.rt:145:13
-wide-requires-2 : tie.Need-wide-requires-2
-wide-requires-2 c κs = search needs
+from32-requires-2 : tie.Need-from32-requires-2
+from32-requires-2 c κs = search needs
 
 -- src/questions.rt:147:24
 enum-known-n-3 : tie.Need-enum-known-n-3
 enum-known-n-3 c = search needs
 
 -- src/questions.rt:147:30
-wide-requires-3 : tie.Need-wide-requires-3
-wide-requires-3 c κs = search needs
+from32-requires-3 : tie.Need-from32-requires-3
+from32-requires-3 c κs = search needs
 
 -- src/questions.rt:148:27
 enum-known-n-4 : tie.Need-enum-known-n-4
@@ -120,12 +120,12 @@ is-defined-spec =
     (tie.spec
     enum-told
     enum-known-n
-    wide-requires
+    from32-requires
     returns
     enum-known-n-2
-    wide-requires-2
+    from32-requires-2
     enum-known-n-3
-    wide-requires-3
+    from32-requires-3
     enum-known-n-4
     alternative-defined-requires
     enum-known-n-5

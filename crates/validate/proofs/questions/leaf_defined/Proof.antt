@@ -4,47 +4,47 @@ use Rattle.validate.proofs.questions.leaf_defined.Statement.{statement}
 use Rattle.validate.proofs.questions.leaf_defined.Tie as tie
 use Rattle.validate.proofs.questions.leaf_defined.Reads as reads
 use Rattle.validate.proofs.questions.leaf_defined.Lts as lts
-use Rattle.validate.proofs.questions.wide.Reads as wide-reads
+use Rattle.octets.proofs.wide.from32.Reads as from32-reads
 
 -- src/questions.rt:22:27
 enum-known-l : tie.Need-enum-known-l
 enum-known-l c = search needs
 
 -- src/questions.rt:22:33
-wide-requires : tie.Need-wide-requires
-wide-requires c κs = search needs
+from32-requires : tie.Need-from32-requires
+from32-requires c κs = search needs
 
 -- src/questions.rt:23:20
 enum-known-l-2 : tie.Need-enum-known-l-2
 enum-known-l-2 c = search needs
 
 -- src/questions.rt:23:26
-wide-requires-2 : tie.Need-wide-requires-2
-wide-requires-2 c κs = search needs
+from32-requires-2 : tie.Need-from32-requires-2
+from32-requires-2 c κs = search needs
 
 -- src/questions.rt:24:22
 enum-known-l-3 : tie.Need-enum-known-l-3
 enum-known-l-3 c = search needs
 
 -- src/questions.rt:24:28
-wide-requires-3 : tie.Need-wide-requires-3
-wide-requires-3 c κs = search needs
+from32-requires-3 : tie.Need-from32-requires-3
+from32-requires-3 c κs = search needs
 
 -- src/questions.rt:25:21
 enum-known-l-4 : tie.Need-enum-known-l-4
 enum-known-l-4 c = search needs
 
 -- src/questions.rt:25:27
-wide-requires-4 : tie.Need-wide-requires-4
-wide-requires-4 c κs = search needs
+from32-requires-4 : tie.Need-from32-requires-4
+from32-requires-4 c κs = search needs
 
 -- src/questions.rt:26:27
 enum-known-l-5 : tie.Need-enum-known-l-5
 enum-known-l-5 c = search needs
 
 -- src/questions.rt:26:33
-wide-requires-5 : tie.Need-wide-requires-5
-wide-requires-5 c κs = search needs
+from32-requires-5 : tie.Need-from32-requires-5
+from32-requires-5 c κs = search needs
 
 -- src/questions.rt:27:28
 enum-told : tie.Need-enum-told
@@ -95,15 +95,15 @@ leaf-defined-spec =
     tie.close
     (tie.spec
     enum-known-l
-    wide-requires
+    from32-requires
     enum-known-l-2
-    wide-requires-2
+    from32-requires-2
     enum-known-l-3
-    wide-requires-3
+    from32-requires-3
     enum-known-l-4
-    wide-requires-4
+    from32-requires-4
     enum-known-l-5
-    wide-requires-5
+    from32-requires-5
     enum-told
     enum-told-2
     enum-told-3

@@ -4,15 +4,15 @@ use Rattle.validate.proofs.questions.over_defined.Statement.{statement}
 use Rattle.validate.proofs.questions.over_defined.Tie as tie
 use Rattle.validate.proofs.questions.over_defined.Reads as reads
 use Rattle.validate.proofs.questions.over_defined.Lts as lts
-use Rattle.validate.proofs.questions.wide.Reads as wide-reads
+use Rattle.octets.proofs.wide.from32.Reads as from32-reads
 
 -- src/questions.rt:52:21
 enum-known-o : tie.Need-enum-known-o
 enum-known-o c = search needs
 
 -- src/questions.rt:53:25
-wide-requires : tie.Need-wide-requires
-wide-requires c κs = search needs
+from32-requires : tie.Need-from32-requires
+from32-requires c κs = search needs
 
 -- src/questions.rt:54:17
 returns : tie.Need-returns
@@ -32,4 +32,4 @@ returns-3 c = search symbols
 
 pub over-defined-spec : {M : Type 1} → statement M
 over-defined-spec =
-    tie.close (tie.spec enum-known-o wide-requires returns enum-told returns-2 returns-3)
+    tie.close (tie.spec enum-known-o from32-requires returns enum-told returns-2 returns-3)

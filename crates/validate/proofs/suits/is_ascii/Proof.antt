@@ -5,11 +5,11 @@ use Rattle.validate.proofs.suits.is_ascii.Tie as tie
 use Rattle.validate.proofs.suits.is_ascii.Reads as reads
 use Rattle.validate.proofs.suits.is_ascii.Lts as lts
 use Rattle.texts.proofs.table.class.Reads as class-reads
-use Rattle.validate.proofs.suits.wide.Reads as wide-reads
+use Rattle.octets.proofs.wide.from32.Reads as from32-reads
 
 -- src/suits.rt:44:45
-wide-requires : tie.Need-wide-requires
-wide-requires c κs = search needs
+from32-requires : tie.Need-from32-requires
+from32-requires c κs = search needs
 
 -- src/suits.rt:44:10
 class-requires : tie.Need-class-requires
@@ -20,4 +20,4 @@ returns : tie.Need-returns
 returns c = search texts
 
 pub is-ascii-spec : {M : Type 1} → statement M
-is-ascii-spec = tie.close (tie.spec wide-requires class-requires returns)
+is-ascii-spec = tie.close (tie.spec from32-requires class-requires returns)

@@ -5,11 +5,11 @@ use Rattle.validate.proofs.suits.is_literal.Tie as tie
 use Rattle.validate.proofs.suits.is_literal.Reads as reads
 use Rattle.validate.proofs.suits.is_literal.Lts as lts
 use Rattle.texts.proofs.table.class.Reads as class-reads
-use Rattle.validate.proofs.suits.wide.Reads as wide-reads
+use Rattle.octets.proofs.wide.from32.Reads as from32-reads
 
 -- src/suits.rt:37:45
-wide-requires : tie.Need-wide-requires
-wide-requires c κs = search needs
+from32-requires : tie.Need-from32-requires
+from32-requires c κs = search needs
 
 -- src/suits.rt:37:10
 class-requires : tie.Need-class-requires
@@ -20,4 +20,4 @@ returns : tie.Need-returns
 returns c = search texts
 
 pub is-literal-spec : {M : Type 1} → statement M
-is-literal-spec = tie.close (tie.spec wide-requires class-requires returns)
+is-literal-spec = tie.close (tie.spec from32-requires class-requires returns)

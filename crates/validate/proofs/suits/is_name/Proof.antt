@@ -5,11 +5,11 @@ use Rattle.validate.proofs.suits.is_name.Tie as tie
 use Rattle.validate.proofs.suits.is_name.Reads as reads
 use Rattle.validate.proofs.suits.is_name.Lts as lts
 use Rattle.texts.proofs.table.class.Reads as class-reads
-use Rattle.validate.proofs.suits.wide.Reads as wide-reads
+use Rattle.octets.proofs.wide.from32.Reads as from32-reads
 
 -- src/suits.rt:30:40
-wide-requires : tie.Need-wide-requires
-wide-requires c κs = search needs
+from32-requires : tie.Need-from32-requires
+from32-requires c κs = search needs
 
 -- src/suits.rt:30:5
 class-requires : tie.Need-class-requires
@@ -20,4 +20,4 @@ returns : tie.Need-returns
 returns c = search texts
 
 pub is-name-spec : {M : Type 1} → statement M
-is-name-spec = tie.close (tie.spec wide-requires class-requires returns)
+is-name-spec = tie.close (tie.spec from32-requires class-requires returns)

@@ -4,24 +4,24 @@ use Rattle.validate.proofs.symbols.inside.Statement.{statement}
 use Rattle.validate.proofs.symbols.inside.Tie as tie
 use Rattle.validate.proofs.symbols.inside.Reads as reads
 use Rattle.validate.proofs.symbols.inside.Lts as lts
-use Rattle.validate.proofs.symbols.wide16.Reads as wide16-reads
-use Rattle.validate.proofs.symbols.wide8.Reads as wide8-reads
+use Rattle.octets.proofs.wide.from16.Reads as from16-reads
+use Rattle.octets.proofs.wide.from8.Reads as from8-reads
 
 -- src/symbols.rt:35:24
 enum-known-o : tie.Need-enum-known-o
 enum-known-o c = search needs
 
 -- src/symbols.rt:35:30
-wide8-requires : tie.Need-wide8-requires
-wide8-requires c κs = search needs
+from8-requires : tie.Need-from8-requires
+from8-requires c κs = search needs
 
 -- src/symbols.rt:36:21
 enum-known-o-2 : tie.Need-enum-known-o-2
 enum-known-o-2 c = search needs
 
 -- src/symbols.rt:36:27
-wide16-requires : tie.Need-wide16-requires
-wide16-requires c κs = search needs
+from16-requires : tie.Need-from16-requires
+from16-requires c κs = search needs
 
 -- src/symbols.rt:31:1
 returns : tie.Need-returns
@@ -34,4 +34,4 @@ returns-2 c = search insides
 pub inside-spec : {M : Type 1} → statement M
 inside-spec =
     tie.close
-    (tie.spec enum-known-o wide8-requires enum-known-o-2 wide16-requires returns returns-2)
+    (tie.spec enum-known-o from8-requires enum-known-o-2 from16-requires returns returns-2)
