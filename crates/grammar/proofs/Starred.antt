@@ -176,6 +176,13 @@ keyM = 77 ∷ 60 ∷ 81 ∷ 44 ∷ 32 ∷ 34 ∷ 121 ∷ 34 ∷ 62 ∷ []
 abbrev swapped : List Item
 swapped = plainS (leaf (at 5 6) (nonterminal keyM) ∷ []) ∷ nonterminalQ ∷ nt (at 5 6) keyM [] (alternative (at 5 6) [] (to q ∷ quote 121 ∷ []) ∷ []) ∷ []
 
+-- E of one alternative with one attribute, and what comes of it
+abbrev single : Attribute → List Item
+single a = nt (at 0 9) e [] (alternative (at 1 2) (a ∷ []) (quote 110 ∷ []) ∷ []) ∷ []
+
+abbrev unlevelled : List Item
+unlevelled = nt (at 0 9) e [] (alternative (at 1 2) [] (quote 110 ∷ []) ∷ []) ∷ []
+
 abbrev rows : List Row
 rows =
     -- left, right, none, all
@@ -205,13 +212,9 @@ rows =
       input = nt (at 0 9) e [] (alternative (at 1 2) (level (43 ∷ 49 ∷ []) ∷ []) (quote 110 ∷ []) ∷ alternative (at 3 4) (level (50 ∷ []) ∷ []) (name e ∷ []) ∷ []) ∷ [];
       expected = done (levels2 (to e ∷ []));
     }
-    ∷ record { call = forLevels; input = nt (at 0 9) e [] (alternative (at 1 2) (level (45 ∷ 49 ∷ []) ∷ []) (quote 110 ∷ []) ∷ []) ∷ []; expected = denied 14 1 2 }
+    ∷ record { call = forLevels; input = single (level (45 ∷ 49 ∷ [])); expected = denied 14 1 2 }
     -- `assoc` all alone on the first alternative: level 0
-    ∷ record {
-      call = forLevels;
-      input = nt (at 0 9) e [] (alternative (at 1 2) (side allText ∷ []) (quote 110 ∷ []) ∷ []) ∷ [];
-      expected = done (nt (at 0 9) e [] (alternative (at 1 2) [] (quote 110 ∷ []) ∷ []) ∷ []);
-    }
+    ∷ record { call = forLevels; input = single (side allText); expected = done unlevelled }
     -- a declared E1 after E: 5 at the declared one; before E: 5 at E
     ∷ record { call = forAll 64; input = plus leftText ++ (declared ∷ []); expected = denied 5 20 21 }
     ∷ record { call = forAll 64; input = declared ∷ plus leftText; expected = denied 5 0 9 }
@@ -224,6 +227,11 @@ rows =
       input = nt (at 0 9) e [] (first ∷ alternative (at 3 4) (level (50 ∷ []) ∷ side leftText ∷ []) (name e ∷ name e ∷ []) ∷ alternative (at 5 6) (level (51 ∷ []) ∷ []) (name e ∷ name e ∷ []) ∷ []) ∷ [];
       expected = done (lowest ∷ nt (at 0 9) e2 [] (alternative (at 3 4) [] (to e2 ∷ to e1 ∷ []) ∷ alternative (at 0 9) [] (fall (at 0 9) e1 ∷ []) ∷ []) ∷ nt (at 0 9) e [] (alternative (at 5 6) [] (to e ∷ to e ∷ []) ∷ alternative (at 0 9) [] (fall (at 0 9) e2 ∷ []) ∷ []) ∷ []);
     }
+    -- 4294967295 is read, 4294967296 is 14
+    ∷ record { call = forLevels; input = single (level (52 ∷ 50 ∷ 57 ∷ 52 ∷ 57 ∷ 54 ∷ 55 ∷ 50 ∷ 57 ∷ 53 ∷ [])); expected = done unlevelled }
+    ∷ record { call = forLevels; input = single (level (52 ∷ 50 ∷ 57 ∷ 52 ∷ 57 ∷ 54 ∷ 55 ∷ 50 ∷ 57 ∷ 54 ∷ [])); expected = denied 14 1 2 }
+    -- a macro with two levels: 10 at the macro's span
+    ∷ record { call = forAll 64; input = nt (at 0 9) e ((80 ∷ []) ∷ []) (first ∷ alternative (at 3 4) (level (50 ∷ []) ∷ []) (quote 43 ∷ []) ∷ []) ∷ []; expected = denied 10 0 9 }
     -- the pile is last in, first out
     ∷ record { call = forAll 2; input = looks; expected = done looked }
     -- arguments are put in all together: Q, put in for P, is not caught by the argument Q
