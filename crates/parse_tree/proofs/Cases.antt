@@ -16,7 +16,7 @@ use Rattle.parse_tree.specs.Questions.{leafDefined, symbolDefined, alter
 use Rattle.parse_tree.specs.Reading.{got, then, times}
 use Rattle.parse_tree.specs.Expect.{expectItem, expectArgument, expectAlternative, expectAttribute, expectCondition, expectSymbol}
 use Rattle.parse_tree.specs.Operands.{opOf, insideOf, leafOf, aroundOf, overOf, actionOf, attributeOf, conditionOf, alternativeOf, nonterminalOf, terminalOf}
-use Rattle.parse_tree.specs.Decode.{ask, readSym, readArgument, readAttribute, readCondition, readAlternative, readItem, readItems, readAtoms, decodeBy, decode}
+use Rattle.parse_tree.specs.Decode.{ask, readSym, readArgument, readAttribute, readCondition, alternativeParts, readAlternative, nonterminalParts, readItem, readItems, readAtoms, decodeBy, decode}
 use Rattle.parse_tree.specs.Encode.{bytesOfEach, atomBytes, leafNode, aroundNode, overNode, actionText, alternativeNode, attributeNode, conditionNode, nonterminalNode, symBytes, argumentBytes, attributeBytes, conditionBytes, alternativeBytes, itemBytes, stageBytes}
 use Rattle.parse_tree.specs.References.{textsOfEach, leafTexts, aroundTexts, overTexts, symTexts, actionTexts, attributeTexts, conditionTexts, alternativeTexts, itemTexts, stageOf, encode}
 use Rattle.parse_tree.specs.declared.syntax.Span.{Span}
@@ -51,5 +51,5 @@ items =
     ∷ []
 
 back : decode (encode 2 [] items) ≡ got (stageOf [] items) (length (encode 2 [] items))
-unfolding pick le leAt part sameAs count symsOf every startsName inName nameBytes isName isLiteral isAscii has number withNew spanBytes leafCode leafOperand symbolBytes nodeBytes sizeOf whole spanAt namedLeaf bareLeaf symbolAt textNode nonterminalAt terminalAt argumentAt alternativeAt attributeAt conditionAt nodeBy nodeAt classOf table allowedAt leafDefined symbolDefined alternativeDefined attributeDefined defined leafSuits symbolSuits suits then times expectItem expectArgument expectAlternative expectAttribute expectCondition expectSymbol opOf insideOf leafOf aroundOf overOf actionOf attributeOf conditionOf alternativeOf nonterminalOf terminalOf ask readSym readArgument readAttribute readCondition readAlternative readItem readItems readAtoms decodeBy decode bytesOfEach atomBytes leafNode aroundNode overNode actionText alternativeNode attributeNode conditionNode nonterminalNode symBytes argumentBytes attributeBytes conditionBytes alternativeBytes itemBytes stageBytes textsOfEach leafTexts aroundTexts overTexts symTexts actionTexts attributeTexts conditionTexts alternativeTexts itemTexts stageOf encode
+unfolding pick le leAt part sameAs count symsOf every startsName inName nameBytes isName isLiteral isAscii has number withNew spanBytes leafCode leafOperand symbolBytes nodeBytes sizeOf whole spanAt namedLeaf bareLeaf symbolAt textNode nonterminalAt terminalAt argumentAt alternativeAt attributeAt conditionAt nodeBy nodeAt classOf table allowedAt leafDefined symbolDefined alternativeDefined attributeDefined defined leafSuits symbolSuits suits then times expectItem expectArgument expectAlternative expectAttribute expectCondition expectSymbol opOf insideOf leafOf aroundOf overOf actionOf attributeOf conditionOf alternativeOf nonterminalOf terminalOf ask readSym readArgument readAttribute readCondition alternativeParts readAlternative nonterminalParts readItem readItems readAtoms decodeBy decode bytesOfEach atomBytes leafNode aroundNode overNode actionText alternativeNode attributeNode conditionNode nonterminalNode symBytes argumentBytes attributeBytes conditionBytes alternativeBytes itemBytes stageBytes textsOfEach leafTexts aroundTexts overTexts symTexts actionTexts attributeTexts conditionTexts alternativeTexts itemTexts stageOf encode
 back = refl

@@ -14,7 +14,7 @@ use Rattle.parse_tree.specs.Nodes.{nodeBytes}
 use Rattle.parse_tree.specs.Places.{classOf, table, allowedAt, itemsPlace, argumentsPlace, alternativesPlace, attributesPlace, conditionsPlace, symbolsPlace}
 use Rattle.parse_tree.specs.Reading.{got, then, times}
 use Rattle.parse_tree.specs.Expect.{expectItem, expectArgument, expectAlternative, expectAttribute, expectSymbol}
-use Rattle.parse_tree.specs.Decode.{firstOf, readSym, readArgument, readAttribute, readCondition, readAlternative, readItem}
+use Rattle.parse_tree.specs.Decode.{firstOf, readSym, readArgument, readAttribute, readCondition, readAlternative, readItem, alternativeParts, nonterminalParts}
 use Rattle.parse_tree.specs.Encode.{conditions, bytesOfEach, aroundNode, overNode, alternativeNode, conditionNode, nonterminalNode, symBytes, symsBytes, argumentBytes, attributeBytes, conditionBytes, alternativeBytes, itemBytes}
 use Rattle.parse_tree.specs.Within.{Uses, SymWithin, SymsWithin, AttributeWithin, ConditionWithin, AlternativeWithin, ItemWithin}
 use Rattle.parse_tree.specs.declared.syntax.SymbolKind.{SymbolKind}
@@ -81,7 +81,7 @@ module _ (four : Bool) (w : ℕ) (s : List ℕ) (ts : List Text) where
       cc (ask-reads four w s ts conditionsPlace 1 _ (condition-passes four w ts x h) refl (omega arith) a e tt k, condition-back four w ts x a e h)
 
   alternative-reads : Reads s (readAlternative four w s ts) (alternativeBytes w ts) (AlternativeWithin four w ts)
-  unfolding readAlternative then expectAlternative alternativeBytes alternativeNode allowedAt table classOf
+  unfolding readAlternative alternativeParts then expectAlternative alternativeBytes alternativeNode allowedAt table classOf
   alternative-reads x h a e k =
       let n = nodeBytes w (alternativeNode ts x) in
       let as' = bytesOfEach (attributeBytes w ts) (x .attributes) in
@@ -100,7 +100,7 @@ module _ (four : Bool) (w : ℕ) (s : List ℕ) (ts : List Text) where
       )
 
   pub item-reads : Reads s (readItem four w s ts) (itemBytes w ts) (ItemWithin four w ts)
-  unfolding readItem then expectItem itemBytes nonterminalNode allowedAt table classOf
+  unfolding readItem nonterminalParts then expectItem itemBytes nonterminalNode allowedAt table classOf
   item-reads (item d) h a e k =
       let n = nodeBytes w (nonterminalNode ts d) in
       let xs = bytesOfEach (argumentBytes w ts) (d .args) in

@@ -13,7 +13,7 @@ use Rattle.parse_tree.specs.Nodes.{nodeBytes}
 use Rattle.parse_tree.specs.Places.{itemsPlace, argumentsPlace, alternativesPlace, attributesPlace, conditionsPlace, symbolsPlace}
 use Rattle.parse_tree.specs.Reading.{got, then, times}
 use Rattle.parse_tree.specs.Operands.{leafOf, aroundOf, overOf, insideOf, alternativeOf, nonterminalOf}
-use Rattle.parse_tree.specs.Decode.{firstOf, readSym, readArgument, readAttribute, readCondition, readAlternative, readItem}
+use Rattle.parse_tree.specs.Decode.{firstOf, readSym, readArgument, readAttribute, readCondition, readAlternative, readItem, alternativeParts, nonterminalParts}
 use Rattle.parse_tree.specs.Encode.{conditions, symBytes, argumentBytes, attributeBytes, conditionBytes, alternativeBytes, itemBytes}
 use Rattle.parse_tree.specs.Within.{Uses, SymWithin, AttributeWithin, ConditionWithin, AlternativeWithin, ItemWithin}
 use Rattle.parse_tree.specs.declared.syntax.Span.{Span}
@@ -112,7 +112,7 @@ module _ (four : Bool) (w : ℕ) (s : List ℕ) (ts : List Text) (b : Bytes s) (
       record { lies = rw (v, o, bytes-syms w ts xs) (lies-append (h .lies) (lies-append (i .lies) (lies-append (j .lies) (l .lies)))); within = u }
 
   alternative-finds : Finds s (readAlternative four w s ts) (alternativeBytes w ts) (AlternativeWithin four w ts)
-  unfolding readAlternative
+  unfolding readAlternative alternativeParts
   alternative-finds a x e p =
       ask-then four w s ts alternativesPlace 1 b _ a p (λ n m c q.
       alternative-wanted (Command a m) a m x e _ n c q (λ k h r.
@@ -131,7 +131,7 @@ module _ (four : Bool) (w : ℕ) (s : List ℕ) (ts : List Text) (b : Bytes s) (
       record { lies = rw v (lies-append (h .lies) (lies-append (i .lies) (j .lies))); within = u }
 
   pub item-finds : Finds s (readItem four w s ts) (itemBytes w ts) (ItemWithin four w ts)
-  unfolding readItem
+  unfolding readItem nonterminalParts
   item-finds a x e p =
       ask-then four w s ts itemsPlace 1 b _ a p (λ n m c q.
       item-wanted (Command a m) a m x e _ _ n c q

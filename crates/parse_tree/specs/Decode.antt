@@ -16,6 +16,8 @@ use Rattle.parse_tree.specs.Reading.{Reading, got, refused, then, times}
 use Rattle.parse_tree.specs.Expect.{expectItem, expectArgument, expectAlternative, expectAttribute, expectCondition, expectSymbol}
 use Rattle.parse_tree.specs.Operands.{textOf, leafOf, aroundOf, overOf, insideOf, attributeOf, conditionOf, alternativeOf, nonterminalOf, terminalOf}
 use Rattle.parse_tree.specs.declared.syntax.SymbolKind.{SymbolKind}
+use Rattle.parse_tree.specs.declared.syntax.NonterminalData.{NonterminalData}
+use Rattle.parse_tree.specs.declared.syntax.Alternative.{Alternative as AlternativeNode}
 use Rattle.parse_tree.specs.declared.syntax.Node.{Node}
 
 -- the first of a list of conditions, which has at most one
@@ -57,25 +59,27 @@ module _ (four : Bool) (w : ℕ) (s : List ℕ) where
     unfoldable pub readCondition : ℕ → Reading Condition
     readCondition at = then (ask conditionsPlace 1 at) (expectCondition at (λ c e. got (conditionOf ts c) e))
 
-    -- "alternative, then attributes, condition (cond8 is 0 or 1), symbols"
-    unfoldable pub readAlternative : ℕ → Reading Alternative
-    readAlternative at =
-        then (ask alternativesPlace 1 at)
-        (expectAlternative at (λ a e.
-        then (times readAttribute (a .attributes) e) (λ attrs e₁.
+    -- "then attributes, condition (cond8 is 0 or 1), symbols"; "Symbols nest at most 64 deep, one straight in an alternative being 1 deep"
+    unfoldable pub alternativeParts : AlternativeNode → ℕ → Reading Alternative
+    alternativeParts a at =
+        then (times readAttribute (a .attributes) at) (λ attrs e₁.
         then (times readCondition (a .conditions) e₁) (λ conds e₂.
-        then (times (λ p. readSym 64 p) (a .symbols) e₂) (λ syms e₃.
-        got (alternativeOf ts a attrs (firstOf conds) (symsOf syms)) e₃)))))
+        then (times (readSym 64) (a .symbols) e₂) (λ syms e₃.
+        got (alternativeOf ts a attrs (firstOf conds) (symsOf syms)) e₃)))
 
-    -- "nonterminal; then args, then alternatives"; or a terminal
-    unfoldable pub readItem : ℕ → Reading Item
-    readItem at =
-        then (ask itemsPlace 1 at)
-        (expectItem at (λ d e.
-        then (times readArgument (d .args) e) (λ args e₁.
+    unfoldable pub readAlternative : ℕ → Reading Alternative
+    readAlternative at = then (ask alternativesPlace 1 at) (expectAlternative at alternativeParts)
+
+    -- "then args, then alternatives"
+    unfoldable pub nonterminalParts : NonterminalData → ℕ → Reading Item
+    nonterminalParts d at =
+        then (times readArgument (d .args) at) (λ args e₁.
         then (times readAlternative (d .alternatives) e₁) (λ alts e₂.
-        got (Item.item (nonterminalOf ts d args alts)) e₂)))
-        (λ t e. got (terminalOf ts t) e))
+        got (Item.item (nonterminalOf ts d args alts)) e₂))
+
+    -- a nonterminal or a terminal
+    unfoldable pub readItem : ℕ → Reading Item
+    readItem at = then (ask itemsPlace 1 at) (expectItem at nonterminalParts (λ t e. got (terminalOf ts t) e))
 
     -- items to the tape's end; there are fewer than n, since each has a byte
     unfoldable pub readItems : ℕ → ℕ → Reading (List Item)

@@ -1,4 +1,4 @@
-// One command of a tape, to and from an enum; which command may stand where; and the text of an atom.
+// One command of a tape, to and from an enum; which command may stand where; how long a command is.
 pub mod node;
 pub mod places;
 pub mod put;

@@ -18,12 +18,12 @@ use Rattle.parse_tree.specs.Places.{itemsPlace, argumentsPlace}
 use Rattle.parse_tree.specs.Reading.{got, then, times}
 use Rattle.parse_tree.specs.Expect.{expectItem}
 use Rattle.parse_tree.specs.Operands.{nonterminalOf, terminalOf}
-use Rattle.parse_tree.specs.Decode.{ask, readArgument, readAlternative, readItem, readItems}
+use Rattle.parse_tree.specs.Decode.{ask, readArgument, readAlternative, readItem, readItems, nonterminalParts}
 use Rattle.parse_tree.specs.declared.syntax.NonterminalData.{NonterminalData}
 use Rattle.parse_tree.specs.declared.syntax.TerminalData.{TerminalData}
 use Rattle.parse_tree.specs.declared.syntax.Node.{Node}
 use Rattle.texts.specs.Atoms.{atomsOf}
-use Rattle.validate.specs.Steps.{Itemed, askedOf, stepOf, nonterminalParts}
+use Rattle.validate.specs.Steps.{Itemed, askedOf, stepOf}
 use Rattle.validate.specs.declared.Atoms.{Atoms}
 use Rattle.validate.specs.declared.Asked.{Asked}
 use Rattle.validate.specs.declared.Step.{Step}
@@ -39,11 +39,11 @@ module _ (s : List ℕ) (w atoms : ℕ) (d : NonterminalData) (at n : ℕ) (r : 
   arguments-are : r ≡ stepOf (times (readArgument true w s (atomsOf s atoms)) (d .args) at)
   arguments-are = i ∙ ap (λ (c : ℕ). stepOf (times (ask true w s (atomsOf s atoms) argumentsPlace 1) c at)) j ∙ sym (arguments-alike w s (atomsOf s atoms) (d .args) at)
 
-  pub parts-arguments : (q p : ℕ) → r ≡ Step.Refused q p → Step.Refused q p ≡ stepOf (nonterminalParts w s (atomsOf s atoms) d at)
+  pub parts-arguments : (q p : ℕ) → r ≡ Step.Refused q p → Step.Refused q p ≡ stepOf (nonterminalParts true w s (atomsOf s atoms) d at)
   unfolding nonterminalParts
   parts-arguments q p u = step-off (times (readArgument true w s (atomsOf s atoms)) (d .args) at) _ q p (sym u ∙ arguments-are)
 
-  pub parts-alternatives : (e c : ℕ) (y : Step) → r ≡ Step.Next e → y ≡ stepOf (times (readAlternative true w s (atomsOf s atoms)) c e) → c ≡ d .alternatives → y ≡ stepOf (nonterminalParts w s (atomsOf s atoms) d at)
+  pub parts-alternatives : (e c : ℕ) (y : Step) → r ≡ Step.Next e → y ≡ stepOf (times (readAlternative true w s (atomsOf s atoms)) c e) → c ≡ d .alternatives → y ≡ stepOf (nonterminalParts true w s (atomsOf s atoms) d at)
   unfolding nonterminalParts
   parts-alternatives e c y u o g =
       step-on (times (readArgument true w s (atomsOf s atoms)) (d .args) at) _ e y (sym u ∙ arguments-are)
@@ -59,22 +59,22 @@ module _ (s : List ℕ) (w atoms at : ℕ) (r : Asked) (i : r ≡ askedOf (ask t
   item-refused q p u = sym (ap stepOf (then-no (ask true w s (atomsOf s atoms) itemsPlace 1 at) _ q p (asked-refused (ask true w s (atomsOf s atoms) itemsPlace 1 at) q p (sym u ∙ i))))
 
   module _ (n : Node) (e : ℕ) (u : r ≡ Asked.Is n e) where
-    wanted : readItem true w s (atomsOf s atoms) at ≡ expectItem at (nonterminalParts w s (atomsOf s atoms)) (λ t d. got (terminalOf (atomsOf s atoms) t) d) n e
+    wanted : readItem true w s (atomsOf s atoms) at ≡ expectItem at (nonterminalParts true w s (atomsOf s atoms)) (λ t d. got (terminalOf (atomsOf s atoms) t) d) n e
     unfolding readItem nonterminalParts
     wanted = then-is (ask true w s (atomsOf s atoms) itemsPlace 1 at) _ n e (asked-got (ask true w s (atomsOf s atoms) itemsPlace 1 at) n e (sym u ∙ i))
 
     pub item-other : OneOf (0 ∷ 3 ∷ 4 ∷ 5 ∷ 6 ∷ 7 ∷ 8 ∷ []) (tagOf the-type n) → Step.Refused 2 at ≡ stepOf (readItem true w s (atomsOf s atoms) at)
     unfolding stepOf
-    item-other o = sym (ap stepOf (wanted ∙ no-item at e (nonterminalParts w s (atomsOf s atoms)) (λ t d. got (terminalOf (atomsOf s atoms) t) d) n o))
+    item-other o = sym (ap stepOf (wanted ∙ no-item at e (nonterminalParts true w s (atomsOf s atoms)) (λ t d. got (terminalOf (atomsOf s atoms) t) d) n o))
 
-    kind : (x : Node) → n ≡ x → readItem true w s (atomsOf s atoms) at ≡ expectItem at (nonterminalParts w s (atomsOf s atoms)) (λ t d. got (terminalOf (atomsOf s atoms) t) d) x e
-    kind x v = wanted ∙ ap (λ (y : Node). expectItem at (nonterminalParts w s (atomsOf s atoms)) (λ t d. got (terminalOf (atomsOf s atoms) t) d) y e) v
+    kind : (x : Node) → n ≡ x → readItem true w s (atomsOf s atoms) at ≡ expectItem at (nonterminalParts true w s (atomsOf s atoms)) (λ t d. got (terminalOf (atomsOf s atoms) t) d) x e
+    kind x v = wanted ∙ ap (λ (y : Node). expectItem at (nonterminalParts true w s (atomsOf s atoms)) (λ t d. got (terminalOf (atomsOf s atoms) t) d) y e) v
 
     pub item-terminal : (t : TerminalData) → n ≡ Node.Terminal t → Step.Next e ≡ stepOf (readItem true w s (atomsOf s atoms) at)
     unfolding expectItem stepOf
     item-terminal t v = sym (ap stepOf (kind (Node.Terminal t) v))
 
-    pub item-whole : (d : NonterminalData) (y : Step) → n ≡ Node.Nonterminal d → y ≡ stepOf (nonterminalParts w s (atomsOf s atoms) d e) → y ≡ stepOf (readItem true w s (atomsOf s atoms) at)
+    pub item-whole : (d : NonterminalData) (y : Step) → n ≡ Node.Nonterminal d → y ≡ stepOf (nonterminalParts true w s (atomsOf s atoms) d e) → y ≡ stepOf (readItem true w s (atomsOf s atoms) at)
     unfolding expectItem
     item-whole d y v o = o ∙ sym (ap stepOf (kind (Node.Nonterminal d) v))
 

@@ -12,11 +12,11 @@ use Rattle.parse_tree.specs.Places.{alternativesPlace, attributesPlace, conditi
 use Rattle.parse_tree.specs.Reading.{Reading, then, times}
 use Rattle.parse_tree.specs.Expect.{expectAlternative}
 use Rattle.parse_tree.specs.Operands.{alternativeOf}
-use Rattle.parse_tree.specs.Decode.{ask, firstOf, readSym, readAttribute, readCondition, readAlternative}
+use Rattle.parse_tree.specs.Decode.{ask, firstOf, readSym, readAttribute, readCondition, readAlternative, alternativeParts}
 use Rattle.parse_tree.specs.declared.syntax.Alternative.{Alternative as AlternativeNode}
 use Rattle.parse_tree.specs.declared.syntax.Node.{Node}
 use Rattle.texts.specs.Atoms.{atomsOf}
-use Rattle.validate.specs.Steps.{askedOf, stepOf, alternativeParts}
+use Rattle.validate.specs.Steps.{askedOf, stepOf}
 use Rattle.validate.specs.declared.Asked.{Asked}
 use Rattle.validate.specs.declared.Step.{Step}
 use Rattle.validate.proofs.Others.{no-alternative}
@@ -37,7 +37,7 @@ module _ (s : List ℕ) (w atoms : ℕ) (a : AlternativeNode) (at n : ℕ) (r : 
   attributes-are : r ≡ stepOf (times (readAttribute true w s (atomsOf s atoms)) (a .attributes) at)
   attributes-are = i ∙ ap (λ (c : ℕ). stepOf (times (ask true w s (atomsOf s atoms) attributesPlace 1) c at)) j ∙ sym (attributes-alike w s (atomsOf s atoms) (a .attributes) at)
 
-  pub parts-attributes : (q p : ℕ) → r ≡ Step.Refused q p → Step.Refused q p ≡ stepOf (alternativeParts w s (atomsOf s atoms) a at)
+  pub parts-attributes : (q p : ℕ) → r ≡ Step.Refused q p → Step.Refused q p ≡ stepOf (alternativeParts true w s (atomsOf s atoms) a at)
   unfolding alternativeParts
   parts-attributes q p u = step-off (times (readAttribute true w s (atomsOf s atoms)) (a .attributes) at) _ q p (sym u ∙ attributes-are)
 
@@ -46,13 +46,13 @@ module _ (s : List ℕ) (w atoms : ℕ) (a : AlternativeNode) (at n : ℕ) (r : 
     conditions-are : t ≡ stepOf (times (readCondition true w s (atomsOf s atoms)) (a .conditions) e)
     conditions-are = l ∙ ap (λ (c : ℕ). stepOf (times (ask true w s (atomsOf s atoms) conditionsPlace 1) c e)) h ∙ sym (conditions-alike w s (atomsOf s atoms) (a .conditions) e)
 
-    pub parts-conditions : (q p : ℕ) → t ≡ Step.Refused q p → Step.Refused q p ≡ stepOf (alternativeParts w s (atomsOf s atoms) a at)
+    pub parts-conditions : (q p : ℕ) → t ≡ Step.Refused q p → Step.Refused q p ≡ stepOf (alternativeParts true w s (atomsOf s atoms) a at)
     unfolding alternativeParts
     parts-conditions q p v =
         step-on (times (readAttribute true w s (atomsOf s atoms)) (a .attributes) at) _ e (Step.Refused q p) (sym u ∙ attributes-are)
         (λ attrs. step-off (times (readCondition true w s (atomsOf s atoms)) (a .conditions) e) _ q p (sym v ∙ conditions-are))
 
-    pub parts-symbols : (d c : ℕ) (y : Step) → t ≡ Step.Next d → y ≡ stepOf (times (readSym true w s (atomsOf s atoms) 64) c d) → c ≡ a .symbols → y ≡ stepOf (alternativeParts w s (atomsOf s atoms) a at)
+    pub parts-symbols : (d c : ℕ) (y : Step) → t ≡ Step.Next d → y ≡ stepOf (times (readSym true w s (atomsOf s atoms) 64) c d) → c ≡ a .symbols → y ≡ stepOf (alternativeParts true w s (atomsOf s atoms) a at)
     unfolding alternativeParts
     parts-symbols d c y v o g =
         step-on (times (readAttribute true w s (atomsOf s atoms)) (a .attributes) at) _ e y (sym u ∙ attributes-are)
@@ -69,17 +69,17 @@ module _ (s : List ℕ) (w atoms at : ℕ) (r : Asked) (i : r ≡ askedOf (ask t
   alternative-refused q p u = sym (ap stepOf (then-no (ask true w s (atomsOf s atoms) alternativesPlace 1 at) _ q p (asked-refused (ask true w s (atomsOf s atoms) alternativesPlace 1 at) q p (sym u ∙ i))))
 
   module _ (n : Node) (e : ℕ) (u : r ≡ Asked.Is n e) where
-    wanted : readAlternative true w s (atomsOf s atoms) at ≡ expectAlternative at (alternativeParts w s (atomsOf s atoms)) n e
+    wanted : readAlternative true w s (atomsOf s atoms) at ≡ expectAlternative at (alternativeParts true w s (atomsOf s atoms)) n e
     unfolding readAlternative alternativeParts
     wanted = then-is (ask true w s (atomsOf s atoms) alternativesPlace 1 at) _ n e (asked-got (ask true w s (atomsOf s atoms) alternativesPlace 1 at) n e (sym u ∙ i))
 
     pub alternative-other : OneOf (0 ∷ 1 ∷ 2 ∷ 3 ∷ 5 ∷ 6 ∷ 7 ∷ 8 ∷ []) (tagOf the-type n) → Step.Refused 2 at ≡ stepOf (readAlternative true w s (atomsOf s atoms) at)
     unfolding stepOf
-    alternative-other o = sym (ap stepOf (wanted ∙ no-alternative at e (alternativeParts w s (atomsOf s atoms)) n o))
+    alternative-other o = sym (ap stepOf (wanted ∙ no-alternative at e (alternativeParts true w s (atomsOf s atoms)) n o))
 
-    pub alternative-whole : (a : AlternativeNode) (y : Step) → n ≡ Node.Alternative a → y ≡ stepOf (alternativeParts w s (atomsOf s atoms) a e) → y ≡ stepOf (readAlternative true w s (atomsOf s atoms) at)
+    pub alternative-whole : (a : AlternativeNode) (y : Step) → n ≡ Node.Alternative a → y ≡ stepOf (alternativeParts true w s (atomsOf s atoms) a e) → y ≡ stepOf (readAlternative true w s (atomsOf s atoms) at)
     unfolding expectAlternative
-    alternative-whole a y v o = o ∙ sym (ap stepOf (wanted ∙ ap (λ (x : Node). expectAlternative at (alternativeParts w s (atomsOf s atoms)) x e) v))
+    alternative-whole a y v o = o ∙ sym (ap stepOf (wanted ∙ ap (λ (x : Node). expectAlternative at (alternativeParts true w s (atomsOf s atoms)) x e) v))
 
 pub ruleset alternative = (needs, alternative-refused, alternative-other, alternative-whole)
 

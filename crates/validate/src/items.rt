@@ -18,15 +18,15 @@ use parse_tree::syntax::NonterminalData;
 ghost use mathlib.Core.Path.{_≡_};
 ghost use mathlib.Core.Bool.{true};
 ghost use lib.ListN.{length};
-ghost use Rattle.parse_tree.specs.Decode.{readAlternative, readItem, readItems};
+ghost use Rattle.parse_tree.specs.Decode.{alternativeParts, nonterminalParts, readAlternative, readItem, readItems};
 ghost use Rattle.parse_tree.specs.Reading.{times};
 ghost use Rattle.texts.specs.Atoms.{atomsOf};
-ghost use Rattle.validate.specs.Steps.{Itemed, Ready, alternativeParts, nonterminalParts, stepOf};
+ghost use Rattle.validate.specs.Steps.{Itemed, Ready, stepOf};
 
 // What stands behind the command of an alternative: attributes, condition, symbols.
 fn alternative_parts(tape: &[u8], work: &[u8], m: Atoms, a: Alternative, at: usize) -> Step
     requires { ⌜ Ready (now tape) (now work) m ⌝ }
-    ensures { λ r. ⌜ r ≡ stepOf (alternativeParts (m .width) (now (tape .entry)) (atomsOf (now (tape .entry)) (m .count)) a at) ⌝ }
+    ensures { λ r. ⌜ r ≡ stepOf (alternativeParts true (m .width) (now (tape .entry)) (atomsOf (now (tape .entry)) (m .count)) a at) ⌝ }
 {
     match commands(tape, work, m, ATTRIBUTES, from8(a.attributes), at) {
         Step::Refused(q, p) => Step::Refused(q, p),
@@ -77,7 +77,7 @@ fn alternatives(tape: &[u8], work: &[u8], m: Atoms, n: usize, at: usize) -> Step
 // What stands behind the command of a nonterminal: arguments, alternatives.
 fn nonterminal_parts(tape: &[u8], work: &[u8], m: Atoms, d: NonterminalData, at: usize) -> Step
     requires { ⌜ Ready (now tape) (now work) m ⌝ }
-    ensures { λ r. ⌜ r ≡ stepOf (nonterminalParts (m .width) (now (tape .entry)) (atomsOf (now (tape .entry)) (m .count)) d at) ⌝ }
+    ensures { λ r. ⌜ r ≡ stepOf (nonterminalParts true (m .width) (now (tape .entry)) (atomsOf (now (tape .entry)) (m .count)) d at) ⌝ }
 {
     match commands(tape, work, m, ARGUMENTS, from8(d.args), at) {
         Step::Refused(q, p) => Step::Refused(q, p),
