@@ -7,7 +7,7 @@ run:
 	@target/bin/list < docs/examples/listing.tape
 
 test:
-	python3 tools/trust.py
+	sh tools/check_trust.sh
 	rt ci
 
 bench:
