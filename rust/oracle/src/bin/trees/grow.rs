@@ -1,0 +1,316 @@
+//! Random small trees, in the part of LALRPOP's parse tree that document 01's tape carries.
+use crate::chance::Chance;
+use oracle::grammar::parse_tree::*;
+use oracle::grammar::pattern::Pattern;
+use oracle::DefaultAtom as Atom;
+
+const NAMES: [&str; 10] = ["S", "A", "B", "E", "M", "K", "E1", "M1", "E2", "_x"];
+const ARGUMENTS: [&str; 6] = ["P", "Q", "P", "Q", "A", "M1"];
+const TERMINALS: [&str; 6] = ["n", "x", "T", "v", "E1", "E2"];
+const ANY_NAME: [&str; 12] = ["S", "A", "B", "E", "M", "K", "E1", "P", "Q", "n", "x", "nowhere"];
+const VALUE_NAMES: [&str; 5] = ["v", "e", "left", "_0", "P"];
+const LITERALS: [&str; 10] = ["n", "+", "a\"b", "\\", "'", "", " ", "x", "A", "(A)"];
+const GOOD_LEVELS: [&str; 8] = ["0", "1", "2", "3", "+1", "007", "10", "4294967295"];
+const BAD_LEVELS: [&str; 7] = ["-1", "", "+", "one", "1 ", "4294967296", "-0"];
+const SIDES: [&str; 4] = ["left", "right", "none", "all"];
+const BAD_SIDES: [&str; 4] = ["Left", "", "both", "left "];
+const CODES: [&str; 6] = ["v", "(<>)", "", "f(\u{0}\t\u{7f})", "Some(<>)", "{ let x = \"\\\"; }"];
+const MOST_DEEP: usize = 3;
+
+#[derive(Clone)]
+struct Head {
+    name: &'static str,
+    args: Vec<&'static str>,
+}
+
+/// Grows one tree: the heads of its nonterminals and its terminals first, so that most names can be defined ones.
+pub struct Grower<'a> {
+    chance: &'a mut Chance,
+    heads: Vec<Head>,
+    terminals: Vec<&'static str>,
+    at: Head,
+    wild: usize,
+}
+
+pub fn tree(chance: &mut Chance) -> Grammar {
+    let wild = if chance.percent(60) { 0 } else { 6 };
+    let at = Head { name: "S", args: vec![] };
+    let mut grower = Grower { chance, heads: vec![], terminals: vec![], at, wild };
+    grower.grow_heads();
+    let mut items: Vec<GrammarItem> = grower.heads.clone().into_iter().map(|head| grower.nonterminal(head)).collect();
+    for name in grower.terminals.clone() {
+        let place = grower.chance.under(items.len() + 1);
+        let item = grower.terminal(name);
+        items.insert(place, item);
+    }
+    grammar(items)
+}
+
+fn grammar(items: Vec<GrammarItem>) -> Grammar {
+    Grammar {
+        prefix: String::new(),
+        span: Span(0, 0),
+        type_parameters: vec![],
+        parameters: vec![],
+        where_clauses: vec![],
+        items,
+        attributes: vec![],
+        module_attributes: vec![],
+    }
+}
+
+fn nonterminal_string(name: &str) -> NonterminalString {
+    NonterminalString(Atom::from(name))
+}
+
+fn attribute(id: &str, arg: AttributeArg) -> Attribute {
+    Attribute { id_span: Span(0, 0), id: Atom::from(id), arg }
+}
+
+impl Grower<'_> {
+    fn goes_wild(&mut self) -> bool {
+        self.chance.percent(self.wild)
+    }
+
+    fn span(&mut self) -> Span {
+        let mut place = || if self.chance.under(200) == 0 { u32::MAX as usize } else { self.chance.under(100) };
+        Span(place(), place())
+    }
+
+    // ---- heads and terminals
+
+    fn grow_heads(&mut self) {
+        for _ in 0..1 + self.chance.under(5) {
+            let taken: Vec<_> = self.heads.iter().map(|head| head.name).collect();
+            let name = self.new_name(&NAMES, &taken);
+            let count = if self.chance.percent(35) { 1 + self.chance.under(2) } else { 0 };
+            let mut args = vec![];
+            for _ in 0..count {
+                args.push(self.new_name(&ARGUMENTS, &args));
+            }
+            self.heads.push(Head { name, args });
+        }
+        for _ in 0..self.chance.under(4) {
+            let taken: Vec<_> = self.heads.iter().map(|head| head.name).chain(self.terminals.iter().copied()).collect();
+            let name = self.new_name(&TERMINALS, &taken);
+            self.terminals.push(name);
+        }
+    }
+
+    /// One that isn't taken, unless it goes wild.
+    fn new_name(&mut self, names: &[&'static str], taken: &[&str]) -> &'static str {
+        loop {
+            let name = self.chance.one_of(names);
+            if !taken.contains(&name) || self.goes_wild() {
+                return name;
+            }
+        }
+    }
+
+    fn terminal(&mut self, name: &str) -> GrammarItem {
+        let span = self.span();
+        let bare = TerminalString::Bare(Atom::from(name));
+        let unit = TypeRef::Tuple(vec![]);
+        if self.chance.percent(50) {
+            let literal = TerminalLiteral::Quoted(Atom::from("m"));
+            let item = MatchItem::Mapped(literal, MatchMapping::Terminal(bare), span);
+            return GrammarItem::MatchToken(MatchToken::new(MatchContents { items: vec![item] }, span));
+        }
+        let conversion = Conversion { span, attributes: vec![], from: bare, to: Pattern(unit.clone()) };
+        let token = EnumToken { type_name: unit, type_span: span, conversions: vec![conversion] };
+        GrammarItem::ExternToken(ExternToken { span, associated_types: vec![], enum_token: Some(token) })
+    }
+
+    // ---- nonterminals and alternatives
+
+    fn nonterminal(&mut self, head: Head) -> GrammarItem {
+        self.at = head.clone();
+        let annotated = self.chance.percent(if head.args.is_empty() { 35 } else { 6 });
+        let count = if annotated { 1 + self.chance.under(4) } else { self.chance.under(4) };
+        let alternatives = (0..count).map(|index| self.alternative(annotated, index)).collect();
+        let inline = self.chance.percent(20);
+        GrammarItem::Nonterminal(NonterminalData {
+            visibility: if self.chance.percent(30) { Visibility::Pub(None) } else { Visibility::Priv },
+            name: nonterminal_string(head.name),
+            attributes: if inline { vec![attribute("inline", AttributeArg::Empty)] } else { vec![] },
+            span: self.span(),
+            args: head.args.iter().map(|name| nonterminal_string(name)).collect(),
+            type_decl: None,
+            alternatives,
+        })
+    }
+
+    fn alternative(&mut self, annotated: bool, index: usize) -> Alternative {
+        let count = self.chance.under(4);
+        Alternative {
+            span: self.span(),
+            expr: ExprSymbol { symbols: (0..count).map(|_| self.symbol(1, 12)).collect() },
+            condition: self.condition(),
+            action: self.action(),
+            attributes: self.attributes(annotated, index),
+        }
+    }
+
+    fn action(&mut self) -> Option<ActionKind> {
+        let code = self.chance.one_of(&CODES).to_string();
+        match self.chance.under(8) {
+            0..=2 => Some(ActionKind::User(code)),
+            3 => Some(ActionKind::Fallible(code)),
+            4 if self.chance.percent(30) => Some(ActionKind::Lookahead),
+            5 if self.chance.percent(30) => Some(ActionKind::Lookbehind),
+            _ => None,
+        }
+    }
+
+    fn condition(&mut self) -> Option<Condition> {
+        let of_argument = !self.at.args.is_empty() && self.chance.percent(30);
+        let wild = self.wild > 0 && self.chance.percent(3);
+        if !of_argument && !wild {
+            return None;
+        }
+        let lhs = if wild { self.chance.one_of(&ANY_NAME) } else { self.chance.one_of(&self.at.args.clone()) };
+        Some(Condition {
+            span: self.span(),
+            lhs: nonterminal_string(lhs),
+            rhs: Atom::from(self.chance.one_of(&LITERALS)),
+            op: self.chance.one_of(&[ConditionOp::Equals, ConditionOp::NotEquals]),
+        })
+    }
+
+    // ---- attributes
+
+    /// What `get_arg_equal` answers, or, rarely, one of the three arguments where it answers nothing.
+    fn with_value(&mut self, id: &str, key: &str, value: &str) -> Attribute {
+        let equal = AttributeArg::Equal(value.to_string());
+        if self.chance.under(150) == 0 {
+            let none = [AttributeArg::Empty, AttributeArg::Paren(vec![]), equal];
+            return attribute(id, self.chance.one_of(&none));
+        }
+        attribute(id, AttributeArg::Paren(vec![attribute(key, equal)]))
+    }
+
+    fn level(&mut self, index: usize) -> Attribute {
+        let value = match self.chance.under(100) {
+            0 | 1 => self.chance.one_of(&BAD_LEVELS),
+            2..=25 => self.chance.one_of(&GOOD_LEVELS),
+            _ => ["1", "2", "3", "10"][index.min(3)],
+        };
+        self.with_value("precedence", "level", value)
+    }
+
+    fn side(&mut self, index: usize) -> Attribute {
+        let value = match self.chance.under(100) {
+            0 | 1 => self.chance.one_of(&BAD_SIDES),
+            2..=80 if index == 0 => "all",
+            _ => self.chance.one_of(&SIDES),
+        };
+        self.with_value("assoc", "side", value)
+    }
+
+    fn other(&mut self) -> Attribute {
+        let id = self.chance.one_of(&["cfg", "inline", "Precedence", "precedence", "assoc"]);
+        let value = self.chance.one_of(&["1", "left", "\u{1}\n", "x"]);
+        self.with_value(id, "key\u{0}", value)
+    }
+
+    /// The first alternative of an annotated nonterminal has a level or a side, and only of an annotated one.
+    fn attributes(&mut self, annotated: bool, index: usize) -> Vec<Attribute> {
+        let mut found = vec![];
+        let may = annotated || (index > 0 && self.chance.percent(10));
+        let level = may && self.chance.percent(if index == 0 { 85 } else { 55 });
+        let side = may && ((index == 0 && !level) || self.chance.percent(35));
+        if level {
+            found.push(self.level(index));
+        }
+        if side {
+            let place = self.chance.under(found.len() + 1);
+            let side = self.side(index);
+            found.insert(place, side);
+        }
+        if (annotated || index > 0) && self.chance.percent(12) {
+            found.push(self.other());
+        }
+        found
+    }
+
+    // ---- symbols
+
+    /// A symbol so deep; it is a name so many times in a hundred.
+    fn symbol(&mut self, depth: usize, names: usize) -> Symbol {
+        let span = self.span();
+        let kind = if depth < MOST_DEEP && self.chance.percent(names) {
+            let name = Name::new(self.chance.percent(30), Atom::from(self.chance.one_of(&VALUE_NAMES)));
+            SymbolKind::Name(name, Box::new(self.symbol(depth + 1, 2)))
+        } else if depth < MOST_DEEP && self.chance.percent(45) {
+            self.outer(depth)
+        } else {
+            self.leaf()
+        };
+        Symbol { span, kind }
+    }
+
+    fn outer(&mut self, depth: usize) -> SymbolKind {
+        match self.chance.under(10) {
+            0..=2 => {
+                let op = self.chance.one_of(&[RepeatOp::Star, RepeatOp::Plus, RepeatOp::Question]);
+                SymbolKind::Repeat(Box::new(RepeatSymbol { op, symbol: self.symbol(depth + 1, 2) }))
+            }
+            3 | 4 => SymbolKind::Choose(Box::new(self.symbol(depth + 1, 3))),
+            5 | 6 => {
+                let count = self.chance.under(4);
+                SymbolKind::Expr(ExprSymbol { symbols: (0..count).map(|_| self.symbol(depth + 1, 2)).collect() })
+            }
+            _ => self.call(depth),
+        }
+    }
+
+    /// Mostly of a macro that is there, with its count of arguments.
+    fn call(&mut self, depth: usize) -> SymbolKind {
+        let macros: Vec<Head> = self.heads.iter().filter(|head| !head.args.is_empty()).cloned().collect();
+        let wild = self.goes_wild();
+        if macros.is_empty() && !wild {
+            return self.leaf();
+        }
+        let head = if wild || macros.is_empty() { Head { name: self.chance.one_of(&ANY_NAME), args: vec!["P"] } } else { self.chance.one_of(&macros) };
+        let count = if self.goes_wild() { 1 + self.chance.under(3) } else { head.args.len() };
+        let args = (0..count).map(|_| self.argument(depth)).collect();
+        SymbolKind::Macro(MacroSymbol { name: nonterminal_string(head.name), args })
+    }
+
+    /// Often a quoted literal, since conditions ask for one.
+    fn argument(&mut self, depth: usize) -> Symbol {
+        if self.chance.percent(55) {
+            let kind = SymbolKind::Terminal(TerminalString::quoted(Atom::from(self.chance.one_of(&LITERALS))));
+            return Symbol { span: self.span(), kind };
+        }
+        self.symbol(depth + 1, 3)
+    }
+
+    fn leaf(&mut self) -> SymbolKind {
+        let literal = Atom::from(self.chance.one_of(&LITERALS));
+        match self.chance.under(20) {
+            0..=8 => SymbolKind::AmbiguousId(self.defined_name(true)),
+            9..=11 => SymbolKind::Nonterminal(NonterminalString(self.defined_name(false))),
+            12..=14 => SymbolKind::Terminal(TerminalString::quoted(literal)),
+            15 => SymbolKind::Terminal(TerminalString::regex(literal)),
+            16 => SymbolKind::Terminal(TerminalString::Bare(Atom::from(self.chance.one_of(&ANY_NAME)))),
+            17 => SymbolKind::Lookahead,
+            18 => SymbolKind::Lookbehind,
+            _ => SymbolKind::Error,
+        }
+    }
+
+    /// An argument, a plain nonterminal or, where one may stand, a terminal; often the nonterminal itself. Any name if it goes wild.
+    fn defined_name(&mut self, terminal: bool) -> Atom {
+        let plain = self.heads.iter().filter(|head| head.args.is_empty()).map(|head| head.name);
+        let mut names: Vec<&str> = plain.chain(self.at.args.iter().copied()).chain(self.at.args.iter().copied()).collect();
+        if self.at.args.is_empty() {
+            names.extend([self.at.name; 2]);
+        }
+        if terminal {
+            names.extend(&self.terminals);
+        }
+        let wild = self.goes_wild() || names.is_empty();
+        Atom::from(if wild { self.chance.one_of(&ANY_NAME) } else { self.chance.one_of(&names) })
+    }
+}

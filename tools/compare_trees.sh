@@ -1,0 +1,65 @@
+#!/usr/bin/env bash
+# tools/compare_trees.sh SEED COUNT: compares `passes` (crates/grammar/specs/Passes.antt) with LALRPOP's own Rust on COUNT random trees.
+# rust/oracle compiles LALRPOP's files, unchanged, from the folder LALRPOP_SRC (default: ../shared/docs/src/lalrpop/src beside the
+# repository), grows the trees that SEED fixes and writes an antt module: each tree with its limit, the Rust's answer, and theorems by
+# `refl` that `passes` answers the same. The module is checked with rt in a temporary copy of the crates it needs; nothing is written
+# into the repository but target/. Printed: how many trees agreed, how often each answer occurred, and each tree that differs.
+# Exit status: 0 all agreed, or LALRPOP's files are missing; 1 a tree differs; 2 bad usage or the tools failed.
+set -euo pipefail
+
+[ $# -eq 2 ] || { echo "usage: tools/compare_trees.sh SEED COUNT" >&2; exit 2; }
+seed=$1 count=$2
+repository=$(cd "$(dirname "$0")/.." && pwd)
+export LALRPOP_SRC=${LALRPOP_SRC:-$repository/../shared/docs/src/lalrpop/src}
+if [ ! -f "$LALRPOP_SRC/normalize/macro_expand/mod.rs" ]; then
+    echo "compare_trees: LALRPOP's files are not there (LALRPOP_SRC names their folder): nothing compared"
+    exit 0
+fi
+
+copy=$(mktemp -d)
+trap 'rm -rf "$copy"' EXIT
+module=$copy/crates/grammar/proofs/Compared.antt
+
+# the crates that the module needs, without grammar's other computed cases, and what is already proved of them
+copy_crates() {
+    mkdir -p "$copy/crates" "$copy/target"
+    for crate in octets parse_tree grammar; do
+        grep "^$crate:" "$repository/crates.txt" >> "$copy/crates.txt"
+        cp -r "$repository/crates/$crate" "$copy/crates/"
+    done
+    find "$copy/crates/grammar/proofs" -name '*.antt' ! -name Build.antt -delete
+    printf -- '-- Compared with the Rust.\nmod Build\nmod Compared\n' > "$copy/crates/grammar/proofs/Lib.antt"
+    for part in rlib stamp log; do
+        [ ! -d "$repository/target/$part" ] || cp -r "$repository/target/$part" "$copy/target/"
+    done
+}
+
+# compare ROWS: writes the module with so many trees to a theorem and checks it
+compare() {
+    "$repository/target/rust/release/trees" "$seed" "$count" "$1" > "$module"
+    (cd "$copy" && RT_CUT=0 rt check grammar) > "$copy/log" 2>&1
+}
+
+# one line of counts: yes, then the refusals by number
+print_answers() {
+    sed -n 's/^ *-- tree [0-9]*: //p' "$module" | sort -V | uniq -c | awk '{ printf "%s%s: %s", (NR > 1 ? ", " : "answers: "), $2, $1 } END { print "" }'
+}
+
+cargo build --quiet --release --offline --manifest-path "$repository/rust/Cargo.toml" --target-dir "$repository/target/rust" -p oracle
+copy_crates
+if compare 25; then
+    echo "agreed: $count of $count trees (seed $seed)"
+    print_answers
+    exit 0
+fi
+compare 1 || true
+# a failure that names no tree is one of the tools
+differing=$(grep -o 'error: `agree[0-9]*`' "$copy/log" | grep -o '[0-9]*' | sort -nu) || { tail -n 20 "$copy/log" >&2; exit 2; }
+echo "agreed: $((count - $(wc -w <<< "$differing"))) of $count trees (seed $seed)"
+print_answers
+for tree in $differing; do
+    echo "differs: tree $tree"
+    grep -A 1 -- "-- tree $tree:" "$module"
+    grep -A 1 "error: .agree$tree\`" "$copy/log"
+done
+exit 1
