@@ -16,6 +16,7 @@ if [ ! -f "$LALRPOP_SRC/normalize/macro_expand/mod.rs" ]; then
     exit 0
 fi
 
+LALRPOP_SRC=$(cd "$LALRPOP_SRC" && pwd)
 copy=$(mktemp -d)
 trap 'rm -rf "$copy"' EXIT
 module=$copy/crates/grammar/proofs/Compared.antt

@@ -5,17 +5,20 @@ use oracle::grammar::pattern::Pattern;
 use oracle::DefaultAtom as Atom;
 
 const NAMES: [&str; 10] = ["S", "A", "B", "E", "M", "K", "E1", "M1", "E2", "_x"];
-const ARGUMENTS: [&str; 6] = ["P", "Q", "P", "Q", "A", "M1"];
-const TERMINALS: [&str; 6] = ["n", "x", "T", "v", "E1", "E2"];
-const ANY_NAME: [&str; 12] = ["S", "A", "B", "E", "M", "K", "E1", "P", "Q", "n", "x", "nowhere"];
+const ARGUMENTS: [&str; 8] = ["P", "Q", "P", "Q", "A", "M", "M1", "E1"];
+const TERMINALS: [&str; 7] = ["n", "x", "T", "v", "P", "E1", "E2"];
+const ANY_NAME: [&str; 9] = ["S", "A", "E", "M", "P", "Q", "n", "x", "nowhere"];
+/// Names of `n:A`.
 const VALUE_NAMES: [&str; 5] = ["v", "e", "left", "_0", "P"];
 const LITERALS: [&str; 10] = ["n", "+", "a\"b", "\\", "'", "", " ", "x", "A", "(A)"];
-const GOOD_LEVELS: [&str; 8] = ["0", "1", "2", "3", "+1", "007", "10", "4294967295"];
-const BAD_LEVELS: [&str; 7] = ["-1", "", "+", "one", "1 ", "4294967296", "-0"];
+const GOOD_LEVELS: [&str; 11] = ["0", "1", "2", "3", "+1", "+0", "007", "10", "4294967294", "4294967295", "00000000004294967295"];
+/// Levels of the alternatives of one nonterminal.
+const LADDERS: [[&str; 4]; 4] =
+    [["1", "2", "3", "10"], ["1", "2", "3", "3"], ["0", "9", "10", "11"], ["1", "4294967290", "4294967294", "4294967295"]];
+const BAD_LEVELS: [&str; 12] = ["-1", "", "+", "-", "one", "1 ", "++1", "1_0", "4294967296", "-0", "99999999999999999999", "1\u{0}"];
 const SIDES: [&str; 4] = ["left", "right", "none", "all"];
 const BAD_SIDES: [&str; 4] = ["Left", "", "both", "left "];
 const CODES: [&str; 6] = ["v", "(<>)", "", "f(\u{0}\t\u{7f})", "Some(<>)", "{ let x = \"\\\"; }"];
-const MOST_DEEP: usize = 3;
 
 #[derive(Clone)]
 struct Head {
@@ -28,14 +31,20 @@ pub struct Grower<'a> {
     chance: &'a mut Chance,
     heads: Vec<Head>,
     terminals: Vec<&'static str>,
+    /// The nonterminal that is growing, and whether it is annotated.
     at: Head,
+    annotated: bool,
+    ladder: [&'static str; 4],
+    /// How often, in a hundred, a choice is made without regard to what is defined.
     wild: usize,
+    most_deep: usize,
 }
 
 pub fn tree(chance: &mut Chance) -> Grammar {
-    let wild = if chance.percent(60) { 0 } else { 6 };
+    let wild = if chance.percent(70) { 0 } else { 6 };
+    let most_deep = if chance.percent(80) { 3 } else { 6 };
     let at = Head { name: "S", args: vec![] };
-    let mut grower = Grower { chance, heads: vec![], terminals: vec![], at, wild };
+    let mut grower = Grower { chance, heads: vec![], terminals: vec![], at, annotated: false, ladder: LADDERS[0], wild, most_deep };
     grower.grow_heads();
     let mut items: Vec<GrammarItem> = grower.heads.clone().into_iter().map(|head| grower.nonterminal(head)).collect();
     for name in grower.terminals.clone() {
@@ -77,16 +86,34 @@ impl Grower<'_> {
         Span(place(), place())
     }
 
+    /// A text of the tape: mostly one of these, else up to six bytes from the first to the last.
+    fn text(&mut self, texts: &[&str], first: u8, last: u8) -> String {
+        if self.chance.percent(90) {
+            return self.chance.one_of(texts).to_string();
+        }
+        let width = (last - first) as usize + 1;
+        (0..self.chance.under(7)).map(|_| (first + self.chance.under(width) as u8) as char).collect()
+    }
+
+    /// For quoted and regex texts and the right side of a condition.
+    fn literal(&mut self) -> Atom {
+        Atom::from(self.text(&LITERALS, 0x20, 0x7e))
+    }
+
     // ---- heads and terminals
 
     fn grow_heads(&mut self) {
-        for _ in 0..1 + self.chance.under(5) {
+        let most = if self.chance.percent(1) { 0 } else { 1 + self.chance.under(5) };
+        for _ in 0..most {
             let taken: Vec<_> = self.heads.iter().map(|head| head.name).collect();
             let name = self.new_name(&NAMES, &taken);
             let count = if self.chance.percent(35) { 1 + self.chance.under(2) } else { 0 };
             let mut args = vec![];
             for _ in 0..count {
                 args.push(self.new_name(&ARGUMENTS, &args));
+            }
+            if count > 0 && self.goes_wild() {
+                args.push(args[0]);
             }
             self.heads.push(Head { name, args });
         }
@@ -125,9 +152,10 @@ impl Grower<'_> {
 
     fn nonterminal(&mut self, head: Head) -> GrammarItem {
         self.at = head.clone();
-        let annotated = self.chance.percent(if head.args.is_empty() { 35 } else { 6 });
-        let count = if annotated { 1 + self.chance.under(4) } else { self.chance.under(4) };
-        let alternatives = (0..count).map(|index| self.alternative(annotated, index)).collect();
+        self.annotated = self.chance.percent(if head.args.is_empty() { 40 } else { 8 });
+        self.ladder = self.chance.one_of(&LADDERS);
+        let count = self.chance.under(4) + self.annotated as usize;
+        let alternatives = (0..count).map(|index| self.alternative(index)).collect();
         let inline = self.chance.percent(20);
         GrammarItem::Nonterminal(NonterminalData {
             visibility: if self.chance.percent(30) { Visibility::Pub(None) } else { Visibility::Priv },
@@ -140,19 +168,19 @@ impl Grower<'_> {
         })
     }
 
-    fn alternative(&mut self, annotated: bool, index: usize) -> Alternative {
-        let count = self.chance.under(4);
+    fn alternative(&mut self, index: usize) -> Alternative {
+        let count = self.chance.under(4) + self.annotated as usize;
         Alternative {
             span: self.span(),
             expr: ExprSymbol { symbols: (0..count).map(|_| self.symbol(1, 12)).collect() },
             condition: self.condition(),
             action: self.action(),
-            attributes: self.attributes(annotated, index),
+            attributes: self.attributes(index),
         }
     }
 
     fn action(&mut self) -> Option<ActionKind> {
-        let code = self.chance.one_of(&CODES).to_string();
+        let code = self.text(&CODES, 0x00, 0x7f);
         match self.chance.under(8) {
             0..=2 => Some(ActionKind::User(code)),
             3 => Some(ActionKind::Fallible(code)),
@@ -164,7 +192,7 @@ impl Grower<'_> {
 
     fn condition(&mut self) -> Option<Condition> {
         let of_argument = !self.at.args.is_empty() && self.chance.percent(30);
-        let wild = self.wild > 0 && self.chance.percent(3);
+        let wild = self.wild > 0 && self.chance.percent(2);
         if !of_argument && !wild {
             return None;
         }
@@ -172,7 +200,7 @@ impl Grower<'_> {
         Some(Condition {
             span: self.span(),
             lhs: nonterminal_string(lhs),
-            rhs: Atom::from(self.chance.one_of(&LITERALS)),
+            rhs: self.literal(),
             op: self.chance.one_of(&[ConditionOp::Equals, ConditionOp::NotEquals]),
         })
     }
@@ -191,17 +219,18 @@ impl Grower<'_> {
 
     fn level(&mut self, index: usize) -> Attribute {
         let value = match self.chance.under(100) {
-            0 | 1 => self.chance.one_of(&BAD_LEVELS),
-            2..=25 => self.chance.one_of(&GOOD_LEVELS),
-            _ => ["1", "2", "3", "10"][index.min(3)],
+            0 => self.chance.one_of(&BAD_LEVELS),
+            1..=25 => self.chance.one_of(&GOOD_LEVELS),
+            _ => self.ladder[index.min(3)],
         };
         self.with_value("precedence", "level", value)
     }
 
-    fn side(&mut self, index: usize) -> Attribute {
+    /// On the lowest level mostly `all`.
+    fn side(&mut self, lowest: bool) -> Attribute {
         let value = match self.chance.under(100) {
-            0 | 1 => self.chance.one_of(&BAD_SIDES),
-            2..=80 if index == 0 => "all",
+            0 => self.chance.one_of(&BAD_SIDES),
+            1..=90 if lowest => "all",
             _ => self.chance.one_of(&SIDES),
         };
         self.with_value("assoc", "side", value)
@@ -209,25 +238,25 @@ impl Grower<'_> {
 
     fn other(&mut self) -> Attribute {
         let id = self.chance.one_of(&["cfg", "inline", "Precedence", "precedence", "assoc"]);
-        let value = self.chance.one_of(&["1", "left", "\u{1}\n", "x"]);
-        self.with_value(id, "key\u{0}", value)
+        let (key, value) = (self.text(&["level", "side"], 0x00, 0x7f), self.text(&["1", "left"], 0x00, 0x7f));
+        self.with_value(id, &key, &value)
     }
 
     /// The first alternative of an annotated nonterminal has a level or a side, and only of an annotated one.
-    fn attributes(&mut self, annotated: bool, index: usize) -> Vec<Attribute> {
+    fn attributes(&mut self, index: usize) -> Vec<Attribute> {
         let mut found = vec![];
-        let may = annotated || (index > 0 && self.chance.percent(10));
-        let level = may && self.chance.percent(if index == 0 { 85 } else { 55 });
-        let side = may && ((index == 0 && !level) || self.chance.percent(35));
+        let may = self.annotated || (index > 0 && self.chance.percent(10));
+        let level = may && self.chance.percent(if index == 0 { 85 } else { 70 });
+        let side = may && ((index == 0 && !level) || self.chance.percent(50));
         if level {
             found.push(self.level(index));
         }
         if side {
             let place = self.chance.under(found.len() + 1);
-            let side = self.side(index);
+            let side = self.side(index == 0 || !level);
             found.insert(place, side);
         }
-        if (annotated || index > 0) && self.chance.percent(12) {
+        if (self.annotated || index > 0) && self.chance.percent(12) {
             found.push(self.other());
         }
         found
@@ -238,10 +267,10 @@ impl Grower<'_> {
     /// A symbol so deep; it is a name so many times in a hundred.
     fn symbol(&mut self, depth: usize, names: usize) -> Symbol {
         let span = self.span();
-        let kind = if depth < MOST_DEEP && self.chance.percent(names) {
+        let kind = if depth < self.most_deep && self.chance.percent(names) {
             let name = Name::new(self.chance.percent(30), Atom::from(self.chance.one_of(&VALUE_NAMES)));
             SymbolKind::Name(name, Box::new(self.symbol(depth + 1, 2)))
-        } else if depth < MOST_DEEP && self.chance.percent(45) {
+        } else if depth < self.most_deep && self.chance.percent(45) {
             self.outer(depth)
         } else {
             self.leaf()
@@ -280,37 +309,46 @@ impl Grower<'_> {
     /// Often a quoted literal, since conditions ask for one.
     fn argument(&mut self, depth: usize) -> Symbol {
         if self.chance.percent(55) {
-            let kind = SymbolKind::Terminal(TerminalString::quoted(Atom::from(self.chance.one_of(&LITERALS))));
+            let kind = SymbolKind::Terminal(TerminalString::quoted(self.literal()));
             return Symbol { span: self.span(), kind };
         }
         self.symbol(depth + 1, 3)
     }
 
     fn leaf(&mut self) -> SymbolKind {
-        let literal = Atom::from(self.chance.one_of(&LITERALS));
+        let literal = self.literal();
         match self.chance.under(20) {
             0..=8 => SymbolKind::AmbiguousId(self.defined_name(true)),
             9..=11 => SymbolKind::Nonterminal(NonterminalString(self.defined_name(false))),
             12..=14 => SymbolKind::Terminal(TerminalString::quoted(literal)),
             15 => SymbolKind::Terminal(TerminalString::regex(literal)),
-            16 => SymbolKind::Terminal(TerminalString::Bare(Atom::from(self.chance.one_of(&ANY_NAME)))),
+            16 => SymbolKind::Terminal(TerminalString::Bare(self.any_name())),
             17 => SymbolKind::Lookahead,
             18 => SymbolKind::Lookbehind,
             _ => SymbolKind::Error,
         }
     }
 
+    /// Half of the time the name of some item, macros too.
+    fn any_name(&mut self) -> Atom {
+        let mut names: Vec<&str> = self.heads.iter().map(|head| head.name).chain(self.terminals.iter().copied()).collect();
+        names.push("nowhere");
+        Atom::from(if self.chance.percent(50) { self.chance.one_of(&ANY_NAME) } else { self.chance.one_of(&names) })
+    }
+
     /// An argument, a plain nonterminal or, where one may stand, a terminal; often the nonterminal itself. Any name if it goes wild.
     fn defined_name(&mut self, terminal: bool) -> Atom {
         let plain = self.heads.iter().filter(|head| head.args.is_empty()).map(|head| head.name);
         let mut names: Vec<&str> = plain.chain(self.at.args.iter().copied()).chain(self.at.args.iter().copied()).collect();
-        if self.at.args.is_empty() {
-            names.extend([self.at.name; 2]);
+        if self.annotated {
+            names.extend([self.at.name; 6]);
         }
         if terminal {
             names.extend(&self.terminals);
         }
-        let wild = self.goes_wild() || names.is_empty();
-        Atom::from(if wild { self.chance.one_of(&ANY_NAME) } else { self.chance.one_of(&names) })
+        if names.is_empty() || self.goes_wild() {
+            return self.any_name();
+        }
+        Atom::from(self.chance.one_of(&names))
     }
 }
