@@ -9,7 +9,7 @@ use oracle::grammar::parse_tree::{Grammar, Span};
 use oracle::normalize::{macro_expand::expand_macros, precedence::expand_precedence, NormError};
 use std::panic::catch_unwind;
 
-const HEAD: &str = include_str!("head.antt");
+const HEAD: &str = include_str!("head.txt");
 const UNFOLDING: &str = include_str!("unfolding.txt");
 const MOST_ITEMS: usize = 40;
 
