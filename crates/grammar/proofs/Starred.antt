@@ -3,7 +3,8 @@ use mathlib.Core.Path.{_≡_, refl}
 use mathlib.Core.Bool.{Bool, true, false}
 use mathlib.Core.List.{List, [], _∷_, _++_, map}
 use mathlib.Core.Option.{none}
-use Prim.Native.Nat.{ℕ}
+use Prim.Native.Nat.{ℕ, zero, suc, _+_, _*_}
+use lib.ListN.{length}
 use Rattle.octets.specs.Choice.{pick}
 use Rattle.octets.specs.Numbers.{le, leAt}
 use Rattle.octets.specs.Runs.{part, sameAs}
@@ -67,10 +68,11 @@ lowest = nt (at 0 9) e1 [] (alternative (at 1 2) [] (quote 110 ∷ []) ∷ [])
 abbrev levels2 : List Sym → List Item
 levels2 xs = lowest ∷ nt (at 0 9) e [] (alternative (at 3 4) [] xs ∷ alternative (at 0 9) [] (fall (at 0 9) e1 ∷ []) ∷ []) ∷ []
 
--- ---- the table: the call for levels, or the whole with a limit
+-- ---- the table: the call for levels, or the whole with a limit; and either with so many bytes of output
 pub data Call : Type 0 where
   forLevels : Call
   forAll : ℕ → Call
+  within : ℕ → Call → Call
 
 pub record Row : Type 0 where
   pub call : Call
@@ -183,6 +185,14 @@ single a = nt (at 0 9) e [] (alternative (at 1 2) (a ∷ []) (quote 110 ∷ []) 
 abbrev unlevelled : List Item
 unlevelled = nt (at 0 9) e [] (alternative (at 1 2) [] (quote 110 ∷ []) ∷ []) ∷ []
 
+abbrev starN : Sym
+starN = around (at 7 8) (repeat star) (leaf (at 7 7) (ambiguous n))
+
+-- n behind so many choices
+abbrev deep : ℕ → Sym
+deep zero = name n
+deep (suc k) = around (at 7 8) Around.choose (deep k)
+
 abbrev rows : List Row
 rows =
     -- left, right, none, all
@@ -232,6 +242,13 @@ rows =
     ∷ record { call = forLevels; input = single (level (52 ∷ 50 ∷ 57 ∷ 52 ∷ 57 ∷ 54 ∷ 55 ∷ 50 ∷ 57 ∷ 54 ∷ [])); expected = denied 14 1 2 }
     -- a macro with two levels: 10 at the macro's span
     ∷ record { call = forAll 64; input = nt (at 0 9) e ((80 ∷ []) ∷ []) (first ∷ alternative (at 3 4) (level (50 ∷ []) ∷ []) (quote 43 ∷ []) ∷ []) ∷ []; expected = denied 10 0 9 }
+    -- the resolved stage must fit the output, though the levelled tree is shorter: 79 bytes, not 78
+    ∷ record { call = within 79 forLevels; input = single (level (49 ∷ [])); expected = done unlevelled }
+    ∷ record { call = within 78 forLevels; input = single (level (49 ∷ [])); expected = denied 21 0 0 }
+    -- 18 is at the last symbol really pushed
+    ∷ record { call = forAll 0; input = plainS (leaf (at 5 6) lookahead ∷ starN ∷ leaf (at 9 10) lookahead ∷ []) ∷ externN ∷ []; expected = denied 18 7 8 }
+    -- `X*` with X 63 deep: `v:X+` is 65 deep
+    ∷ record { call = forAll 64; input = plainS (around (at 7 8) (repeat star) (deep 62) ∷ []) ∷ externN ∷ []; expected = denied 20 0 0 }
     -- the pile is last in, first out
     ∷ record { call = forAll 2; input = looks; expected = done looked }
     -- arguments are put in all together: Q, put in for P, is not caught by the argument Q
@@ -243,13 +260,14 @@ abbrev items : Answer Stage → Answer (List Item)
 items (done g) = done (g .items)
 items (denied n p q) = denied n p q
 
--- a tape put to a call, with 1,000 bytes of output and work enough
-abbrev run : Call → List ℕ → Answer Stage
-run forLevels tape = levelsCall tape 1000 16000
-run (forAll limit) tape = calls.whole tape limit 1000 16000
+-- a tape put to a call, with so many bytes of output and just enough work
+abbrev run : Call → ℕ → List ℕ → Answer Stage
+run forLevels cap tape = levelsCall tape cap (8 * (length tape + cap))
+run (forAll limit) cap tape = calls.whole tape limit cap (8 * (length tape + cap))
+run (within n c) cap tape = run c n tape
 
 abbrev answer : Row → Answer (List Item)
-answer r = items (run (r .call) (encode 2 [] (r .input)))
+answer r = items (run (r .call) 2000 (encode 2 [] (r .input)))
 
 starred : map answer rows ≡ map (λ (r : Row). r .expected) rows
 unfolding pick le leAt part sameAs count symsOf every startsName inName nameBytes isName isLiteral isAscii has number distinct withNew spanBytes leafCode leafOperand symbolBytes nodeBytes sizeOf whole spanAt namedLeaf bareLeaf symbolAt textNode nonterminalAt terminalAt argumentAt alternativeAt attributeAt conditionAt nodeBy nodeAt classOf table allowedAt leafDefined symbolDefined alternativeDefined attributeDefined defined leafSuits symbolSuits suits then times expectItem expectArgument expectAlternative expectAttribute expectCondition expectSymbol opOf insideOf leafOf aroundOf overOf actionOf attributeOf conditionOf alternativeOf nonterminalOf terminalOf ask readSym readArgument readAttribute readCondition alternativeParts readAlternative nonterminalParts readItem readItems readAtoms decodeBy decode bytesOfEach atomBytes leafNode aroundNode overNode actionText alternativeNode attributeNode conditionNode nonterminalNode symBytes argumentBytes attributeBytes conditionBytes alternativeBytes itemBytes stageBytes textsOfEach leafTexts aroundTexts overTexts symTexts actionTexts attributeTexts conditionTexts alternativeTexts itemTexts stageOf encode checkGlobals validateSymbol validateAlternatives validateItems resolve levelsOf ofLevel levelName occurs replaceOccurrences substituted levelItem levelItems levelled checkLowest checkLevels levels stageFits admit resolved calls.levelled levelsCall again expanded calls.rounds calls.whole push replaceSymbol replaceAlternatives replaceItems macroExpandSymbol expandAlternatives expandSymbol drain escaped shownLeaf shownBefore shownBehind opening shown print
