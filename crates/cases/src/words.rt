@@ -1,5 +1,5 @@
 // The parts of a line: words, decimal numbers, hexadecimal digits.
-ghost use mathlib.Core.Path.{_≡_};
+use octets::wide::from8;
 ghost use Prim.Native.Nat.{_≤_};
 ghost use lib.ListN.{length};
 
@@ -43,12 +43,6 @@ pub fn digit(byte: u8) -> u8
     16
 }
 
-fn wide(digit: u8) -> usize
-    ensures { λ r. ⌜ r ≡ digit ⌝ }
-{
-    digit as usize
-}
-
 // The number that all of a text is, in decimal; none of 10,000,000 or more.
 pub fn decimal(text: &[u8]) -> Number {
     if text.len() == 0 {
@@ -64,7 +58,7 @@ pub fn decimal(text: &[u8]) -> Number {
         if 999999 < value {
             return Number::Nothing;
         }
-        value = value * 10 + wide(d);
+        value = value * 10 + from8(d);
         i += 1;
     }
     Number::Is(value)

@@ -32,8 +32,8 @@ returns-3 c = search needs
 mul-value : tie.Need-mul-value Inv-loop μ-loop
 mul-value c = search needs
 
-wide-requires : tie.Need-wide-requires Inv-loop μ-loop
-wide-requires c κs = search needs
+from8-requires : tie.Need-from8-requires Inv-loop μ-loop
+from8-requires c κs = search needs
 
 add-value : tie.Need-add-value Inv-loop μ-loop
 add-value c = search needs
@@ -63,7 +63,7 @@ decimal-spec =
     returns-2
     returns-3
     mul-value
-    wide-requires
+    from8-requires
     add-value
     add-i
     loop-less
