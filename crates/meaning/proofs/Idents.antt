@@ -6,6 +6,7 @@ use Prim.Native.Nat.{ℕ}
 use Rattle.octets.specs.Runs.{sameAs}
 use Rattle.parse_tree.specs.Tree.{Text}
 use Rattle.parse_tree.specs.Texts.{every, between, startsName, inName, nameBytes, mutText, errorText, isName}
+use Rattle.parse_tree.proofs.TextLaws.{and-both}
 use Rattle.meaning.proofs.Basics.{and-l, and-r, or-left}
 use Rattle.meaning.proofs.Predicates.{Ident, startsWell}
 
@@ -18,9 +19,6 @@ unfolding nameBytes
 first-of [] e = absurd (false≢true e)
 first-of (b ∷ bs) e = and-l (startsName b) (every inName bs) e
 
-pub both : (a b : Bool) → a ≡ true → b ≡ true → (a && b) ≡ true
-both a b e f = rw (e, f)
-
 starts-in : (b : ℕ) → startsName b ≡ true → inName b ≡ true
 unfolding inName
 starts-in b e = or-left (startsName b) (between 48 57 b) e
@@ -28,7 +26,7 @@ starts-in b e = or-left (startsName b) (between 48 57 b) e
 rest-of : (n : Text) → nameBytes n ≡ true → every inName n ≡ true
 unfolding nameBytes every
 rest-of [] e = refl
-rest-of (b ∷ bs) e = both (inName b) (every inName bs) (starts-in b (and-l (startsName b) (every inName bs) e)) (and-r (startsName b) (every inName bs) e)
+rest-of (b ∷ bs) e = and-both (inName b) (every inName bs) (starts-in b (and-l (startsName b) (every inName bs) e)) (and-r (startsName b) (every inName bs) e)
 
 pub ident-of : (n : Text) → isName n ≡ true → Ident n
 unfolding isName

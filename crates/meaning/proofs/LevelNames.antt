@@ -14,7 +14,7 @@ use Rattle.grammar.specs.Grades.{isDigit, graded}
 use Rattle.grammar.specs.Levels.{decimalFrom, decimal, highest, levelName}
 use Rattle.meaning.proofs.Basics.{test, T-is, and-l, and-r, or-right}
 use Rattle.meaning.proofs.Predicates.{Ident, startsWell}
-use Rattle.meaning.proofs.Idents.{both}
+use Rattle.parse_tree.proofs.TextLaws.{and-both}
 
 -- ---- a decimal is some digits
 abbrev areDigits : Text → Bool
@@ -30,7 +30,7 @@ abbrev last : ℕ → ℕ
 last n = 48 + n % 10
 
 last-digit : (n : ℕ) → isDigit (last n) ≡ true
-last-digit n = both (leb 48 (last n)) (leb (last n) 57) (T-is _ (le→leb 48 (last n) (omega arith))) (T-is _ (le→leb (last n) 57 (omega arith)))
+last-digit n = and-both (leb 48 (last n)) (leb (last n) 57) (T-is _ (le→leb 48 (last n) (omega arith))) (T-is _ (le→leb (last n) 57 (omega arith)))
 
 -- either of two texts
 either : (f : Text → Bool) (b : Bool) (x y : Text) → f x ≡ true → f y ≡ true → f (cond b x y) ≡ true
@@ -40,7 +40,7 @@ either f false x y p q = q
 digits-are : (k n : ℕ) (r : Text) → areDigits r ≡ true → areDigits (decimalFrom k n r) ≡ true
 digits-are zero n r e = e
 digits-are (suc k) n r e =
-    let h = both (isDigit (last n)) (areDigits r) (last-digit n) e in
+    let h = and-both (isDigit (last n)) (areDigits r) (last-digit n) e in
     either areDigits (ltb n 10) (last n ∷ r) (decimalFrom k (n / 10) (last n ∷ r)) h (digits-are k (n / 10) (last n ∷ r) h)
 
 digits-filled : (k n b : ℕ) (r : Text) → isFilled (decimalFrom k n (b ∷ r)) ≡ true
@@ -58,12 +58,12 @@ digit-in b e = or-right (startsName b) (between 48 57 b) e
 digits-in : (t : Text) → areDigits t ≡ true → every inName t ≡ true
 unfolding every
 digits-in [] e = refl
-digits-in (b ∷ t) e = both (inName b) (every inName t) (digit-in b (and-l (isDigit b) (areDigits t) e)) (digits-in t (and-r (isDigit b) (areDigits t) e))
+digits-in (b ∷ t) e = and-both (inName b) (every inName t) (digit-in b (and-l (isDigit b) (areDigits t) e)) (digits-in t (and-r (isDigit b) (areDigits t) e))
 
 every-append : (n t : Text) → every inName n ≡ true → every inName t ≡ true → every inName (n ++ t) ≡ true
 unfolding every
 every-append [] t p q = q
-every-append (b ∷ n) t p q = both (inName b) (every inName (n ++ t)) (and-l (inName b) (every inName n) p) (every-append n t (and-r (inName b) (every inName n) p) q)
+every-append (b ∷ n) t p q = and-both (inName b) (every inName (n ++ t)) (and-l (inName b) (every inName n) p) (every-append n t (and-r (inName b) (every inName n) p) q)
 
 abbrev noDigit : Text → Bool
 noDigit [] = true
