@@ -18,7 +18,7 @@ ghost use Rattle.texts.specs.Atoms.{atomsOf};
 ghost use Rattle.validate.specs.Steps.{Ready, stepOf};
 
 // How many symbols stand inside.
-fn inside(o: Over) -> usize
+pub fn inside(o: Over) -> usize
     ensures { λ r. ⌜ r ≡ insideOf o ⌝ }
 {
     match o {

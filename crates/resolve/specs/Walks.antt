@@ -1,0 +1,84 @@
+-- What the walks write, by the tables t, or the refusal on the way. Assumes nothing: these are definitions.
+use mathlib.Core.Path.{_≡_}
+use mathlib.Core.List.{List, [], _∷_, _++_}
+use Prim.Native.Nat.{ℕ, zero, suc, _+_}
+use lib.ListN.{length}
+use Rattle.octets.specs.Sink.{adv, lay}
+use Rattle.parse_tree.specs.Nodes.{nodeAt, nodeBytes, sizeOf}
+use Rattle.parse_tree.specs.Operands.{insideOf}
+use Rattle.parse_tree.specs.declared.syntax.Span.{Span}
+use Rattle.parse_tree.specs.declared.syntax.Leaf.{Leaf}
+use Rattle.parse_tree.specs.declared.syntax.SymbolKind.{SymbolKind}
+use Rattle.parse_tree.specs.declared.syntax.Node.{Node}
+use Rattle.resolve.specs.declared.Scope.{Scope}
+use Rattle.resolve.specs.declared.Rewritten.{Rewritten}
+use Rattle.resolve.specs.declared.Verdict.{Verdict}
+use Rattle.resolve.specs.declared.Walked.{Walked}
+use Rattle.resolve.specs.Names.{leafSays, overSays}
+
+-- the bytes written and the place to read on at, or a refusal
+pub data Out : Type 0 where
+  wrote : List ℕ → ℕ → Out
+  denied : ℕ → Span → Out
+
+-- with bytes before
+unfoldable pub prefix : List ℕ → Out → Out
+prefix xs (wrote ys e) = wrote (xs ++ ys) e
+prefix xs (denied q p) = denied q p
+
+-- one behind another
+unfoldable pub andThen : Out → (ℕ → Out) → Out
+andThen (wrote xs e) f = prefix xs (f e)
+andThen (denied q p) f = denied q p
+
+unfoldable pub many : (ℕ → Out) → ℕ → ℕ → Out
+many f zero at = wrote [] at
+many f (suc n) at = andThen (f at) (λ e. many f n e)
+
+-- x written to w from `to` on, below lim, leaves w′ and the answer r
+pub record Moved (xs : List ℕ) (e : ℕ) (w : List ℕ) (lim to : ℕ) (r : Walked) (w′ : List ℕ) : Type 0 where
+  pub answered : r ≡ Walked.Next e (adv lim to (length xs))
+  pub bytes : w′ ≡ lay w lim to xs
+
+unfoldable pub Staged : Out → List ℕ → ℕ → ℕ → Walked → List ℕ → Type 0
+Staged (wrote xs e) w lim to r w′ = Moved xs e w lim to r w′
+Staged (denied q p) w lim to r w′ = r ≡ Walked.Refused q p
+
+-- no symbol stands there: a tape that passed 2 to 4 has none such
+abbrev pub astray : Out
+astray = denied 2 (record { 0 = 0; 1 = 0 })
+
+unfoldable pub leafBy : ℕ → Span → ℕ → Rewritten → Out
+leafBy w s e (Rewritten.Is l) = wrote (nodeBytes w (Node.Symbol s (SymbolKind.Leaf l))) e
+leafBy w s e (Rewritten.Refused q p) = denied q p
+
+unfoldable pub verdictBy : Verdict → Out → Out
+verdictBy Verdict.Fine x = x
+verdictBy (Verdict.Refused q p) x = denied q p
+
+unfoldable pub symbolOut : (Span → SymbolKind → Out) → Node → Out
+symbolOut f (Node.Text k) = astray
+symbolOut f (Node.Nonterminal d) = astray
+symbolOut f (Node.Terminal t) = astray
+symbolOut f (Node.Argument a) = astray
+symbolOut f (Node.Alternative a) = astray
+symbolOut f (Node.Attribute a) = astray
+symbolOut f (Node.Condition c) = astray
+symbolOut f (Node.Symbol s k) = f s k
+symbolOut f Node.Unknown = astray
+
+module _ (m : Scope) (t : List ℕ) where
+  unfoldable pub leafOut : Span → Leaf → ℕ → Out
+  leafOut s l e = leafBy (m .width) s e (leafSays m t s l)
+
+  module _ (s : List ℕ) where
+    -- the symbol at a place, with `left` levels of nesting left
+    unfoldable pub symOut : ℕ → ℕ → Out
+    symOut zero at = astray
+    symOut (suc left) at =
+        let n = nodeAt (m .width) s at in
+        symbolOut (λ sp k. elim k [
+          | SymbolKind.Leaf l ↦ leafOut sp l (at + sizeOf (m .width) n)
+          | SymbolKind.Around a ↦ prefix (nodeBytes (m .width) n) (symOut left (at + sizeOf (m .width) n))
+          | SymbolKind.Over o ↦ verdictBy (overSays m t sp o) (prefix (nodeBytes (m .width) n) (many (λ p. symOut left p) (insideOf o) (at + sizeOf (m .width) n)))
+        ]) n

@@ -1,0 +1,214 @@
+// Items and alternatives: what stands before the symbols is checked and copied, then the symbols are walked.
+use crate::Passed;
+use crate::Scope;
+use crate::Verdict;
+use crate::Walked;
+use crate::names::validate_condition;
+use crate::symbols::validate_expr;
+use octets::sink::put_run;
+use octets::wide::from8;
+use octets::wide::from16;
+use octets::wide::from32;
+use parse_tree::node::node;
+use parse_tree::size::size;
+use parse_tree::syntax::Alternative;
+use parse_tree::syntax::Node;
+use parse_tree::syntax::NonterminalData;
+use parse_tree::syntax::Span;
+use texts::entries::get;
+use texts::entries::put;
+ghost use mathlib.Core.Path.{_≡_};
+ghost use Prim.Native.Nat.{_≤_};
+ghost use lib.ListN.{length};
+ghost use Rattle.resolve.specs.Scopes.{Area, Tables, tables};
+ghost use Rattle.resolve.specs.Walks.{Staged, many};
+ghost use Rattle.resolve.specs.Items.{Stamping, Replaced, skipTo, conditionOut, alternativeOut, argumentsOut, itemOut, itemsOut, dataOut};
+
+// The place behind n commands.
+fn skip(tape: &[u8], width: usize, n: usize, at: usize) -> usize
+    requires { ⌜ (2 ≤ width) × (width ≤ 3) × (at ≤ length (now tape)) ⌝ }
+    ensures { λ r. ⌜ (r ≡ skipTo width (now (tape .entry)) n at) × (at ≤ r) × (r ≤ length (now (tape .entry))) ⌝ }
+{
+    let mut p = at;
+    let mut k = n;
+    while 0 < k {
+        let x = node(tape, p, width);
+        p += size(x, width);
+        k -= 1;
+    }
+    p
+}
+
+// No condition, or the one at a place.
+fn validate_conditions(tape: &[u8], work: &[u8], m: Scope, n: u8, at: usize) -> Passed
+    requires { ⌜ Tables m (length (now work)) ⌝ }
+    ensures { λ r. ⌜ r ≡ conditionOut m (tables m (now (work .entry))) (now (tape .entry)) n at ⌝ }
+{
+    if n == 0 {
+        return Passed::Next(at);
+    }
+    let x = node(tape, at, m.width);
+    let Node::Condition(c) = x else {
+        return Passed::Refused(2, Span(0, 0));
+    };
+    match validate_condition(work, m, c) {
+        Verdict::Refused(q, p) => Passed::Refused(q, p),
+        Verdict::Fine => Passed::Next(at + size(x, m.width)),
+    }
+}
+
+// The alternative at a place.
+fn validate_alternative(tape: &[u8], work: &mut [u8], m: Scope, at: usize, to: usize) -> Walked
+    requires { ⌜ Area m to (length (now work)) ⌝ }
+    ensures { λ r. ⌜ Staged (alternativeOut m (tables m (now (work .entry))) (now (tape .entry)) at) (now (work .entry)) (m .lim) to r (now (work .exit)) ⌝ }
+{
+    let n = node(tape, at, m.width);
+    let Node::Alternative(a) = n else {
+        return Walked::Refused(2, Span(0, 0));
+    };
+    let e = skip(tape, m.width, from8(a.attributes), at + size(n, m.width));
+    match validate_conditions(tape, work, m, a.conditions, e) {
+        Passed::Refused(q, p) => Walked::Refused(q, p),
+        Passed::Next(p) => {
+            let q = put_run(tape, at, p, work, m.lim, to);
+            validate_expr(tape, work, m, p, from16(a.symbols), 64, q)
+        }
+    }
+}
+
+// n alternatives, one behind another.
+fn validate_alternatives(
+    tape: &[u8],
+    work: &mut [u8],
+    m: Scope,
+    n: usize,
+    at: usize,
+    to: usize,
+) -> Walked
+    requires { ⌜ Area m to (length (now work)) ⌝ }
+    ensures { λ r. ⌜ Staged (many (alternativeOut m (tables m (now (work .entry))) (now (tape .entry))) n at) (now (work .entry)) (m .lim) to r (now (work .exit)) ⌝ }
+{
+    let mut p = at;
+    let mut q = to;
+    let mut k = n;
+    while 0 < k {
+        match validate_alternative(tape, work, m, p, q) {
+            Walked::Next(e, t) => {
+                p = e;
+                q = t;
+                k -= 1;
+            }
+            Walked::Refused(c, s) => {
+                return Walked::Refused(c, s);
+            }
+        }
+    }
+    Walked::Next(p, q)
+}
+
+// "arguments distinct? 7": the n arguments at a place, each marked in the table; s is the item's span.
+fn validate_macro_args(
+    tape: &[u8],
+    work: &mut [u8],
+    m: Scope,
+    s: Span,
+    n: usize,
+    at: usize,
+) -> Passed
+    requires { ⌜ Tables m (length (now work)) × (at ≤ length (now tape)) ⌝ }
+    ensures { λ r. ⌜ Stamping m (argumentsOut m (now (tape .entry)) s n (tables m (now (work .entry))) at) (now (work .entry)) r (now (work .exit)) ⌝ }
+{
+    let mut p = at;
+    let mut k = n;
+    while 0 < k {
+        let x = node(tape, p, m.width);
+        let Node::Argument(a) = x else {
+            return Passed::Refused(2, Span(0, 0));
+        };
+        let id = from32(a.0);
+        if m.count <= id {
+            return Passed::Refused(3, Span(0, 0));
+        }
+        let i = m.room + m.room + id;
+        if get(work, i) == m.first {
+            return Passed::Refused(7, s);
+        }
+        put(work, i, m.first);
+        p += size(x, m.width);
+        k -= 1;
+    }
+    Passed::Next(p)
+}
+
+// What stands behind the command of a nonterminal: e is the place behind that command.
+fn validate_data(
+    tape: &[u8],
+    work: &mut [u8],
+    m: Scope,
+    d: NonterminalData,
+    at: usize,
+    e: usize,
+    to: usize,
+) -> Walked
+    requires { ⌜ Area m to (length (now work)) × (at ≤ e) × (e ≤ length (now tape)) ⌝ }
+    ensures { λ r. ⌜ Replaced m (dataOut m (tables m (now (work .entry))) (now (tape .entry)) d at e) (now (work .entry)) to r (now (work .exit)) ⌝ }
+{
+    let s = d.span;
+    match validate_macro_args(tape, work, m, s, from8(d.args), e) {
+        Passed::Refused(q, p) => Walked::Refused(q, p),
+        Passed::Next(p) => {
+            let q = put_run(tape, at, p, work, m.lim, to);
+            validate_alternatives(tape, work, m, from16(d.alternatives), p, q)
+        }
+    }
+}
+
+// The item at a place.
+fn validate_item(tape: &[u8], work: &mut [u8], m: Scope, at: usize, to: usize) -> Walked
+    requires { ⌜ Area m to (length (now work)) ⌝ }
+    ensures { λ r. ⌜ Replaced m (itemOut m (tables m (now (work .entry))) (now (tape .entry)) at) (now (work .entry)) to r (now (work .exit)) ⌝ }
+{
+    let n = node(tape, at, m.width);
+    let e = at + size(n, m.width);
+    match n {
+        Node::Terminal(_) => {
+            let q = put_run(tape, at, e, work, m.lim, to);
+            Walked::Next(e, q)
+        }
+        Node::Nonterminal(d) => {
+            let x = Scope {
+                room: m.room,
+                count: m.count,
+                width: m.width,
+                lim: m.lim,
+                first: e,
+            };
+            validate_data(tape, work, x, d, at, e, to)
+        }
+        _ => Walked::Refused(2, Span(0, 0)),
+    }
+}
+
+// The items from a place to the tape's end.
+pub fn validate(tape: &[u8], work: &mut [u8], m: Scope, at: usize, to: usize) -> Walked
+    requires { ⌜ Area m to (length (now work)) ⌝ }
+    ensures { λ r. ⌜ Replaced m (itemsOut m (now (tape .entry)) (length (now (tape .entry))) (tables m (now (work .entry))) at) (now (work .entry)) to r (now (work .exit)) ⌝ }
+{
+    let mut p = at;
+    let mut q = to;
+    while p < tape.len() {
+        match validate_item(tape, work, m, p, q) {
+            Walked::Refused(c, s) => {
+                return Walked::Refused(c, s);
+            }
+            Walked::Next(e, t) => {
+                if e <= p {
+                    return Walked::Refused(2, Span(0, 0));
+                }
+                p = e;
+                q = t;
+            }
+        }
+    }
+    Walked::Next(p, q)
+}
