@@ -80,7 +80,7 @@ globalOut m t Global.Nothing = tabled t
 
 -- the command at a place, and the place behind it
 unfoldable pub commandOut : Scope → List ℕ → List ℕ → ℕ → ℕ → Tabled × ℕ
-commandOut m t s which at = globalOut m t (globalOf which (nodeAt (m .width) s at)), at + sizeOf (m .width) (nodeAt (m .width) s at)
+commandOut m t s which at = (globalOut m t (globalOf which (nodeAt (m .width) s at)), at + sizeOf (m .width) (nodeAt (m .width) s at))
 
 -- the commands from a place on, one behind another; there are fewer than n
 unfoldable pub scanOut : Scope → List ℕ → ℕ → ℕ → List ℕ → ℕ → Tabled

@@ -4,3 +4,4 @@ pub mod Names
 pub mod Walks
 pub mod Globals
 pub mod Items
+pub mod Whole

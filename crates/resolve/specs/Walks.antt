@@ -8,11 +8,13 @@ use Rattle.parse_tree.specs.Nodes.{nodeAt, nodeBytes, sizeOf}
 use Rattle.parse_tree.specs.Operands.{insideOf}
 use Rattle.parse_tree.specs.declared.syntax.Span.{Span}
 use Rattle.parse_tree.specs.declared.syntax.Leaf.{Leaf}
+use Rattle.parse_tree.specs.declared.syntax.Over.{Over}
 use Rattle.parse_tree.specs.declared.syntax.SymbolKind.{SymbolKind}
 use Rattle.parse_tree.specs.declared.syntax.Node.{Node}
 use Rattle.resolve.specs.declared.Scope.{Scope}
 use Rattle.resolve.specs.declared.Rewritten.{Rewritten}
 use Rattle.resolve.specs.declared.Verdict.{Verdict}
+use Rattle.resolve.specs.declared.Standing.{Standing}
 use Rattle.resolve.specs.declared.Walked.{Walked}
 use Rattle.resolve.specs.Names.{leafSays, overSays}
 
@@ -56,6 +58,18 @@ unfoldable pub verdictBy : Verdict → Out → Out
 verdictBy Verdict.Fine x = x
 verdictBy (Verdict.Refused q p) x = denied q p
 
+-- the command of a symbol, and the place behind it
+unfoldable pub standing : ℕ → ℕ → Node → Standing
+standing w at (Node.Text k) = Standing.Nothing
+standing w at (Node.Nonterminal d) = Standing.Nothing
+standing w at (Node.Terminal t) = Standing.Nothing
+standing w at (Node.Argument a) = Standing.Nothing
+standing w at (Node.Alternative a) = Standing.Nothing
+standing w at (Node.Attribute a) = Standing.Nothing
+standing w at (Node.Condition c) = Standing.Nothing
+standing w at (Node.Symbol s k) = Standing.Is s k (at + sizeOf w (Node.Symbol s k))
+standing w at Node.Unknown = Standing.Nothing
+
 unfoldable pub symbolOut : (Span → SymbolKind → Out) → Node → Out
 symbolOut f (Node.Text k) = astray
 symbolOut f (Node.Nonterminal d) = astray
@@ -82,3 +96,7 @@ module _ (m : Scope) (t : List ℕ) where
           | SymbolKind.Around a ↦ prefix (nodeBytes (m .width) n) (symOut left (at + sizeOf (m .width) n))
           | SymbolKind.Over o ↦ verdictBy (overSays m t sp o) (prefix (nodeBytes (m .width) n) (many (λ p. symOut left p) (insideOf o) (at + sizeOf (m .width) n)))
         ]) n
+
+    -- a symbol over a list, whose symbols stand from a place on
+    unfoldable pub listOut : Span → Over → ℕ → ℕ → Out
+    listOut sp o left at = verdictBy (overSays m t sp o) (prefix (nodeBytes (m .width) (Node.Symbol sp (SymbolKind.Over o))) (many (symOut left) (insideOf o) at))

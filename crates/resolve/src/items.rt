@@ -165,7 +165,7 @@ fn validate_data(
 
 // The item at a place.
 fn validate_item(tape: &[u8], work: &mut [u8], m: Scope, at: usize, to: usize) -> Walked
-    requires { ⌜ Area m to (length (now work)) ⌝ }
+    requires { ⌜ Area m to (length (now work)) × (at ≤ length (now tape)) ⌝ }
     ensures { λ r. ⌜ Replaced m (itemOut m (tables m (now (work .entry))) (now (tape .entry)) at) (now (work .entry)) to r (now (work .exit)) ⌝ }
 {
     let n = node(tape, at, m.width);

@@ -2,6 +2,7 @@
 // definitions and arguments by the number of an atom, and behind them the tree.
 use parse_tree::syntax::Leaf;
 use parse_tree::syntax::Span;
+use parse_tree::syntax::SymbolKind;
 
 pub mod globals;
 pub mod items;
@@ -65,5 +66,11 @@ pub enum Walked {
 // What a command declares: a name by the number of its atom, its definition and its span; or nothing.
 pub enum Global {
     Is(u32, Def, Span),
+    Nothing,
+}
+
+// The symbol whose command stands at a place, and the place behind that command; or nothing.
+pub enum Standing {
+    Is(Span, SymbolKind, usize),
     Nothing,
 }

@@ -4,7 +4,6 @@ use crate::Found;
 use crate::Scope;
 use octets::wide::from32;
 use texts::entries::get;
-use texts::entries::put;
 ghost use mathlib.Core.Path.{_≡_};
 ghost use Prim.Native.Nat.{_≤_};
 ghost use lib.ListN.{length};

@@ -1,0 +1,38 @@
+// The calls as Rattle has them: each for every tape, output and work.
+use crate::Answer;
+use crate::resolving::resolve_stage;
+use crate::room::enough;
+use octets::runs::clear;
+use octets::sink::put_run;
+ghost use mathlib.Core.Path.{_≡_};
+ghost use Prim.Native.Nat.{_+_, _*_, _≤_};
+ghost use lib.ListN.{length};
+ghost use Rattle.grammar.specs.Calls.{resolveCall};
+ghost use Rattle.normalize.specs.Answers.{Called, Fits, handed};
+
+// At a yes the tree, which stands in work from a on, goes to the front of the output.
+fn hand_over(r: Answer, work: &[u8], a: usize, output: &mut [u8])
+    requires { ⌜ Fits r a (length (now output)) (length (now work)) ⌝ }
+    ensures { λ _. ⌜ now (output .exit) ≡ handed r a (now (work .entry)) (now (output .entry)) ⌝ }
+{
+    match r {
+        Answer::No(_, _, _) => {}
+        Answer::Yes(n) => {
+            let lim = output.len();
+            put_run(work, a, a + n, output, lim, 0);
+        }
+    }
+}
+
+// Resolving alone: questions 1 to 13, 20 and 21.
+pub fn resolve(tape: &[u8], output: &mut [u8], work: &mut [u8]) -> Answer
+    ensures { λ r. ⌜ Called (resolveCall (now (tape .entry)) (length (now (output .entry))) (length (now (work .entry)))) (now (tape .entry)) (now (output .entry)) (now (work .entry)) r (now (output .exit)) (now (work .exit)) ⌝ }
+{
+    if !enough(tape.len(), output.len(), work.len()) {
+        return Answer::No(1, 0, 0);
+    }
+    let r = resolve_stage(tape, output.len(), work);
+    hand_over(r, work, 8 * tape.len(), output);
+    clear(work);
+    r
+}

@@ -1,0 +1,51 @@
+-- A command that was read is the one that stands there, and the place behind it is its end. Assumes nothing.
+use mathlib.Core.Path.{_≡_, refl, sym, ap, _∙_}
+use mathlib.Core.Bool.{Bool, true, false, _&&_}
+use mathlib.Core.List.{List}
+use Prim.Native.Nat.{ℕ, _+_}
+use lib.Dec.{leb}
+use lib.ListN.{length}
+use Rattle.octets.specs.Choice.{pick}
+use Rattle.octets.specs.Numbers.{Bytes}
+use Rattle.octets.specs.Runs.{Lies}
+use Rattle.parse_tree.specs.Tree.{Text}
+use Rattle.parse_tree.specs.Nodes.{nodeBytes, nodeAt, sizeOf}
+use Rattle.parse_tree.specs.Places.{classOf, allowedAt}
+use Rattle.parse_tree.specs.Questions.{defined, suits}
+use Rattle.parse_tree.specs.Reading.{Reading, got, refused, then}
+use Rattle.parse_tree.specs.Decode.{ask}
+use Rattle.parse_tree.specs.declared.syntax.Node.{Node}
+use Rattle.parse_tree.proofs.Asking.{Passes, ask-finds}
+use Rattle.parse_tree.proofs.ReadingLaws.{never, then-got, got-as}
+
+-- the command n stands from a to c and has passed
+pub record Standing (w : ℕ) (s : List ℕ) (ts : List Text) (a c : ℕ) (n : Node) : Type 0 where
+  pub here : nodeAt w s a ≡ n
+  pub behind : a + sizeOf w n ≡ c
+  pub lies : Lies s a (nodeBytes w n) c
+  pub passes : Passes true w ts n
+
+-- a yes behind a question is a yes behind it
+pick-yes : {A : Type 0} (b : Bool) (r : Reading A) (k p : ℕ) {e : ℕ} {x : A} → pick b r (refused k p) ≡ got x e → r ≡ got x e
+unfolding pick
+pick-yes true r k p q = q
+pick-yes false r k p q = absurd (never q)
+
+module _ (w : ℕ) (s : List ℕ) (ts : List Text) (place left : ℕ) where
+  -- the yes is the command there
+  asked : (a : ℕ) (n : Node) (c : ℕ) → ask true w s ts place left a ≡ got n c → got (nodeAt w s a) (a + sizeOf w (nodeAt w s a)) ≡ got n c
+  unfolding ask
+  asked a n c q =
+      let x = pick-yes (allowedAt place (classOf (nodeAt w s a))) _ 2 a q in
+      let y = pick-yes (defined (length ts) (nodeAt w s a) && leb 1 left) _ 3 a x in
+      pick-yes (pick true (suits ts (nodeAt w s a)) true) _ 4 a y
+
+  pub stands-then : Bytes s → {B R : Type 0} (f : Node → ℕ → Reading B) (a : ℕ) {y : B} {e : ℕ} → then (ask true w s ts place left a) f ≡ got y e
+      → ((n : Node) (c : ℕ) → Standing w s ts a c n → f n c ≡ got y e → R) → R
+  stands-then b f a p g =
+      let h = then-got (ask true w s ts place left a) f p in
+      let q = asked a (h .value) (h .mid) (h .first) in
+      let i = ask-finds true w s ts place left b a (h .value) (h .mid) (h .first) in
+      let e₁ : nodeAt w s a ≡ h .value = got-as (λ z k. nodeAt w s a ≡ z) q refl in
+      let e₂ : a + sizeOf w (nodeAt w s a) ≡ h .mid = got-as (λ z k. a + sizeOf w (nodeAt w s a) ≡ k) q refl in
+      g (h .value) (h .mid) (record { here = e₁; behind = sym (ap (λ z. a + sizeOf w z) e₁) ∙ e₂; lies = i .lies; passes = i .within }) (h .second)

@@ -1,0 +1,40 @@
+use Rattle.resolve.proofs.Naming.{naming}
+use borrow.Author.Needs.{needs}
+use Rattle.resolve.proofs.names.validate_condition.Statement.{statement}
+use Rattle.resolve.proofs.names.validate_condition.Tie as tie
+use Rattle.resolve.proofs.names.validate_condition.Reads as reads
+use Rattle.resolve.proofs.names.validate_condition.Lts as lts
+use Rattle.resolve.proofs.names.validate_id.Reads as validate-id-reads
+
+-- src/names.rt:40:11
+validate-id-requires : tie.Need-validate-id-requires
+validate-id-requires c κs = search needs
+
+-- src/names.rt:41:21
+enum-known-q : tie.Need-enum-known-q
+enum-known-q c = search needs
+
+-- src/names.rt:42:16
+enum-known-d : tie.Need-enum-known-d
+enum-known-d c = search needs
+
+-- src/names.rt:43:30
+enum-told : tie.Need-enum-told
+enum-told c = search needs
+
+-- src/names.rt:34:1
+returns : tie.Need-returns
+returns c = search naming
+
+-- src/names.rt:34:1
+returns-2 : tie.Need-returns-2
+returns-2 c = search naming
+
+-- src/names.rt:34:1
+returns-3 : tie.Need-returns-3
+returns-3 c = search naming
+
+pub validate-condition-spec : {M : Type 1} → statement M
+validate-condition-spec =
+    tie.close
+    (tie.spec validate-id-requires enum-known-q enum-known-d enum-told returns returns-2 returns-3)
