@@ -1,1 +1,5 @@
 -- Laws of the calls.
+mod Rooms
+mod Handing
+mod Calling
+mod Exporting

@@ -28,11 +28,12 @@ fn hand_over(r: Answer, work: &[u8], a: usize, output: &mut [u8])
 pub fn resolve(tape: &[u8], output: &mut [u8], work: &mut [u8]) -> Answer
     ensures { λ r. ⌜ Called (resolveCall (now (tape .entry)) (length (now (output .entry))) (length (now (work .entry)))) (now (tape .entry)) (now (output .entry)) (now (work .entry)) r (now (output .exit)) (now (work .exit)) ⌝ }
 {
-    if !enough(tape.len(), output.len(), work.len()) {
-        return Answer::No(1, 0, 0);
+    if enough(tape.len(), output.len(), work.len()) {
+        let r = resolve_stage(tape, output.len(), work);
+        hand_over(r, work, 8 * tape.len(), output);
+        clear(work);
+        r
+    } else {
+        Answer::No(1, 0, 0)
     }
-    let r = resolve_stage(tape, output.len(), work);
-    hand_over(r, work, 8 * tape.len(), output);
-    clear(work);
-    r
 }

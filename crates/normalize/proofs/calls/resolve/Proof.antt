@@ -1,0 +1,60 @@
+use Rattle.normalize.proofs.Calling.{calling}
+use borrow.Author.Needs.{needs}
+use Rattle.normalize.proofs.calls.resolve.Statement.{statement}
+use Rattle.normalize.proofs.calls.resolve.Tie as tie
+use Rattle.normalize.proofs.calls.resolve.Reads as reads
+use Rattle.normalize.proofs.calls.resolve.Lts as lts
+use Rattle.normalize.proofs.calls.hand_over.Reads as hand-over-reads
+use Rattle.normalize.proofs.resolving.resolve_stage.Reads as resolve-stage-reads
+use Rattle.normalize.proofs.room.enough.Reads as enough-reads
+use Rattle.octets.proofs.runs.clear.Reads as clear-reads
+
+-- src/calls.rt:31:8
+enough-requires : tie.Need-enough-requires
+enough-requires c κs = search needs
+
+-- src/calls.rt:32:13
+resolve-stage-requires : tie.Need-resolve-stage-requires
+resolve-stage-requires c κs = search calling
+
+-- src/calls.rt:33:28
+mul-hand-over : tie.Need-mul-hand-over
+mul-hand-over c = search calling
+
+-- src/calls.rt:33:9
+hand-over-requires : tie.Need-hand-over-requires
+hand-over-requires c κs = search calling
+
+-- src/calls.rt:34:9
+clear-requires : tie.Need-clear-requires
+clear-requires c κs = search needs
+
+-- src/calls.rt:28:1
+same-length : tie.Need-same-length
+same-length c = search needs
+
+-- src/calls.rt:28:1
+same-length-2 : tie.Need-same-length-2
+same-length-2 c = search needs
+
+-- src/calls.rt:28:1
+returns : tie.Need-returns
+returns c = search calling
+
+-- src/calls.rt:28:1
+returns-2 : tie.Need-returns-2
+returns-2 c = search calling
+
+pub resolve-spec : {M : Type 1} → statement M
+resolve-spec =
+    tie.close
+    (tie.spec
+    enough-requires
+    resolve-stage-requires
+    mul-hand-over
+    hand-over-requires
+    clear-requires
+    same-length
+    same-length-2
+    returns
+    returns-2)
