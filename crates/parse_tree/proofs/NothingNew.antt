@@ -103,7 +103,10 @@ module _ (four : Bool) (w : ℕ) (ts : List Text) where
       (h .name .0, there-append (d .args) _ (names-there (d .args) (h .args)) (there-each (AlternativeWithin four w ts) alternativeTexts alternative-there (d .alternatives) (h .alternatives)))
   item-there (terminal s o x) h = (h .1 .0, tt)
 
+pub none-new : (four : Bool) (w : ℕ) (g : Stage) → StageWithin four w g → withNew (g .atoms) (textsOfEach itemTexts (g .items)) ≡ g .atoms
+none-new four w g h =
+    with-new-none (g .atoms) (textsOfEach itemTexts (g .items)) (there-each four w (g .atoms) (ItemWithin four w (g .atoms)) itemTexts (item-there four w (g .atoms)) (g .items) (h .items))
+
 pub nothing-new : (four : Bool) (w : ℕ) (g : Stage) → StageWithin four w g → encode w (g .atoms) (g .items) ≡ stageBytes w g
 unfolding encode stageOf
-nothing-new four w g h =
-    rw (with-new-none (g .atoms) (textsOfEach itemTexts (g .items)) (there-each four w (g .atoms) (ItemWithin four w (g .atoms)) itemTexts (item-there four w (g .atoms)) (g .items) (h .items)))
+nothing-new four w g h = rw (none-new four w g h)
