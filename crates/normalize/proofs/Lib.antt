@@ -3,3 +3,5 @@ mod Rooms
 mod Handing
 mod Calling
 mod Exporting
+mod Admitting
+mod ResolvedStage

@@ -1,0 +1,61 @@
+-- The stage of a resolved tree: it has the atoms of the tape, and 20 asks of it only how many they are. Assumes nothing.
+use mathlib.Core.Path.{_≡_}
+use mathlib.Core.Bool.{true, false, _&&_}
+use mathlib.Core.List.{List}
+use Prim.Native.Nat.{ℕ, _^_, _<_, _≤_}
+use borrow.Author.Tests.{lt-leb, le-leb}
+use lib.Dec.{leb, ltb}
+use lib.ListN.{length}
+use Rattle.parse_tree.specs.Tree.{Text, Item, Stage}
+use Rattle.parse_tree.specs.Encode.{stageBytes}
+use Rattle.parse_tree.specs.References.{stageOf}
+use Rattle.parse_tree.specs.Within.{StageWithin}
+use Rattle.parse_tree.proofs.TextLaws.{both, and-both}
+use Rattle.parse_tree.proofs.NothingNew.{none-new}
+use Rattle.grammar.specs.Outcome.{yes}
+use Rattle.grammar.specs.Resolve.{globals, checkGlobals, validateItems, resolve}
+use Rattle.grammar.specs.Sizes.{each, itemFits, stageFits}
+use Rattle.grammar.specs.Calls.{done, denied, admit}
+use Rattle.resolve.proofs.SymbolsMean.{after-yes}
+use Rattle.resolve.proofs.ResolvedKeeps.{resolve-keeps, resolve-fits, stage-fits}
+
+-- R are the items of the stage g, resolved
+module _ (g : Stage) (R : List Item) (p : resolve (g .items) ≡ yes R) (k : StageWithin true 2 g) where
+  validated : validateItems (g .items) (g .items) ≡ yes R
+  unfolding resolve
+  validated = after-yes (checkGlobals _ (globals (g .items))) _ p .second
+
+  pub stage-is : stageOf (g .atoms) R ≡ record { atoms = g .atoms; items = R }
+  unfolding stageOf
+  stage-is = rw (resolve-keeps (g .items) (g .items) R validated, none-new true 2 g k)
+
+  pub fits-few : length (g .atoms) ≤ 65536 → stageFits 2 (record { atoms = g .atoms; items = R }) ≡ true
+  unfolding stageFits
+  fits-few l =
+      let z : stageFits 2 g ≡ true = stage-fits true 2 g k l in
+      let y = both (leb (length (g .atoms)) (256 ^ 2)) (each (λ (t : Text). ltb (length t) 65536) (g .atoms) && each itemFits (g .items)) z in
+      let x = both (each (λ (t : Text). ltb (length t) 65536) (g .atoms)) (each itemFits (g .items)) (y .1) in
+      and-both (leb (length (g .atoms)) (256 ^ 2)) (each (λ (t : Text). ltb (length t) 65536) (g .atoms) && each itemFits R) (y .0)
+      (and-both (each (λ (t : Text). ltb (length t) 65536) (g .atoms)) (each itemFits R) (x .0) (resolve-fits (g .items) (g .items) R validated (x .1)))
+
+  pub fits-many : 65536 < length (g .atoms) → stageFits 2 (record { atoms = g .atoms; items = R }) ≡ false
+  unfolding stageFits
+  fits-many l = let z : leb (length (g .atoms)) (256 ^ 2) ≡ false = lt-leb (length (g .atoms)) (256 ^ 2) l in rw z
+
+  -- ---- 20, 21 and the yes
+  pub admit-many : (cap : ℕ) → 65536 < length (g .atoms) → admit cap (stageOf (g .atoms) R) ≡ denied 20 0 0
+  unfolding admit
+  admit-many cap l = rw (stage-is, fits-many l)
+
+  pub admit-long : (cap : ℕ) → length (g .atoms) ≤ 65536 → cap < length (stageBytes 2 (record { atoms = g .atoms; items = R })) → admit cap (stageOf (g .atoms) R) ≡ denied 21 0 0
+  unfolding admit
+  admit-long cap l h =
+      let z : leb (length (stageBytes 2 (record { atoms = g .atoms; items = R }))) cap ≡ false = lt-leb (length (stageBytes 2 (record { atoms = g .atoms; items = R }))) cap h in
+      rw (stage-is, fits-few l, z)
+
+  pub admit-done : (cap : ℕ) → length (g .atoms) ≤ 65536 → length (stageBytes 2 (record { atoms = g .atoms; items = R })) ≤ cap
+      → admit cap (stageOf (g .atoms) R) ≡ done (record { atoms = g .atoms; items = R })
+  unfolding admit
+  admit-done cap l h =
+      let z : leb (length (stageBytes 2 (record { atoms = g .atoms; items = R }))) cap ≡ true = le-leb (length (stageBytes 2 (record { atoms = g .atoms; items = R }))) cap h in
+      rw (stage-is, fits-few l, z)

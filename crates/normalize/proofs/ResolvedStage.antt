@@ -1,0 +1,209 @@
+-- The ways out of `resolve_valid` and `resolve_stage`. Assumes nothing.
+use mathlib.Core.Path.{_≡_, refl, sym, ap, _∙_}
+use mathlib.Core.Bool.{Bool, true, false}
+use mathlib.Core.List.{List}
+use Prim.Native.Nat.{ℕ, _+_, _-_, _*_, _/_, _^_, _<_, _≤_}
+use native.Mathlib.Omega.{arith}
+use borrow.Author.Needs.{needs}
+use borrow.Author.Tests.{leb-true, leb-false, ltb-true, ltb-false}
+use lib.Dec.{leb, ltb}
+use lib.ListN.{length, take, drop, getD, length-drop}
+use lib.Seq.{drop-drop}
+use mir.Syntax.{w8, w64}
+use mir.Val as Bound
+use Rattle.octets.specs.Choice.{pick}
+use Rattle.octets.specs.Runs.{part}
+use Rattle.octets.specs.Sink.{adv, lay}
+use Rattle.octets.proofs.Fitting.{adv-le, adv-fits, adv-in, lay-part}
+use Rattle.parse_tree.specs.Tree.{Text, Item, Stage}
+use Rattle.parse_tree.specs.Reading.{refused, got}
+use Rattle.parse_tree.specs.Decode.{decode}
+use Rattle.parse_tree.specs.Encode.{stageBytes}
+use Rattle.parse_tree.specs.References.{stageOf}
+use Rattle.parse_tree.specs.Within.{StageWithin}
+use Rattle.parse_tree.specs.declared.syntax.Span.{Span}
+use Rattle.parse_tree.proofs.Written.{written}
+use Rattle.texts.specs.Atoms.{atomsOf}
+use Rattle.texts.proofs.Tabling.{length-atoms}
+use Rattle.validate.specs.Whole.{Valid, Validates}
+use Rattle.validate.specs.declared.Atoms.{Atoms}
+use Rattle.validate.specs.declared.Validated.{Validated}
+use Rattle.grammar.specs.Outcome.{Outcome, yes, no}
+use Rattle.grammar.specs.Resolve.{resolve}
+use Rattle.grammar.specs.Calls.{done, denied, next, passed, stage, admit, resolved}
+use Rattle.resolve.specs.Scopes.{base}
+use Rattle.resolve.specs.Items.{behind}
+use Rattle.resolve.specs.Whole.{Resolving, Written, Answers, ResolvesRead, Resolves}
+use Rattle.resolve.specs.declared.Scope.{Scope}
+use Rattle.resolve.specs.declared.Walked.{Walked}
+use Rattle.normalize.specs.Answers.{answerOf, sized, staged, Holds, Resolved}
+use Rattle.normalize.specs.declared.Answer.{Answer}
+use Rattle.normalize.proofs.Admitting.{admit-many, admit-long, admit-done}
+
+-- the tables of a tape of n bytes, and behind them cap bytes for the tree
+abbrev scopeOf : Atoms → ℕ → ℕ → Scope
+scopeOf a n cap = record { room = a .room; count = a .count; width = a .width; lim = 8 * n + cap; first = 0 }
+
+-- ---- what the call says is what was answered
+module _ (s : List ℕ) (cap : ℕ) (w : List ℕ) where
+  says-denied : (q p p′ : ℕ) → staged s cap ≡ denied q p p′ → Resolved s cap (Answer.No q p p′) w
+  unfolding answerOf Holds
+  says-denied q p p′ e = record { answered = rw e; holds = rw e tt }
+
+  says-done : (h : Stage) (n : ℕ) → staged s cap ≡ done h → n ≡ length (stageBytes 2 h)
+      → part (8 * length s) (8 * length s + length (stageBytes 2 h)) w ≡ stageBytes 2 h → Resolved s cap (Answer.Yes n) w
+  unfolding answerOf Holds
+  says-done h n e l p = record { answered = rw (e, l); holds = rw e p }
+
+-- ---- the bytes laid behind the tables, read from `to` on
+behind-part : (m : Scope) (w w′ xs : List ℕ) (to : ℕ) → base m ≤ to → to + length xs ≤ m .lim → m .lim ≤ length w
+    → behind m w′ ≡ lay (behind m w) (m .lim - base m) (to - base m) xs → part to (to + length xs) w′ ≡ xs
+unfolding behind part
+behind-part m w w′ xs to h k l e =
+    let z : base m + (to - base m) ≡ to = omega arith in
+    let y : drop to w′ ≡ drop (to - base m) (drop (base m) w′) = sym (drop-drop (to - base m) (base m) w′ ∙ ap (λ (n : ℕ). drop n w′) z) in
+    let x : to + length xs - to ≡ to - base m + length xs - (to - base m) = omega arith in
+    rw (y, x, e) (lay-part (drop (base m) w) (m .lim - base m) (to - base m) xs (omega arith) (omega (arith, length-drop (base m) w)))
+
+-- ---- a pass's answer taken apart
+next-no : {p e q : ℕ} {sp : Span} → Walked.Next p e ≡ Walked.Refused q sp → ⊥
+next-no {p} {e} {q} {sp} h = let z : _≡_ {A = ℕ} 0 1 = cc in omega arith
+
+next-end : {p e p′ e′ : ℕ} → Walked.Next p e ≡ Walked.Next p′ e′ → e ≡ e′
+next-end {p} {e} {p′} {e′} h = cc
+
+-- a yes: the tree, and the bytes written
+record Put (m : Scope) (ts : List Text) (items : List Item) (w : List ℕ) (to e : ℕ) (w′ : List ℕ) : Type 0 where
+  tree : List Item
+  is : resolve items ≡ yes tree
+  end : e ≡ adv (m .lim) to (length (stageBytes 2 (record { atoms = ts; items = tree })))
+  bytes : behind m w′ ≡ lay (behind m w) (m .lim - base m) (to - base m) (stageBytes 2 (record { atoms = ts; items = tree }))
+
+-- a cursor behind the limit has counted too many
+over : (to cap n e : ℕ) → e ≡ adv (to + cap) to n → to + cap < e → cap < n
+over to cap n e h k = go (leb n cap) refl
+  where
+    go : (b : Bool) → leb n cap ≡ b → cap < n
+    go true x = let z = leb-true n cap x in let y = adv-in (to + cap) to n (omega arith) in absurd (omega arith)
+    go false x = leb-false n cap x
+
+-- ---- a tape that was validated
+module _ (s : List ℕ) (cap : ℕ) (w : List ℕ) (a : Atoms) (at : ℕ) (v : Valid s w a at) where
+  abbrev tape : Stage
+  tape = record { atoms = atomsOf s (a .count); items = v .items }
+
+  module _ (room : 8 * (length s + cap) ≤ length w) where
+    pub valid-resolving : Resolving s w (scopeOf a (length s) cap) at (8 * length s)
+    valid-resolving = record {
+      items = v .items;
+      area = record {
+        tabled = record {
+          few = v .ready .ready .table .few;
+          fits = v .ready .ready .table .room;
+          narrow = v .ready .ready .narrow;
+          wide = v .ready .ready .wide;
+        };
+        end = omega arith;
+        apart = let z = v .third in omega arith;
+      };
+      inside = v .ready .inside;
+      width = v .width;
+      apart = v .ready .apart;
+      read = v .read;
+      decoded = v .decoded;
+    }
+
+    pub valid-start : length w < 2 ^ 64 → Bound.Fits w64 (8 * length s)
+    valid-start h = record { fits = omega arith }
+
+    pub valid-end : length w < 2 ^ 64 → Bound.Fits w64 (8 * length s + cap)
+    valid-end h = record { fits = omega arith }
+
+  -- r is what the pass answered, and w′ what it left
+  module _ (r : Walked) (w′ : List ℕ) (i : Resolves s (scopeOf a (length s) cap) w (8 * length s) r w′) where
+    answers : Answers (scopeOf a (length s) cap) (atomsOf s (a .count)) (resolve (v .items)) w (8 * length s) r w′
+    unfolding Resolves ResolvesRead
+    answers = rw (v .decoded) at i
+
+    staged-as : (x : Outcome (List Item)) → resolve (v .items) ≡ x → staged s cap ≡ next (passed x) (λ R. stage cap (atomsOf s (a .count)) R)
+    unfolding staged resolved
+    staged-as x e = rw (v .decoded, e)
+
+    pub valid-no : (q : ℕ) (sp : Span) (x y : ℕ) → r ≡ Walked.Refused q sp → x ≡ sp .0 → y ≡ sp .1 → Resolved s cap (Answer.No q x y) w′
+    unfolding Answers
+    valid-no q sp x y e f g = go (resolve (v .items)) refl answers
+      where
+        go : (z : Outcome (List Item)) → resolve (v .items) ≡ z → Answers (scopeOf a (length s) cap) (atomsOf s (a .count)) z w (8 * length s) r w′ → Resolved s cap (Answer.No q x y) w′
+        go (yes R) p k = absurd (next-no (sym (k .answered) ∙ e))
+        go (no q′ sp′) p k =
+            let t : q ≡ q′ = cc in
+            let u : sp ≡ sp′ = cc in
+            says-denied s cap w′ q x y (rw (f, g, t, u) (staged-as (no q′ sp′) p))
+
+    module _ (p e : ℕ) (n : r ≡ Walked.Next p e) where
+      written-as : Put (scopeOf a (length s) cap) (atomsOf s (a .count)) (v .items) w (8 * length s) e w′
+      unfolding Answers
+      written-as = go (resolve (v .items)) refl answers
+        where
+          go : (z : Outcome (List Item)) → resolve (v .items) ≡ z → Answers (scopeOf a (length s) cap) (atomsOf s (a .count)) z w (8 * length s) r w′
+              → Put (scopeOf a (length s) cap) (atomsOf s (a .count)) (v .items) w (8 * length s) e w′
+          go (no q sp) x k = absurd (next-no (sym n ∙ k))
+          go (yes R) x k = record { tree = R; is = x; end = next-end (sym n ∙ k .answered); bytes = k .bytes }
+
+      pub valid-from : 8 * length s ≤ e
+      valid-from = let k = written-as in omega (arith, k .end, adv-le (8 * length s + cap) (8 * length s) (length (stageBytes 2 (record { atoms = atomsOf s (a .count); items = k .tree }))))
+
+      module _ (b : (j : ℕ) → Bound.Fits w8 (getD s j 0)) (room : 8 * (length s + cap) ≤ length w) where
+        within : StageWithin true 2 tape
+        unfolding decode
+        within = written true 2 s tape (length s) (λ j. b j .fits) (v .decoded) .within
+
+        pub valid-yes : Resolved s cap (sized (a .count) (8 * length s) e (8 * length s + cap)) w′
+        unfolding sized pick base
+        valid-yes = go (ltb 65536 (a .count)) refl (ltb (8 * length s + cap) e) refl
+          where
+            k : Put (scopeOf a (length s) cap) (atomsOf s (a .count)) (v .items) w (8 * length s) e w′
+            k = written-as
+
+            xs : List ℕ
+            xs = stageBytes 2 (record { atoms = atomsOf s (a .count); items = k .tree })
+
+            many : length (tape .atoms) ≡ a .count
+            many = length-atoms s (a .count)
+
+            is : staged s cap ≡ admit cap (stageOf (atomsOf s (a .count)) (k .tree))
+            is = staged-as (yes (k .tree)) (k .is)
+
+            go : (c : Bool) → ltb 65536 (a .count) ≡ c → (d : Bool) → ltb (8 * length s + cap) e ≡ d
+                → Resolved s cap (pick c (Answer.No 20 0 0) (pick d (Answer.No 21 0 0) (Answer.Yes (e - 8 * length s)))) w′
+            go true x d y = let h = ltb-true 65536 (a .count) x in says-denied s cap w′ 20 0 0 (is ∙ admit-many tape (k .tree) (k .is) within cap (omega (arith, many)))
+            go false x true y =
+                let h = ltb-false 65536 (a .count) x in
+                let g = ltb-true (8 * length s + cap) e y in
+                let l : cap < length xs = over (8 * length s) cap (length xs) e (k .end) g in
+                says-denied s cap w′ 21 0 0 (is ∙ admit-long tape (k .tree) (k .is) within cap (omega (arith, many)) l)
+            go false x false y =
+                let h = ltb-false 65536 (a .count) x in
+                let g = ltb-false (8 * length s + cap) e y in
+                let f : 8 * length s + length xs ≤ 8 * length s + cap = adv-fits (8 * length s + cap) (8 * length s) (length xs) (omega (arith, k .end)) in
+                let l : e ≡ 8 * length s + length xs = k .end ∙ adv-in (8 * length s + cap) (8 * length s) (length xs) (omega arith) in
+                let t = v .third in
+                says-done s cap w′ (record { atoms = atomsOf s (a .count); items = k .tree }) (e - 8 * length s) (is ∙ admit-done tape (k .tree) (k .is) within cap (omega (arith, many)) (omega arith)) (omega arith)
+                (behind-part (scopeOf a (length s) cap) w w′ xs (8 * length s) (omega arith) (omega arith) (omega arith) (k .bytes))
+
+pub ruleset validated = (needs, valid-resolving, valid-start, valid-end, valid-no, valid-from, valid-yes)
+
+-- ---- `resolve_stage`: x is what `validate` answered
+module _ (s : List ℕ) (cap : ℕ) (w : List ℕ) (x : Validated) (i : Validates s x w) where
+  pub stage-refused : (q p : ℕ) → x ≡ Validated.Refused q p → Resolved s cap (Answer.No q p p) w
+  unfolding Validates staged
+  stage-refused q p e = let z : decode s ≡ refused q p = rw e at i in says-denied s cap w q p p (rw z)
+
+  pub stage-valid : (a : Atoms) (at : ℕ) → x ≡ Validated.Valid a at → Valid s w a at
+  unfolding Validates
+  stage-valid a at e = rw e at i
+
+pub stage-room : (s : List ℕ) (cap : ℕ) (w w₁ : List ℕ) → 8 * (length s + cap) ≤ length w → length w₁ ≡ length w → 8 * (length s + cap) ≤ length w₁
+stage-room s cap w w₁ h e = omega arith
+
+pub ruleset stages = (needs, stage-refused, stage-valid, stage-room)
