@@ -2,14 +2,14 @@
 use mathlib.Core.Path.{_≡_, refl, sym, ap, _∙_}
 use mathlib.Core.Bool.{Bool, true, false}
 use mathlib.Core.List.{List}
-use Prim.Native.Nat.{ℕ, _+_, _-_, _*_, _/_, _^_, _<_, _≤_}
+use Prim.Native.Nat.{ℕ, _+_, _-_, _*_, _/_, _<_, _≤_}
 use native.Mathlib.Omega.{arith}
 use borrow.Author.Needs.{needs}
 use borrow.Author.Tests.{leb-true, leb-false, ltb-true, ltb-false}
 use lib.Dec.{leb, ltb}
 use lib.ListN.{length, take, drop, getD, length-drop}
 use lib.Seq.{drop-drop}
-use mir.Syntax.{w8, w64}
+use mir.Syntax.{w8}
 use mir.Val as Bound
 use Rattle.octets.specs.Choice.{pick}
 use Rattle.octets.specs.Runs.{part}
@@ -106,18 +106,13 @@ module _ (s : List ℕ) (cap : ℕ) (w : List ℕ) (a : Atoms) (at : ℕ) (v : V
         end = omega arith;
         apart = let z = v .third in omega arith;
       };
+      reach = omega arith;
       inside = v .ready .inside;
       width = v .width;
       apart = v .ready .apart;
       read = v .read;
       decoded = v .decoded;
     }
-
-    pub valid-start : length w < 2 ^ 64 → Bound.Fits w64 (8 * length s)
-    valid-start h = record { fits = omega arith }
-
-    pub valid-end : length w < 2 ^ 64 → Bound.Fits w64 (8 * length s + cap)
-    valid-end h = record { fits = omega arith }
 
   -- r is what the pass answered, and w′ what it left
   module _ (r : Walked) (w′ : List ℕ) (i : Resolves s (scopeOf a (length s) cap) w (8 * length s) r w′) where
@@ -158,9 +153,9 @@ module _ (s : List ℕ) (cap : ℕ) (w : List ℕ) (a : Atoms) (at : ℕ) (v : V
         unfolding decode
         within = written true 2 s tape (length s) (λ j. b j .fits) (v .decoded) .within
 
-        pub valid-yes : Resolved s cap (sized (a .count) (8 * length s) e (8 * length s + cap)) w′
+        judged : Resolved s cap (sized (a .count) (8 * length s) e (8 * length s + cap)) w′
         unfolding sized pick base
-        valid-yes = go (ltb 65536 (a .count)) refl (ltb (8 * length s + cap) e) refl
+        judged = go (ltb 65536 (a .count)) refl (ltb (8 * length s + cap) e) refl
           where
             k : Put (scopeOf a (length s) cap) (atomsOf s (a .count)) (v .items) w (8 * length s) e w′
             k = written-as
@@ -191,7 +186,10 @@ module _ (s : List ℕ) (cap : ℕ) (w : List ℕ) (a : Atoms) (at : ℕ) (v : V
                 says-done s cap w′ (record { atoms = atomsOf s (a .count); items = k .tree }) (e - 8 * length s) (is ∙ admit-done tape (k .tree) (k .is) within cap (omega (arith, many)) (omega arith)) (omega arith)
                 (behind-part (scopeOf a (length s) cap) w w′ xs (8 * length s) (omega arith) (omega arith) (omega arith) (k .bytes))
 
-pub ruleset validated = (needs, valid-resolving, valid-start, valid-end, valid-no, valid-from, valid-yes)
+        pub valid-yes : (y : Answer) → y ≡ sized (a .count) (8 * length s) e (8 * length s + cap) → Resolved s cap y w′
+        valid-yes y h = rw h judged
+
+pub ruleset validated = (needs, valid-resolving, valid-no, valid-from, valid-yes)
 
 -- ---- `resolve_stage`: x is what `validate` answered
 module _ (s : List ℕ) (cap : ℕ) (w : List ℕ) (x : Validated) (i : Validates s x w) where
