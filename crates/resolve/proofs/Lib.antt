@@ -16,3 +16,4 @@ pub mod AlternativesMean
 pub mod ArgumentsMean
 pub mod ItemsMean
 pub mod ResolvedKeeps
+mod Resolving
