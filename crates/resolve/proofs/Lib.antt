@@ -5,6 +5,7 @@ mod Scoping
 mod Naming
 mod Staging
 mod Declaring
+mod Stamping
 mod Skipping
 pub mod Coding
 pub mod GlobalsMean

@@ -18,8 +18,10 @@ use parse_tree::syntax::Span;
 use texts::entries::get;
 use texts::entries::put;
 ghost use mathlib.Core.Path.{_≡_};
-ghost use Prim.Native.Nat.{_≤_};
+ghost use Prim.Native.Nat.{_+_, _≤_, _<_};
+ghost use lib.Dec.{eqb};
 ghost use lib.ListN.{length};
+ghost use Rattle.texts.specs.Table.{entry};
 ghost use Rattle.resolve.specs.Scopes.{Area, Tables, tables};
 ghost use Rattle.resolve.specs.Walks.{Staged, many};
 ghost use Rattle.resolve.specs.Items.{Stamping, Replaced, skipTo, conditionOut, alternativeOut, argumentsOut, itemOut, itemsOut, dataOut};
@@ -106,6 +108,14 @@ fn validate_alternatives(
     Walked::Next(p, q)
 }
 
+// Whether an atom has the item's mark.
+fn marked(work: &[u8], m: Scope, id: usize) -> bool
+    requires { ⌜ Tables m (length (now work)) × (id < m .count) ⌝ }
+    ensures { λ r. ⌜ r ≡ eqb (entry (now (work .entry)) (m .room + m .room + id)) (m .first) ⌝ }
+{
+    get(work, m.room + m.room + id) == m.first
+}
+
 // "arguments distinct? 7": the n arguments at a place, each marked in the table; s is the item's span.
 fn validate_macro_args(
     tape: &[u8],
@@ -129,11 +139,10 @@ fn validate_macro_args(
         if m.count <= id {
             return Passed::Refused(3, Span(0, 0));
         }
-        let i = m.room + m.room + id;
-        if get(work, i) == m.first {
+        if marked(work, m, id) {
             return Passed::Refused(7, s);
         }
-        put(work, i, m.first);
+        put(work, m.room + m.room + id, m.first);
         p += size(x, m.width);
         k -= 1;
     }
