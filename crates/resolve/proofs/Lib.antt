@@ -4,6 +4,7 @@ mod Inside
 mod Scoping
 mod Naming
 mod Staging
+mod Alternating
 mod Declaring
 mod Stamping
 mod Skipping

@@ -59,6 +59,15 @@ fn validate_conditions(tape: &[u8], work: &[u8], m: Scope, n: u8, at: usize) -> 
     }
 }
 
+// The attributes and the condition of an alternative, from a place on: where its symbols stand.
+fn symbols_from(tape: &[u8], work: &[u8], m: Scope, a: Alternative, at: usize) -> Passed
+    requires { ⌜ Tables m (length (now work)) × (at ≤ length (now tape)) ⌝ }
+    ensures { λ r. ⌜ r ≡ conditionOut m (tables m (now (work .entry))) (now (tape .entry)) (a .conditions) (skipTo (m .width) (now (tape .entry)) (a .attributes) at) ⌝ }
+{
+    let e = skip(tape, m.width, from8(a.attributes), at);
+    validate_conditions(tape, work, m, a.conditions, e)
+}
+
 // The alternative at a place.
 fn validate_alternative(tape: &[u8], work: &mut [u8], m: Scope, at: usize, to: usize) -> Walked
     requires { ⌜ Area m to (length (now work)) ⌝ }
@@ -68,8 +77,7 @@ fn validate_alternative(tape: &[u8], work: &mut [u8], m: Scope, at: usize, to: u
     let Node::Alternative(a) = n else {
         return Walked::Refused(2, Span(0, 0));
     };
-    let e = skip(tape, m.width, from8(a.attributes), at + size(n, m.width));
-    match validate_conditions(tape, work, m, a.conditions, e) {
+    match symbols_from(tape, work, m, a, at + size(n, m.width)) {
         Passed::Refused(q, p) => Walked::Refused(q, p),
         Passed::Next(p) => {
             let q = put_run(tape, at, p, work, m.lim, to);
