@@ -124,6 +124,9 @@ module _ (m : Scope) (s : List ℕ) (sp : Span) (n at : ℕ) (w₀ w : List ℕ)
               carry = λ r w2 h. g .carry r w2 (rw o (stamping-then m _ w w′ r w2 (record { tabled = refl; others = ap (drop (base m)) u ∙ behind-store m w (m .room + m .room + id) (m .first) low }) h));
             }
 
+pub mark-is : (w : List ℕ) (i f v : ℕ) → v ≡ entry w i → eqb v f ≡ eqb (entry w i) f
+mark-is w i f v e = cc
+
 module _ (m : Scope) (k w : ℕ) (t : Tables m w) where
   pub mark-sum : w < 2 ^ 64 → Fits w64 (m .room + m .room)
   mark-sum h = record { fits = omega (arith, t .fits) }
@@ -138,7 +141,7 @@ pub mark-fits : (w : ℕ) (s : List ℕ) (at : ℕ) (n : Node) (z : ℕ) → n �
     → (a : NonterminalString) → n ≡ Node.Argument a → z ≡ sizeOf w (Node.Argument a) → Fits w64 (at + z)
 mark-fits w s at n z i b l a e g = record { fits = omega (arith, argument-inside w s at n z i b l a e g) }
 
-pub ruleset marking = (needs, mark-start, mark-end, mark-other, mark-above, mark-twice, mark-next, mark-sum, mark-place, mark-room, mark-fits)
+pub ruleset marking = (needs, mark-is, mark-start, mark-end, mark-other, mark-above, mark-twice, mark-next, mark-sum, mark-place, mark-room, mark-fits)
 
 -- ---- where the arguments end
 abbrev pub Ends : ℕ → ℕ → Stamped → Type 0
