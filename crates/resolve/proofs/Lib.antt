@@ -7,6 +7,7 @@ mod Staging
 mod Alternating
 mod Declaring
 mod Stamping
+mod Replacing
 mod Skipping
 pub mod Coding
 pub mod GlobalsMean

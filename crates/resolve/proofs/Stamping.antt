@@ -172,5 +172,5 @@ arguments-end m s b sp (suc n) t at h =
     argument-ends at (length s) _ (nodeAt (m .width) s at) (λ a.
     by-pick (λ (x : Stamped). Ends at (length s) x) (leb (m .count) (a .0)) (λ _. tt) (λ _.
     by-pick (λ (x : Stamped). Ends at (length s) x) (eqb (entry t (m .room + m .room + a .0)) (m .first)) (λ _. tt) (λ _.
-    ends-from at (at + sizeOf (m .width) (nodeAt (m .width) s at)) (length s) _ (omega arith)
+    ends-from at (at + sizeOf (m .width) (nodeAt (m .width) s at)) (length s) (argumentsOut m s sp n (store t (8 * (m .room + m .room + a .0)) (le 8 (m .first))) (at + sizeOf (m .width) (nodeAt (m .width) s at))) (omega arith)
     (arguments-end m s b sp n (store t (8 * (m .room + m .room + a .0)) (le 8 (m .first))) (at + sizeOf (m .width) (nodeAt (m .width) s at)) e))))
