@@ -18,3 +18,4 @@ pub mod AlternativesMean
 pub mod ArgumentsMean
 pub mod ItemsMean
 pub mod ResolvedKeeps
+mod Resolving

@@ -67,7 +67,7 @@ module _ (s w : List ℕ) (c : ℕ) (r : Entered) (i : Fronted s c 2 r w) where
           let x = step-got (readItems true 2 s (atomsOf s k) (length s) at) d (sym f ∙ j) in
           let z : decode s ≡ got (record { atoms = atomsOf s k; items = x .value }) d = behind ∙ then-is (readItems true 2 s (atomsOf s k) (length s) at) _ (x .value) d (x .is) in
           let l : d ≡ length s = written true 2 s (record { atoms = atomsOf s k; items = x .value }) d (λ n. b n .fits) z .end in
-          record { items = x .value; width = refl; ready = items-ready; read = x .is ∙ ap (got (x .value)) l; decoded = z ∙ ap (got (record { atoms = atomsOf s k; items = x .value })) l }
+          record { items = x .value; width = refl; third = all .front .starts .third; ready = items-ready; read = x .is ∙ ap (got (x .value)) l; decoded = z ∙ ap (got (record { atoms = atomsOf s k; items = x .value })) l }
 
 pub ruleset wholes = (needs, atoms-refused, items-ready, items-refused, items-valid)
 

@@ -2,7 +2,7 @@
 use mathlib.Core.Path.{_≡_}
 use mathlib.Core.Bool.{true}
 use mathlib.Core.List.{List, [], _∷_}
-use Prim.Native.Nat.{ℕ, _*_}
+use Prim.Native.Nat.{ℕ, _*_, _/_}
 use lib.Dec.{leb}
 use lib.ListN.{length, replicate}
 use Rattle.octets.specs.Choice.{pick}
@@ -19,6 +19,7 @@ use Rattle.validate.specs.declared.Answer.{Answer}
 pub record Valid (s w : List ℕ) (m : Atoms) (at : ℕ) : Type 0 where
   pub items : List Item
   pub width : m .width ≡ 2
+  pub third : m .room ≡ length s / 3
   pub ready : Itemed s w m at
   pub read : readItems true 2 s (atomsOf s (m .count)) (length s) at ≡ got items (length s)
   pub decoded : decode s ≡ got (record { atoms = atomsOf s (m .count); items = items }) (length s)
