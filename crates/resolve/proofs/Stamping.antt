@@ -5,7 +5,7 @@ use mathlib.Core.List.{List, [], _∷_}
 use Prim.Native.Nat.{ℕ, zero, suc, _+_, _-_, _*_, _^_, _<_, _≤_}
 use native.Mathlib.Omega.{arith}
 use borrow.Author.Needs.{needs}
-use borrow.Author.Tests.{le-leb, lt-leb, eq-eqb, ne-eqb}
+use borrow.Author.Tests.{le-leb, lt-leb}
 use denote.Enum.Declared.{tagOf}
 use types.Run.{OneOf, miss}
 use lib.Dec.{leb, eqb}
@@ -27,7 +27,7 @@ use Rattle.resolve.specs.declared.Scope.{Scope}
 use Rattle.resolve.specs.declared.Passed.{Passed}
 use Rattle.resolve.specs.Scopes.{Tables, base, tables}
 use Rattle.resolve.specs.Globals.{Kept}
-use Rattle.resolve.specs.Items.{Stamped, stamped, against, lost, Marked, Stamping, argumentIn, argumentsOut}
+use Rattle.resolve.specs.Items.{Stamped, stamped, against, lost, Stamping, argumentIn, argumentsOut}
 use Rattle.resolve.proofs.Regions.{tables-entry, tables-store, behind-store}
 use Rattle.resolve.proofs.Inside.{inside, argument-inside}
 
