@@ -6,6 +6,8 @@ mod Naming
 mod Staging
 mod Alternating
 mod Declaring
+mod Stamping
+mod Replacing
 mod Skipping
 pub mod Coding
 pub mod GlobalsMean
