@@ -1,11 +1,11 @@
 // One line: its case built and run.
 use crate::report::run_case;
-use crate::tape::Written;
 use crate::tape::put_word;
-use crate::words::Number;
-use crate::words::decimal;
-use crate::words::find;
 use libc::STDOUT_FILENO;
+use notation::bytes::Written;
+use notation::words::Number;
+use notation::words::decimal;
+use notation::words::find;
 
 // A case so far: the length of its tape, and that of the work buffer where a word gave one.
 struct Case {

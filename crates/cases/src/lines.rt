@@ -1,6 +1,6 @@
 // The lines of the input, one after another.
 use crate::line::run_line;
-use crate::words::find;
+use notation::words::find;
 
 pub fn run_lines(input: &[u8], tape: &mut [u8], work: &mut [u8]) {
     let mut at = 0;

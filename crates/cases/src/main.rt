@@ -9,7 +9,6 @@ mod line;
 mod lines;
 mod report;
 mod tape;
-mod words;
 
 fn main() {
     let mut input = [0u8; 393216];

@@ -1,30 +1,12 @@
 // One case run, and its answer printed.
 use libc::STDOUT_FILENO;
+use notation::buffers::fill;
+use notation::buffers::is_all;
 use validate::Answer;
 use validate::entry::check;
 
 // What the work buffer holds before a case.
 const BEFORE: u8 = 0xAA;
-
-fn fill(work: &mut [u8]) {
-    let mut i = 0;
-    while i < work.len() {
-        work[i] = BEFORE;
-        i += 1;
-    }
-}
-
-// Whether every byte of the work buffer is this one.
-fn is_all(work: &[u8], byte: u8) -> bool {
-    let mut i = 0;
-    while i < work.len() {
-        if work[i] != byte {
-            return false;
-        }
-        i += 1;
-    }
-    true
-}
 
 // What the work buffer must hold afterwards: it is zeroed where it suffices, and otherwise untouched.
 fn after(tape: usize, work: usize) -> u8 {
@@ -57,7 +39,7 @@ fn print_answer(a: Answer) {
 }
 
 pub fn run_case(name: &[u8], tape: &[u8], work: &mut [u8]) {
-    fill(work);
+    fill(work, BEFORE);
     let a = check(tape, work);
     io::write_all(STDOUT_FILENO, name);
     print_answer(a);

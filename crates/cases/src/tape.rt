@@ -1,40 +1,11 @@
 // The tape of a case, word by word. What finds no room is counted and not written.
-use crate::words::Number;
-use crate::words::decimal;
-use crate::words::digit;
-use crate::words::find;
+use notation::bytes::Written;
+use notation::bytes::put_bytes;
+use notation::words::Number;
+use notation::words::decimal;
+use notation::words::find;
 use octets::sink::put8;
-ghost use Prim.Native.Nat.{_≤_, _<_};
-ghost use lib.ListN.{length};
-
-// The place behind what was written, or a word that is none.
-pub enum Written {
-    To(usize),
-    Bad,
-}
-
-// Bytes, as pairs of digits.
-fn put_bytes(text: &[u8], tape: &mut [u8], to: usize) -> Written {
-    let room = tape.len();
-    let mut q = to;
-    let mut i = 0;
-    while i < text.len() {
-        if text.len() - i < 2 {
-            return Written::Bad;
-        }
-        let high = digit(text[i]);
-        let low = digit(text[i + 1]);
-        if 15 < high {
-            return Written::Bad;
-        }
-        if 15 < low {
-            return Written::Bad;
-        }
-        q = put8(tape, room, q, high * 16 + low);
-        i += 2;
-    }
-    Written::To(q)
-}
+ghost use Prim.Native.Nat.{_<_};
 
 // Bytes, so many times.
 fn put_repeated(text: &[u8], times: usize, tape: &mut [u8], to: usize) -> Written {

@@ -37,15 +37,9 @@ use Rattle.resolve.specs.declared.Found.{Found}
 use Rattle.resolve.specs.declared.Scope.{Scope}
 use Rattle.resolve.specs.Scopes.{base, foundBy, found}
 use Rattle.resolve.specs.Items.{Stamped, stamped, against, lost, argumentIn, argumentsOut}
+use Rattle.resolve.proofs.Coding.{codeOfOption, Coded}
 use Rattle.resolve.proofs.NamesMean.{foundOf, Looks}
 use Rattle.resolve.proofs.Readings.{Standing, stands-then}
-
--- ---- an entry for a definition: 0 none, 1 a terminal, n + 2 a nonterminal with n arguments
-unfoldable pub codeOfOption : Option Meant → ℕ
-codeOfOption none = 0
-codeOfOption (some terminalDef) = 1
-codeOfOption (some (nonterminalDef n)) = n + 2
-codeOfOption (some argumentDef) = 0
 
 -- no argument
 abbrev Plain : Meant → Type 0
@@ -54,7 +48,7 @@ Plain (nonterminalDef n) = Unit
 Plain argumentDef = ⊥
 
 plain-found : (d : Meant) → Plain d → foundBy (codeOfOption (some d)) ≡ foundOf (some d)
-unfolding foundBy codeOfOption foundOf pick
+unfolding foundBy foundOf pick
 plain-found terminalDef p = refl
 plain-found (nonterminalDef n) p =
     let z : n + 2 - 2 ≡ n = omega arith in
@@ -84,7 +78,7 @@ plain-globals G = each-append (λ (g : Global). Plain (g .def)) (nonterminals G)
     (each-append (λ (g : Global). Plain (g .def)) (externs G) (matches G) (plain-externs G) (plain-matches G))
 
 def-found : (x : Text) (gs : List Global) → Each (λ g. Plain (g .def)) gs → foundBy (codeOfOption (defIn x gs)) ≡ foundOf (defIn x gs)
-unfolding foundBy codeOfOption foundOf pick
+unfolding foundBy foundOf pick
 def-found x [] h = refl
 def-found x (g ∷ gs) h = go (sameAs x (g .name)) (def-found x gs (h .1))
   where
@@ -158,14 +152,10 @@ has-shift x p qs xs = go (sameAs p x) (has x qs)
     go false a = refl
 
 -- ---- the tables t of scope m
--- each atom has the code of its global
-abbrev pub Coded : Scope → List ℕ → List Text → Tree → Type 0
-Coded m t ts G = (k : ℕ) → k < length ts → entry t (m .room + k) ≡ codeOfOption (defIn (getD ts k []) (globals G))
-
 -- with no mark behind top
 pub record Scoped (m : Scope) (t : List ℕ) (ts : List Text) (G : Tree) (top : ℕ) : Type 0 where
   pub size : length t ≡ base m
-  pub coded : Coded m t ts G
+  pub coded : Coded m ts t (globals G)
   pub marks : (k : ℕ) → k < m .room → entry t (m .room + m .room + k) ≤ top
 
 -- the item's arguments are the texts of which H is true
@@ -297,7 +287,7 @@ module _ (m : Scope) (ts : List Text) (d : distinct ts ≡ true) (c : m .count �
 
     -- before an item's arguments no mark is the item's
     pub arguments-mean : (n a : ℕ) (ps : List Text) (e : ℕ) (t : List ℕ) → times (readArgument true (m .width) s ts) n a ≡ got ps e
-        → length t ≡ base m → Coded m t ts G → ((k : ℕ) → k < m .room → entry t (m .room + m .room + k) < m .first)
+        → length t ≡ base m → Coded m ts t (globals G) → ((k : ℕ) → k < m .room → entry t (m .room + m .room + k) < m .first)
         → Answer m ts G sp (distinct ps) (argumentsOut m s sp n t a) e (λ x. has x ps)
     unfolding has
     arguments-mean n a ps e t p z o l =
@@ -308,7 +298,7 @@ module _ (m : Scope) (ts : List Text) (d : distinct ts ≡ true) (c : m .count �
 
     -- the two answers by themselves
     module _ (n a : ℕ) (ps : List Text) (e : ℕ) (t : List ℕ) (p : times (readArgument true (m .width) s ts) n a ≡ got ps e)
-        (size : length t ≡ base m) (coded : Coded m t ts G) (below : (k : ℕ) → k < m .room → entry t (m .room + m .room + k) < m .first) where
+        (size : length t ≡ base m) (coded : Coded m ts t (globals G)) (below : (k : ℕ) → k < m .room → entry t (m .room + m .room + k) < m .first) where
       pub arguments-yes : distinct ps ≡ true → Marking m ts G (argumentsOut m s sp n t a) e (λ x. has x ps)
       arguments-yes q = rw q at (arguments-mean n a ps e t p size coded below)
 

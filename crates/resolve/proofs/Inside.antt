@@ -72,14 +72,20 @@ module _ (w : ℕ) (s : List ℕ) (at : ℕ) (n : Node) (z : ℕ) (i : n ≡ nod
   pub symbol-fits : (sp : Span) (k : SymbolKind) → n ≡ Node.Symbol sp k → z ≡ sizeOf w (Node.Symbol sp k) → Fits w64 (at + z)
   symbol-fits sp k e g = let h = known-inside (Node.Symbol sp k) e (λ u. let c : _≡_ {A = ℕ} 0 1 = cc in omega arith) g in record { fits = omega arith }
 
+  pub condition-inside : (c : Condition) → n ≡ Node.Condition c → z ≡ sizeOf w (Node.Condition c) → (at < length s) × (at + z ≤ length s)
+  condition-inside c e g = known-inside (Node.Condition c) e (λ u. let d : _≡_ {A = ℕ} 0 1 = cc in omega arith) g
+
   pub condition-fits : (c : Condition) → n ≡ Node.Condition c → z ≡ sizeOf w (Node.Condition c) → Fits w64 (at + z)
-  condition-fits c e g = let h = known-inside (Node.Condition c) e (λ u. let d : _≡_ {A = ℕ} 0 1 = cc in omega arith) g in record { fits = omega arith }
+  condition-fits c e g = let h = condition-inside c e g in record { fits = omega arith }
 
   pub argument-inside : (a : NonterminalString) → n ≡ Node.Argument a → z ≡ sizeOf w (Node.Argument a) → (at < length s) × (at + z ≤ length s)
   argument-inside a e g = known-inside (Node.Argument a) e (λ u. let d : _≡_ {A = ℕ} 0 1 = cc in omega arith) g
 
   pub alternative-inside : (a : Alternative) → n ≡ Node.Alternative a → z ≡ sizeOf w (Node.Alternative a) → (at < length s) × (at + z ≤ length s)
   alternative-inside a e g = known-inside (Node.Alternative a) e (λ u. let d : _≡_ {A = ℕ} 0 1 = cc in omega arith) g
+
+  pub alternative-below : (a : Alternative) → n ≡ Node.Alternative a → z ≡ sizeOf w (Node.Alternative a) → at + z ≤ length s
+  alternative-below a e g = alternative-inside a e g .1
 
   pub alternative-fits : (a : Alternative) → n ≡ Node.Alternative a → z ≡ sizeOf w (Node.Alternative a) → Fits w64 (at + z)
   alternative-fits a e g = let h = alternative-inside a e g in record { fits = omega arith }

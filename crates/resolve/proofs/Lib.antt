@@ -4,7 +4,10 @@ mod Inside
 mod Scoping
 mod Naming
 mod Staging
+mod Alternating
 mod Declaring
+mod Stamping
+mod Replacing
 mod Skipping
 pub mod Coding
 pub mod GlobalsMean
@@ -15,3 +18,4 @@ pub mod AlternativesMean
 pub mod ArgumentsMean
 pub mod ItemsMean
 pub mod ResolvedKeeps
+mod Resolving

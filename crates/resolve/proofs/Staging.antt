@@ -66,7 +66,7 @@ area-next m to n q n1 lim xs w w1 a e l =
       apart = omega arith;
     }
 
-tables-laid : (m : Scope) (to n q : ℕ) (xs w w1 : List ℕ) → Area m to n → Laid w (m .lim) to xs q w1 → tables m w1 ≡ tables m w
+pub tables-laid : (m : Scope) (to n q : ℕ) (xs w w1 : List ℕ) → Area m to n → Laid w (m .lim) to xs q w1 → tables m w1 ≡ tables m w
 unfolding base
 tables-laid m to n q xs w w1 a l = ap (tables m) (l .bytes) ∙ tables-lay m w (m .lim) to xs (a .apart)
 

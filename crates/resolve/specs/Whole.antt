@@ -23,6 +23,7 @@ use Rattle.resolve.specs.Items.{behind}
 pub record Resolving (s w : List ℕ) (m : Scope) (at to : ℕ) : Type 0 where
   pub items : List Item
   pub area : Area m to (length w)
+  pub reach : to ≤ m .lim
   pub inside : at ≤ length s
   pub width : m .width ≡ 2
   pub apart : distinct (atomsOf s (m .count)) ≡ true

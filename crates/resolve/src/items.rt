@@ -18,10 +18,13 @@ use parse_tree::syntax::Span;
 use texts::entries::get;
 use texts::entries::put;
 ghost use mathlib.Core.Path.{_≡_};
-ghost use Prim.Native.Nat.{_≤_};
+ghost use Prim.Native.Nat.{_+_, _≤_, _<_};
+ghost use lib.Dec.{eqb};
 ghost use lib.ListN.{length};
+ghost use Rattle.octets.specs.Runs.{part};
+ghost use Rattle.texts.specs.Table.{entry};
 ghost use Rattle.resolve.specs.Scopes.{Area, Tables, tables};
-ghost use Rattle.resolve.specs.Walks.{Staged, many};
+ghost use Rattle.resolve.specs.Walks.{Staged, prefix, many};
 ghost use Rattle.resolve.specs.Items.{Stamping, Replaced, skipTo, conditionOut, alternativeOut, argumentsOut, itemOut, itemsOut, dataOut};
 
 // The place behind n commands.
@@ -57,6 +60,15 @@ fn validate_conditions(tape: &[u8], work: &[u8], m: Scope, n: u8, at: usize) -> 
     }
 }
 
+// The attributes and the condition of an alternative, from a place on: where its symbols stand.
+fn symbols_from(tape: &[u8], work: &[u8], m: Scope, a: Alternative, at: usize) -> Passed
+    requires { ⌜ Tables m (length (now work)) × (at ≤ length (now tape)) ⌝ }
+    ensures { λ r. ⌜ r ≡ conditionOut m (tables m (now (work .entry))) (now (tape .entry)) (a .conditions) (skipTo (m .width) (now (tape .entry)) (a .attributes) at) ⌝ }
+{
+    let e = skip(tape, m.width, from8(a.attributes), at);
+    validate_conditions(tape, work, m, a.conditions, e)
+}
+
 // The alternative at a place.
 fn validate_alternative(tape: &[u8], work: &mut [u8], m: Scope, at: usize, to: usize) -> Walked
     requires { ⌜ Area m to (length (now work)) ⌝ }
@@ -66,8 +78,7 @@ fn validate_alternative(tape: &[u8], work: &mut [u8], m: Scope, at: usize, to: u
     let Node::Alternative(a) = n else {
         return Walked::Refused(2, Span(0, 0));
     };
-    let e = skip(tape, m.width, from8(a.attributes), at + size(n, m.width));
-    match validate_conditions(tape, work, m, a.conditions, e) {
+    match symbols_from(tape, work, m, a, at + size(n, m.width)) {
         Passed::Refused(q, p) => Walked::Refused(q, p),
         Passed::Next(p) => {
             let q = put_run(tape, at, p, work, m.lim, to);
@@ -106,6 +117,14 @@ fn validate_alternatives(
     Walked::Next(p, q)
 }
 
+// Whether an atom has the item's mark.
+fn marked(work: &[u8], m: Scope, id: usize) -> bool
+    requires { ⌜ Tables m (length (now work)) × (id < m .count) ⌝ }
+    ensures { λ r. ⌜ r ≡ eqb (entry (now (work .entry)) (m .room + m .room + id)) (m .first) ⌝ }
+{
+    get(work, m.room + m.room + id) == m.first
+}
+
 // "arguments distinct? 7": the n arguments at a place, each marked in the table; s is the item's span.
 fn validate_macro_args(
     tape: &[u8],
@@ -129,15 +148,31 @@ fn validate_macro_args(
         if m.count <= id {
             return Passed::Refused(3, Span(0, 0));
         }
-        let i = m.room + m.room + id;
-        if get(work, i) == m.first {
+        if marked(work, m, id) {
             return Passed::Refused(7, s);
         }
-        put(work, i, m.first);
+        put(work, m.room + m.room + id, m.first);
         p += size(x, m.width);
         k -= 1;
     }
     Passed::Next(p)
+}
+
+// What stands from a place up to p, and behind it n alternatives.
+fn put_alternatives(
+    tape: &[u8],
+    work: &mut [u8],
+    m: Scope,
+    n: usize,
+    at: usize,
+    p: usize,
+    to: usize,
+) -> Walked
+    requires { ⌜ Area m to (length (now work)) × (at ≤ p) × (p ≤ length (now tape)) ⌝ }
+    ensures { λ r. ⌜ Staged (prefix (part at p (now (tape .entry))) (many (alternativeOut m (tables m (now (work .entry))) (now (tape .entry))) n p)) (now (work .entry)) (m .lim) to r (now (work .exit)) ⌝ }
+{
+    let q = put_run(tape, at, p, work, m.lim, to);
+    validate_alternatives(tape, work, m, n, p, q)
 }
 
 // What stands behind the command of a nonterminal: e is the place behind that command.
@@ -156,10 +191,7 @@ fn validate_data(
     let s = d.span;
     match validate_macro_args(tape, work, m, s, from8(d.args), e) {
         Passed::Refused(q, p) => Walked::Refused(q, p),
-        Passed::Next(p) => {
-            let q = put_run(tape, at, p, work, m.lim, to);
-            validate_alternatives(tape, work, m, from16(d.alternatives), p, q)
-        }
+        Passed::Next(p) => put_alternatives(tape, work, m, from16(d.alternatives), at, p, to),
     }
 }
 

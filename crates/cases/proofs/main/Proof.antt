@@ -1,5 +1,5 @@
 -- `cases::main` is safe and ends. Assumes nothing.
-use Rattle.cases.proofs.Laws.{zeros}
+use Rattle.notation.proofs.Laws.{zeros}
 use borrow.Author.Needs.{needs}
 use Rattle.cases.proofs.main.Statement.{statement}
 use Rattle.cases.proofs.main.Tie as tie

@@ -1,5 +1,5 @@
 -- `cases::line::run_line` is safe and ends. Assumes nothing.
-use Rattle.cases.proofs.Laws.{parts}
+use Rattle.notation.proofs.Laws.{parts}
 use borrow.Author.Needs.{needs}
 use Rattle.cases.proofs.line.run_line.Statement.{statement}
 use Rattle.cases.proofs.line.run_line.Tie as tie

@@ -1,5 +1,5 @@
 -- `cases::tape::put_word` is safe and ends. Assumes nothing.
-use Rattle.cases.proofs.Laws.{parts}
+use Rattle.notation.proofs.Laws.{parts}
 use borrow.Author.Needs.{needs}
 use Rattle.cases.proofs.tape.put_word.Statement.{statement}
 use Rattle.cases.proofs.tape.put_word.Tie as tie

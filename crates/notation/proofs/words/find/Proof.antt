@@ -1,9 +1,9 @@
--- `cases::words::find` is safe and ends. Assumes nothing.
+-- `notation::words::find` is safe and ends. Assumes nothing.
 use Prim.Native.Nat.{_≤_, _-_}
 use lib.ListN.{length}
 use borrow.Author.Needs.{needs}
-use Rattle.cases.proofs.words.find.Statement.{statement}
-use Rattle.cases.proofs.words.find.Tie as tie
+use Rattle.notation.proofs.words.find.Statement.{statement}
+use Rattle.notation.proofs.words.find.Tie as tie
 
 abbrev Inv-loop : tie.InvT-loop
 Inv-loop text byte from i₀ i = (from ≤ i) × (i ≤ length text)

@@ -1,9 +1,9 @@
--- `cases::report::is_all` is safe and ends. Assumes nothing.
+-- `notation::buffers::is_all` is safe and ends. Assumes nothing.
 use Prim.Native.Nat.{_-_}
 use lib.ListN.{length}
 use borrow.Author.Needs.{needs}
-use Rattle.cases.proofs.report.is_all.Statement.{statement}
-use Rattle.cases.proofs.report.is_all.Tie as tie
+use Rattle.notation.proofs.buffers.is_all.Statement.{statement}
+use Rattle.notation.proofs.buffers.is_all.Tie as tie
 
 abbrev Inv-loop : tie.InvT-loop
 Inv-loop work byte i₀ i = Unit {0}

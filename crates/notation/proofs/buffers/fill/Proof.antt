@@ -1,16 +1,16 @@
--- `cases::report::fill` is safe and ends. Assumes nothing.
+-- `notation::buffers::fill` is safe and ends. Assumes nothing.
 use Prim.Native.Nat.{_-_}
 use mathlib.Core.Path.{_≡_}
 use lib.ListN.{length}
 use borrow.Author.Needs.{needs}
-use Rattle.cases.proofs.report.fill.Statement.{statement}
-use Rattle.cases.proofs.report.fill.Tie as tie
+use Rattle.notation.proofs.buffers.fill.Statement.{statement}
+use Rattle.notation.proofs.buffers.fill.Tie as tie
 
 abbrev Inv-loop : tie.InvT-loop
-Inv-loop work₀ i₀ work i = length work ≡ length work₀
+Inv-loop work₀ byte i₀ work i = length work ≡ length work₀
 
 abbrev μ-loop : tie.MeasureT-loop
-μ-loop work₀ i₀ work i = length work₀ - i
+μ-loop work₀ byte i₀ work i = length work₀ - i
 
 loop-holds : tie.Need-loop-holds Inv-loop μ-loop
 loop-holds c = search needs

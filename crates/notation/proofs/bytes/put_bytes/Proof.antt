@@ -1,10 +1,10 @@
--- `cases::tape::put_bytes` is safe and ends. Assumes nothing.
+-- `notation::bytes::put_bytes` is safe and ends. Assumes nothing.
 use Prim.Native.Nat.{_-_}
 use mathlib.Core.Path.{_≡_}
 use lib.ListN.{length}
 use borrow.Author.Needs.{needs}
-use Rattle.cases.proofs.tape.put_bytes.Statement.{statement}
-use Rattle.cases.proofs.tape.put_bytes.Tie as tie
+use Rattle.notation.proofs.bytes.put_bytes.Statement.{statement}
+use Rattle.notation.proofs.bytes.put_bytes.Tie as tie
 
 abbrev Inv-loop : tie.InvT-loop
 Inv-loop text tape₀ to room q₀ i₀ tape q i = (length tape ≡ length tape₀) × (room ≡ length tape₀)

@@ -1,9 +1,9 @@
--- `cases::words::decimal` is safe and ends. Assumes nothing.
+-- `notation::words::decimal` is safe and ends. Assumes nothing.
 use Prim.Native.Nat.{_<_, _-_}
 use lib.ListN.{length}
 use borrow.Author.Needs.{needs}
-use Rattle.cases.proofs.words.decimal.Statement.{statement}
-use Rattle.cases.proofs.words.decimal.Tie as tie
+use Rattle.notation.proofs.words.decimal.Statement.{statement}
+use Rattle.notation.proofs.words.decimal.Tie as tie
 
 abbrev Inv-loop : tie.InvT-loop
 Inv-loop text value₀ i₀ value i = value < 10000000

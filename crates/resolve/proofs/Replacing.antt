@@ -1,0 +1,309 @@
+-- Items: the ways out of put_alternatives, validate_data, validate_item and validate. Assumes nothing.
+use mathlib.Core.Path.{_≡_, refl, sym, ap, _∙_}
+use mathlib.Core.Bool.{Bool, true, false}
+use mathlib.Core.List.{List, [], _∷_, _++_}
+use Prim.Native.Nat.{ℕ, zero, suc, _+_, _-_, _<_, _≤_}
+use native.Mathlib.Omega.{arith}
+use borrow.Author.Needs.{needs}
+use borrow.Author.Tests.{le-leb, lt-leb, lt-ltb, le-ltb, ltb-true, ltb-false}
+use denote.Enum.Declared.{tagOf}
+use types.Run.{OneOf, miss}
+use mir.Syntax.{w8}
+use mir.Val.{Fits}
+use lib.Dec.{leb, ltb}
+use lib.ListN.{length, getD, length-append}
+use Rattle.octets.specs.Choice.{pick}
+use Rattle.octets.specs.Runs.{part}
+use Rattle.octets.specs.Sink.{Laid, step, adv, lay}
+use Rattle.octets.proofs.Laying.{adv-append, lay-append}
+use Rattle.octets.proofs.Fitting.{adv-le, lay-over}
+use Rattle.parse_tree.specs.Nodes.{nodeAt, sizeOf}
+use Rattle.parse_tree.specs.declared.syntax.Span.{Span}
+use Rattle.parse_tree.specs.declared.syntax.NonterminalData.{NonterminalData}
+use Rattle.parse_tree.specs.declared.syntax.TerminalData.{TerminalData}
+use Rattle.parse_tree.specs.declared.syntax.Node.{Node}
+use Rattle.parse_tree.proofs.syntax.Node.{the-type}
+use Rattle.resolve.specs.declared.Scope.{Scope}
+use Rattle.resolve.specs.declared.Passed.{Passed}
+use Rattle.resolve.specs.declared.Walked.{Walked}
+use Rattle.resolve.specs.Scopes.{Area, base, tables}
+use Rattle.resolve.specs.Walks.{Out, wrote, denied, prefix, many, Staged}
+use Rattle.resolve.specs.Items.{Stamped, stamped, against, Stamping, argumentsOut, alternativeOut, Put, put, unput, behind, Replaced, putBy, stampedThen, prefixPut, putThen, within, dataOut, nowhere, itemIn, itemOut, itemsOut}
+use Rattle.resolve.proofs.Regions.{tables-lay, behind-lay}
+use Rattle.resolve.proofs.Inside.{command-inside, command-fits}
+use Rattle.resolve.proofs.Staging.{staged-prefix, area-next, tables-laid}
+use Rattle.resolve.proofs.Stamping.{Ends, arguments-end}
+
+-- ---- answers
+walked-not : {e t q : ℕ} {p : Span} → Walked.Next e t ≡ Walked.Refused q p → ⊥
+walked-not {e} {t} {q} {p} h = let z : _≡_ {A = ℕ} 0 1 = cc in omega arith
+
+passed-not : {e q : ℕ} {p : Span} → Passed.Next e ≡ Passed.Refused q p → ⊥
+passed-not {e} {q} {p} h = let z : _≡_ {A = ℕ} 0 1 = cc in omega arith
+
+replaced-unput : (m : Scope) (x : Put) (q : ℕ) (p : Span) (w : List ℕ) (to : ℕ) (w′ : List ℕ) → x ≡ unput q p → Replaced m x w to (Walked.Refused q p) w′
+unfolding Replaced
+replaced-unput m x q p w to w′ e = rw e refl
+
+replaced-as : (m : Scope) (x y : Put) (w : List ℕ) (to : ℕ) (r : Walked) (w′ : List ℕ) → x ≡ y → Replaced m y w to r w′ → Replaced m x w to r w′
+replaced-as m x y w to r w′ e h = rw e h
+
+-- what is written by the tables of w1, behind which stands what stood behind those of w
+replaced-staged : (m : Scope) (x : Out) (w w1 : List ℕ) (to : ℕ) (r : Walked) (w2 : List ℕ) → base m ≤ to → behind m w1 ≡ behind m w → Staged x w1 (m .lim) to r w2 → Replaced m (putBy (tables m w1) x) w to r w2
+unfolding Replaced putBy Staged
+replaced-staged m (wrote xs e) w w1 to r w2 h k g = record {
+  answered = g .answered;
+  tabled = ap (tables m) (g .bytes) ∙ tables-lay m w1 (m .lim) to xs h;
+  bytes = ap (behind m) (g .bytes) ∙ behind-lay m w1 (m .lim) to xs h ∙ ap (λ (v : List ℕ). lay v (m .lim - base m) (to - base m) xs) k;
+}
+replaced-staged m (denied q p) w w1 to r w2 h k g = g
+
+-- ---- put_alternatives
+pub alternatives-behind : (m : Scope) (s : List ℕ) (n at p : ℕ) (w : List ℕ) (to nn q : ℕ) (w1 : List ℕ) (r : Walked) (w2 : List ℕ) → Area m to nn → Laid w (m .lim) to (part at p s) q w1
+    → Staged (many (alternativeOut m (tables m w1) s) n p) w1 (m .lim) q r w2 → Staged (prefix (part at p s) (many (alternativeOut m (tables m w) s) n p)) w (m .lim) to r w2
+alternatives-behind m s n at p w to nn q w1 r w2 ar l h =
+    staged-prefix _ (part at p s) w w1 w2 (m .lim) to q r l (rw (tables-laid m to nn q (part at p s) w w1 ar l) at h)
+
+pub ruleset listing = (needs, area-next, alternatives-behind)
+
+-- ---- validate_data
+record Stood (m : Scope) (x : Stamped) (p : ℕ) (w w1 : List ℕ) : Type 0 where
+  is : x ≡ stamped (tables m w1) p
+  kept : behind m w1 ≡ behind m w
+
+stood : (m : Scope) (x : Stamped) (p : ℕ) (w w1 : List ℕ) → Stamping m x w (Passed.Next p) w1 → Stood m x p w w1
+unfolding Stamping behind
+stood m (stamped t e) p w w1 h =
+    let a = h .answered in
+    let b : e ≡ p = cc in
+    record { is = cc (h .kept .tabled); kept = h .kept .others }
+stood m (against q sp) p w w1 h = absurd (passed-not h)
+
+fallen : (m : Scope) (x : Stamped) (q : ℕ) (p : Span) (w w1 : List ℕ) → Stamping m x w (Passed.Refused q p) w1 → x ≡ against q p
+unfolding Stamping
+fallen m (stamped t e) q p w w1 h = absurd (passed-not (sym (h .answered)))
+fallen m (against a b) q p w w1 h = cc
+
+module _ (m : Scope) (s : List ℕ) (d : NonterminalData) (at e : ℕ) (w : List ℕ) (to a : ℕ) (f : a ≡ d .args) (x : Passed) (w1 : List ℕ) (g : Stamping m (argumentsOut m s (d .span) a (tables m w) e) w x w1) where
+  pub data-refused : (q : ℕ) (p : Span) → x ≡ Passed.Refused q p → (w2 : List ℕ) → Replaced m (dataOut m (tables m w) s d at e) w to (Walked.Refused q p) w2
+  unfolding dataOut stampedThen
+  data-refused q p u w2 = replaced-unput m _ q p w to w2 (let z = fallen m _ q p w w1 (rw u at g) in cc)
+
+  module _ (p : ℕ) (u : x ≡ Passed.Next p) where
+    pub data-from : at ≤ e → e ≤ length s → ((i : ℕ) → Fits w8 (getD s i 0)) → at ≤ p
+    data-from h l b =
+        let z = stood m _ p w w1 (rw u at g) in
+        let y : Ends e (length s) (stamped (tables m w1) p) = rw (z .is) at (arguments-end m s (λ i. b i .fits) (d .span) a (tables m w) e l) in
+        omega (arith, y .0)
+
+    pub data-upto : e ≤ length s → ((i : ℕ) → Fits w8 (getD s i 0)) → p ≤ length s
+    data-upto l b =
+        let z = stood m _ p w w1 (rw u at g) in
+        let y : Ends e (length s) (stamped (tables m w1) p) = rw (z .is) at (arguments-end m s (λ i. b i .fits) (d .span) a (tables m w) e l) in
+        y .1
+
+    pub data-next : (nn k : ℕ) (r : Walked) (w2 : List ℕ) → Area m to nn → k ≡ d .alternatives
+        → Staged (prefix (part at p s) (many (alternativeOut m (tables m w1) s) k p)) w1 (m .lim) to r w2 → Replaced m (dataOut m (tables m w) s d at e) w to r w2
+    unfolding dataOut stampedThen base
+    data-next nn k r w2 ar v h =
+        let z = stood m _ p w w1 (rw u at g) in
+        let o : dataOut m (tables m w) s d at e ≡ putBy (tables m w1) (prefix (part at p s) (many (alternativeOut m (tables m w1) s) (d .alternatives) p)) = cc (z .is) in
+        replaced-as m _ _ w to r w2 o (replaced-staged m _ w w1 to r w2 (ar .apart) (z .kept) (rw v at h))
+
+pub area-same : (m : Scope) (to n n1 : ℕ) → Area m to n → n1 ≡ n → Area m to n1
+area-same m to n n1 a e = rw e a
+
+pub ruleset replacing = (needs, data-refused, data-from, data-upto, data-next, area-same)
+
+-- ---- validate_item
+no-item : (f : NonterminalData → Put) (x : Put) (y : Node) → OneOf (0 ∷ 3 ∷ 4 ∷ 5 ∷ 6 ∷ 7 ∷ 8 ∷ []) (tagOf the-type y) → itemIn f x y ≡ nowhere
+unfolding itemIn
+no-item f x (Node.Text k) h = refl
+no-item f x (Node.Nonterminal k) h = absurd (miss (0 ∷ 3 ∷ 4 ∷ 5 ∷ 6 ∷ 7 ∷ 8 ∷ []) 1 tt h)
+no-item f x (Node.Terminal k) h = absurd (miss (0 ∷ 3 ∷ 4 ∷ 5 ∷ 6 ∷ 7 ∷ 8 ∷ []) 2 tt h)
+no-item f x (Node.Argument k) h = refl
+no-item f x (Node.Alternative k) h = refl
+no-item f x (Node.Attribute k) h = refl
+no-item f x (Node.Condition k) h = refl
+no-item f x (Node.Symbol sp k) h = refl
+no-item f x Node.Unknown h = refl
+
+-- the arguments' place is no matter
+replaced-within : (m : Scope) (c : ℕ) (x : Put) (w : List ℕ) (to : ℕ) (r : Walked) (w1 : List ℕ) → Replaced (within m c) x w to r w1 → Replaced m x w to r w1
+unfolding Replaced within tables behind base
+replaced-within m c (put xs t e) w to r w1 h = record { answered = h .answered; tabled = h .tabled; bytes = h .bytes }
+replaced-within m c (unput q p) w to r w1 h = h
+
+module _ (m : Scope) (s : List ℕ) (at : ℕ) (w : List ℕ) (to : ℕ) (n : Node) (i : n ≡ nodeAt (m .width) s at) where
+  pub item-other : (w1 : List ℕ) → OneOf (0 ∷ 3 ∷ 4 ∷ 5 ∷ 6 ∷ 7 ∷ 8 ∷ []) (tagOf the-type n) → Replaced m (itemOut m (tables m w) s at) w to (Walked.Refused 2 (record { 0 = 0; 1 = 0 })) w1
+  unfolding itemOut
+  item-other w1 h = replaced-unput m _ 2 (record { 0 = 0; 1 = 0 }) w to w1 (no-item _ _ (nodeAt (m .width) s at) (rw i at h))
+
+  module _ (z : ℕ) (g : z ≡ sizeOf (m .width) n) where
+    pub item-terminal : (t : TerminalData) (nn q : ℕ) (w1 : List ℕ) → n ≡ Node.Terminal t → Area m to nn → Laid w (m .lim) to (part at (at + z) s) q w1
+        → Replaced m (itemOut m (tables m w) s at) w to (Walked.Next (at + z) q) w1
+    unfolding itemOut itemIn Replaced base
+    item-terminal t nn q w1 e ar l =
+        let o : itemOut m (tables m w) s at ≡ put (part at (at + z) s) (tables m w) (at + z) = cc in
+        rw o (record {
+          answered = ap (Walked.Next (at + z)) (l .after);
+          tabled = tables-laid m to nn q (part at (at + z) s) w w1 ar l;
+          bytes = ap (behind m) (l .bytes) ∙ behind-lay m w (m .lim) to (part at (at + z) s) (ar .apart);
+        })
+
+    pub item-nonterminal : (d : NonterminalData) (r : Walked) (w1 : List ℕ) → n ≡ Node.Nonterminal d
+        → Replaced (record { room = m .room; count = m .count; width = m .width; lim = m .lim; first = at + z })
+        (dataOut (record { room = m .room; count = m .count; width = m .width; lim = m .lim; first = at + z }) (tables (record { room = m .room; count = m .count; width = m .width; lim = m .lim; first = at + z }) w) s d at (at + z))
+        w to r w1
+        → Replaced m (itemOut m (tables m w) s at) w to r w1
+    unfolding itemOut itemIn within tables base
+    item-nonterminal d r w1 e h =
+        let o : itemOut m (tables m w) s at ≡ dataOut (within m (at + z)) (tables m w) s d at (at + z) = cc in
+        replaced-as m _ _ w to r w1 o (replaced-within m (at + z) _ w to r w1 h)
+
+pub area-within : (m : Scope) (to n e : ℕ) → Area m to n → Area (record { room = m .room; count = m .count; width = m .width; lim = m .lim; first = e }) to n
+area-within m to n e a =
+    let t = a .tabled in
+    record { tabled = record { few = t .few; fits = t .fits; narrow = t .narrow; wide = t .wide }; end = a .end; apart = a .apart }
+
+pub item-behind : (at z : ℕ) → at ≤ at + z
+item-behind at z = omega arith
+
+pub ruleset itemizing = (needs, command-fits, command-inside, item-behind, item-other, item-terminal, item-nonterminal, area-within)
+
+-- ---- validate
+-- the same step, counted from b on
+step-minus : (b lim to : ℕ) → b < lim → b ≤ to → (step (lim - b) (to - b) ≡ step lim to - b) × (b ≤ step lim to)
+unfolding step pick
+step-minus b lim to h k = go (ltb lim to) refl
+  where
+    go : (c : Bool) → ltb lim to ≡ c → (step (lim - b) (to - b) ≡ step lim to - b) × (b ≤ step lim to)
+    go true e =
+        let z = ltb-true lim to e in
+        rw (e, lt-ltb (lim - b) (to - b) (omega arith)) (refl, k)
+    go false e =
+        let z = ltb-false lim to e in
+        rw (e, le-ltb (lim - b) (to - b) (omega arith)) (omega arith, omega arith)
+
+adv-minus : (b lim to n : ℕ) → b < lim → b ≤ to → adv (lim - b) (to - b) n ≡ adv lim to n - b
+unfolding adv
+adv-minus b lim to zero h k = refl
+adv-minus b lim to (suc n) h k =
+    let z = step-minus b lim to h k in
+    ap (λ (i : ℕ). adv (lim - b) i n) (z .0) ∙ adv-minus b lim (step lim to) n h (z .1)
+
+lay-two : (b lim to t : ℕ) (w xs ys : List ℕ) → t ≡ adv lim to (length xs) → b ≤ to → lay (lay w (lim - b) (to - b) xs) (lim - b) (t - b) ys ≡ lay w (lim - b) (to - b) (xs ++ ys)
+lay-two b lim to t w xs ys e k = go (ltb b lim) refl
+  where
+    go : (c : Bool) → ltb b lim ≡ c → lay (lay w (lim - b) (to - b) xs) (lim - b) (t - b) ys ≡ lay w (lim - b) (to - b) (xs ++ ys)
+    go true c =
+        let z = adv-minus b lim to (length xs) (ltb-true b lim c) k in
+        let y : t - b ≡ adv (lim - b) (to - b) (length xs) = omega arith in
+        rw y (lay-append w (lim - b) (to - b) xs ys)
+    go false c =
+        let z = ltb-false b lim c in
+        lay-over _ (lim - b) (t - b) ys (omega arith) ∙ lay-over w (lim - b) (to - b) xs (omega arith) ∙ sym (lay-over w (lim - b) (to - b) (xs ++ ys) (omega arith))
+
+-- one behind another
+replaced-prefix : (m : Scope) (y : Put) (xs w w1 : List ℕ) (to t : ℕ) (r : Walked) (w2 : List ℕ) → t ≡ adv (m .lim) to (length xs) → base m ≤ to
+    → behind m w1 ≡ lay (behind m w) (m .lim - base m) (to - base m) xs → Replaced m y w1 t r w2 → Replaced m (prefixPut xs y) w to r w2
+unfolding Replaced prefixPut
+replaced-prefix m (put ys t′ e) xs w w1 to t r w2 f k b h = record {
+  answered = h .answered ∙ ap (Walked.Next e) (ap (λ (i : ℕ). adv (m .lim) i (length ys)) f ∙ adv-append (m .lim) to (length xs) (length ys) ∙ ap (adv (m .lim) to) (sym (length-append xs ys)));
+  tabled = h .tabled;
+  bytes = h .bytes ∙ ap (λ (v : List ℕ). lay v (m .lim - base m) (t - base m) ys) b ∙ lay-two (base m) (m .lim) to t (behind m w) xs ys f k;
+}
+replaced-prefix m (unput q p) xs w w1 to t r w2 f k b h = h
+
+-- an answer, taken apart
+record Went (m : Scope) (x : Put) (e t : ℕ) (w : List ℕ) (to : ℕ) (w1 : List ℕ) : Type 0 where
+  written : List ℕ
+  is : x ≡ put written (tables m w1) e
+  after : t ≡ adv (m .lim) to (length written)
+  bytes : behind m w1 ≡ lay (behind m w) (m .lim - base m) (to - base m) written
+
+went : (m : Scope) (x : Put) (e t : ℕ) (w : List ℕ) (to : ℕ) (w1 : List ℕ) → Replaced m x w to (Walked.Next e t) w1 → Went m x e t w to w1
+unfolding Replaced
+went m (put xs t′ e′) e t w to w1 h =
+    let a = h .answered in
+    let b : e′ ≡ e = cc in
+    let c : t ≡ adv (m .lim) to (length xs) = cc in
+    record { written = xs; is = cc (h .tabled); after = c; bytes = h .bytes }
+went m (unput q p) e t w to w1 h = absurd (walked-not h)
+
+refused-is : (m : Scope) (x : Put) (q : ℕ) (p : Span) (w : List ℕ) (to : ℕ) (w1 : List ℕ) → Replaced m x w to (Walked.Refused q p) w1 → x ≡ unput q p
+unfolding Replaced
+refused-is m (put xs t e) q p w to w1 h = absurd (walked-not (sym (h .answered)))
+refused-is m (unput a b) q p w to w1 h = cc
+
+-- the items from p on are to be written from q on in w, fewer than `fuel`; all of them stand from at on, written to w₀
+pub record Placing (m : Scope) (s : List ℕ) (at : ℕ) (w₀ : List ℕ) (to : ℕ) (w : List ℕ) (p q : ℕ) : Type 0 where
+  pub area : Area m q (length w)
+  pub same : length w ≡ length w₀
+  pub fuel : ℕ
+  pub enough : length s ≤ p + fuel
+  pub carry : (r : Walked) (w′ : List ℕ) → Replaced m (itemsOut m s fuel (tables m w) p) w q r w′ → Replaced m (itemsOut m s (length s) (tables m w₀) at) w₀ to r w′
+
+pub place-start : (m : Scope) (s : List ℕ) (at : ℕ) (w : List ℕ) (to : ℕ) → Area m to (length w) → Placing m s at w to w at to
+place-start m s at w to a = record { area = a; same = refl; fuel = length s; enough = omega arith; carry = λ r w′ h. h }
+
+-- an item, then n more
+unfoldable turn : Scope → List ℕ → ℕ → List ℕ → ℕ → Put
+turn m s n t p = putThen (itemOut m t s p) (λ t′ e. pick (leb e p) nowhere (itemsOut m s n t′ e))
+
+items-turn : (m : Scope) (s : List ℕ) (n : ℕ) (t : List ℕ) (p : ℕ) → p < length s → itemsOut m s (suc n) t p ≡ turn m s n t p
+unfolding itemsOut turn pick
+items-turn m s n t p h = rw (lt-leb (length s) p h) refl
+
+items-end : (m : Scope) (s : List ℕ) (n : ℕ) (t : List ℕ) (p : ℕ) → length s ≤ p → itemsOut m s n t p ≡ put [] t p
+unfolding itemsOut pick
+items-end m s zero t p h = refl
+items-end m s (suc n) t p h = cc (le-leb (length s) p h)
+
+module _ (m : Scope) (s : List ℕ) (at : ℕ) (w₀ : List ℕ) (to : ℕ) (w : List ℕ) (p q : ℕ) (g : Placing m s at w₀ to w p q) where
+  pub place-area : Area m q (length w)
+  place-area = g .area
+
+  pub place-done : length s ≤ p → Replaced m (itemsOut m s (length s) (tables m w₀) at) w₀ to (Walked.Next p q) w
+  unfolding Replaced adv lay
+  place-done h = g .carry (Walked.Next p q) w (rw (items-end m s (g .fuel) (tables m w) p h) (record { answered = refl; tabled = refl; bytes = refl }))
+
+  module _ (h : p < length s) (x : Walked) (w1 : List ℕ) (i : Replaced m (itemOut m (tables m w) s p) w q x w1) where
+    opened : itemsOut m s (g .fuel) (tables m w) p ≡ turn m s (g .fuel - 1) (tables m w) p
+    opened =
+        let z : g .fuel ≡ suc (g .fuel - 1) = omega (arith, g .enough) in
+        ap (λ (n : ℕ). itemsOut m s n (tables m w) p) z ∙ items-turn m s (g .fuel - 1) (tables m w) p h
+
+    pub place-refused : (c : ℕ) (sp : Span) → x ≡ Walked.Refused c sp → (w2 : List ℕ) → Replaced m (itemsOut m s (length s) (tables m w₀) at) w₀ to (Walked.Refused c sp) w2
+    unfolding turn putThen
+    place-refused c sp u w2 =
+        let y = refused-is m _ c sp w q w1 (rw u at i) in
+        g .carry (Walked.Refused c sp) w2 (replaced-unput m _ c sp w q w2 (opened ∙ cc))
+
+    module _ (e t : ℕ) (u : x ≡ Walked.Next e t) where
+      gone : Went m (itemOut m (tables m w) s p) e t w q w1
+      gone = went m _ e t w q w1 (rw u at i)
+
+      so : itemsOut m s (g .fuel) (tables m w) p ≡ prefixPut (gone .written) (pick (leb e p) nowhere (itemsOut m s (g .fuel - 1) (tables m w1) e))
+      unfolding turn putThen
+      so = opened ∙ ap (λ (y : Put). putThen y (λ t′ e′. pick (leb e′ p) nowhere (itemsOut m s (g .fuel - 1) t′ e′))) (gone .is)
+
+      pub place-stuck : e ≤ p → (w2 : List ℕ) → Replaced m (itemsOut m s (length s) (tables m w₀) at) w₀ to (Walked.Refused 2 (record { 0 = 0; 1 = 0 })) w2
+      unfolding pick prefixPut
+      place-stuck l w2 = g .carry _ w2 (replaced-unput m _ 2 (record { 0 = 0; 1 = 0 }) w q w2 (so ∙ ap (λ (c : Bool). prefixPut (gone .written) (pick c nowhere (itemsOut m s (g .fuel - 1) (tables m w1) e))) (le-leb e p l)))
+
+      pub place-next : p < e → length w1 ≡ length w → Placing m s at w₀ to w1 e t
+      unfolding pick base
+      place-next l k =
+          let a = g .area in
+          let z = adv-le (m .lim) q (length (gone .written)) in
+          let o : itemsOut m s (g .fuel) (tables m w) p ≡ prefixPut (gone .written) (itemsOut m s (g .fuel - 1) (tables m w1) e) = so ∙ ap (λ (c : Bool). prefixPut (gone .written) (pick c nowhere (itemsOut m s (g .fuel - 1) (tables m w1) e))) (lt-leb e p l) in
+          record {
+            area = record { tabled = rw k (a .tabled); end = rw k (a .end); apart = omega (arith, gone .after, a .apart) };
+            same = k ∙ g .same;
+            fuel = g .fuel - 1;
+            enough = omega (arith, g .enough);
+            carry = λ r w2 y. g .carry r w2 (replaced-as m _ _ w q r w2 o (replaced-prefix m _ (gone .written) w w1 q t r w2 (gone .after) (a .apart) (gone .bytes) y));
+          }
+
+pub ruleset placing = (needs, place-start, place-area, place-done, place-refused, place-stuck, place-next)

@@ -1,0 +1,176 @@
+-- The arguments of an item are marked one behind another: the ways out of validate_macro_args, and where the arguments end. Assumes nothing.
+use mathlib.Core.Path.{_≡_, refl, sym, ap, _∙_}
+use mathlib.Core.Bool.{Bool, true, false}
+use mathlib.Core.List.{List, [], _∷_}
+use Prim.Native.Nat.{ℕ, zero, suc, _+_, _-_, _*_, _^_, _<_, _≤_}
+use native.Mathlib.Omega.{arith}
+use borrow.Author.Needs.{needs}
+use borrow.Author.Tests.{le-leb, lt-leb}
+use denote.Enum.Declared.{tagOf}
+use types.Run.{OneOf, miss}
+use lib.Dec.{leb, eqb}
+use lib.ListN.{length, drop, getD}
+use mir.Syntax.{w8, w64}
+use mir.Val.{Fits}
+use Rattle.octets.specs.Choice.{pick}
+use Rattle.octets.specs.Numbers.{Bytes, le}
+use Rattle.octets.specs.Stores.{store}
+use Rattle.octets.proofs.Choices.{by-pick}
+use Rattle.octets.proofs.Storing.{length-store}
+use Rattle.parse_tree.specs.Nodes.{nodeAt, sizeOf}
+use Rattle.parse_tree.specs.declared.syntax.Span.{Span}
+use Rattle.parse_tree.specs.declared.syntax.NonterminalString.{NonterminalString}
+use Rattle.parse_tree.specs.declared.syntax.Node.{Node}
+use Rattle.parse_tree.proofs.syntax.Node.{the-type}
+use Rattle.texts.specs.Table.{entry}
+use Rattle.resolve.specs.declared.Scope.{Scope}
+use Rattle.resolve.specs.declared.Passed.{Passed}
+use Rattle.resolve.specs.Scopes.{Tables, base, tables}
+use Rattle.resolve.specs.Globals.{Kept}
+use Rattle.resolve.specs.Items.{Stamped, stamped, against, lost, Stamping, argumentIn, argumentsOut}
+use Rattle.resolve.proofs.Regions.{tables-entry, tables-store, behind-store}
+use Rattle.resolve.proofs.Inside.{inside, argument-inside}
+
+-- ---- answers
+stamping-against : (m : Scope) (x : Stamped) (w w′ : List ℕ) (q : ℕ) (p : Span) → x ≡ against q p → Stamping m x w (Passed.Refused q p) w′
+unfolding Stamping
+stamping-against m x w w′ q p e = rw e refl
+
+-- what was marked goes on
+stamping-then : (m : Scope) (x : Stamped) (w w1 : List ℕ) (r : Passed) (w′ : List ℕ) → Kept m (tables m w1) w w1 → Stamping m x w1 r w′ → Stamping m x w r w′
+unfolding Stamping
+stamping-then m (stamped t e) w w1 r w′ k h = record { answered = h .answered; kept = record { tabled = h .kept .tabled; others = h .kept .others ∙ k .others } }
+stamping-then m (against q p) w w1 r w′ k h = h
+
+-- no argument stands there
+no-argument : (f : NonterminalString → Stamped) (x : Node) → OneOf (0 ∷ 1 ∷ 2 ∷ 4 ∷ 5 ∷ 6 ∷ 7 ∷ 8 ∷ []) (tagOf the-type x) → argumentIn f x ≡ lost 2
+unfolding argumentIn
+no-argument f (Node.Text k) h = refl
+no-argument f (Node.Nonterminal d) h = refl
+no-argument f (Node.Terminal t) h = refl
+no-argument f (Node.Argument a) h = absurd (miss (0 ∷ 1 ∷ 2 ∷ 4 ∷ 5 ∷ 6 ∷ 7 ∷ 8 ∷ []) 3 tt h)
+no-argument f (Node.Alternative a) h = refl
+no-argument f (Node.Attribute a) h = refl
+no-argument f (Node.Condition c) h = refl
+no-argument f (Node.Symbol s k) h = refl
+no-argument f Node.Unknown h = refl
+
+-- ---- the loop: k arguments are to come from p on, with work w; all of them are n from at on, with work w₀
+pub record Marking (m : Scope) (s : List ℕ) (sp : Span) (n at : ℕ) (w₀ w : List ℕ) (p k : ℕ) : Type 0 where
+  pub room : Tables m (length w)
+  pub same : length w ≡ length w₀
+  pub inside : p ≤ length s
+  pub carry : (r : Passed) (w′ : List ℕ) → Stamping m (argumentsOut m s sp k (tables m w) p) w r w′ → Stamping m (argumentsOut m s sp n (tables m w₀) at) w₀ r w′
+
+pub mark-start : (m : Scope) (s : List ℕ) (sp : Span) (n at : ℕ) (w : List ℕ) → Tables m (length w) → at ≤ length s → Marking m s sp n at w w at n
+mark-start m s sp n at w t h = record { room = t; same = refl; inside = h; carry = λ r w′ h. h }
+
+-- an argument, then k - 1 others
+unfoldable turn : Scope → List ℕ → Span → List ℕ → ℕ → ℕ → NonterminalString → Stamped
+turn m s sp t p k a =
+    pick (leb (m .count) (a .0)) (lost 3)
+    (pick (eqb (entry t (m .room + m .room + a .0)) (m .first)) (against 7 sp)
+    (argumentsOut m s sp (k - 1) (store t (8 * (m .room + m .room + a .0)) (le 8 (m .first))) (p + sizeOf (m .width) (nodeAt (m .width) s p))))
+
+module _ (m : Scope) (s : List ℕ) (sp : Span) (n at : ℕ) (w₀ w : List ℕ) (p k : ℕ) (g : Marking m s sp n at w₀ w p k) where
+  pub mark-end : k ≤ 0 → Stamping m (argumentsOut m s sp n (tables m w₀) at) w₀ (Passed.Next p) w
+  unfolding argumentsOut Stamping
+  mark-end h = g .carry (Passed.Next p) w (let z : k ≡ 0 = omega arith in rw z (record { answered = refl; kept = record { tabled = refl; others = refl } }))
+
+  module _ (h : 0 < k) (x : Node) (i : x ≡ nodeAt (m .width) s p) where
+    opened : argumentsOut m s sp k (tables m w) p ≡ argumentIn (turn m s sp (tables m w) p k) x
+    unfolding argumentsOut turn
+    opened = go k refl
+      where
+        go : (j : ℕ) → k ≡ j → argumentsOut m s sp j (tables m w) p ≡ argumentIn (turn m s sp (tables m w) p k) x
+        go zero e = absurd (omega arith)
+        go (suc j) e = let z : j ≡ k - 1 = omega arith in rw (z, i) refl
+
+    stop : (q : ℕ) (u : Span) (w′ : List ℕ) → argumentIn (turn m s sp (tables m w) p k) x ≡ against q u → Stamping m (argumentsOut m s sp n (tables m w₀) at) w₀ (Passed.Refused q u) w′
+    stop q u w′ e = g .carry (Passed.Refused q u) w′ (stamping-against m _ w w′ q u (opened ∙ e))
+
+    pub mark-other : OneOf (0 ∷ 1 ∷ 2 ∷ 4 ∷ 5 ∷ 6 ∷ 7 ∷ 8 ∷ []) (tagOf the-type x) → Stamping m (argumentsOut m s sp n (tables m w₀) at) w₀ (Passed.Refused 2 (record { 0 = 0; 1 = 0 })) w
+    mark-other o = stop 2 (record { 0 = 0; 1 = 0 }) w (no-argument (turn m s sp (tables m w) p k) x o)
+
+    module _ (a : NonterminalString) (j : x ≡ Node.Argument a) (id : ℕ) (f : id ≡ a .0) where
+      it : argumentIn (turn m s sp (tables m w) p k) x ≡ turn m s sp (tables m w) p k a
+      unfolding argumentIn
+      it = cc
+
+      pub mark-above : m .count ≤ id → Stamping m (argumentsOut m s sp n (tables m w₀) at) w₀ (Passed.Refused 3 (record { 0 = 0; 1 = 0 })) w
+      unfolding turn pick
+      mark-above c = stop 3 (record { 0 = 0; 1 = 0 }) w (it ∙ cc (le-leb (m .count) id c))
+
+      module _ (c : id < m .count) (v : Bool) (d : v ≡ eqb (entry w (m .room + m .room + id)) (m .first)) where
+        low : m .room + m .room + id < m .room + m .room + m .room
+        low = omega (arith, g .room .few)
+
+        pub mark-twice : v ≡ true → Stamping m (argumentsOut m s sp n (tables m w₀) at) w₀ (Passed.Refused 7 sp) w
+        unfolding turn pick
+        mark-twice e = stop 7 sp w (it ∙ cc (lt-leb (m .count) id c, tables-entry m w (m .room + m .room + id) low))
+
+        pub mark-next : v ≡ false → (w′ : List ℕ) → w′ ≡ store w (8 * (m .room + m .room + id)) (le 8 (m .first)) → (z : ℕ) → z ≡ sizeOf (m .width) (Node.Argument a)
+            → ((l : ℕ) → Fits w8 (getD s l 0)) → length s < 2 ^ 64 → Marking m s sp n at w₀ w′ (p + z) (k - 1)
+        unfolding turn pick
+        mark-next e w′ u z y b l =
+            let q : length w′ ≡ length w = ap length u ∙ length-store w (8 * (m .room + m .room + id)) (le 8 (m .first)) in
+            let t : store (tables m w) (8 * (m .room + m .room + id)) (le 8 (m .first)) ≡ tables m w′ = sym (tables-store m w (m .room + m .room + id) (m .first) low) ∙ ap (tables m) (sym u) in
+            let o : argumentsOut m s sp k (tables m w) p ≡ argumentsOut m s sp (k - 1) (tables m w′) (p + z)
+            = opened ∙ it ∙ cc (lt-leb (m .count) id c, tables-entry m w (m .room + m .room + id) low) in
+            record {
+              room = rw q (g .room);
+              same = q ∙ g .same;
+              inside = argument-inside (m .width) s p x z i b l a j y .1;
+              carry = λ r w2 h. g .carry r w2 (rw o (stamping-then m _ w w′ r w2 (record { tabled = refl; others = ap (drop (base m)) u ∙ behind-store m w (m .room + m .room + id) (m .first) low }) h));
+            }
+
+pub mark-is : (w : List ℕ) (i f v : ℕ) → v ≡ entry w i → eqb v f ≡ eqb (entry w i) f
+mark-is w i f v e = cc
+
+module _ (m : Scope) (k w : ℕ) (t : Tables m w) where
+  pub mark-sum : w < 2 ^ 64 → Fits w64 (m .room + m .room)
+  mark-sum h = record { fits = omega (arith, t .fits) }
+
+  pub mark-place : w < 2 ^ 64 → k < m .count → Fits w64 (m .room + m .room + k)
+  mark-place h c = record { fits = omega (arith, t .fits, t .few) }
+
+  pub mark-room : k < m .count → 8 * (m .room + m .room + k) + 8 ≤ w
+  mark-room c = omega (arith, t .fits, t .few)
+
+pub mark-fits : (w : ℕ) (s : List ℕ) (at : ℕ) (n : Node) (z : ℕ) → n ≡ nodeAt w s at → ((j : ℕ) → Fits w8 (getD s j 0)) → length s < 2 ^ 64
+    → (a : NonterminalString) → n ≡ Node.Argument a → z ≡ sizeOf w (Node.Argument a) → Fits w64 (at + z)
+mark-fits w s at n z i b l a e g = record { fits = omega (arith, argument-inside w s at n z i b l a e g) }
+
+pub ruleset marking = (needs, mark-is, mark-start, mark-end, mark-other, mark-above, mark-twice, mark-next, mark-sum, mark-place, mark-room, mark-fits)
+
+-- ---- where the arguments end
+abbrev pub Ends : ℕ → ℕ → Stamped → Type 0
+Ends a l (stamped t p) = (a ≤ p) × (p ≤ l)
+Ends a l (against q p) = Unit {0}
+
+ends-from : (a b l : ℕ) (x : Stamped) → a ≤ b → Ends b l x → Ends a l x
+ends-from a b l (stamped t p) h e = (omega (arith, e .0), e .1)
+ends-from a b l (against q p) h e = tt
+
+argument-ends : (a l : ℕ) (f : NonterminalString → Stamped) (x : Node) → ((k : NonterminalString) → Ends a l (f k)) → Ends a l (argumentIn f x)
+unfolding argumentIn
+argument-ends a l f (Node.Text k) h = tt
+argument-ends a l f (Node.Nonterminal d) h = tt
+argument-ends a l f (Node.Terminal t) h = tt
+argument-ends a l f (Node.Argument k) h = h k
+argument-ends a l f (Node.Alternative k) h = tt
+argument-ends a l f (Node.Attribute k) h = tt
+argument-ends a l f (Node.Condition c) h = tt
+argument-ends a l f (Node.Symbol s k) h = tt
+argument-ends a l f Node.Unknown h = tt
+
+pub arguments-end : (m : Scope) (s : List ℕ) → Bytes s → (sp : Span) (n : ℕ) (t : List ℕ) (at : ℕ) → at ≤ length s → Ends at (length s) (argumentsOut m s sp n t at)
+unfolding argumentsOut
+arguments-end m s b sp zero t at h = (omega arith, h)
+arguments-end m s b sp (suc n) t at h =
+    let e = inside (m .width) s b at (nodeAt (m .width) s at) refl h in
+    argument-ends at (length s) _ (nodeAt (m .width) s at) (λ a.
+    by-pick (λ (x : Stamped). Ends at (length s) x) (leb (m .count) (a .0)) (λ _. tt) (λ _.
+    by-pick (λ (x : Stamped). Ends at (length s) x) (eqb (entry t (m .room + m .room + a .0)) (m .first)) (λ _. tt) (λ _.
+    ends-from at (at + sizeOf (m .width) (nodeAt (m .width) s at)) (length s) (argumentsOut m s sp n (store t (8 * (m .room + m .room + a .0)) (le 8 (m .first))) (at + sizeOf (m .width) (nodeAt (m .width) s at))) (omega arith)
+    (arguments-end m s b sp n (store t (8 * (m .room + m .room + a .0)) (le 8 (m .first))) (at + sizeOf (m .width) (nodeAt (m .width) s at)) e))))

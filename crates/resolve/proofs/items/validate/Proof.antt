@@ -1,0 +1,81 @@
+use Rattle.resolve.proofs.Replacing.{Placing, placing}
+use lib.ListN.{length}
+use Prim.Native.Nat.{_-_}
+use Rattle.resolve.proofs.items.validate.Statement.{statement}
+use Rattle.resolve.proofs.items.validate.Tie as tie
+use Rattle.resolve.proofs.items.validate.Reads as reads
+use Rattle.resolve.proofs.items.validate.Lts as lts
+use Rattle.resolve.proofs.items.validate_item.Reads as validate-item-reads
+
+abbrev Inv-loop : tie.InvT-loop
+Inv-loop tape work₀ m at to p₀ q₀ work p q = Placing m tape at work₀ to work p q
+
+abbrev μ-loop : tie.MeasureT-loop
+μ-loop tape work₀ m at to p₀ q₀ work p q = length tape - p
+
+-- src/items.rt:216:5
+loop-holds : tie.Need-loop-holds Inv-loop μ-loop
+loop-holds c = search placing
+
+-- src/items.rt:217:15
+validate-item-requires : tie.Need-validate-item-requires Inv-loop μ-loop
+validate-item-requires c κs = search placing
+
+-- src/items.rt:218:29
+enum-known-c : tie.Need-enum-known-c Inv-loop μ-loop
+enum-known-c c = search placing
+
+-- src/items.rt:219:17
+same-length : tie.Need-same-length Inv-loop μ-loop
+same-length c = search placing
+
+-- src/items.rt:219:17
+returns : tie.Need-returns Inv-loop μ-loop
+returns c = search placing
+
+-- src/items.rt:221:26
+enum-known-e : tie.Need-enum-known-e Inv-loop μ-loop
+enum-known-e c = search placing
+
+-- src/items.rt:223:21
+same-length-2 : tie.Need-same-length-2 Inv-loop μ-loop
+same-length-2 c = search placing
+
+-- src/items.rt:223:21
+returns-2 : tie.Need-returns-2 Inv-loop μ-loop
+returns-2 c = search placing
+
+-- src/items.rt:216:5
+loop-less : tie.Need-loop-less Inv-loop μ-loop
+loop-less c = search placing
+
+-- src/items.rt:216:5
+loop-again : tie.Need-loop-again Inv-loop μ-loop
+loop-again c = search placing
+
+-- src/items.rt:210:1
+same-length-3 : tie.Need-same-length-3 Inv-loop μ-loop
+same-length-3 c = search placing
+
+-- src/items.rt:210:1
+returns-3 : tie.Need-returns-3 Inv-loop μ-loop
+returns-3 c = search placing
+
+pub validate-spec : {M : Type 1} → statement M
+validate-spec =
+    tie.close
+    (tie.spec
+    Inv-loop
+    μ-loop
+    loop-holds
+    validate-item-requires
+    enum-known-c
+    same-length
+    returns
+    enum-known-e
+    same-length-2
+    returns-2
+    loop-less
+    loop-again
+    same-length-3
+    returns-3)
