@@ -205,7 +205,7 @@ lay-two b lim to t w xs ys e k = go (ltb b lim) refl
         lay-over _ (lim - b) (t - b) ys (omega arith) ∙ lay-over w (lim - b) (to - b) xs (omega arith) ∙ sym (lay-over w (lim - b) (to - b) (xs ++ ys) (omega arith))
 
 -- one behind another
-replaced-prefix : (m : Scope) (y : Put) (xs w w1 : List ℕ) (to t : ℕ) (r : Walked) (w2 : List ℕ) → t ≡ adv (m .lim) to (length xs) → base m ≤ to
+pub replaced-prefix : (m : Scope) (y : Put) (xs w w1 : List ℕ) (to t : ℕ) (r : Walked) (w2 : List ℕ) → t ≡ adv (m .lim) to (length xs) → base m ≤ to
     → behind m w1 ≡ lay (behind m w) (m .lim - base m) (to - base m) xs → Replaced m y w1 t r w2 → Replaced m (prefixPut xs y) w to r w2
 unfolding Replaced prefixPut
 replaced-prefix m (put ys t′ e) xs w w1 to t r w2 f k b h = record {

@@ -5,19 +5,14 @@ use mathlib.Core.List.{List, [], _∷_, _++_}
 use Prim.Native.Nat.{ℕ, zero, suc, _+_, _-_, _*_, _^_, _<_, _≤_}
 use native.Mathlib.Omega.{arith}
 use borrow.Author.Needs.{needs}
-use borrow.Author.Tests.{ltb-true, ltb-false, lt-ltb, le-ltb}
-use Rattle.octets.proofs.Choices.{by-pick}
 use mir.Syntax.{w8}
 use mir.Val.{Fits}
-use lib.Dec.{leb, ltb}
+use lib.Dec.{leb}
 use lib.ListN.{length, getD, drop, take, length-append}
 use lib.Seq.{length-take-le}
-use Rattle.octets.specs.Choice.{pick}
 use Rattle.octets.specs.Numbers.{Bytes}
 use Rattle.octets.specs.Runs.{part}
-use Rattle.octets.specs.Sink.{Laid, step, adv, lay}
-use Rattle.octets.proofs.Laying.{adv-append, lay-append}
-use Rattle.octets.proofs.Fitting.{adv-le}
+use Rattle.octets.specs.Sink.{Laid, lay}
 use Rattle.parse_tree.specs.Tree.{Text, Item, Stage}
 use Rattle.parse_tree.specs.Texts.{distinct}
 use Rattle.parse_tree.specs.Reading.{Reading, got, refused, then}
@@ -36,10 +31,11 @@ use Rattle.resolve.specs.declared.Verdict.{Verdict}
 use Rattle.resolve.specs.declared.Walked.{Walked}
 use Rattle.resolve.specs.Scopes.{Area, base, tables}
 use Rattle.resolve.specs.Globals.{Tabled, tabled, Kept, Fined, Tabling, globalsOut}
-use Rattle.resolve.specs.Items.{Put, put, unput, behind, Laying, Replaced, itemsOut}
-use Rattle.resolve.specs.Whole.{Resolving, Written, Answers, ResolvesRead, Resolves}
-use Rattle.resolve.proofs.Regions.{tables-lay, behind-lay}
-use Rattle.resolve.proofs.Staging.{area-next}
+use Rattle.resolve.specs.Items.{Put, put, unput, prefixPut, behind, Laying, Replaced, itemsOut}
+use Rattle.resolve.specs.Whole.{Resolving, treeOut, Written, Answers, ResolvesRead, Resolves}
+use Rattle.resolve.proofs.Regions.{behind-lay}
+use Rattle.resolve.proofs.Staging.{area-next, tables-laid}
+use Rattle.resolve.proofs.Replacing.{replaced-prefix}
 use Rattle.resolve.proofs.Coding.{Tabular}
 use Rattle.resolve.proofs.GlobalsMean.{GlobalsSay, globals-mean}
 use Rattle.resolve.proofs.ArgumentsMean.{Scoped}
@@ -82,27 +78,15 @@ atoms-part s at ts is b d p q =
     ap (λ (i : ℕ). take i (drop 0 s)) z ∙ ap (λ (x : List ℕ). take at (drop 0 x)) (sym w) ∙ ap (λ (i : ℕ). take i (bytesOfEach (atomBytes 2) ts ++ bytesOfEach (itemBytes 2 ts) is)) n
     ∙ take-front (bytesOfEach (atomBytes 2) ts) (bytesOfEach (itemBytes 2 ts) is)
 
--- ---- cursors from another start
-step-shift : (lim to k : ℕ) → k ≤ to → k ≤ lim → step lim to - k ≡ step (lim - k) (to - k)
-unfolding step pick
-step-shift lim to k h g = go (ltb lim to) refl
-  where
-    go : (y : Bool) → ltb lim to ≡ y → pick (ltb lim to) to (to + 1) - k ≡ pick (ltb (lim - k) (to - k)) (to - k) (to - k + 1)
-    go true e = let z = ltb-true lim to e in cc (lt-ltb (lim - k) (to - k) (omega arith))
-    go false e =
-        let z = ltb-false lim to e in
-        let u : to + 1 - k ≡ to - k + 1 = omega arith in
-        cc (le-ltb (lim - k) (to - k) (omega arith))
+-- ---- put_tree
+pub tree-behind : (m : Scope) (s : List ℕ) (at : ℕ) (w : List ℕ) (to nn q : ℕ) (w1 : List ℕ) (r : Walked) (w2 : List ℕ) → Area m to nn → Laid w (m .lim) to (part 0 at s) q w1
+    → Replaced m (itemsOut m s (length s) (tables m w1) at) w1 q r w2 → Replaced m (treeOut m (tables m w) s at) w to r w2
+unfolding treeOut base
+tree-behind m s at w to nn q w1 r w2 ar d h =
+    replaced-prefix m _ (part 0 at s) w w1 to q r w2 (d .after) (ar .apart) (ap (behind m) (d .bytes) ∙ behind-lay m w (m .lim) to (part 0 at s) (ar .apart))
+    (rw (tables-laid m to nn q (part 0 at s) w w1 ar d) at h)
 
-step-on : (lim to : ℕ) → to ≤ step lim to
-unfolding step
-step-on lim to = by-pick (λ (x : ℕ). to ≤ x) (ltb lim to) (λ e. omega arith) (λ e. omega arith)
-
-adv-shift : (lim k : ℕ) → k ≤ lim → (n to : ℕ) → k ≤ to → adv lim to n - k ≡ adv (lim - k) (to - k) n
-unfolding adv
-adv-shift lim k g zero to h = refl
-adv-shift lim k g (suc n) to h =
-    adv-shift lim k g n (step lim to) (omega (arith, step-on lim to)) ∙ ap (λ (x : ℕ). adv (lim - k) x n) (step-shift lim to k h g)
+pub ruleset planting = (needs, area-next, tree-behind)
 
 -- ---- `resolve`: w1 is what `globals` left, and v what it answered
 module _ (s w : List ℕ) (m : Scope) (at to : ℕ) (h : Resolving s w m at to) (b : (i : ℕ) → Fits w8 (getD s i 0)) (l : length s < 2 ^ 64) (v : Verdict) (w1 : List ℕ) (g : Tabling m (globalsOut m s (tables m w) at) w v w1) where
@@ -141,60 +125,38 @@ module _ (s w : List ℕ) (m : Scope) (at to : ℕ) (h : Resolving s w m at to) 
           let y : v ≡ Verdict.Refused q′ p′ = rw j at z in
           resolves (no q′ p′) (Walked.Refused q p) w1 (ap (λ (o : Outcome (Unit {0})). after o (λ u. validateItems (h .items) (h .items))) i) cc
 
-  module _ (e : v ≡ Verdict.Fine) (q : ℕ) (w2 : List ℕ) (d : Laid w1 (m .lim) to (part 0 at s) q w2) (r : Walked) (w3 : List ℕ) (k : Replaced m (itemsOut m s (length s) (tables m w2) at) w2 q r w3) where
-    before : base m ≤ to
-    unfolding base
-    before = h .area .apart
-
-    -- the tree's items behind its atoms
-    behind-both : (t t′ xs : List ℕ) (p : ℕ) → Kept m t w w1 → Laying m xs t′ p w2 q r w3 → Written m (part 0 at s ++ xs) w to r w3
-    unfolding behind
-    behind-both t t′ xs p c y =
-        let n = length (part 0 at s) in
-        let a : q ≡ adv (m .lim) to n = d .after in
-        let f : base m ≤ m .lim = omega (arith, before, h .reach) in
-        let i : behind m w2 ≡ lay (behind m w) (m .lim - base m) (to - base m) (part 0 at s) =
-        ap (behind m) (d .bytes) ∙ behind-lay m w1 (m .lim) to (part 0 at s) before ∙ ap (λ (z : List ℕ). lay z (m .lim - base m) (to - base m) (part 0 at s)) (c .others) in
-        let j : q - base m ≡ adv (m .lim - base m) (to - base m) n = ap (λ (z : ℕ). z - base m) a ∙ adv-shift (m .lim) (base m) f n to before in
-        record {
-          place = p;
-          answered = y .answered ∙ ap (Walked.Next p) (ap (λ (z : ℕ). adv (m .lim) z (length xs)) a ∙ adv-append (m .lim) to n (length xs) ∙ ap (adv (m .lim) to) (sym (length-append (part 0 at s) xs)));
-          bytes = y .bytes ∙ ap (λ (z : List ℕ). lay z (m .lim - base m) (q - base m) xs) i ∙ ap (λ (z : ℕ). lay (lay (behind m w) (m .lim - base m) (to - base m) (part 0 at s)) (m .lim - base m) z xs) j
-              ∙ lay-append (behind m w) (m .lim - base m) (to - base m) (part 0 at s) xs;
-        }
-
+  module _ (e : v ≡ Verdict.Fine) (r : Walked) (w3 : List ℕ) (k : Replaced m (treeOut m (tables m w1) s at) w1 to r w3) where
     atoms-are : part 0 at s ≡ bytesOfEach (atomBytes 2) ts
     atoms-are = atoms-part s at ts (h .items) (λ i. b i .fits) (h .apart) (h .read) (h .decoded)
 
     scoped : (t : List ℕ) → Tabular m ts t (globals (h .items)) → Scoped m t ts (h .items) at
     scoped t c = record { size = c .long; coded = c .coded; marks = λ i j. let z = c .free i j in omega arith }
 
-    items-say : (t : List ℕ) → Tabular m ts t (globals (h .items)) → tables m w2 ≡ t
-        → Puts m ts (h .items) (bytesOfEach (itemBytes (m .width) ts)) (validateItems (h .items) (h .items)) (itemsOut m s (length s) (tables m w2) at) (length s)
+    items-say : (t : List ℕ) → Tabular m ts t (globals (h .items)) → tables m w1 ≡ t
+        → Puts m ts (h .items) (bytesOfEach (itemBytes (m .width) ts)) (validateItems (h .items) (h .items)) (itemsOut m s (length s) (tables m w1) at) (length s)
     items-say t c z = rw z (items-mean m s ts (λ i. b i .fits) (h .apart) counted (h .area .tabled .few) l (h .items) (length s) at t (h .items) (length s) read (scoped t c))
 
-    kept-tables : (t : List ℕ) → Kept m t w w1 → tables m w2 ≡ t
-    kept-tables t c = ap (tables m) (d .bytes) ∙ tables-lay m w1 (m .lim) to (part 0 at s) before ∙ c .tabled
-
-    walked : (t : List ℕ) → Kept m t w w1 → (o : Outcome (List Item)) (x : Put) → Puts m ts (h .items) (bytesOfEach (itemBytes (m .width) ts)) o x (length s) → Replaced m x w2 q r w3 → Answers m ts o w to r w3
-    unfolding Replaced Answers stageBytes
+    walked : (t : List ℕ) → Kept m t w w1 → (o : Outcome (List Item)) (x : Put) → Puts m ts (h .items) (bytesOfEach (itemBytes (m .width) ts)) o x (length s) → Replaced m (prefixPut (part 0 at s) x) w1 to r w3 → Answers m ts o w to r w3
+    unfolding Replaced Answers stageBytes prefixPut behind
     walked t c (yes R) x y z =
-        let i : Laying m (bytesOfEach (itemBytes (m .width) ts) R) (y .table) (length s) w2 q r w3 = rw (y .is) at z in
-        rw (sym atoms-are, sym (h .width)) (behind-both t (y .table) (bytesOfEach (itemBytes (m .width) ts) R) (length s) c i)
-    walked t c (no k p) x y z = rw y at z
+        let i : Laying m (part 0 at s ++ bytesOfEach (itemBytes (m .width) ts) R) (y .table) (length s) w1 to r w3 = rw (y .is) at z in
+        let n : Written m (part 0 at s ++ bytesOfEach (itemBytes (m .width) ts) R) w to r w3 =
+        record { place = length s; answered = i .answered; bytes = i .bytes ∙ ap (λ (u : List ℕ). lay u (m .lim - base m) (to - base m) (part 0 at s ++ bytesOfEach (itemBytes (m .width) ts) R)) (c .others) } in
+        rw (sym atoms-are, sym (h .width)) n
+    walked t c (no q p) x y z = rw y at z
 
     pub whole-fine : Resolves s m w to r w3
-    unfolding Tabling resolve
+    unfolding Tabling resolve treeOut
     whole-fine = go (checkGlobals [] (globals (h .items))) refl (globalsOut m s (tables m w) at) say g
       where
         go : (o : Outcome (Unit {0})) → checkGlobals [] (globals (h .items)) ≡ o → (x : Tabled) → GlobalsSay m ts (h .items) o x → Tabling m x w v w1 → Resolves s m w to r w3
         go (yes u) i x (t, j, c) z =
             let y : Fined m t w v w1 = rw j at z in
             resolves (validateItems (h .items) (h .items)) r w3 (ap (λ (o : Outcome (Unit {0})). after o (λ u. validateItems (h .items) (h .items))) i)
-            (walked t (y .kept) (validateItems (h .items) (h .items)) (itemsOut m s (length s) (tables m w2) at) (items-say t c (kept-tables t (y .kept))) k)
+            (walked t (y .kept) (validateItems (h .items) (h .items)) (itemsOut m s (length s) (tables m w1) at) (items-say t c (y .kept .tabled)) k)
         go (no q′ p′) i x j z =
             let y : v ≡ Verdict.Refused q′ p′ = rw j at z in
             let n : _≡_ {A = ℕ} 0 1 = cc in
             absurd (omega arith)
 
-pub ruleset resolving = (needs, area-next, whole-refused, whole-fine)
+pub ruleset resolving = (needs, whole-refused, whole-fine)

@@ -53,8 +53,8 @@ pub staged-as : (x y : Out) (w w1 : List ℕ) (lim to : ℕ) (r : Walked) → x 
 staged-as x y w w1 lim to r e h = rw e h
 
 -- ---- the place to write on at, and the tables
-pub area-next : (m : Scope) (to n q n1 lim : ℕ) (xs : List ℕ) (w w1 : List ℕ) → Area m to n → n1 ≡ n → Laid w (m .lim) to xs q w1 → Area m q n1
-area-next m to n q n1 lim xs w w1 a e l =
+pub area-next : (m : Scope) (to n q n1 : ℕ) (xs : List ℕ) (w w1 : List ℕ) → Area m to n → n1 ≡ n → Laid w (m .lim) to xs q w1 → Area m q n1
+area-next m to n q n1 xs w w1 a e l =
     let z = adv-le (m .lim) to (length xs) in
     let y = l .after in
     let u = a .apart in
@@ -237,7 +237,7 @@ module _ (m : Scope) (f : ℕ → Out) (n at : ℕ) (w : List ℕ) (to k p q : �
         carry = λ r w3 s. c .carry r w3 (staged-as (many f k p) (prefix xs (many f (k - 1) e)) w1 w3 (m .lim) q r o (staged-prefix (many f (k - 1) e) xs w1 w2 w3 (m .lim) q t r l s));
         same = tables-laid m q (length w1) t xs w1 w2 (c .area) l ∙ c .same;
         kept = ap length (g .bytes) ∙ length-lay w1 (m .lim) q xs ∙ c .kept;
-        area = area-next m q (length w1) t (length w2) 0 xs w1 w2 (c .area) (ap length (g .bytes) ∙ length-lay w1 (m .lim) q xs) l;
+        area = area-next m q (length w1) t (length w2) xs w1 w2 (c .area) (ap length (g .bytes) ∙ length-lay w1 (m .lim) q xs) l;
       }
   step-next (denied d s) i h e t w2 g = let z : _≡_ {A = ℕ} 0 1 = cc in absurd (omega arith)
 

@@ -4,6 +4,7 @@ use mathlib.Core.Bool.{true}
 use mathlib.Core.List.{List}
 use Prim.Native.Nat.{ℕ, _-_, _≤_}
 use lib.ListN.{length}
+use Rattle.octets.specs.Runs.{part}
 use Rattle.octets.specs.Sink.{adv, lay}
 use Rattle.parse_tree.specs.Tree.{Text, Item, Stage}
 use Rattle.parse_tree.specs.Texts.{distinct}
@@ -17,18 +18,21 @@ use Rattle.grammar.specs.Resolve.{resolve}
 use Rattle.resolve.specs.declared.Scope.{Scope}
 use Rattle.resolve.specs.declared.Walked.{Walked}
 use Rattle.resolve.specs.Scopes.{Area, base}
-use Rattle.resolve.specs.Items.{behind}
+use Rattle.resolve.specs.Items.{Put, prefixPut, behind, itemsOut}
 
 -- the tape holds these atoms, and items from a place on; the tree is written from `to` on
 pub record Resolving (s w : List ℕ) (m : Scope) (at to : ℕ) : Type 0 where
   pub items : List Item
   pub area : Area m to (length w)
-  pub reach : to ≤ m .lim
   pub inside : at ≤ length s
   pub width : m .width ≡ 2
   pub apart : distinct (atomsOf s (m .count)) ≡ true
   pub read : readItems true 2 s (atomsOf s (m .count)) (length s) at ≡ got items (length s)
   pub decoded : decode s ≡ got (record { atoms = atomsOf s (m .count); items = items }) (length s)
+
+-- the atoms, which stand before a place, then the items with tables t
+unfoldable pub treeOut : Scope → List ℕ → List ℕ → ℕ → Put
+treeOut m t s at = prefixPut (part 0 at s) (itemsOut m s (length s) t at)
 
 -- xs is written to w from `to` on, as far as there is room, and nothing else is said of the tables
 pub record Written (m : Scope) (xs w : List ℕ) (to : ℕ) (r : Walked) (w′ : List ℕ) : Type 0 where
