@@ -106,7 +106,6 @@ module _ (s : List ℕ) (cap : ℕ) (w : List ℕ) (a : Atoms) (at : ℕ) (v : V
         end = omega arith;
         apart = let z = v .third in omega arith;
       };
-      reach = omega arith;
       inside = v .ready .inside;
       width = v .width;
       apart = v .ready .apart;
