@@ -30,6 +30,13 @@ impl Case {
     }
 }
 
+/// A tape with every output up to three bytes longer, and with work of every length around what is asked for.
+pub fn every_room(tape: &[u8]) -> impl Iterator<Item = Case> + '_ {
+    let outputs = -(tape.len() as isize)..=3;
+    let rooms = outputs.flat_map(|output| (-9..=9).map(move |work| Room { output, work }));
+    rooms.map(|room| Case { tape: tape.to_vec(), room })
+}
+
 /// Mostly enough room; else at the boundary or far from it.
 pub fn room(chance: &mut Chance, tape: usize) -> Room {
     let length = tape as isize;

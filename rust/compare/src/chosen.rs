@@ -4,7 +4,7 @@ use crate::case::{Case, Room};
 use crate::grammars::{MACRO_EXPAND, RESOLVE};
 use crate::grow::Size;
 use crate::judge::expected;
-use crate::{mix, notation, short};
+use crate::{mix, short};
 use oracle::chance::Chance;
 use reading::Outcome;
 use std::collections::BTreeMap;
@@ -12,6 +12,8 @@ use std::collections::BTreeMap;
 pub const NUMBERS: [u8; 15] = [0, 1, 2, 3, 4, 5, 6, 7, 8, 9, 10, 11, 12, 13, 21];
 pub const OF_EACH: usize = 20;
 pub const LONGEST: usize = 399;
+pub const MOST_OUTPUT: usize = 512;
+pub const MOST_WORK: usize = 8_192;
 
 /// The cases by answer, or nothing where the Rust isn't there.
 pub fn vectors() -> Option<Vec<(Case, Outcome)>> {
@@ -32,12 +34,12 @@ pub fn vectors() -> Option<Vec<(Case, Outcome)>> {
 
 /// The grammars of the unit tests, some of the shortest tapes, then random ones without end.
 fn candidates() -> impl Iterator<Item = Case> {
-    let known = RESOLVE.iter().chain(&MACRO_EXPAND).map(|known| Case::fitting(reading::write(&notation::parse(known.text))));
+    let known = RESOLVE.iter().chain(&MACRO_EXPAND).map(|known| Case::fitting(known.tape()));
     let cramped = [Room { output: 0, work: -1 }, Room { output: -1, work: 0 }, Room { output: 5, work: 3 }];
     let room = cramped.into_iter().map(|room| Case { tape: vec![1, 1, 0, b'A'], room });
     let short = short::of_bytes(1).into_iter().take(4).chain(short::of_commands(1).into_iter().step_by(4)).map(Case::fitting);
     let mut chance = Chance(1);
     let random = std::iter::repeat_with(move || mix::case(&mut chance, Size::Few, 30));
-    let small = |case: &Case| case.tape.len() <= LONGEST && case.output_len() <= 2 * LONGEST;
+    let small = |case: &Case| case.tape.len() <= LONGEST && case.output_len() <= MOST_OUTPUT && case.work_len() <= MOST_WORK;
     known.chain(room).chain(short).chain(random).filter(small)
 }

@@ -66,6 +66,16 @@ fn full_operands() -> Vec<Vec<u8>> {
     ]
 }
 
+/// A chain of nonterminals, each naming the next; the same with a name met again, as either kind, and with one that nothing defines.
+fn many_items() -> Vec<Vec<u8>> {
+    let count = 8_000;
+    let link = |name, next| [nonterminal(name, 0, 1), alternative(1), named(0x20, next)].concat();
+    let chain: Vec<u8> = (0..count).flat_map(|index| link(index, (index + 1) % count)).collect();
+    let front = atoms(usize::from(count) + 2);
+    let with = |more: &[u8]| [&front[..], &chain, more].concat();
+    vec![with(&[]), with(&link(count / 2, 0)), with(&named(0x31, count - 1)), with(&link(count, count + 1))]
+}
+
 /// Each kind of layer, 63 and 64 times around a name.
 fn towers() -> Vec<Vec<u8>> {
     let layers = [spanned(0x26, &[0]), spanned(0x27, &[]), spanned(0x28, &[0, 0, 0]), spanned(0x29, &[1, 0]), spanned(0x25, &[1, 0, 1])];
@@ -77,7 +87,7 @@ fn towers() -> Vec<Vec<u8>> {
 
 /// Each tape with just enough room, and with an output one byte too short.
 pub fn cases() -> Vec<Case> {
-    let tapes = [many_atoms(), full_operands(), towers()].concat();
+    let tapes = [many_atoms(), full_operands(), many_items(), towers()].concat();
     let short = Room { output: -1, work: 0 };
     tapes.into_iter().flat_map(|tape| [Case::fitting(tape.clone()), Case { tape, room: short }]).collect()
 }

@@ -1,33 +1,59 @@
 //! The grammars of LALRPOP 0.19.8's unit tests of resolve, precedence and macro_expand, written anew in our notation.
-//! Left out, since the tape doesn't carry them: types, conditions with `~~` and `!~`, and trees after macro expansion, whose names aren't names.
+//! Left out, since the tape doesn't carry them: types, conditions with `~~` and `!~`, and the trees behind macro expansion, whose
+//! names (like `Comma<"Id">`) question 4 refuses.
+use crate::notation::parse;
+use reading::tree::Stage;
+use reading::{write, Refusal};
 
 pub struct Known {
     pub about: &'static str,
-    pub text: &'static str,
-    /// The refusal that the unit test waits for: its number and what stands at its place.
-    pub refused: Option<(u8, &'static str)>,
+    /// The grammar; `[[` and `]]` mark the place of a refusal.
+    marked: &'static str,
+    /// The refusal that the unit test waits for.
+    number: Option<u8>,
 }
 
-const fn good(about: &'static str, text: &'static str) -> Known {
-    Known { about, text, refused: None }
+impl Known {
+    pub fn stage(&self) -> Stage {
+        parse(&self.marked.replace("[[", "").replace("]]", ""))
+    }
+
+    pub fn tape(&self) -> Vec<u8> {
+        write(&self.stage())
+    }
+
+    /// The refusal with the place that is marked.
+    pub fn refused(&self) -> Option<Refusal> {
+        let (from, to) = (self.marked.find("[[")?, self.marked.find("]]")? - "[[".len());
+        Some(Refusal { number: self.number?, place: (from as u64, to as u64) })
+    }
 }
 
-const fn bad(about: &'static str, number: u8, place: &'static str, text: &'static str) -> Known {
-    Known { about, text, refused: Some((number, place)) }
+/// Every one of them.
+pub fn all() -> impl Iterator<Item = &'static Known> {
+    RESOLVE.iter().chain(&PRECEDENCE).chain(&MACRO_EXPAND)
 }
 
-pub const RESOLVE: [Known; 7] = [
-    bad("a name without a definition", 8, "Y", "X = X Y;"),
-    bad("one in a macro argument", 8, "Y", "X = X Id<Y>; Id<T> = T;"),
-    bad("one under a question mark", 8, "Y", "X = Y?;"),
-    bad("one that is chosen, in a second alternative", 8, "Expr", r#"Term = n:"Num" => { n.as_num() } | "A" <Expr> "B";"#),
-    bad("a nonterminal declared twice", 5, "A", r#"A = "Foo"; A = "Bar";"#),
-    bad("an argument declared twice", 7, "X<Y, Y>", r#"X<Y, Y> = "foo";"#),
-    bad("a nonterminal and an extern terminal", 6, "A", r#"A = "Foo"; extern A;"#),
+const fn good(about: &'static str, marked: &'static str) -> Known {
+    Known { about, marked, number: None }
+}
+
+const fn bad(about: &'static str, number: u8, marked: &'static str) -> Known {
+    Known { about, marked, number: Some(number) }
+}
+
+pub static RESOLVE: [Known; 7] = [
+    bad("a name without a definition", 8, "X = X [[Y]];"),
+    bad("one in a macro argument", 8, "X = X Id<[[Y]]>; Id<T> = T;"),
+    bad("one under a question mark", 8, "X = [[Y]]?;"),
+    bad("one that is chosen, in a second alternative", 8, r#"Term = n:"Num" => { n.as_num() } | "A" <[[Expr]]> "B";"#),
+    bad("a nonterminal declared twice", 5, r#"A = "Foo"; [[A]] = "Bar";"#),
+    bad("an argument declared twice", 7, r#"[[X<Y, Y>]] = "foo";"#),
+    bad("a nonterminal and an extern terminal", 6, r#"A = "Foo"; extern [[A]];"#),
 ];
 
 /// What stands before levels, and behind them.
-pub const PRECEDENCE: [Known; 10] = [
+pub static PRECEDENCE: [Known; 10] = [
     good(
         "three levels, no sides",
         r#"Expr = #precedence(level="1") left:Expr "*" right:Expr => { 0 }
@@ -115,7 +141,7 @@ pub const PRECEDENCE: [Known; 10] = [
     ),
 ];
 
-pub const MACRO_EXPAND: [Known; 3] = [
+pub static MACRO_EXPAND: [Known; 3] = [
     good(
         "a list with commas: a macro, a starred group, a question mark",
         r#"Comma<E> = v:(<E> ",")* e:E? => { v.into_iter().chain(e.into_iter()).collect() };

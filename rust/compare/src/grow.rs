@@ -33,6 +33,8 @@ struct Grower<'a> {
     terminals: Vec<String>,
     /// The arguments of the nonterminal that grows.
     args: Vec<String>,
+    /// Names are words of the letters a and b: many of one length, many with one beginning.
+    words: bool,
     /// How often, in ten thousand, a choice is made without regard to what is defined.
     wild: usize,
 }
@@ -44,7 +46,8 @@ pub fn tree(chance: &mut Chance, size: Size) -> Stage {
         Size::Some => 60,
         Size::Many => 4,
     };
-    let mut grower = Grower { chance, size, heads: vec![], terminals: vec![], args: vec![], wild };
+    let words = chance.percent(25);
+    let mut grower = Grower { chance, size, heads: vec![], terminals: vec![], args: vec![], words, wild };
     grower.grow_heads();
     let mut items: Vec<Item> = grower.heads.clone().into_iter().map(|head| grower.nonterminal(head)).collect();
     for name in grower.terminals.clone() {
@@ -111,11 +114,23 @@ impl Grower<'_> {
         if self.goes_wild(1) && self.chance.percent(5) {
             return self.chance.one_of(&NO_NAMES).to_string();
         }
+        if self.words {
+            return self.word();
+        }
         let name = self.chance.one_of(&NAMES);
         if self.size == Size::Few || self.chance.percent(10) {
             return name.to_string();
         }
         format!("{name}{}", self.chance.under(if self.size == Size::Some { 10 } else { 100 }))
+    }
+
+    fn word(&mut self) -> String {
+        let longest = match self.size {
+            Size::Few => 3,
+            Size::Some => 6,
+            Size::Many => 10,
+        };
+        (0..1 + self.chance.under(longest)).map(|_| self.chance.one_of(&['a', 'b'])).collect()
     }
 
     // ---- nonterminals and alternatives

@@ -16,19 +16,32 @@ pub enum Verdict {
     Differs(String),
 }
 
-/// Bytes before and behind each buffer, which nobody may touch.
-const FENCE: usize = 16;
+/// A buffer between bytes that nobody may touch, at any alignment.
+#[derive(Clone)]
+struct Fenced {
+    bytes: Vec<u8>,
+    front: usize,
+}
 
-struct Fenced(Vec<u8>);
+const BEHIND: usize = 16;
 
 impl Fenced {
     fn dirty(chance: &mut Chance, length: usize) -> Fenced {
-        Fenced(chance.bytes(length + 2 * FENCE))
+        let front = 16 + chance.under(16);
+        Fenced { bytes: chance.bytes(front + length + BEHIND), front }
     }
 
     fn inside(&mut self) -> &mut [u8] {
-        let end = self.0.len() - FENCE;
-        &mut self.0[FENCE..end]
+        let end = self.bytes.len() - BEHIND;
+        &mut self.bytes[self.front..end]
+    }
+
+    /// The first place where it isn't as it should be, told from the inside's first byte.
+    fn differing(&self, name: &str, right: &Fenced) -> Option<Verdict> {
+        let at = self.bytes.iter().zip(&right.bytes).position(|(a, b)| a != b)?;
+        let (end, place) = ((at + 8).min(self.bytes.len()), at as isize - self.front as isize);
+        let (ours, right) = (hex(&self.bytes[at..end]), hex(&right.bytes[at..end]));
+        Some(Verdict::Differs(format!("{name} from byte {place} {ours}, expected {right}")))
     }
 }
 
@@ -50,7 +63,7 @@ fn against(case: &Case, dirt: u64, outcome: &Outcome, ours: Ours) -> Verdict {
     let mut output = Fenced::dirty(&mut chance, case.output_len());
     let mut work = Fenced::dirty(&mut chance, case.work_len());
     let mut answer = [chance.word(), chance.word(), chance.word(), chance.word()];
-    let (mut right_output, mut right_work) = (Fenced(output.0.clone()), Fenced(work.0.clone()));
+    let (mut right_output, mut right_work) = (output.clone(), work.clone());
     if let Ok(tree) = outcome {
         right_output.inside()[..tree.len()].copy_from_slice(tree);
     }
@@ -62,9 +75,9 @@ fn against(case: &Case, dirt: u64, outcome: &Outcome, ours: Ours) -> Verdict {
     if answer != right_answer {
         return Verdict::Differs(format!("answer {answer:?}, expected {right_answer:?}"));
     }
-    let told = |name, ours, right| differing(ours, right).map(|text| Verdict::Differs(format!("{name}: {text}")));
     let agreed = Verdict::Agreed(outcome.as_ref().err().map_or(0, |refusal| refusal.number));
-    told("output", &output.0, &right_output.0).or_else(|| told("work", &work.0, &right_work.0)).unwrap_or(agreed)
+    let output = output.differing("output", &right_output);
+    output.or_else(|| work.differing("work", &right_work)).unwrap_or(agreed)
 }
 
 /// The four words of an answer.
@@ -73,12 +86,4 @@ pub fn words(outcome: &Outcome) -> [u64; 4] {
         Ok(tree) => [1, tree.len() as u64, 0, 0],
         Err(refusal) => [0, u64::from(refusal.number), refusal.place.0, refusal.place.1],
     }
-}
-
-/// The first place where two buffers of one length differ, told from the inside's first byte.
-fn differing(ours: &[u8], right: &[u8]) -> Option<String> {
-    let at = ours.iter().zip(right).position(|(a, b)| a != b)?;
-    let end = (at + 8).min(ours.len());
-    let place = at as isize - FENCE as isize;
-    Some(format!("from byte {place} {}, expected {}", hex(&ours[at..end]), hex(&right[at..end])))
 }

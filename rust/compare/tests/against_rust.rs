@@ -1,10 +1,9 @@
 //! Our archive set against document 01's second reading and LALRPOP's Rust on a few thousand tapes.
 //! What needs the Rust is skipped where it isn't there, and the count of skipped tapes is printed.
-use compare::case::Case;
-use compare::grammars::{Known, MACRO_EXPAND, PRECEDENCE, RESOLVE};
+use compare::case::{every_room, Case};
 use compare::run::run;
 use compare::tally::Tally;
-use compare::{edges, mix, notation, short};
+use compare::{edges, grammars, mix, short};
 use oracle::chance::Chance;
 
 const SEED: u64 = 20_261_116;
@@ -12,8 +11,8 @@ const RANDOM: usize = 4_000;
 
 fn main() {
     let mut total = Tally::default();
-    let known: Vec<&Known> = RESOLVE.iter().chain(&PRECEDENCE).chain(&MACRO_EXPAND).collect();
-    part(&mut total, "grammars of LALRPOP's unit tests", known.iter().map(|known| tape_of(known)));
+    part(&mut total, "grammars of LALRPOP's unit tests", grammars::all().map(|known| Case::fitting(known.tape())));
+    part(&mut total, "every room", every_room(&grammars::MACRO_EXPAND[2].tape()));
     part(&mut total, "short, of bytes", short::of_bytes(2).into_iter().map(Case::fitting));
     part(&mut total, "short, of commands", short::of_commands(3).into_iter().map(Case::fitting));
     part(&mut total, "at the limits", edges::cases().into_iter());
@@ -25,10 +24,6 @@ fn main() {
         let missing: Vec<u8> = (0..=13).chain([20, 21]).filter(|number| !total.answers.contains_key(number)).collect();
         assert!(missing.is_empty(), "no tape with the answers {missing:?}");
     }
-}
-
-fn tape_of(known: &Known) -> Case {
-    Case::fitting(reading::write(&notation::parse(known.text)))
 }
 
 fn part(total: &mut Tally, name: &str, cases: impl Iterator<Item = Case>) {

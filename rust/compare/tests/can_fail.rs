@@ -4,6 +4,7 @@ use compare::judge::words;
 use compare::mix;
 use compare::run::run;
 use compare::shrink::shrink;
+use compare::the_rust_is_there;
 use oracle::chance::Chance;
 use reading::Outcome;
 
@@ -85,7 +86,7 @@ fn every_fault_shows() {
 /// A 13 told as an 8 shrinks to a macro and an item that names it: two atoms or three, 10 and 11, 10, 12 and 20.
 #[test]
 fn a_difference_shrinks() {
-    if !oracle::is_there() {
+    if !the_rust_is_there(1) {
         return;
     }
     let ours = stand_in(|outcome, left| left.answer[1] -= 5 * u64::from(refused(outcome, 13)));

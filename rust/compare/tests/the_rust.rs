@@ -1,24 +1,14 @@
 //! Of the Rust's side alone: what goes in comes back, the unit tests' refusals are its own, the stored list has every answer.
 use compare::chosen::{vectors, LONGEST, NUMBERS, OF_EACH};
-use compare::grammars::{MACRO_EXPAND, PRECEDENCE, RESOLVE};
 use compare::grow::{tree, Size};
-use compare::notation;
+use compare::{grammars, the_rust_is_there};
 use oracle::chance::Chance;
-use std::io::Write;
-
-/// Whether the Rust is there; says so if it isn't, past the harness, which keeps a passed test's text to itself.
-fn is_there(checks: usize) -> bool {
-    if !oracle::is_there() {
-        writeln!(std::io::stderr(), "skipped: {checks} (LALRPOP's files are not there)").unwrap();
-    }
-    oracle::is_there()
-}
 
 #[test]
 fn a_tree_comes_back_from_lalrpops_types() {
     let mut chance = Chance(3);
     let sizes = [Size::Few, Size::Some, Size::Many];
-    if is_there(300) {
+    if the_rust_is_there(300) {
         for index in 0..300 {
             let stage = tree(&mut chance, sizes[index % 3]);
             assert_eq!(oracle::there_and_back(&stage), Some(stage));
@@ -29,20 +19,18 @@ fn a_tree_comes_back_from_lalrpops_types() {
 /// The Rust refuses at the place that the unit test marks, and nothing else.
 #[test]
 fn the_unit_tests_answers_are_the_rusts() {
-    let all: Vec<_> = RESOLVE.iter().chain(&PRECEDENCE).chain(&MACRO_EXPAND).collect();
-    if !is_there(all.len()) {
+    if !the_rust_is_there(grammars::all().count()) {
         return;
     }
-    for known in all {
-        let answer = oracle::resolve(&notation::parse(known.text)).unwrap();
-        let refused = answer.err().map(|refusal| (refusal.number, &known.text[refusal.place.0 as usize..refusal.place.1 as usize]));
-        assert_eq!(refused, known.refused, "{}", known.about);
+    for known in grammars::all() {
+        let refused = oracle::resolve(&known.stage()).unwrap().err();
+        assert_eq!(refused, known.refused(), "{}", known.about);
     }
 }
 
 #[test]
 fn the_stored_list_has_each_answer() {
-    if !is_there(NUMBERS.len() * OF_EACH) {
+    if !the_rust_is_there(NUMBERS.len() * OF_EACH) {
         return;
     }
     let list = vectors().unwrap();

@@ -1,4 +1,5 @@
-//! A second reading of document 01, written from the document: the tape, its questions, its sizes. What the passes answer is LALRPOP's to say.
+//! A second reading of document 01, written from the document: the tape, its questions, its sizes.
+//! What the passes answer is LALRPOP's to say.
 mod call;
 mod read;
 mod sizes;

@@ -1,9 +1,9 @@
-//! `compare SEED COUNT`: short tapes, tapes at the limits, and COUNT random tapes that SEED fixes, resolved by us and by the Rust.
+//! `compare SEED COUNT`: tapes with every room, short tapes, tapes at the limits, and COUNT random tapes that SEED fixes, resolved by us and by the Rust.
 //! Prints how often each answer came. Exit status: 0 all agreed, 1 one differs, 2 bad usage.
-use compare::case::Case;
+use compare::case::{every_room, Case};
 use compare::run::run;
 use compare::tally::Tally;
-use compare::{edges, mix, short};
+use compare::{edges, grammars, mix, short};
 use oracle::chance::Chance;
 
 fn main() {
@@ -13,6 +13,8 @@ fn main() {
         std::process::exit(2);
     };
     let mut total = Tally::default();
+    let tapes: Vec<Vec<u8>> = grammars::RESOLVE.iter().chain(&grammars::MACRO_EXPAND).map(|known| known.tape()).collect();
+    part(&mut total, "every room", *seed, tapes.iter().flat_map(|tape| every_room(tape)));
     part(&mut total, "short, of bytes", *seed, short::of_bytes(3).into_iter().map(Case::fitting));
     part(&mut total, "short, of commands", *seed, short::of_commands(5).into_iter().map(Case::fitting));
     part(&mut total, "at the limits", *seed, edges::cases().into_iter());
