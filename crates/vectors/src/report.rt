@@ -34,7 +34,9 @@ fn print_tree(output: &[u8], n: usize) {
         io::write_all(STDOUT_FILENO, b" output");
         return;
     }
-    if 0 < n {
+    if n == 0 {
+        io::write_all(STDOUT_FILENO, b" -");
+    } else {
         io::write_all(STDOUT_FILENO, b" ");
     }
     print_bytes(&output[..n]);

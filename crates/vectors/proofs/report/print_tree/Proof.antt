@@ -29,37 +29,45 @@ slice-aggregate-write-all-2 c = search needs
 write-all-requires-2 : tie.Need-write-all-requires-2
 write-all-requires-2 c κs = search needs
 
--- src/report.rt:40:17
-slice-aggregate-print-bytes : tie.Need-slice-aggregate-print-bytes
-slice-aggregate-print-bytes c = search parts
-
--- src/report.rt:40:5
-print-bytes-requires : tie.Need-print-bytes-requires
-print-bytes-requires c κs = search needs
-
--- src/report.rt:41:16
-sub-is-all : tie.Need-sub-is-all
-sub-is-all c = search needs
-
--- src/report.rt:41:16
-part-is-all-start : tie.Need-part-is-all-start
-part-is-all-start c = search needs
-
--- src/report.rt:41:16
-part-is-all-end : tie.Need-part-is-all-end
-part-is-all-end c = search needs
-
--- src/report.rt:41:9
-is-all-requires : tie.Need-is-all-requires
-is-all-requires c κs = search needs
-
--- src/report.rt:42:38
+-- src/report.rt:40:38
 slice-aggregate-write-all-3 : tie.Need-slice-aggregate-write-all-3
 slice-aggregate-write-all-3 c = search needs
 
--- src/report.rt:42:9
+-- src/report.rt:40:9
 write-all-requires-3 : tie.Need-write-all-requires-3
 write-all-requires-3 c κs = search needs
+
+-- src/report.rt:42:17
+slice-aggregate-print-bytes : tie.Need-slice-aggregate-print-bytes
+slice-aggregate-print-bytes c = search parts
+
+-- src/report.rt:42:5
+print-bytes-requires : tie.Need-print-bytes-requires
+print-bytes-requires c κs = search needs
+
+-- src/report.rt:43:16
+sub-is-all : tie.Need-sub-is-all
+sub-is-all c = search needs
+
+-- src/report.rt:43:16
+part-is-all-start : tie.Need-part-is-all-start
+part-is-all-start c = search needs
+
+-- src/report.rt:43:16
+part-is-all-end : tie.Need-part-is-all-end
+part-is-all-end c = search needs
+
+-- src/report.rt:43:9
+is-all-requires : tie.Need-is-all-requires
+is-all-requires c κs = search needs
+
+-- src/report.rt:44:38
+slice-aggregate-write-all-4 : tie.Need-slice-aggregate-write-all-4
+slice-aggregate-write-all-4 c = search needs
+
+-- src/report.rt:44:9
+write-all-requires-4 : tie.Need-write-all-requires-4
+write-all-requires-4 c κs = search needs
 
 -- src/report.rt:32:1
 returns-2 : tie.Need-returns-2
@@ -78,13 +86,15 @@ print-tree-spec =
     returns
     slice-aggregate-write-all-2
     write-all-requires-2
+    slice-aggregate-write-all-3
+    write-all-requires-3
     slice-aggregate-print-bytes
     print-bytes-requires
     sub-is-all
     part-is-all-start
     part-is-all-end
     is-all-requires
-    slice-aggregate-write-all-3
-    write-all-requires-3
+    slice-aggregate-write-all-4
+    write-all-requires-4
     returns-2
     returns-3)
