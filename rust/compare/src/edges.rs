@@ -1,5 +1,6 @@
 //! Tapes at the limits: as many atoms, arguments, alternatives, symbols as an operand counts, and one more; the deepest nesting.
 use crate::case::{Case, Room};
+use crate::commands::split;
 
 fn atom(text: &[u8]) -> Vec<u8> {
     [&[0x01][..], &(text.len() as u16).to_le_bytes(), text].concat()
@@ -11,7 +12,18 @@ fn atoms(count: usize) -> Vec<u8> {
 }
 
 fn spanned(code: u8, operands: &[u8]) -> Vec<u8> {
-    [&[code, 5, 0, 0, 0, 6, 0, 0, 0][..], operands].concat()
+    [&[code, 0, 0, 0, 0, 0, 0, 0, 0][..], operands].concat()
+}
+
+/// The spans set to their commands' own places, so that no two are equal.
+fn told_apart(mut tape: Vec<u8>) -> Vec<u8> {
+    for range in split(&tape) {
+        if matches!(tape[range.start], 0x10 | 0x12 | 0x20..=0x31) && range.len() > 8 {
+            tape[range.start + 1..range.start + 5].copy_from_slice(&(range.start as u32).to_le_bytes());
+            tape[range.start + 5..range.start + 9].copy_from_slice(&(range.end as u32).to_le_bytes());
+        }
+    }
+    tape
 }
 
 fn nonterminal(name: u16, args: u8, alternatives: u16) -> Vec<u8> {
@@ -89,5 +101,5 @@ fn towers() -> Vec<Vec<u8>> {
 pub fn cases() -> Vec<Case> {
     let tapes = [many_atoms(), full_operands(), many_items(), towers()].concat();
     let short = Room { output: -1, work: 0 };
-    tapes.into_iter().flat_map(|tape| [Case::fitting(tape.clone()), Case { tape, room: short }]).collect()
+    tapes.into_iter().map(told_apart).flat_map(|tape| [Case::fitting(tape.clone()), Case { tape, room: short }]).collect()
 }
