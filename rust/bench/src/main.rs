@@ -3,28 +3,14 @@
 use std::time::Instant;
 
 extern "C" {
-    fn validate_check(
-        tape: *const u8,
-        tape_len: usize,
-        work: *mut u8,
-        work_len: usize,
-        answer: *mut [u64; 4],
-    );
+    fn validate_check(tape: *const u8, tape_len: usize, work: *mut u8, work_len: usize, answer: *mut [u64; 4]);
 }
 
 /// Questions 1 to 4 of a tape: its length, or the number and the place.
 fn check(tape: &[u8], work: &mut [u8]) -> Result<u64, (u64, u64, u64)> {
     let mut answer = [0u64; 4];
     // SAFETY: the export takes two slices and an array, each by pointer and length, and asks nothing else of them.
-    unsafe {
-        validate_check(
-            tape.as_ptr(),
-            tape.len(),
-            work.as_mut_ptr(),
-            work.len(),
-            &mut answer,
-        )
-    }
+    unsafe { validate_check(tape.as_ptr(), tape.len(), work.as_mut_ptr(), work.len(), &mut answer) }
     match answer {
         [1, length, 0, 0] => Ok(length),
         [_, number, from, to] => Err((number, from, to)),

@@ -1,5 +1,5 @@
 //! Random small trees, in the part of LALRPOP's parse tree that document 01's tape carries.
-use crate::chance::Chance;
+use oracle::chance::Chance;
 use oracle::grammar::parse_tree::*;
 use oracle::grammar::pattern::Pattern;
 use oracle::DefaultAtom as Atom;
@@ -300,7 +300,11 @@ impl Grower<'_> {
         if macros.is_empty() && !wild {
             return self.leaf();
         }
-        let head = if wild || macros.is_empty() { Head { name: self.chance.one_of(&ANY_NAME), args: vec!["P"] } } else { self.chance.one_of(&macros) };
+        let head = if wild || macros.is_empty() {
+            Head { name: self.chance.one_of(&ANY_NAME), args: vec!["P"] }
+        } else {
+            self.chance.one_of(&macros)
+        };
         let count = if self.goes_wild() { 1 + self.chance.under(3) } else { head.args.len() };
         let args = (0..count).map(|_| self.argument(depth)).collect();
         SymbolKind::Macro(MacroSymbol { name: nonterminal_string(head.name), args })

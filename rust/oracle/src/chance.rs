@@ -3,7 +3,7 @@
 pub struct Chance(pub u64);
 
 impl Chance {
-    fn next(&mut self) -> u64 {
+    pub fn word(&mut self) -> u64 {
         self.0 = self.0.wrapping_add(0x9e37_79b9_7f4a_7c15);
         let mut z = self.0;
         z = (z ^ (z >> 30)).wrapping_mul(0xbf58_476d_1ce4_e5b9);
@@ -13,7 +13,7 @@ impl Chance {
 
     /// A number under `bound`.
     pub fn under(&mut self, bound: usize) -> usize {
-        (self.next() % bound as u64) as usize
+        (self.word() % bound as u64) as usize
     }
 
     /// True so many times in a hundred.
@@ -23,5 +23,14 @@ impl Chance {
 
     pub fn one_of<T: Clone>(&mut self, choices: &[T]) -> T {
         choices[self.under(choices.len())].clone()
+    }
+
+    /// So many bytes of any kind.
+    pub fn bytes(&mut self, count: usize) -> Vec<u8> {
+        let mut bytes = vec![0; count];
+        for part in bytes.chunks_mut(8) {
+            part.copy_from_slice(&self.word().to_le_bytes()[..part.len()]);
+        }
+        bytes
     }
 }

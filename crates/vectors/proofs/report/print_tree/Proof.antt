@@ -1,0 +1,90 @@
+-- `vectors::report::print_tree` is safe and ends. Assumes nothing.
+use Rattle.notation.proofs.Laws.{parts}
+use borrow.Author.Needs.{needs}
+use Rattle.vectors.proofs.report.print_tree.Statement.{statement}
+use Rattle.vectors.proofs.report.print_tree.Tie as tie
+use Rattle.vectors.proofs.report.print_tree.Reads as reads
+use Rattle.vectors.proofs.report.print_tree.Lts as lts
+use Rattle.io.proofs.write_all.Reads as write-all-reads
+use Rattle.notation.proofs.buffers.is_all.Reads as is-all-reads
+use Rattle.vectors.proofs.report.print_bytes.Reads as print-bytes-reads
+
+-- src/report.rt:34:38
+slice-aggregate-write-all : tie.Need-slice-aggregate-write-all
+slice-aggregate-write-all c = search needs
+
+-- src/report.rt:34:9
+write-all-requires : tie.Need-write-all-requires
+write-all-requires c κs = search needs
+
+-- src/report.rt:35:9
+returns : tie.Need-returns
+returns c = search needs
+
+-- src/report.rt:38:38
+slice-aggregate-write-all-2 : tie.Need-slice-aggregate-write-all-2
+slice-aggregate-write-all-2 c = search needs
+
+-- src/report.rt:38:9
+write-all-requires-2 : tie.Need-write-all-requires-2
+write-all-requires-2 c κs = search needs
+
+-- src/report.rt:40:17
+slice-aggregate-print-bytes : tie.Need-slice-aggregate-print-bytes
+slice-aggregate-print-bytes c = search parts
+
+-- src/report.rt:40:5
+print-bytes-requires : tie.Need-print-bytes-requires
+print-bytes-requires c κs = search needs
+
+-- src/report.rt:41:16
+sub-is-all : tie.Need-sub-is-all
+sub-is-all c = search needs
+
+-- src/report.rt:41:16
+part-is-all-start : tie.Need-part-is-all-start
+part-is-all-start c = search needs
+
+-- src/report.rt:41:16
+part-is-all-end : tie.Need-part-is-all-end
+part-is-all-end c = search needs
+
+-- src/report.rt:41:9
+is-all-requires : tie.Need-is-all-requires
+is-all-requires c κs = search needs
+
+-- src/report.rt:42:38
+slice-aggregate-write-all-3 : tie.Need-slice-aggregate-write-all-3
+slice-aggregate-write-all-3 c = search needs
+
+-- src/report.rt:42:9
+write-all-requires-3 : tie.Need-write-all-requires-3
+write-all-requires-3 c κs = search needs
+
+-- src/report.rt:32:1
+returns-2 : tie.Need-returns-2
+returns-2 c = search needs
+
+-- src/report.rt:32:1
+returns-3 : tie.Need-returns-3
+returns-3 c = search needs
+
+pub print-tree-spec : {M : Type 1} → statement M
+print-tree-spec =
+    tie.close
+    (tie.spec
+    slice-aggregate-write-all
+    write-all-requires
+    returns
+    slice-aggregate-write-all-2
+    write-all-requires-2
+    slice-aggregate-print-bytes
+    print-bytes-requires
+    sub-is-all
+    part-is-all-start
+    part-is-all-end
+    is-all-requires
+    slice-aggregate-write-all-3
+    write-all-requires-3
+    returns-2
+    returns-3)

@@ -1,0 +1,60 @@
+//! What one call is given: a tape, and how long its buffers are.
+use oracle::chance::Chance;
+
+/// Lengths told from the tape, so that they keep their sense when the tape shrinks. Below zero bytes they are zero.
+#[derive(Clone, Copy, Debug, Default, PartialEq, Eq)]
+pub struct Room {
+    /// The output's length beyond the tape's.
+    pub output: isize,
+    /// Work's length beyond 8 × (tape + output).
+    pub work: isize,
+}
+
+#[derive(Clone, Debug, PartialEq, Eq)]
+pub struct Case {
+    pub tape: Vec<u8>,
+    pub room: Room,
+}
+
+impl Case {
+    pub fn fitting(tape: Vec<u8>) -> Case {
+        Case { tape, room: Room::default() }
+    }
+
+    pub fn output_len(&self) -> usize {
+        self.tape.len().saturating_add_signed(self.room.output)
+    }
+
+    pub fn work_len(&self) -> usize {
+        reading::work_needed(self.tape.len(), self.output_len()).saturating_add_signed(self.room.work)
+    }
+}
+
+/// A tape with every output up to three bytes longer, and with work of every length around what is asked for.
+pub fn every_room(tape: &[u8]) -> impl Iterator<Item = Case> + '_ {
+    let outputs = -(tape.len() as isize)..=3;
+    let rooms = outputs.flat_map(|output| (-9..=9).map(move |work| Room { output, work }));
+    rooms.map(|room| Case { tape: tape.to_vec(), room })
+}
+
+/// Mostly enough room; else at the boundary or far from it.
+pub fn room(chance: &mut Chance, tape: usize) -> Room {
+    let length = tape as isize;
+    let output = match chance.under(20) {
+        0..=7 => 0,
+        8..=10 => chance.one_of(&[1, 2, 3]),
+        11..=16 => chance.under(400) as isize,
+        17 => chance.one_of(&[-1, -2]),
+        18 => chance.one_of(&[-length, 2 * length]),
+        _ => -(chance.under(tape + 1) as isize),
+    };
+    let need = reading::work_needed(tape, tape.saturating_add_signed(output));
+    let work = match chance.under(20) {
+        0..=9 => 0,
+        10..=13 => chance.one_of(&[1, 7, 9]),
+        14..=17 => chance.under(1_000) as isize,
+        18 => -(chance.under(need + 1) as isize),
+        _ => chance.one_of(&[-1, -8, -(need as isize), need as isize]),
+    };
+    Room { output, work }
+}

@@ -1,0 +1,89 @@
+//! One call of ours beside the expected outcome: answer, tree, bytes behind, work.
+use crate::case::Case;
+use crate::commands::hex;
+use oracle::chance::Chance;
+use reading::Outcome;
+
+/// Our call: tape, output, work, and the four words of the answer.
+pub type Ours<'a> = &'a dyn Fn(&[u8], &mut [u8], &mut [u8], &mut [u64; 4]);
+
+#[derive(Clone, Debug, PartialEq, Eq)]
+pub enum Verdict {
+    /// The number of the refusal, 0 for a yes.
+    Agreed(u8),
+    /// The Rust would have to be asked, and isn't there.
+    Skipped,
+    Differs(String),
+}
+
+/// A buffer between bytes that nobody may touch, at any alignment.
+#[derive(Clone)]
+struct Fenced {
+    bytes: Vec<u8>,
+    front: usize,
+}
+
+const BEHIND: usize = 16;
+
+impl Fenced {
+    fn dirty(chance: &mut Chance, length: usize) -> Fenced {
+        let front = 16 + chance.under(16);
+        Fenced { bytes: chance.bytes(front + length + BEHIND), front }
+    }
+
+    fn inside(&mut self) -> &mut [u8] {
+        let end = self.bytes.len() - BEHIND;
+        &mut self.bytes[self.front..end]
+    }
+
+    /// The first place where it isn't as it should be, told from the inside's first byte.
+    fn differing(&self, name: &str, right: &Fenced) -> Option<Verdict> {
+        let at = self.bytes.iter().zip(&right.bytes).position(|(a, b)| a != b)?;
+        let (end, place) = ((at + 8).min(self.bytes.len()), at as isize - self.front as isize);
+        let (ours, right) = (hex(&self.bytes[at..end]), hex(&right.bytes[at..end]));
+        Some(Verdict::Differs(format!("{name} from byte {place} {ours}, expected {right}")))
+    }
+}
+
+/// What document 01 and the Rust say to the case.
+pub fn expected(case: &Case) -> Option<Outcome> {
+    reading::call(&case.tape, case.output_len(), case.work_len(), oracle::resolve)
+}
+
+pub fn judge(case: &Case, dirt: u64, ours: Ours) -> Verdict {
+    match expected(case) {
+        None => Verdict::Skipped,
+        Some(outcome) => against(case, dirt, &outcome, ours),
+    }
+}
+
+/// The old bytes of output, work and answer are any, as `dirt` fixes them.
+fn against(case: &Case, dirt: u64, outcome: &Outcome, ours: Ours) -> Verdict {
+    let mut chance = Chance(dirt);
+    let mut output = Fenced::dirty(&mut chance, case.output_len());
+    let mut work = Fenced::dirty(&mut chance, case.work_len());
+    let mut answer = [chance.word(), chance.word(), chance.word(), chance.word()];
+    let (mut right_output, mut right_work) = (output.clone(), work.clone());
+    if let Ok(tree) = outcome {
+        right_output.inside()[..tree.len()].copy_from_slice(tree);
+    }
+    if case.work_len() >= reading::work_needed(case.tape.len(), case.output_len()) {
+        right_work.inside().fill(0);
+    }
+    ours(&case.tape, output.inside(), work.inside(), &mut answer);
+    let right_answer = words(outcome);
+    if answer != right_answer {
+        return Verdict::Differs(format!("answer {answer:?}, expected {right_answer:?}"));
+    }
+    let agreed = Verdict::Agreed(outcome.as_ref().err().map_or(0, |refusal| refusal.number));
+    let output = output.differing("output", &right_output);
+    output.or_else(|| work.differing("work", &right_work)).unwrap_or(agreed)
+}
+
+/// The four words of an answer.
+pub fn words(outcome: &Outcome) -> [u64; 4] {
+    match outcome {
+        Ok(tree) => [1, tree.len() as u64, 0, 0],
+        Err(refusal) => [0, u64::from(refusal.number), refusal.place.0, refusal.place.1],
+    }
+}

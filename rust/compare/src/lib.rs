@@ -1,0 +1,26 @@
+//! Our calls set against document 01's second reading (`reading`) and LALRPOP's own Rust (`oracle`), tape by tape.
+use std::io::Write;
+
+pub mod case;
+pub mod chosen;
+pub mod commands;
+pub mod damage;
+pub mod edges;
+pub mod grammars;
+pub mod grow;
+pub mod judge;
+pub mod mix;
+pub mod notation;
+pub mod run;
+pub mod short;
+pub mod shrink;
+pub mod tally;
+
+/// Whether the Rust is there for so many checks; says so if it isn't, past the harness, which keeps a passed test's text to itself.
+pub fn the_rust_is_there(checks: usize) -> bool {
+    if !oracle::is_there() {
+        // where standard error is closed, nobody can be told
+        let _ = writeln!(std::io::stderr(), "skipped: {checks} (LALRPOP's files are not there)");
+    }
+    oracle::is_there()
+}

@@ -1,0 +1,43 @@
+//! Of the Rust's side alone: what goes in comes back, the unit tests' refusals are its own, the stored list has every answer.
+use compare::chosen::{vectors, LONGEST, NUMBERS, OF_EACH};
+use compare::grow::{tree, Size};
+use compare::{grammars, the_rust_is_there};
+use oracle::chance::Chance;
+
+#[test]
+fn a_tree_comes_back_from_lalrpops_types() {
+    let mut chance = Chance(3);
+    let sizes = [Size::Few, Size::Some, Size::Many];
+    if the_rust_is_there(300) {
+        for index in 0..300 {
+            let stage = tree(&mut chance, sizes[index % 3]);
+            assert_eq!(oracle::there_and_back(&stage), Some(stage));
+        }
+    }
+}
+
+/// The Rust refuses at the place that the unit test marks, and nothing else.
+#[test]
+fn the_unit_tests_answers_are_the_rusts() {
+    if !the_rust_is_there(grammars::all().count()) {
+        return;
+    }
+    for known in grammars::all() {
+        let refused = oracle::resolve(&known.stage()).unwrap().err();
+        assert_eq!(refused, known.refused(), "{}", known.about);
+    }
+}
+
+#[test]
+fn the_stored_list_has_each_answer() {
+    if !the_rust_is_there(NUMBERS.len() * OF_EACH) {
+        return;
+    }
+    let list = vectors().unwrap();
+    assert_eq!(list.len(), NUMBERS.len() * OF_EACH);
+    assert!(list.iter().all(|(case, _)| case.tape.len() <= LONGEST));
+    for number in NUMBERS {
+        let of_number = |outcome: &reading::Outcome| outcome.as_ref().err().map_or(0, |refusal| refusal.number) == number;
+        assert_eq!(list.iter().filter(|(_, outcome)| of_number(outcome)).count(), OF_EACH);
+    }
+}

@@ -1,0 +1,106 @@
+//! Safe functions over `libnormalize.a`: a tape, an output and a work buffer in, an answer out.
+
+extern "C" {
+    fn normalize_resolve(
+        tape: *const u8,
+        tape_len: usize,
+        output: *mut u8,
+        output_len: usize,
+        work: *mut u8,
+        work_len: usize,
+        answer: *mut [u64; 4],
+    );
+}
+
+/// What a call answers to a tape.
+#[derive(Clone, Copy, Debug, PartialEq, Eq)]
+pub enum Answer {
+    /// The length of the tree that the output now begins with.
+    Yes(usize),
+    /// The number of document 01's question, and the place.
+    No { number: u8, place: (u64, u64) },
+}
+
+/// The length of work that a call asks for, a tape and an output being so long.
+pub fn work_len(tape: usize, output: usize) -> usize {
+    8 * (tape + output)
+}
+
+/// Name resolution alone: questions 1 to 13, 20 and 21.
+pub fn resolve(tape: &[u8], output: &mut [u8], work: &mut [u8]) -> Answer {
+    let mut answer = [0; 4];
+    resolve_words(tape, output, work, &mut answer);
+    match answer {
+        [1, length, _, _] => Answer::Yes(length as usize),
+        [_, number, from, to] => Answer::No { number: number as u8, place: (from, to) },
+    }
+}
+
+/// The same, with the four words as the archive writes them: 1, length, 0, 0 or 0, number, place, place.
+pub fn resolve_words(tape: &[u8], output: &mut [u8], work: &mut [u8], answer: &mut [u64; 4]) {
+    // SAFETY: the export takes three slices, each by pointer and length, and an array, and asks nothing else of them.
+    unsafe {
+        normalize_resolve(tape.as_ptr(), tape.len(), output.as_mut_ptr(), output.len(), work.as_mut_ptr(), work.len(), answer);
+    }
+}
+
+#[cfg(test)]
+mod tests {
+    use super::*;
+
+    const ATOM_A: [u8; 4] = [0x01, 1, 0, b'A'];
+    const EXTERN_A: [u8; 11] = [0x30, 7, 0, 0, 0, 8, 0, 0, 0, 0, 0];
+
+    /// `A = A`, at 1 to 2, with one alternative of one symbol at 3 to 4.
+    fn nonterminal_a(symbol: u8) -> Vec<u8> {
+        let head = [0x10, 1, 0, 0, 0, 2, 0, 0, 0, 0, 0, 0, 0, 1, 0];
+        let alternative = [0x12, 0, 0, 0, 0, 0, 0, 0, 0, 0, 0, 0, 0, 0, 1, 0];
+        let inner = [symbol, 3, 0, 0, 0, 4, 0, 0, 0, 0, 0];
+        [&head[..], &alternative, &inner].concat()
+    }
+
+    /// The answer, and both buffers, which held 0xaa before.
+    fn run(tape: &[u8], output: usize, work: usize) -> (Answer, Vec<u8>, Vec<u8>) {
+        let (mut output, mut work) = (vec![0xaa; output], vec![0xaa; work]);
+        let answer = resolve(tape, &mut output, &mut work);
+        (answer, output, work)
+    }
+
+    #[test]
+    fn the_empty_tape_is_an_empty_tree() {
+        assert_eq!(run(&[], 0, 0), (Answer::Yes(0), vec![], vec![]));
+        assert_eq!(run(&[], 3, 24), (Answer::Yes(0), vec![0xaa; 3], vec![0; 24]));
+    }
+
+    #[test]
+    fn a_name_becomes_a_nonterminal() {
+        let tape = [&ATOM_A[..], &nonterminal_a(0x20)].concat();
+        let tree = [&ATOM_A[..], &nonterminal_a(0x24), &[0xaa; 2]].concat();
+        let need = work_len(tape.len(), tape.len() + 2);
+        assert_eq!(run(&tape, tape.len() + 2, need), (Answer::Yes(tape.len()), tree, vec![0; need]));
+    }
+
+    #[test]
+    fn a_nonterminal_and_a_terminal_of_one_name_are_refused() {
+        let tape = [&ATOM_A[..], &nonterminal_a(0x20), &EXTERN_A].concat();
+        let need = work_len(tape.len(), 100);
+        let no = Answer::No { number: 6, place: (7, 8) };
+        assert_eq!(run(&tape, 100, need), (no, vec![0xaa; 100], vec![0; need]));
+    }
+
+    #[test]
+    fn an_output_too_short_is_refused() {
+        let tape = [&ATOM_A[..], &nonterminal_a(0x20)].concat();
+        let (output, need) = (tape.len() - 1, work_len(tape.len(), tape.len() - 1));
+        let no = Answer::No { number: 21, place: (0, 0) };
+        assert_eq!(run(&tape, output, need), (no, vec![0xaa; output], vec![0; need]));
+    }
+
+    #[test]
+    fn work_too_short_stays_as_it_is() {
+        let need = work_len(ATOM_A.len(), 5);
+        let no = Answer::No { number: 1, place: (0, 0) };
+        assert_eq!(run(&ATOM_A, 5, need - 1), (no, vec![0xaa; 5], vec![0xaa; need - 1]));
+        assert_eq!(run(&ATOM_A, 5, need).0, Answer::Yes(4));
+    }
+}
