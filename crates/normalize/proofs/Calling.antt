@@ -1,23 +1,22 @@
 -- The ways out of the calls. Assumes nothing.
 use mathlib.Core.Path.{_≡_, refl, sym, ap, _∙_}
 use mathlib.Core.Bool.{Bool, true, false, cond}
-use mathlib.Core.List.{List, _++_}
+use mathlib.Core.List.{List}
 use Prim.Native.Nat.{ℕ, _+_, _*_, _^_, _<_, _≤_}
 use native.Mathlib.Omega.{arith}
 use borrow.Author.Needs.{needs}
 use borrow.Author.Tests.{leb-true}
 use lib.Dec.{leb}
-use lib.ListN.{length, drop, replicate}
+use lib.ListN.{length, replicate}
 use mir.Syntax.{w64}
 use mir.Val as Bound
-use Rattle.octets.specs.Runs.{part}
 use Rattle.parse_tree.specs.Tree.{Stage}
 use Rattle.parse_tree.specs.Decode.{decode}
 use Rattle.parse_tree.specs.Encode.{stageBytes}
 use Rattle.parse_tree.specs.References.{stageOf}
 use Rattle.grammar.specs.Resolve.{resolve}
 use Rattle.grammar.specs.Sizes.{stageFits}
-use Rattle.grammar.specs.Calls.{Answer as Called′, done, denied, next, read, passed, admit, resolved, resolveCall, answerWords, written, workAfter}
+use Rattle.grammar.specs.Calls.{Answer as Called′, done, denied, next, read, passed, admit, resolved, resolveCall, written, workAfter}
 use Rattle.normalize.specs.Answers.{answerOf, Called, staged, Holds, Resolved, Fits, handed}
 use Rattle.normalize.specs.declared.Answer.{Answer}
 

@@ -2,12 +2,12 @@
 use mathlib.Core.Path.{_≡_, refl, sym, ap, _∙_}
 use mathlib.Core.Bool.{Bool, true, false}
 use mathlib.Core.List.{List}
-use Prim.Native.Nat.{ℕ, _+_, _-_, _*_, _/_, _<_, _≤_}
+use Prim.Native.Nat.{ℕ, _+_, _-_, _*_, _<_, _≤_}
 use native.Mathlib.Omega.{arith}
 use borrow.Author.Needs.{needs}
 use borrow.Author.Tests.{leb-true, leb-false, ltb-true, ltb-false}
 use lib.Dec.{leb, ltb}
-use lib.ListN.{length, take, drop, getD, length-drop}
+use lib.ListN.{length, drop, getD, length-drop}
 use lib.Seq.{drop-drop}
 use mir.Syntax.{w8}
 use mir.Val as Bound
@@ -16,7 +16,7 @@ use Rattle.octets.specs.Runs.{part}
 use Rattle.octets.specs.Sink.{adv, lay}
 use Rattle.octets.proofs.Fitting.{adv-le, adv-fits, adv-in, lay-part}
 use Rattle.parse_tree.specs.Tree.{Text, Item, Stage}
-use Rattle.parse_tree.specs.Reading.{refused, got}
+use Rattle.parse_tree.specs.Reading.{refused}
 use Rattle.parse_tree.specs.Decode.{decode}
 use Rattle.parse_tree.specs.Encode.{stageBytes}
 use Rattle.parse_tree.specs.References.{stageOf}
@@ -33,7 +33,7 @@ use Rattle.grammar.specs.Resolve.{resolve}
 use Rattle.grammar.specs.Calls.{done, denied, next, passed, stage, admit, resolved}
 use Rattle.resolve.specs.Scopes.{base}
 use Rattle.resolve.specs.Items.{behind}
-use Rattle.resolve.specs.Whole.{Resolving, Written, Answers, ResolvesRead, Resolves}
+use Rattle.resolve.specs.Whole.{Resolving, Answers, ResolvesRead, Resolves}
 use Rattle.resolve.specs.declared.Scope.{Scope}
 use Rattle.resolve.specs.declared.Walked.{Walked}
 use Rattle.normalize.specs.Answers.{answerOf, sized, staged, Holds, Resolved}

@@ -5,7 +5,6 @@ use crate::room::enough;
 use octets::runs::clear;
 use octets::sink::put_run;
 ghost use mathlib.Core.Path.{_≡_};
-ghost use Prim.Native.Nat.{_+_, _*_, _≤_};
 ghost use lib.ListN.{length};
 ghost use Rattle.grammar.specs.Calls.{resolveCall};
 ghost use Rattle.normalize.specs.Answers.{Called, Fits, handed};
