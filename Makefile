@@ -9,8 +9,9 @@ run:
 	@rt check list > target/run.log 2>&1 || { cat target/run.log; exit 1; }
 	@target/bin/list < docs/examples/listing.tape
 
-test: rust
+test:
 	sh tools/check_trust.sh
+	$(MAKE) --no-print-directory rust
 	rt ci
 
 # the archive, which its proofs come before, and the tests that link it
@@ -25,6 +26,7 @@ compare:
 
 bench:
 	rt staticlib validate > /dev/null
+	rt staticlib normalize > /dev/null
 	$(call cargo,run) --release -p bench
 
 clean:

@@ -22,19 +22,58 @@ ghost use lib.ListN.{length};
 ghost use Rattle.resolve.specs.Scopes.{Tables, tables, codeOf};
 ghost use Rattle.resolve.specs.Globals.{Tabling, Entering, describe, globalOf, declareOut, commandOut, scanOut, globalsOut};
 
-// The kinds: terminal, nonterminal, macro and macro argument.
-fn description(d: Def) -> u8
-    ensures { λ r. ⌜ r ≡ describe d ⌝ }
+// The tables of a tape's globals; the items stand from a place on. No atom is an argument yet.
+pub fn globals(tape: &[u8], work: &mut [u8], m: Scope, at: usize) -> Verdict
+    requires { ⌜ Tables m (length (now work)) × (at ≤ length (now tape)) ⌝ }
+    ensures { λ r. ⌜ Tabling m (globalsOut m (now (tape .entry)) (tables m (now (work .entry))) at) (now (work .entry)) r (now (work .exit)) ⌝ }
 {
-    match d {
-        Def::Terminal => 0,
-        Def::Nonterminal(n) => {
-            if 0 < n {
-                return 2;
+    let a = 8 * m.room;
+    let e = a + a + a;
+    clear(&mut work[a..e]);
+    match declare_each(tape, work, m, 0x10, at) {
+        Verdict::Refused(q, p) => Verdict::Refused(q, p),
+        Verdict::Fine => match declare_each(tape, work, m, 0x30, at) {
+            Verdict::Refused(q, p) => Verdict::Refused(q, p),
+            Verdict::Fine => declare_each(tape, work, m, 0x31, at),
+        },
+    }
+}
+
+// All globals of this code: the commands from a place on, one behind another.
+fn declare_each(tape: &[u8], work: &mut [u8], m: Scope, which: u8, at: usize) -> Verdict
+    requires { ⌜ Tables m (length (now work)) × (at ≤ length (now tape)) ⌝ }
+    ensures { λ r. ⌜ Tabling m (scanOut m (now (tape .entry)) which (length (now (tape .entry))) (tables m (now (work .entry))) at) (now (work .entry)) r (now (work .exit)) ⌝ }
+{
+    let mut p = at;
+    while p < tape.len() {
+        match declare_command(tape, work, m, which, p) {
+            Passed::Refused(q, s) => {
+                return Verdict::Refused(q, s);
             }
-            1
+            Passed::Next(e) => {
+                if e <= p {
+                    return Verdict::Fine;
+                }
+                p = e;
+            }
         }
-        Def::MacroArg => 3,
+    }
+    Verdict::Fine
+}
+
+// The command at a place, entered if it declares a global of this code.
+fn declare_command(tape: &[u8], work: &mut [u8], m: Scope, which: u8, at: usize) -> Passed
+    requires { ⌜ Tables m (length (now work)) ⌝ }
+    ensures { λ r. ⌜ Entering m (commandOut m (tables m (now (work .entry))) (now (tape .entry)) which at) (now (work .entry)) r (now (work .exit)) ⌝ }
+{
+    let n = node(tape, at, m.width);
+    let e = at + size(n, m.width);
+    let Global::Is(id, d, s) = global(n, which) else {
+        return Passed::Next(e);
+    };
+    match declare(work, m, id, d, s) {
+        Verdict::Fine => Passed::Next(e),
+        Verdict::Refused(q, p) => Passed::Refused(q, p),
     }
 }
 
@@ -82,57 +121,18 @@ fn declare(work: &mut [u8], m: Scope, id: u32, d: Def, s: Span) -> Verdict
     Verdict::Refused(6, s)
 }
 
-// The command at a place, entered if it declares a global of this code.
-fn declare_command(tape: &[u8], work: &mut [u8], m: Scope, which: u8, at: usize) -> Passed
-    requires { ⌜ Tables m (length (now work)) ⌝ }
-    ensures { λ r. ⌜ Entering m (commandOut m (tables m (now (work .entry))) (now (tape .entry)) which at) (now (work .entry)) r (now (work .exit)) ⌝ }
+// The kinds: terminal, nonterminal, macro and macro argument.
+fn description(d: Def) -> u8
+    ensures { λ r. ⌜ r ≡ describe d ⌝ }
 {
-    let n = node(tape, at, m.width);
-    let e = at + size(n, m.width);
-    let Global::Is(id, d, s) = global(n, which) else {
-        return Passed::Next(e);
-    };
-    match declare(work, m, id, d, s) {
-        Verdict::Fine => Passed::Next(e),
-        Verdict::Refused(q, p) => Passed::Refused(q, p),
-    }
-}
-
-// All globals of this code: the commands from a place on, one behind another.
-fn declare_each(tape: &[u8], work: &mut [u8], m: Scope, which: u8, at: usize) -> Verdict
-    requires { ⌜ Tables m (length (now work)) × (at ≤ length (now tape)) ⌝ }
-    ensures { λ r. ⌜ Tabling m (scanOut m (now (tape .entry)) which (length (now (tape .entry))) (tables m (now (work .entry))) at) (now (work .entry)) r (now (work .exit)) ⌝ }
-{
-    let mut p = at;
-    while p < tape.len() {
-        match declare_command(tape, work, m, which, p) {
-            Passed::Refused(q, s) => {
-                return Verdict::Refused(q, s);
+    match d {
+        Def::Terminal => 0,
+        Def::Nonterminal(n) => {
+            if 0 < n {
+                return 2;
             }
-            Passed::Next(e) => {
-                if e <= p {
-                    return Verdict::Fine;
-                }
-                p = e;
-            }
+            1
         }
-    }
-    Verdict::Fine
-}
-
-// The tables of a tape's globals; the items stand from a place on. No atom is an argument yet.
-pub fn globals(tape: &[u8], work: &mut [u8], m: Scope, at: usize) -> Verdict
-    requires { ⌜ Tables m (length (now work)) × (at ≤ length (now tape)) ⌝ }
-    ensures { λ r. ⌜ Tabling m (globalsOut m (now (tape .entry)) (tables m (now (work .entry))) at) (now (work .entry)) r (now (work .exit)) ⌝ }
-{
-    let a = 8 * m.room;
-    let e = a + a + a;
-    clear(&mut work[a..e]);
-    match declare_each(tape, work, m, 0x10, at) {
-        Verdict::Refused(q, p) => Verdict::Refused(q, p),
-        Verdict::Fine => match declare_each(tape, work, m, 0x30, at) {
-            Verdict::Refused(q, p) => Verdict::Refused(q, p),
-            Verdict::Fine => declare_each(tape, work, m, 0x31, at),
-        },
+        Def::MacroArg => 3,
     }
 }

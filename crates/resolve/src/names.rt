@@ -19,17 +19,6 @@ ghost use lib.ListN.{length};
 ghost use Rattle.resolve.specs.Scopes.{Tables, tables};
 ghost use Rattle.resolve.specs.Names.{idOf, conditionSays, nonterminalSays, macroSays, overSays, ambiguousSays, leafSays};
 
-// "name defined? 8"
-fn validate_id(work: &[u8], m: Scope, s: Span, id: u32) -> Id
-    requires { ⌜ Tables m (length (now work)) ⌝ }
-    ensures { λ r. ⌜ r ≡ idOf m (tables m (now (work .entry))) s id ⌝ }
-{
-    let Found::Is(d) = def(work, m, id) else {
-        return Id::Refused(8, s);
-    };
-    Id::Is(d)
-}
-
 // "condition's name defined? 8. An argument? 9"
 pub fn validate_condition(work: &[u8], m: Scope, c: Condition) -> Verdict
     requires { ⌜ Tables m (length (now work)) ⌝ }
@@ -43,6 +32,18 @@ pub fn validate_condition(work: &[u8], m: Scope, c: Condition) -> Verdict
             Def::MacroArg => Verdict::Fine,
             _ => Verdict::Refused(9, s),
         },
+    }
+}
+
+// A leaf with its name looked up.
+pub fn validate_leaf(work: &[u8], m: Scope, s: Span, l: Leaf) -> Rewritten
+    requires { ⌜ Tables m (length (now work)) ⌝ }
+    ensures { λ r. ⌜ r ≡ leafSays m (tables m (now (work .entry))) s l ⌝ }
+{
+    match l {
+        Leaf::AmbiguousId(id) => rewrite_ambiguous_id(work, m, s, id),
+        Leaf::Nonterminal(id) => validate_nonterminal(work, m, s, id),
+        _ => Rewritten::Is(l),
     }
 }
 
@@ -63,6 +64,17 @@ fn validate_nonterminal(work: &[u8], m: Scope, s: Span, id: NonterminalString) -
                 Rewritten::Is(Leaf::Nonterminal(id))
             }
         },
+    }
+}
+
+// A symbol over a list, before the symbols in it.
+pub fn validate_over(work: &[u8], m: Scope, s: Span, o: Over) -> Verdict
+    requires { ⌜ Tables m (length (now work)) ⌝ }
+    ensures { λ r. ⌜ r ≡ overSays m (tables m (now (work .entry))) s o ⌝ }
+{
+    match o {
+        Over::Macro(id, k) => validate_macro(work, m, s, id, k),
+        Over::Group(_) => Verdict::Fine,
     }
 }
 
@@ -88,17 +100,6 @@ fn validate_macro(work: &[u8], m: Scope, s: Span, id: NonterminalString, k: u8) 
     }
 }
 
-// A symbol over a list, before the symbols in it.
-pub fn validate_over(work: &[u8], m: Scope, s: Span, o: Over) -> Verdict
-    requires { ⌜ Tables m (length (now work)) ⌝ }
-    ensures { λ r. ⌜ r ≡ overSays m (tables m (now (work .entry))) s o ⌝ }
-{
-    match o {
-        Over::Macro(id, k) => validate_macro(work, m, s, id, k),
-        Over::Group(_) => Verdict::Fine,
-    }
-}
-
 // "Is 20 no macro? 13": it becomes a 21 or a 24.
 fn rewrite_ambiguous_id(work: &[u8], m: Scope, s: Span, id: Atom) -> Rewritten
     requires { ⌜ Tables m (length (now work)) ⌝ }
@@ -119,14 +120,13 @@ fn rewrite_ambiguous_id(work: &[u8], m: Scope, s: Span, id: Atom) -> Rewritten
     }
 }
 
-// A leaf with its name looked up.
-pub fn validate_leaf(work: &[u8], m: Scope, s: Span, l: Leaf) -> Rewritten
+// "name defined? 8"
+fn validate_id(work: &[u8], m: Scope, s: Span, id: u32) -> Id
     requires { ⌜ Tables m (length (now work)) ⌝ }
-    ensures { λ r. ⌜ r ≡ leafSays m (tables m (now (work .entry))) s l ⌝ }
+    ensures { λ r. ⌜ r ≡ idOf m (tables m (now (work .entry))) s id ⌝ }
 {
-    match l {
-        Leaf::AmbiguousId(id) => rewrite_ambiguous_id(work, m, s, id),
-        Leaf::Nonterminal(id) => validate_nonterminal(work, m, s, id),
-        _ => Rewritten::Is(l),
-    }
+    let Found::Is(d) = def(work, m, id) else {
+        return Id::Refused(8, s);
+    };
+    Id::Is(d)
 }

@@ -9,16 +9,19 @@ ghost use Prim.Native.Nat.{_≤_};
 ghost use lib.ListN.{length};
 ghost use Rattle.resolve.specs.Scopes.{Tables, tables, found, foundBy, codeOf};
 
-// A definition as an entry; 0 stands for none.
-pub fn code(d: Def) -> usize
-    requires { ⌜ codeOf d ≤ 257 ⌝ }
-    ensures { λ r. ⌜ r ≡ codeOf d ⌝ }
+// The definition of a name in an item: its arguments hide globals.
+pub fn def(work: &[u8], m: Scope, id: u32) -> Found
+    requires { ⌜ Tables m (length (now work)) ⌝ }
+    ensures { λ r. ⌜ r ≡ found m (tables m (now (work .entry))) id ⌝ }
 {
-    match d {
-        Def::Terminal => 1,
-        Def::Nonterminal(n) => n + 2,
-        Def::MacroArg => 0,
+    let k = from32(id);
+    if m.count <= k {
+        return Found::Nothing;
     }
+    if get(work, m.room + m.room + k) == m.first {
+        return Found::Is(Def::MacroArg);
+    }
+    by_code(get(work, m.room + k))
 }
 
 // An entry as a definition.
@@ -34,17 +37,14 @@ pub fn by_code(v: usize) -> Found
     Found::Is(Def::Nonterminal(v - 2))
 }
 
-// The definition of a name in an item: its arguments hide globals.
-pub fn def(work: &[u8], m: Scope, id: u32) -> Found
-    requires { ⌜ Tables m (length (now work)) ⌝ }
-    ensures { λ r. ⌜ r ≡ found m (tables m (now (work .entry))) id ⌝ }
+// A definition as an entry; 0 stands for none.
+pub fn code(d: Def) -> usize
+    requires { ⌜ codeOf d ≤ 257 ⌝ }
+    ensures { λ r. ⌜ r ≡ codeOf d ⌝ }
 {
-    let k = from32(id);
-    if m.count <= k {
-        return Found::Nothing;
+    match d {
+        Def::Terminal => 1,
+        Def::Nonterminal(n) => n + 2,
+        Def::MacroArg => 0,
     }
-    if get(work, m.room + m.room + k) == m.first {
-        return Found::Is(Def::MacroArg);
-    }
-    by_code(get(work, m.room + k))
 }

@@ -22,36 +22,35 @@ ghost use Rattle.parse_tree.specs.Nodes.{nodeAt};
 ghost use Rattle.resolve.specs.Scopes.{Area, tables};
 ghost use Rattle.resolve.specs.Walks.{Staged, standing, listOut, many, leafOut, symOut};
 
-// A leaf, written with its name looked up; e is the place behind it.
-fn put_leaf(work: &mut [u8], m: Scope, s: Span, l: Leaf, e: usize, to: usize) -> Walked
+// n symbols, one behind another.
+pub fn validate_expr(
+    tape: &[u8],
+    work: &mut [u8],
+    m: Scope,
+    at: usize,
+    n: usize,
+    left: usize,
+    to: usize,
+) -> Walked
     requires { ⌜ Area m to (length (now work)) ⌝ }
-    ensures { λ r. ⌜ Staged (leafOut m (tables m (now (work .entry))) s l e) (now (work .entry)) (m .lim) to r (now (work .exit)) ⌝ }
+    ensures { λ r. ⌜ Staged (many (symOut m (tables m (now (work .entry))) (now (tape .entry)) left) n at) (now (work .entry)) (m .lim) to r (now (work .exit)) ⌝ }
 {
-    match validate_leaf(work, m, s, l) {
-        Rewritten::Refused(q, p) => Walked::Refused(q, p),
-        Rewritten::Is(x) => {
-            let q = put_node(
-                work,
-                m.lim,
-                to,
-                m.width,
-                Node::Symbol(s, SymbolKind::Leaf(x)),
-            );
-            Walked::Next(e, q)
+    let mut p = at;
+    let mut q = to;
+    let mut k = n;
+    while 0 < k {
+        match validate_symbol(tape, work, m, p, left, q) {
+            Walked::Next(e, t) => {
+                p = e;
+                q = t;
+                k -= 1;
+            }
+            Walked::Refused(c, s) => {
+                return Walked::Refused(c, s);
+            }
         }
     }
-}
-
-// The command of a symbol at a place.
-fn symbol_at(tape: &[u8], width: usize, at: usize) -> Standing
-    requires { ⌜ (2 ≤ width) × (width ≤ 3) ⌝ }
-    ensures { λ r. ⌜ r ≡ standing width at (nodeAt width (now (tape .entry)) at) ⌝ }
-{
-    let n = node(tape, at, width);
-    let Node::Symbol(s, k) = n else {
-        return Standing::Nothing;
-    };
-    Standing::Is(s, k, at + size(n, width))
+    Walked::Next(p, q)
 }
 
 // The symbol at a place, with `left` levels of nesting left.
@@ -111,33 +110,34 @@ fn validate_list(
     }
 }
 
-// n symbols, one behind another.
-pub fn validate_expr(
-    tape: &[u8],
-    work: &mut [u8],
-    m: Scope,
-    at: usize,
-    n: usize,
-    left: usize,
-    to: usize,
-) -> Walked
-    requires { ⌜ Area m to (length (now work)) ⌝ }
-    ensures { λ r. ⌜ Staged (many (symOut m (tables m (now (work .entry))) (now (tape .entry)) left) n at) (now (work .entry)) (m .lim) to r (now (work .exit)) ⌝ }
+// The command of a symbol at a place.
+fn symbol_at(tape: &[u8], width: usize, at: usize) -> Standing
+    requires { ⌜ (2 ≤ width) × (width ≤ 3) ⌝ }
+    ensures { λ r. ⌜ r ≡ standing width at (nodeAt width (now (tape .entry)) at) ⌝ }
 {
-    let mut p = at;
-    let mut q = to;
-    let mut k = n;
-    while 0 < k {
-        match validate_symbol(tape, work, m, p, left, q) {
-            Walked::Next(e, t) => {
-                p = e;
-                q = t;
-                k -= 1;
-            }
-            Walked::Refused(c, s) => {
-                return Walked::Refused(c, s);
-            }
+    let n = node(tape, at, width);
+    let Node::Symbol(s, k) = n else {
+        return Standing::Nothing;
+    };
+    Standing::Is(s, k, at + size(n, width))
+}
+
+// A leaf, written with its name looked up; e is the place behind it.
+fn put_leaf(work: &mut [u8], m: Scope, s: Span, l: Leaf, e: usize, to: usize) -> Walked
+    requires { ⌜ Area m to (length (now work)) ⌝ }
+    ensures { λ r. ⌜ Staged (leafOut m (tables m (now (work .entry))) s l e) (now (work .entry)) (m .lim) to r (now (work .exit)) ⌝ }
+{
+    match validate_leaf(work, m, s, l) {
+        Rewritten::Refused(q, p) => Walked::Refused(q, p),
+        Rewritten::Is(x) => {
+            let q = put_node(
+                work,
+                m.lim,
+                to,
+                m.width,
+                Node::Symbol(s, SymbolKind::Leaf(x)),
+            );
+            Walked::Next(e, q)
         }
     }
-    Walked::Next(p, q)
 }

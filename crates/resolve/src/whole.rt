@@ -11,15 +11,6 @@ ghost use Rattle.resolve.specs.Scopes.{Area, tables};
 ghost use Rattle.resolve.specs.Items.{Replaced};
 ghost use Rattle.resolve.specs.Whole.{Resolving, Resolves, treeOut};
 
-// The atoms, which stand before a place, as they are; then the items from there on.
-fn put_tree(tape: &[u8], work: &mut [u8], m: Scope, at: usize, to: usize) -> Walked
-    requires { ⌜ Area m to (length (now work)) × (at ≤ length (now tape)) ⌝ }
-    ensures { λ r. ⌜ Replaced m (treeOut m (tables m (now (work .entry))) (now (tape .entry)) at) (now (work .entry)) to r (now (work .exit)) ⌝ }
-{
-    let q = put_run(tape, 0, at, work, m.lim, to);
-    validate(tape, work, m, at, q)
-}
-
 // The items stand from a place on, the atoms before it; the tree is written from `to` on.
 pub fn resolve(tape: &[u8], work: &mut [u8], m: Scope, at: usize, to: usize) -> Walked
     requires { ⌜ Resolving (now tape) (now work) m at to ⌝ }
@@ -29,4 +20,13 @@ pub fn resolve(tape: &[u8], work: &mut [u8], m: Scope, at: usize, to: usize) -> 
         Verdict::Refused(q, p) => Walked::Refused(q, p),
         Verdict::Fine => put_tree(tape, work, m, at, to),
     }
+}
+
+// The atoms, which stand before a place, as they are; then the items from there on.
+fn put_tree(tape: &[u8], work: &mut [u8], m: Scope, at: usize, to: usize) -> Walked
+    requires { ⌜ Area m to (length (now work)) × (at ≤ length (now tape)) ⌝ }
+    ensures { λ r. ⌜ Replaced m (treeOut m (tables m (now (work .entry))) (now (tape .entry)) at) (now (work .entry)) to r (now (work .exit)) ⌝ }
+{
+    let q = put_run(tape, 0, at, work, m.lim, to);
+    validate(tape, work, m, at, q)
 }

@@ -5,9 +5,10 @@
 // buffer. Printed: `yes`, the length and the tree; or `no`, the number and the place; then `output` or `work` where that buffer
 // doesn't hold what it must. A line that is none of this, or that asks for more room than there is, prints `bad`.
 //
-// `rust/compare`'s program `vectors` made both files: `vectors input` the list, `vectors expected` the answers. It grows random
-// trees, damages some, and keeps those that bring each answer at least ten times. 5 to 13 and the trees are LALRPOP's own, compiled
-// from its files; 1 to 4 and 21 are by the second reading of document 01 in rust/reading. 20 asks for 65,537 atoms and is left out.
+// The program `vectors` of rust/compare made both files: `vectors input` the list (stdin), `vectors expected` the answers (stdout).
+// It takes the grammars of LALRPOP's unit tests and random trees, some damaged, and keeps the first twenty short ones of each
+// answer. 5 to 13 and the trees are LALRPOP's own, compiled from its files; 1 to 4 and 21 are by the second reading of document 01
+// in rust/reading. 20 asks for 65,537 atoms and is left out.
 use lines::run_lines;
 
 mod line;

@@ -1,5 +1,6 @@
-//! Nanoseconds per byte of validating a tape, at four sizes, and of a tape of 65,536 atoms.
-//! Ends with status 1 where the figure grows by more than half from the smallest size to the largest.
+//! Nanoseconds per byte of validating and of resolving a tape, at four sizes, and of tapes of many atoms, items and arguments.
+//! Ends with status 1 where a figure grows by more than half from the smallest size to the largest.
+use normalize::{work_len, Answer};
 use std::time::Instant;
 
 extern "C" {
@@ -80,7 +81,40 @@ fn symbols(size: usize) -> Vec<u8> {
     tape.extend([0, 0, 0, 0]);
     tape.extend(count.to_le_bytes());
     tape.extend(alternatives);
+    (1..64).for_each(|k| named(&mut tape, 0x30, k));
     tape
+}
+
+fn named(tape: &mut Vec<u8>, code: u8, k: u16) {
+    tape.push(code);
+    span(tape);
+    tape.extend(k.to_le_bytes());
+}
+
+/// A tape of n nonterminals with so many arguments each; the one alternative of each names the next and its own arguments.
+fn items(n: u16, arguments: u8) -> Vec<u8> {
+    let mut tape = atoms(usize::from(n) + usize::from(arguments));
+    for k in 0..n {
+        named(&mut tape, 0x10, k);
+        tape.extend([0, arguments, 1, 0]);
+        let own = n..n + u16::from(arguments);
+        own.clone().for_each(|k| tape.extend([0x11, k.to_le_bytes()[0], k.to_le_bytes()[1]]));
+        tape.push(0x12);
+        span(&mut tape);
+        tape.extend([0, 0, 0, 0, 0, arguments + 1, 0]);
+        own.for_each(|k| named(&mut tape, 0x20, k));
+        call(&mut tape, (k + 1) % n, arguments);
+    }
+    tape
+}
+
+/// A name, or a macro call where there are arguments.
+fn call(tape: &mut Vec<u8>, k: u16, arguments: u8) {
+    named(tape, if arguments > 0 { 0x25 } else { 0x20 }, k);
+    if arguments > 0 {
+        tape.push(arguments);
+        (0..arguments).for_each(|_| named(tape, 0x22, 0));
+    }
 }
 
 /// A tape of n atoms.
@@ -93,33 +127,36 @@ fn atoms(n: usize) -> Vec<u8> {
 }
 
 /// The least nanoseconds per byte of several runs.
-fn measure(tape: &[u8]) -> f64 {
-    let mut work = vec![0u8; 8 * tape.len()];
+fn measure(tape: &[u8], mut run: impl FnMut()) -> f64 {
     let runs = (64_000_000 / tape.len()).clamp(5, 2_000);
-    (0..runs)
-        .map(|_| {
-            let start = Instant::now();
-            assert_eq!(check(tape, &mut work), Ok(tape.len() as u64));
-            start.elapsed().as_nanos() as f64 / tape.len() as f64
-        })
-        .fold(f64::INFINITY, f64::min)
+    let figure = |_| {
+        let start = Instant::now();
+        run();
+        start.elapsed().as_nanos() as f64 / tape.len() as f64
+    };
+    (0..runs).map(figure).fold(f64::INFINITY, f64::min)
+}
+
+/// What validating and resolving take, each with buffers just long enough.
+fn figures(name: &str, tape: &[u8]) -> [f64; 2] {
+    let length = tape.len();
+    let mut work = vec![0u8; 8 * length];
+    let validating = measure(tape, || assert_eq!(check(tape, &mut work), Ok(length as u64)));
+    let (mut output, mut work) = (vec![0u8; length], vec![0u8; work_len(length, length)]);
+    let resolving = measure(tape, || assert_eq!(normalize::resolve(tape, &mut output, &mut work), Answer::Yes(length)));
+    println!("{name:22} {length:8} bytes  validating {validating:6.2}  resolving {resolving:6.2} ns/byte");
+    [validating, resolving]
 }
 
 fn main() {
-    let figures: Vec<f64> = [4usize << 10, 64 << 10, 1 << 20, 4 << 20]
-        .into_iter()
-        .map(|size| {
-            let tape = symbols(size);
-            let figure = measure(&tape);
-            println!("symbols {:8} bytes  {figure:6.2} ns/byte", tape.len());
-            figure
-        })
-        .collect();
-    let tape = atoms(65_536);
-    println!("atoms   {:8} bytes  {:6.2} ns/byte (65536 atoms)", tape.len(), measure(&tape));
-    let growth = figures[3] / figures[0];
-    println!("growth from the smallest to the largest: {growth:.2}");
-    if growth > 1.5 {
+    let sizes = [4usize << 10, 64 << 10, 1 << 20, 4 << 20];
+    let all: Vec<[f64; 2]> = sizes.into_iter().map(|size| figures("symbols", &symbols(size))).collect();
+    figures("65,536 atoms", &atoms(65_536));
+    figures("60,000 items", &items(60_000, 0));
+    figures("2,000 of 100 arguments", &items(2_000, 100));
+    let growth = [all[3][0] / all[0][0], all[3][1] / all[0][1]];
+    println!("growth from the smallest to the largest: validating {:.2}, resolving {:.2}", growth[0], growth[1]);
+    if growth.iter().any(|&growth| growth > 1.5) {
         std::process::exit(1);
     }
 }

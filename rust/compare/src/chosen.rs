@@ -1,6 +1,7 @@
 //! The stored list: short cases, as many of each answer, answered by the second reading and the Rust.
 //! 20 is not among them: it takes more than 65,536 atoms.
 use crate::case::{Case, Room};
+use crate::commands::hex;
 use crate::grammars::{MACRO_EXPAND, RESOLVE};
 use crate::grow::Size;
 use crate::judge::expected;
@@ -50,4 +51,17 @@ fn candidates() -> impl Iterator<Item = Case> {
     let random = std::iter::repeat_with(move || mix::case(&mut chance, Size::Few, 30));
     let small = |case: &Case| case.tape.len() <= LONGEST && case.output_len() <= MOST_OUTPUT && case.work_len() <= MOST_WORK;
     known.chain(room).chain(short).chain(random).filter(small)
+}
+
+/// The tape in hex (`-` if empty), the output's length, work's length.
+pub fn case_line(case: &Case) -> String {
+    format!("{} {} {}", hex(&case.tape), case.output_len(), case.work_len())
+}
+
+/// `yes LENGTH TREE` or `no NUMBER PLACE PLACE`.
+pub fn answer_line(outcome: &Outcome) -> String {
+    match outcome {
+        Ok(tree) => format!("yes {} {}", tree.len(), hex(tree)),
+        Err(refusal) => format!("no {} {} {}", refusal.number, refusal.place.0, refusal.place.1),
+    }
 }

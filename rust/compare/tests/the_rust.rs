@@ -1,5 +1,5 @@
 //! Of the Rust's side alone: what goes in comes back, the unit tests' refusals are its own, the stored list has every answer.
-use compare::chosen::{vectors, LONGEST, NUMBERS, OF_EACH};
+use compare::chosen::{answer_line, case_line, vectors, LONGEST, NUMBERS, OF_EACH};
 use compare::grow::{tree, Size};
 use compare::{grammars, the_rust_is_there};
 use oracle::chance::Chance;
@@ -40,4 +40,17 @@ fn the_stored_list_has_each_answer() {
         let of_number = |outcome: &reading::Outcome| outcome.as_ref().err().map_or(0, |refusal| refusal.number) == number;
         assert_eq!(list.iter().filter(|(_, outcome)| of_number(outcome)).count(), OF_EACH);
     }
+}
+
+/// What crates/vectors replays is what this list says.
+#[test]
+fn the_stored_files_are_this_list() {
+    if !the_rust_is_there(NUMBERS.len() * OF_EACH) {
+        return;
+    }
+    let stored = |name: &str| std::fs::read_to_string(format!("{}/../../crates/vectors/{name}", env!("CARGO_MANIFEST_DIR"))).unwrap();
+    let (cases, answers): (Vec<String>, Vec<String>) =
+        vectors().unwrap().iter().map(|(case, outcome)| (case_line(case), answer_line(outcome))).unzip();
+    assert_eq!(stored("stdin").lines().collect::<Vec<_>>(), cases);
+    assert_eq!(stored("stdout").lines().collect::<Vec<_>>(), answers);
 }

@@ -1,20 +1,5 @@
-//! `vectors input` prints the stored cases, `vectors expected` their answers by document 01 and the Rust, one line each:
-//! the tape in hex (`-` if empty), the output's length, work's length; and `yes LENGTH TREE` or `no NUMBER PLACE PLACE`.
-use compare::case::Case;
-use compare::chosen::vectors;
-use compare::commands::hex;
-use reading::Outcome;
-
-fn input(case: &Case) -> String {
-    format!("{} {} {}", hex(&case.tape), case.output_len(), case.work_len())
-}
-
-fn expected(outcome: &Outcome) -> String {
-    match outcome {
-        Ok(tree) => format!("yes {} {}", tree.len(), hex(tree)),
-        Err(refusal) => format!("no {} {} {}", refusal.number, refusal.place.0, refusal.place.1),
-    }
-}
+//! `vectors input` prints the stored cases, `vectors expected` their answers by document 01 and the Rust, one line each.
+use compare::chosen::{answer_line, case_line, vectors};
 
 fn main() {
     let word = std::env::args().nth(1).unwrap_or_default();
@@ -23,7 +8,7 @@ fn main() {
     }
     let Some(vectors) = vectors() else { fail("vectors: LALRPOP's files are not there (LALRPOP_SRC names their folder)") };
     for (case, outcome) in &vectors {
-        println!("{}", if word == "input" { input(case) } else { expected(outcome) });
+        println!("{}", if word == "input" { case_line(case) } else { answer_line(outcome) });
     }
 }
 
