@@ -16,12 +16,12 @@ use Rattle.parse_tree.specs.Encode.{stageBytes}
 use Rattle.parse_tree.specs.References.{stageOf}
 use Rattle.grammar.specs.Resolve.{resolve}
 use Rattle.grammar.specs.Sizes.{stageFits}
-use Rattle.grammar.specs.Calls.{Answer as Called′, done, denied, next, read, passed, admit, resolved, resolveCall, written, workAfter}
+use Rattle.grammar.specs.Calls.{Answer as Says, done, denied, next, read, passed, admit, resolved, resolveCall, written, workAfter}
 use Rattle.normalize.specs.Answers.{answerOf, Called, staged, Holds, Resolved, Fits, handed}
 use Rattle.normalize.specs.declared.Answer.{Answer}
 
 -- ---- a yes has at most cap bytes
-Small : ℕ → Called′ Stage → Type 0
+Small : ℕ → Says Stage → Type 0
 Small cap (done g) = length (stageBytes 2 g) ≤ cap
 Small cap (denied n p q) = Unit {0}
 
@@ -34,7 +34,7 @@ admit-small cap g = go (stageFits 2 g) (leb (length (stageBytes 2 g)) cap) refl
     go true false e = tt
     go false b e = tt
 
-next-small : {A : Type 0} (cap : ℕ) (x : Called′ A) (f : A → Called′ Stage) → ((a : A) → Small cap (f a)) → Small cap (next x f)
+next-small : {A : Type 0} (cap : ℕ) (x : Says A) (f : A → Says Stage) → ((a : A) → Small cap (f a)) → Small cap (next x f)
 unfolding Small
 next-small cap (done a) f h = h a
 next-small cap (denied n p q) f h = tt
@@ -48,12 +48,12 @@ unfolding staged
 staged-small s cap = next-small cap (read (decode s)) _ (λ g. resolved-small cap g)
 
 -- ---- so it fits, and is handed over
-small-fits : (x : Called′ Stage) (a cap n : ℕ) → Small cap x → a + cap ≤ n → Fits (answerOf x) a cap n
+small-fits : (x : Says Stage) (a cap n : ℕ) → Small cap x → a + cap ≤ n → Fits (answerOf x) a cap n
 unfolding Small Fits answerOf
 small-fits (done g) a cap n h k = (omega arith, h)
 small-fits (denied q p p′) a cap n h k = tt
 
-holds-written : (s : List ℕ) (x : Called′ Stage) (w o : List ℕ) → Holds s x w → handed (answerOf x) (8 * length s) w o ≡ written x o
+holds-written : (s : List ℕ) (x : Says Stage) (w o : List ℕ) → Holds s x w → handed (answerOf x) (8 * length s) w o ≡ written x o
 unfolding Holds handed answerOf written
 holds-written s (done g) w o h = rw h
 holds-written s (denied q p p′) w o h = refl

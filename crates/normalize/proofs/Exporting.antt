@@ -4,7 +4,7 @@ use mathlib.Core.List.{List, [], _∷_}
 use Prim.Native.Nat.{ℕ}
 use borrow.Author.Needs.{needs}
 use Rattle.parse_tree.specs.Tree.{Stage}
-use Rattle.grammar.specs.Calls.{Answer as Called′, done, denied, answerWords}
+use Rattle.grammar.specs.Calls.{Answer as Says, done, denied, answerWords}
 use Rattle.normalize.specs.Answers.{answerOf, Called, Exported}
 use Rattle.normalize.specs.declared.Answer.{Answer}
 
@@ -13,12 +13,12 @@ wordsOf : Answer → List ℕ
 wordsOf (Answer.Yes n) = 1 ∷ n ∷ 0 ∷ 0 ∷ []
 wordsOf (Answer.No q a b) = 0 ∷ q ∷ a ∷ b ∷ []
 
-words-are : (x : Called′ Stage) → wordsOf (answerOf x) ≡ answerWords x
+words-are : (x : Says Stage) → wordsOf (answerOf x) ≡ answerWords x
 unfolding wordsOf answerOf answerWords
 words-are (done g) = refl
 words-are (denied n p q) = refl
 
-module _ (x : Called′ Stage) (s o w : List ℕ) (r : Answer) (o′ w′ : List ℕ) (c : Called x s o w r o′ w′) where
+module _ (x : Says Stage) (s o w : List ℕ) (r : Answer) (o′ w′ : List ℕ) (c : Called x s o w r o′ w′) where
   says : (ws : List ℕ) → ws ≡ wordsOf r → Exported x s o w ws o′ w′
   says ws e = record { answered = e ∙ ap wordsOf (c .answered) ∙ words-are x; tree = c .tree; zeroed = c .zeroed }
 

@@ -9,22 +9,22 @@ use Rattle.octets.specs.Runs.{part}
 use Rattle.parse_tree.specs.Tree.{Stage}
 use Rattle.parse_tree.specs.Decode.{decode}
 use Rattle.parse_tree.specs.Encode.{stageBytes}
-use Rattle.grammar.specs.Calls.{Answer as Called′, done, denied, next, read, resolved, answerWords, written, workAfter}
+use Rattle.grammar.specs.Calls.{Answer as Says, done, denied, next, read, resolved, answerWords, written, workAfter}
 use Rattle.normalize.specs.declared.Answer.{Answer}
 
 -- "A yes gives the length of the tree written. A no gives the number and a place of two 64-bit numbers"
-unfoldable pub answerOf : Called′ Stage → Answer
+unfoldable pub answerOf : Says Stage → Answer
 answerOf (done g) = Answer.Yes (length (stageBytes 2 g))
 answerOf (denied n p q) = Answer.No n p q
 
 -- the answer, output and work of a call whose definition says x
-pub record Called (x : Called′ Stage) (tape output work : List ℕ) (r : Answer) (output′ work′ : List ℕ) : Type 0 where
+pub record Called (x : Says Stage) (tape output work : List ℕ) (r : Answer) (output′ work′ : List ℕ) : Type 0 where
   pub answered : r ≡ answerOf x
   pub tree : output′ ≡ written x output
   pub zeroed : work′ ≡ workAfter tape (length output) work
 
 -- the same with the answer in four words
-pub record Exported (x : Called′ Stage) (tape output work words output′ work′ : List ℕ) : Type 0 where
+pub record Exported (x : Says Stage) (tape output work words output′ work′ : List ℕ) : Type 0 where
   pub answered : words ≡ answerWords x
   pub tree : output′ ≡ written x output
   pub zeroed : work′ ≡ workAfter tape (length output) work
@@ -36,10 +36,10 @@ unfoldable pub sized : ℕ → ℕ → ℕ → ℕ → Answer
 sized atoms a e lim = pick (ltb 65536 atoms) (Answer.No 20 0 0) (pick (ltb lim e) (Answer.No 21 0 0) (Answer.Yes (e - a)))
 
 -- behind question 1: what the call says of the tape, and at a yes the tree's bytes behind 8 bytes for each byte of the tape
-unfoldable pub staged : List ℕ → ℕ → Called′ Stage
+unfoldable pub staged : List ℕ → ℕ → Says Stage
 staged s cap = next (read (decode s)) (resolved cap)
 
-unfoldable pub Holds : List ℕ → Called′ Stage → List ℕ → Type 0
+unfoldable pub Holds : List ℕ → Says Stage → List ℕ → Type 0
 Holds s (done g) w = (part (8 * length s) (8 * length s + length (stageBytes 2 g)) w ≡ stageBytes 2 g)
 Holds s (denied n p q) w = Unit {0}
 
