@@ -2,7 +2,6 @@
 use crate::words::digit;
 use octets::sink::put8;
 ghost use Prim.Native.Nat.{_≤_};
-ghost use lib.ListN.{length};
 
 // The place behind what was written, or a word that is none.
 pub enum Written {

@@ -107,10 +107,13 @@ impl Grower<'_> {
         for _ in 0..most {
             let taken: Vec<_> = self.heads.iter().map(|head| head.name).collect();
             let name = self.new_name(&NAMES, &taken);
-            let count = if self.chance.percent(35) { 1 + self.chance.under(2) } else { 0 };
+            let count = if self.chance.percent(40) { 1 + self.chance.under(2) } else { 0 };
+            // arguments named like nonterminals, so that one put in can be taken for the next
+            let like_others = taken.len() > 1 && self.chance.percent(60);
+            let pool = if like_others { &taken[..] } else { &ARGUMENTS };
             let mut args = vec![];
             for _ in 0..count {
-                args.push(self.new_name(&ARGUMENTS, &args));
+                args.push(self.new_name(pool, &args));
             }
             if count > 0 && self.goes_wild() {
                 args.push(args[0]);
