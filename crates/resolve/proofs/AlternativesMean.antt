@@ -2,7 +2,7 @@
 use mathlib.Core.Path.{_≡_, refl, sym, ap, _∙_}
 use mathlib.Core.Bool.{true}
 use mathlib.Core.List.{List, [], _∷_, _++_, append-assoc}
-use mathlib.Core.Option.{Option, none, some}
+use mathlib.Core.Option.{Option, some}
 use Prim.Native.Nat.{ℕ, zero, suc, _+_, _≤_}
 use native.Mathlib.Omega.{arith}
 use lib.Dec.{leb}
@@ -36,8 +36,8 @@ use Rattle.resolve.specs.Names.{conditionSays}
 use Rattle.resolve.specs.Walks.{Out, wrote, prefix, andThen, many, symOut}
 use Rattle.resolve.specs.Items.{skipTo, passedBy, conditionIn, alternativeIn, passedThen, conditionOut, alternativeOut}
 use Rattle.resolve.proofs.NamesMean.{Looks, outOf, verdictOf, condition-means}
-use Rattle.resolve.proofs.Readings.{Standing, stands-then}
-use Rattle.resolve.proofs.SymbolsMean.{then-out, times-length, count-kept, syms-mean}
+use Rattle.resolve.proofs.Readings.{Standing, stands-then, times-length}
+use Rattle.resolve.proofs.SymbolsMean.{then-out, count-kept, syms-mean}
 
 -- ---- commands that are copied
 module _ {A : Type 0} (w : ℕ) (s : List ℕ) (f : ℕ → Reading A) (bytes : A → List ℕ) where

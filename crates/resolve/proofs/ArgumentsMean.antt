@@ -1,9 +1,9 @@
 -- The arguments of an item are marked if no two are equal, and then the tables answer as the lookup does. Assumes nothing.
 use mathlib.Core.Path.{_≡_, refl, sym, ap, _∙_}
-use mathlib.Core.Bool.{Bool, true, false, _&&_, _||_, not, cond, false≢true}
+use mathlib.Core.Bool.{Bool, true, false, _&&_, _||_, not, cond, false≢true, and-assoc, or-false}
 use mathlib.Core.List.{List, [], _∷_, _++_}
-use mathlib.Core.Option.{Option, none, some}
-use Prim.Native.Nat.{ℕ, zero, suc, _+_, _-_, _*_, _^_, _<_, _≤_}
+use mathlib.Core.Option.{some}
+use Prim.Native.Nat.{ℕ, zero, suc, _+_, _*_, _^_, _<_, _≤_}
 use native.Mathlib.Omega.{arith}
 use borrow.Author.Tests.{eqb-true, eqb-false, eq-eqb, ne-eqb, lt-leb, ltb-true}
 use lib.Dec.{leb, eqb}
@@ -19,7 +19,7 @@ use Rattle.parse_tree.specs.Texts.{has, number, distinct}
 use Rattle.parse_tree.specs.Nodes.{nodeAt, sizeOf}
 use Rattle.parse_tree.specs.Questions.{defined}
 use Rattle.parse_tree.specs.Places.{argumentsPlace}
-use Rattle.parse_tree.specs.Reading.{got, then, times}
+use Rattle.parse_tree.specs.Reading.{got, times}
 use Rattle.parse_tree.specs.Decode.{readArgument}
 use Rattle.parse_tree.specs.Within.{Each}
 use Rattle.parse_tree.specs.declared.syntax.Span.{Span}
@@ -31,29 +31,15 @@ use Rattle.parse_tree.proofs.Expecting.{argument-wanted}
 use Rattle.texts.specs.Table.{entry}
 use Rattle.texts.proofs.Tabling.{entry-same, entry-other}
 use Rattle.grammar.specs.Outcome.{Tree}
-use Rattle.grammar.specs.Resolve.{Def as Meant, terminalDef, nonterminalDef, argumentDef, Global, nonterminals, externs, matches, globals, defIn, lookup}
+use Rattle.grammar.specs.Resolve.{argumentDef, Global, nonterminals, externs, matches, globals, defIn}
 use Rattle.resolve.specs.declared.Def.{Def}
 use Rattle.resolve.specs.declared.Found.{Found}
 use Rattle.resolve.specs.declared.Scope.{Scope}
 use Rattle.resolve.specs.Scopes.{base, foundBy, found}
 use Rattle.resolve.specs.Items.{Stamped, stamped, against, lost, argumentIn, argumentsOut}
-use Rattle.resolve.proofs.Coding.{codeOfOption, Coded}
-use Rattle.resolve.proofs.NamesMean.{foundOf, Looks}
+use Rattle.resolve.proofs.Coding.{codeOfOption, foundOf, Coded, Plain, def-found}
+use Rattle.resolve.proofs.NamesMean.{Looks}
 use Rattle.resolve.proofs.Readings.{Standing, stands-then}
-
--- no argument
-abbrev Plain : Meant → Type 0
-Plain terminalDef = Unit
-Plain (nonterminalDef n) = Unit
-Plain argumentDef = ⊥
-
-plain-found : (d : Meant) → Plain d → foundBy (codeOfOption (some d)) ≡ foundOf (some d)
-unfolding foundBy foundOf pick
-plain-found terminalDef p = refl
-plain-found (nonterminalDef n) p =
-    let z : n + 2 - 2 ≡ n = omega arith in
-    rw (ne-eqb (n + 2) 0 (λ e. omega arith), ne-eqb (n + 2) 1 (λ e. omega arith), z) refl
-plain-found argumentDef p = absurd p
 
 -- no global is an argument
 plain-nonterminals : (G : Tree) → Each (λ g. Plain (g .def)) (nonterminals G)
@@ -77,16 +63,6 @@ plain-globals : (G : Tree) → Each (λ g. Plain (g .def)) (globals G)
 plain-globals G = each-append (λ (g : Global). Plain (g .def)) (nonterminals G) (externs G ++ matches G) (plain-nonterminals G)
     (each-append (λ (g : Global). Plain (g .def)) (externs G) (matches G) (plain-externs G) (plain-matches G))
 
-def-found : (x : Text) (gs : List Global) → Each (λ g. Plain (g .def)) gs → foundBy (codeOfOption (defIn x gs)) ≡ foundOf (defIn x gs)
-unfolding foundBy foundOf pick
-def-found x [] h = refl
-def-found x (g ∷ gs) h = go (sameAs x (g .name)) (def-found x gs (h .1))
-  where
-    go : (b : Bool) → foundBy (codeOfOption (defIn x gs)) ≡ foundOf (defIn x gs)
-        → foundBy (codeOfOption (cond b (some (g .def)) (defIn x gs))) ≡ foundOf (cond b (some (g .def)) (defIn x gs))
-    go true i = plain-found (g .def) (h .0)
-    go false i = i
-
 -- ---- the marks go from the front, each against those before it
 unfoldable apart : List Text → List Text → Bool
 apart qs [] = true
@@ -106,11 +82,6 @@ same-sym x y = go (sameAs x y) refl (sameAs y x) refl
     go false p true q = let e = sameAs-eq y x q in absurd (false≢true (sym p ∙ rw e (sameAs-refl x)))
     go false p false q = refl
 
-and-shift : (a f h d : Bool) → (a && ((f && h) && d)) ≡ ((a && f) && (h && d))
-and-shift true true h d = refl
-and-shift true false h d = refl
-and-shift false f h d = refl
-
 free-more : (p : Text) (qs xs : List Text) → free (p ∷ qs) xs ≡ (free qs xs && not (has p xs))
 unfolding free has
 free-more p qs [] = refl
@@ -127,7 +98,7 @@ free-more p qs (x ∷ xs) = cc (free-more p qs xs, same-sym p x, go (sameAs x p)
 apart-is : (qs xs : List Text) → apart qs xs ≡ (free qs xs && distinct xs)
 unfolding apart free distinct
 apart-is qs [] = refl
-apart-is qs (x ∷ xs) = cc (apart-is (x ∷ qs) xs, free-more x qs xs, and-shift (not (has x qs)) (free qs xs) (not (has x xs)) (distinct xs))
+apart-is qs (x ∷ xs) = cc (apart-is (x ∷ qs) xs, free-more x qs xs, and-assoc (free qs xs) (not (has x xs)) (distinct xs), and-assoc (not (has x qs)) (free qs xs) (not (has x xs) && distinct xs))
 
 free-none : (xs : List Text) → free [] xs ≡ true
 unfolding free has
@@ -136,10 +107,6 @@ free-none (x ∷ xs) = free-none xs
 
 apart-distinct : (xs : List Text) → apart [] xs ≡ distinct xs
 apart-distinct xs = rw (apart-is [] xs, free-none xs) refl
-
-or-false : (x : Bool) → (x || false) ≡ x
-or-false true = refl
-or-false false = refl
 
 -- a text that is marked belongs to those before
 has-shift : (x p : Text) (qs xs : List Text) → (has x (p ∷ qs) || has x xs) ≡ (has x qs || has x (p ∷ xs))
@@ -180,13 +147,13 @@ answer-as m ts G sp false r r′ e H H′ p q h = p ∙ h
 
 module _ (m : Scope) (ts : List Text) (d : distinct ts ≡ true) (c : m .count ≡ length ts) (few : m .count ≤ m .room) (small : m .first < 2 ^ 64) (G : Tree) where
   pub marks-look : (t : List ℕ) (ps : List Text) → Marks m t ts G (λ x. has x ps) → Looks m t ts G ps
-  unfolding found pick foundOf
+  unfolding found pick
   marks-look t ps h k l =
       rw (lt-leb (m .count) k (omega arith), h .marked k l, h .scoped .coded k l) (go (has (getD ts k []) ps))
     where
       go : (b : Bool) → pick b (Found.Is Def.MacroArg) (foundBy (codeOfOption (defIn (getD ts k []) (globals G)))) ≡ foundOf (cond b (some argumentDef) (defIn (getD ts k []) (globals G)))
       go true = refl
-      go false = def-found (getD ts k []) (globals G) (plain-globals G)
+      go false = def-found (λ g. Plain (g .def)) (λ g h. h) (getD ts k []) (globals G) (plain-globals G)
 
   -- no two atoms are equal
   atoms-apart : (i k : ℕ) → i < length ts → k < length ts → (k ≡ i → ⊥) → sameAs (getD ts i []) (getD ts k []) ≡ false
@@ -295,12 +262,3 @@ module _ (m : Scope) (ts : List Text) (d : distinct ts ≡ true) (c : m .count �
           scoped = record { size = z; coded = o; marks = λ k i. omega (arith, l k i) };
           marked = λ k i. ne-eqb (entry t (m .room + m .room + k)) (m .first) (λ q. omega (arith, l k (omega arith)));
         }))
-
-    -- the two answers by themselves
-    module _ (n a : ℕ) (ps : List Text) (e : ℕ) (t : List ℕ) (p : times (readArgument true (m .width) s ts) n a ≡ got ps e)
-        (size : length t ≡ base m) (coded : Coded m ts t (globals G)) (below : (k : ℕ) → k < m .room → entry t (m .room + m .room + k) < m .first) where
-      pub arguments-yes : distinct ps ≡ true → Marking m ts G (argumentsOut m s sp n t a) e (λ x. has x ps)
-      arguments-yes q = rw q at (arguments-mean n a ps e t p size coded below)
-
-      pub arguments-no : distinct ps ≡ false → argumentsOut m s sp n t a ≡ against 7 sp
-      arguments-no q = rw q at (arguments-mean n a ps e t p size coded below)

@@ -40,7 +40,8 @@ codeOfOption (some terminalDef) = 1
 codeOfOption (some (nonterminalDef n)) = n + 2
 codeOfOption (some argumentDef) = 0
 
-abbrev foundOf : Option Definition → Found
+-- what the tables answer for a definition
+abbrev pub foundOf : Option Definition → Found
 foundOf none = Found.Nothing
 foundOf (some d) = Found.Is (defOf d)
 
@@ -48,49 +49,42 @@ foundOf (some d) = Found.Is (defOf d)
 abbrev pub Coded : Scope → List Text → List ℕ → List Met → Type 0
 Coded m ts t gs = (k : ℕ) → k < length ts → entry t (m .room + k) ≡ codeOfOption (defIn (getD ts k []) gs)
 
--- a global has an atom's name, is no argument, and has fewer than 256 of them
+-- no argument
 abbrev pub Plain : Definition → Type 0
 Plain terminalDef = Unit {0}
-Plain (nonterminalDef n) = n < 256
+Plain (nonterminalDef n) = Unit {0}
 Plain argumentDef = ⊥
 
+-- a global has an atom's name, is no argument, and fits an entry
 pub record Proper (ts : List Text) (g : Met) : Type 0 where
   pub atom : has (g .name) ts ≡ true
   pub plain : Plain (g .def)
-
-abbrev PlainOption : Option Definition → Type 0
-PlainOption none = Unit {0}
-PlainOption (some d) = Plain d
-
-def-plain : (ts : List Text) (n : Text) (gs : List Met) → Each (Proper ts) gs → PlainOption (defIn n gs)
-def-plain ts n [] h = tt
-def-plain ts n (g ∷ gs) h = go (sameAs n (g .name)) (def-plain ts n gs (h .1))
-  where
-    go : (b : Bool) → PlainOption (defIn n gs) → PlainOption (cond b (some (g .def)) (defIn n gs))
-    go true i = h .0 .plain
-    go false i = i
+  pub small : codeOf (defOf (g .def)) < 2 ^ 64
 
 -- an entry says its definition
-found-code : (o : Option Definition) → PlainOption o → foundBy (codeOfOption o) ≡ foundOf o
+found-code : (d : Definition) → Plain d → foundBy (codeOfOption (some d)) ≡ Found.Is (defOf d)
 unfolding foundBy pick
-found-code none h = refl
-found-code (some terminalDef) h = refl
-found-code (some (nonterminalDef n)) h =
+found-code terminalDef h = refl
+found-code (nonterminalDef n) h =
     let z : n + 2 - 2 ≡ n = omega arith in
     cc (ne-eqb (n + 2) 0 (λ e. omega arith), ne-eqb (n + 2) 1 (λ e. omega arith))
-found-code (some argumentDef) h = absurd h
+found-code argumentDef h = absurd h
+
+pub def-found : (P : Met → Type 0) → ((g : Met) → P g → Plain (g .def)) → (n : Text) (gs : List Met) → Each P gs → foundBy (codeOfOption (defIn n gs)) ≡ foundOf (defIn n gs)
+unfolding foundBy pick
+def-found P f n [] h = refl
+def-found P f n (g ∷ gs) h = go (sameAs n (g .name)) (def-found P f n gs (h .1))
+  where
+    go : (b : Bool) → foundBy (codeOfOption (defIn n gs)) ≡ foundOf (defIn n gs)
+        → foundBy (codeOfOption (cond b (some (g .def)) (defIn n gs))) ≡ foundOf (cond b (some (g .def)) (defIn n gs))
+    go true i = found-code (g .def) (f g (h .0))
+    go false i = i
 
 code-def : (d : Definition) → codeOf (defOf d) ≡ codeOfOption (some d)
 unfolding codeOf
 code-def terminalDef = refl
 code-def (nonterminalDef n) = refl
 code-def argumentDef = refl
-
-code-small : (d : Definition) → Plain d → codeOf (defOf d) < 2 ^ 64
-unfolding codeOf
-code-small terminalDef h = omega arith
-code-small (nonterminalDef n) h = omega arith
-code-small argumentDef h = absurd h
 
 describe-kind : (d : Definition) → describe (defOf d) ≡ kind d
 unfolding describe pick
@@ -148,7 +142,7 @@ module _ (m : Scope) (ts : List Text) (d : distinct ts ≡ true) (c : m .count �
     declare-is : declareOut m t at (defOf (g .def)) (g .span) ≡ declareBy m t at (defOf (g .def)) (g .span) (foundOf (defIn (g .name) before))
     unfolding declareOut pick
     declare-is =
-        let z : foundBy (entry t (m .room + at)) ≡ foundOf (defIn (g .name) before) = ap foundBy here ∙ found-code (defIn (g .name) before) (def-plain ts (g .name) before p) in
+        let z : foundBy (entry t (m .room + at)) ≡ foundOf (defIn (g .name) before) = ap foundBy here ∙ def-found (Proper ts) (λ x h. h .plain) (g .name) before p in
         let b : at < m .count = omega (arith, below) in
         cc (lt-leb (m .count) at b)
 
@@ -178,7 +172,7 @@ module _ (m : Scope) (ts : List Text) (d : distinct ts ≡ true) (c : m .count �
             → entry next (m .room + k) ≡ codeOfOption (cond y (some (g .def)) (defIn (getD ts k []) before))
         go k b true e true f =
             let z = eqb-true k at e in
-            rw z (entry-same t (m .room + at) (codeOf (defOf (g .def))) (omega (arith, below, h .long)) (code-small (g .def) (u .plain)) ∙ code-def (g .def))
+            rw z (entry-same t (m .room + at) (codeOf (defOf (g .def))) (omega (arith, below, h .long)) (u .small) ∙ code-def (g .def))
         go k b true e false f =
             let z : getD ts k [] ≡ g .name = ap (λ (i : ℕ). getD ts i []) (eqb-true k at e) ∙ text-number ts (g .name) (u .atom) in
             absurd (let y : _≡_ {A = ℕ} 0 1 = cc (eq-sameAs (getD ts k []) (g .name) z) in omega arith)

@@ -1,8 +1,7 @@
 -- The ways out of the functions that enter globals. Assumes nothing.
 use mathlib.Core.Path.{_≡_, refl, sym, ap, _∙_}
-use mathlib.Core.Logic.{_⊎_, inl, inr}
 use mathlib.Core.List.{List, [], _∷_, _++_, append-assoc}
-use Prim.Native.Nat.{ℕ, zero, suc, _+_, _-_, _*_, _^_, _≤_, _<_}
+use Prim.Native.Nat.{ℕ, zero, suc, _+_, _-_, _*_, _≤_, _<_}
 use native.Mathlib.Omega.{arith}
 use borrow.Author.Needs.{needs}
 use borrow.Author.Tests.{le-leb, lt-leb, lt-ltb, le-ltb, eq-eqb, ne-eqb}
@@ -12,21 +11,17 @@ use types.Run.{OneOf, miss}
 use lib.Dec.{eqb, leb}
 use lib.ListN.{length, take, drop, getD, replicate, length-drop, length-append, length-replicate}
 use lib.Seq.{take-at, take-take, drop-at, drop-drop, length-take-le}
-use mir.Syntax.{w8, w64}
+use mir.Syntax.{w8}
 use mir.Val.{Fits}
 use Rattle.octets.specs.Choice.{pick}
 use Rattle.octets.specs.Numbers.{le}
 use Rattle.octets.specs.Stores.{store}
 use Rattle.octets.proofs.Choices.{by-pick}
-use Rattle.octets.proofs.Lying.{lies-inside}
 use Rattle.parse_tree.proofs.syntax.Node.{the-type as node-type}
-use Rattle.parse_tree.specs.Nodes.{nodeAt, nodeBytes, symbolBytes, sizeOf}
+use Rattle.parse_tree.specs.Nodes.{nodeAt, sizeOf}
 use Rattle.parse_tree.specs.declared.syntax.Span.{Span}
 use Rattle.parse_tree.specs.declared.syntax.NonterminalData.{NonterminalData}
 use Rattle.parse_tree.specs.declared.syntax.TerminalData.{TerminalData}
-use Rattle.parse_tree.specs.declared.syntax.SymbolKind.{SymbolKind}
-use Rattle.parse_tree.specs.declared.syntax.Around.{Around}
-use Rattle.parse_tree.specs.declared.syntax.Over.{Over}
 use Rattle.parse_tree.specs.declared.syntax.Node.{Node}
 use Rattle.parse_tree.proofs.NodeFits.{NodeSays}
 use Rattle.parse_tree.proofs.NodeSays.{node-says}
@@ -42,6 +37,7 @@ use Rattle.resolve.specs.declared.Verdict.{Verdict}
 use Rattle.resolve.proofs.Found.{the-type as found-type}
 use Rattle.resolve.proofs.Global.{the-type as global-type}
 use Rattle.resolve.proofs.Regions.{tables-entry, tables-store, behind-store}
+use Rattle.resolve.proofs.Inside.{command-fits}
 
 -- ---- `description`
 pub describe-terminal : (d : Def) → d ≡ Def.Terminal → 0 ≡ describe d
@@ -66,7 +62,7 @@ pub ruleset describing = (needs, describe-terminal, describe-macro, describe-pla
 module _ (which : ℕ) (n : Node) where
   pub global-nonterminal : (d : NonterminalData) (k : ℕ) → n ≡ Node.Nonterminal d → which ≡ 16 → k ≡ d .args → Global.Is (d .name .0) (Def.Nonterminal k) (d .span) ≡ globalOf which n
   unfolding globalOf pick
-  global-nonterminal d k e z p = cc (eq-eqb which 16 z)
+  global-nonterminal d k e z p = cc
 
   pub global-otherwise : (d : NonterminalData) → n ≡ Node.Nonterminal d → (which ≡ 16 → ⊥) → Global.Nothing ≡ globalOf which n
   unfolding globalOf pick
@@ -147,40 +143,11 @@ pub ruleset declaring = (needs, declare-above, declare-new, declare-alike, decla
 nothing-is : {k : ℕ} {d : Def} {s : Span} → Global.Nothing ≡ Global.Is k d s → ⊥
 nothing-is {k} {d} {s} e = let z : _≡_ {A = ℕ} 0 1 = cc in omega arith
 
-fine-not : {q : ℕ} {p : Span} → Verdict.Fine ≡ Verdict.Refused q p → ⊥
+pub fine-not : {q : ℕ} {p : Span} → Verdict.Fine ≡ Verdict.Refused q p → ⊥
 fine-not {q} {p} e = let z : _≡_ {A = ℕ} 0 1 = cc in omega arith
 
-next-not : {e q : ℕ} {p : Span} → Passed.Next e ≡ Passed.Refused q p → ⊥
+pub next-not : {e q : ℕ} {p : Span} → Passed.Next e ≡ Passed.Refused q p → ⊥
 next-not {e} {q} {p} h = let z : _≡_ {A = ℕ} 0 1 = cc in omega arith
-
-pub symbol-positive : (w : ℕ) (sp : Span) (k : SymbolKind) → 0 < length (symbolBytes w sp k)
-unfolding symbolBytes
-symbol-positive w sp (SymbolKind.Leaf l) = omega arith
-symbol-positive w sp (SymbolKind.Around (Around.Repeat op)) = omega arith
-symbol-positive w sp (SymbolKind.Around Around.Choose) = omega arith
-symbol-positive w sp (SymbolKind.Around (Around.Name m n)) = omega arith
-symbol-positive w sp (SymbolKind.Over (Over.Macro n k)) = omega arith
-symbol-positive w sp (SymbolKind.Over (Over.Group k)) = omega arith
-
--- a command that is known lies inside
-command-end : (w : ℕ) (s : List ℕ) (at : ℕ) (n : Node) → NodeSays w s at n → (sizeOf w n ≡ 0) ⊎ (at + sizeOf w n ≤ length s)
-unfolding sizeOf nodeBytes
-command-end w s at (Node.Text k) h = inr (lies-inside s at _ (nodeBytes w (Node.Text k)) (omega arith) (h .lies))
-command-end w s at (Node.Nonterminal d) h = inr (lies-inside s at _ (nodeBytes w (Node.Nonterminal d)) (omega arith) (h .lies))
-command-end w s at (Node.Terminal t) h = inr (lies-inside s at _ (nodeBytes w (Node.Terminal t)) (omega arith) (h .lies))
-command-end w s at (Node.Argument a) h = inr (lies-inside s at _ (nodeBytes w (Node.Argument a)) (omega arith) (h .lies))
-command-end w s at (Node.Alternative a) h = inr (lies-inside s at _ (nodeBytes w (Node.Alternative a)) (omega arith) (h .lies))
-command-end w s at (Node.Attribute a) h = inr (lies-inside s at _ (nodeBytes w (Node.Attribute a)) (omega arith) (h .lies))
-command-end w s at (Node.Condition c) h = inr (lies-inside s at _ (nodeBytes w (Node.Condition c)) (omega arith) (h .lies))
-command-end w s at (Node.Symbol sp k) h = inr (lies-inside s at _ (nodeBytes w (Node.Symbol sp k)) (symbol-positive w sp k) (h .lies))
-command-end w s at Node.Unknown h = inl refl
-
-pub command-fits : (w : ℕ) (s : List ℕ) (at z : ℕ) (n : Node) → n ≡ nodeAt w s at → z ≡ sizeOf w n → ((i : ℕ) → Fits w8 (getD s i 0)) → length s < 2 ^ 64 → at < 2 ^ 64 → Fits w64 (at + z)
-command-fits w s at z n p q b l k = record { fits = go (command-end w s at n (rw p (node-says w s at (λ i. b i .fits)))) }
-  where
-    go : (sizeOf w n ≡ 0) ⊎ (at + sizeOf w n ≤ length s) → at + z < 2 ^ 64
-    go (inl h) = omega arith
-    go (inr h) = omega arith
 
 -- a number of arguments is a byte
 args-small : (w : ℕ) (s : List ℕ) (at : ℕ) (n : Node) → NodeSays w s at n → (which k : ℕ) (d : Def) (sp : Span) → globalOf which n ≡ Global.Is k d sp → codeOf d ≤ 257
@@ -188,10 +155,10 @@ unfolding globalOf codeOf
 args-small w s at (Node.Text i) h which k d sp e = absurd (nothing-is e)
 args-small w s at (Node.Nonterminal x) h which k d sp e =
     by-pick (λ (g : Global). g ≡ Global.Is k d sp → codeOf d ≤ 257) (eqb which 16)
-    (λ _ q. let z : d ≡ Def.Nonterminal (x .args) = cc in rw z (omega (arith, h .fits .3))) (λ _ q. absurd (nothing-is q)) e
+    (λ _ (q : Global.Is (x .name .0) (Def.Nonterminal (x .args)) (x .span) ≡ Global.Is k d sp). let z : d ≡ Def.Nonterminal (x .args) = cc in rw z (omega (arith, h .fits .3))) (λ _ q. absurd (nothing-is q)) e
 args-small w s at (Node.Terminal x) h which k d sp e =
     by-pick (λ (g : Global). g ≡ Global.Is k d sp → codeOf d ≤ 257) (eqb which (x .source))
-    (λ _ q. let z : d ≡ Def.Terminal = cc in rw z (omega arith)) (λ _ q. absurd (nothing-is q)) e
+    (λ _ (q : Global.Is (x .name .0) Def.Terminal (x .span) ≡ Global.Is k d sp). let z : d ≡ Def.Terminal = cc in rw z (omega arith)) (λ _ q. absurd (nothing-is q)) e
 args-small w s at (Node.Argument a) h which k d sp e = absurd (nothing-is e)
 args-small w s at (Node.Alternative a) h which k d sp e = absurd (nothing-is e)
 args-small w s at (Node.Attribute a) h which k d sp e = absurd (nothing-is e)

@@ -7,7 +7,7 @@ use Prim.Native.Nat.{ℕ, zero, suc, _+_, _-_, _*_, _≤_, _<_}
 use native.Mathlib.Omega.{arith}
 use borrow.Author.Tests.{lt-leb, leb-true, ltb-true}
 use lib.Dec.{eqb, ltb, leb}
-use lib.ListN.{length, take, getD, replicate, length-append, length-replicate}
+use lib.ListN.{length, take, getD, replicate, length-append, length-replicate, getD-replicate}
 use lib.Seq.{getD-append-add, length-take-le}
 use Rattle.octets.specs.Choice.{pick}
 use Rattle.octets.specs.Numbers.{leAt, Bytes}
@@ -23,19 +23,18 @@ use Rattle.parse_tree.specs.declared.syntax.NonterminalData.{NonterminalData}
 use Rattle.parse_tree.specs.declared.syntax.TerminalData.{TerminalData}
 use Rattle.parse_tree.specs.declared.syntax.Node.{Node}
 use Rattle.parse_tree.proofs.TextLaws.{both, has-text, number-text}
-use Rattle.parse_tree.proofs.NodeFits.{NodeSays}
-use Rattle.parse_tree.proofs.NodeSays.{node-says}
 use Rattle.parse_tree.proofs.ReadingLaws.{got-as, then-got, each-append}
 use Rattle.texts.specs.Table.{entry}
+use Rattle.validate.proofs.Onward.{item-inside}
 use Rattle.grammar.specs.Outcome.{Outcome, yes, no}
 use Rattle.grammar.specs.Resolve.{terminalDef, nonterminalDef, Global as Met, nonterminals, externs, matches, globals, checkGlobals}
-use Rattle.resolve.specs.Scopes.{base}
+use Rattle.resolve.specs.Scopes.{base, codeOf}
 use Rattle.resolve.specs.Globals.{Tabled, tabled, refused, thenTabled, globalOf, globalOut, commandOut, scanOut, blank, globalsOut}
 use Rattle.resolve.specs.declared.Def.{Def}
 use Rattle.resolve.specs.declared.Global.{Global}
 use Rattle.resolve.specs.declared.Scope.{Scope}
 use Rattle.resolve.proofs.Declaring.{scan-end, turn, scan-turn}
-use Rattle.resolve.proofs.Skipping.{Stands, known-stands, Through, Passing, Begins, nonterminal, terminal, item-begins}
+use Rattle.resolve.proofs.Skipping.{Stands, standing-stands, Through, Passing, Begins, nonterminal, terminal, item-begins}
 use Rattle.resolve.proofs.Coding.{defOf, Proper, entered, then-same, then-tabled, entered-append, Tabular, Says, entered-says}
 
 -- ---- the globals of one code
@@ -73,40 +72,10 @@ select-49 (Item.terminal s extern t ∷ xs) = select-49 xs
 select-49 (Item.terminal s match t ∷ xs) = ap (λ (l : List Met). record { name = t; def = terminalDef; span = s } ∷ l) (select-49 xs)
 
 -- ---- items one behind another, to the tape's end
-through-le : (w : ℕ) (s : List ℕ) (n p q : ℕ) → Through w s n p q → p ≤ q
-through-le w s zero p q h = omega arith
-through-le w s (suc n) p q h = omega (arith, through-le w s n (p + sizeOf w (nodeAt w s p)) q (h .1))
-
 module _ (w : ℕ) (s : List ℕ) (ts : List Text) where
-  begins-on : (a : ℕ) (x : Item) (e : ℕ) → Begins true w s ts a x e → (a < length s) × (a < e)
-  begins-on a x e (nonterminal d m k n) =
-      let g = known-stands k in
-      let z : m ≡ a + sizeOf w (nodeAt w s a) = rw (k .is) (k .end) in
-      (g .inside, omega (arith, g .some, through-le w s (n .rest .many) m e (n .rest .through)))
-  begins-on a x e (terminal t k p) =
-      let g = known-stands k in
-      let z : e ≡ a + sizeOf w (nodeAt w s a) = rw (k .is) (k .end) in
-      (g .inside, omega (arith, g .some))
-
   abbrev Chain : ℕ → List Item → Type 0
   Chain a [] = length s ≤ a
-  Chain a (x ∷ xs) = (e : ℕ) × Begins true w s ts a x e × Chain e xs
-
-  items-chain : (n a : ℕ) (xs : List Item) (e : ℕ) → length s ≤ a + n → readItems true w s ts n a ≡ got xs e → Chain a xs
-  unfolding readItems
-  items-chain zero a xs e h p = got-as (λ (ys : List Item) m. Chain a ys) p (let z : length s ≤ a = omega arith in z)
-  items-chain (suc n) a xs e h p = go (leb (length s) a) refl p (λ d ys e′ l q. items-chain n d ys e′ l q)
-    where
-      go : (b : Bool) → leb (length s) a ≡ b
-          → elim b [ true ↦ got [] a | false ↦ then (readItem true w s ts a) (λ i d. then (readItems true w s ts n d) (λ is e′. got (i ∷ is) e′)) ] ≡ got xs e
-          → ((d : ℕ) (ys : List Item) (e′ : ℕ) → length s ≤ d + n → readItems true w s ts n d ≡ got ys e′ → Chain d ys) → Chain a xs
-      go true z q rest = got-as (λ (ys : List Item) m. Chain a ys) q (leb-true (length s) a z)
-      go false z q rest =
-          let f = then-got (readItem true w s ts a) _ q in
-          let g = then-got (readItems true w s ts n (f .mid)) _ (f .second) in
-          let i = item-begins true w s ts a (f .value) (f .mid) (f .first) in
-          let l : length s ≤ f .mid + n = omega (arith, begins-on a (f .value) (f .mid) i .1) in
-          got-as (λ (ys : List Item) m. Chain a ys) (g .second) (f .mid, i, rest (f .mid) (g .value) (g .mid) l (g .first))
+  Chain a (x ∷ xs) = (e : ℕ) × Begins w s ts a x e × Chain e xs
 
   -- ---- what an item's command declares
   abbrev asGlobal : List Met → Global
@@ -114,6 +83,22 @@ module _ (w : ℕ) (s : List ℕ) (ts : List Text) where
   asGlobal (g ∷ gs) = Global.Is (number ts (g .name)) (defOf (g .def)) (g .span)
 
   module _ (b : Bytes s) (d : distinct ts ≡ true) where
+    items-chain : (n a : ℕ) (xs : List Item) (e : ℕ) → length s ≤ a + n → readItems true w s ts n a ≡ got xs e → Chain a xs
+    unfolding readItems
+    items-chain zero a xs e h p = got-as (λ (ys : List Item) m. Chain a ys) p (let z : length s ≤ a = omega arith in z)
+    items-chain (suc n) a xs e h p = go (leb (length s) a) refl p (λ c ys e′ l q. items-chain n c ys e′ l q)
+      where
+        go : (u : Bool) → leb (length s) a ≡ u
+            → elim u [ true ↦ got [] a | false ↦ then (readItem true w s ts a) (λ i c. then (readItems true w s ts n c) (λ is e′. got (i ∷ is) e′)) ] ≡ got xs e
+            → ((c : ℕ) (ys : List Item) (e′ : ℕ) → length s ≤ c + n → readItems true w s ts n c ≡ got ys e′ → Chain c ys) → Chain a xs
+        go true z q rest = got-as (λ (ys : List Item) m. Chain a ys) q (leb-true (length s) a z)
+        go false z q rest =
+            let f = then-got (readItem true w s ts a) _ q in
+            let g = then-got (readItems true w s ts n (f .mid)) _ (f .second) in
+            let i = item-begins w s ts b a (f .value) (f .mid) (f .first) in
+            let l : length s ≤ f .mid + n = omega (arith, item-inside w s b ts d a (f .value) (f .mid) (f .first) .0) in
+            got-as (λ (ys : List Item) m. Chain a ys) (g .second) (f .mid, i, rest (f .mid) (g .value) (g .mid) l (g .first))
+
     -- the name of a nonterminal and of a terminal is an atom
     nonterminal-below : (k : NonterminalData) → defined (length ts) (Node.Nonterminal k) ≡ true → k .name .0 < length ts
     unfolding defined
@@ -122,12 +107,6 @@ module _ (w : ℕ) (s : List ℕ) (ts : List Text) where
     terminal-below : (k : TerminalData) → defined (length ts) (Node.Terminal k) ≡ true → k .name .0 < length ts
     unfolding defined
     terminal-below k h = ltb-true (k .name .0) (length ts) h
-
-    args-small : (a : ℕ) (k : NonterminalData) → nodeAt w s a ≡ Node.Nonterminal k → k .args < 256
-    args-small a k e = let h : NodeSays w s a (Node.Nonterminal k) = rw e at (node-says w s a b) in h .fits .3
-
-    source : (a : ℕ) (k : TerminalData) → nodeAt w s a ≡ Node.Terminal k → (k .source ≡ 48) ⊎ (k .source ≡ 49)
-    source a k e = let h : NodeSays w s a (Node.Terminal k) = rw e at (node-says w s a b) in h .fits .2
 
     terminal-is : (k : TerminalData) → (k .source ≡ 48) ⊎ (k .source ≡ 49) → (which : ℕ)
         → one which (terminalOf ts k) ≡ pick (eqb which (k .source)) (record { name = getD ts (k .name .0) []; def = terminalDef; span = k .span } ∷ []) []
@@ -141,33 +120,35 @@ module _ (w : ℕ) (s : List ℕ) (ts : List Text) where
     picked true k g y p q = cc
     picked false k g y p q = refl
 
-    declares : (a : ℕ) (x : Item) (e : ℕ) → Begins true w s ts a x e → (which : ℕ) → globalOf which (nodeAt w s a) ≡ asGlobal (one which x)
+    declares : (a : ℕ) (x : Item) (e : ℕ) → Begins w s ts a x e → (which : ℕ) → globalOf which (nodeAt w s a) ≡ asGlobal (one which x)
     unfolding globalOf nonterminalOf
     declares a x e (nonterminal k m h n) which =
-        ap (globalOf which) (h .is)
-        ∙ picked (eqb which 16) (k .name .0) (metOf (nonterminalOf ts k (n .args) (n .alternatives))) (Def.Nonterminal (k .args)) (number-text ts (k .name .0) d (nonterminal-below k (h .known))) (ap Def.Nonterminal (sym (n .many)))
+        ap (globalOf which) (h .here)
+        ∙ picked (eqb which 16) (k .name .0) (metOf (nonterminalOf ts k (n .args) (n .alternatives))) (Def.Nonterminal (k .args)) (number-text ts (k .name .0) d (nonterminal-below k (h .passes .known))) (ap Def.Nonterminal (sym (n .many)))
         ∙ sym (ap (λ (y : Item). asGlobal (one which y)) (n .is))
     declares a x e (terminal k h p) which =
-        ap (globalOf which) (h .is)
-        ∙ picked (eqb which (k .source)) (k .name .0) (record { name = getD ts (k .name .0) []; def = terminalDef; span = k .span }) Def.Terminal (number-text ts (k .name .0) d (terminal-below k (h .known))) refl
-        ∙ sym (ap asGlobal (terminal-is k (source a k (h .is)) which)) ∙ sym (ap (λ (y : Item). asGlobal (one which y)) p)
+        ap (globalOf which) (h .here)
+        ∙ picked (eqb which (k .source)) (k .name .0) (record { name = getD ts (k .name .0) []; def = terminalDef; span = k .span }) Def.Terminal (number-text ts (k .name .0) d (terminal-below k (h .passes .known))) refl
+        ∙ sym (ap asGlobal (terminal-is k (h .passes .fits .2) which)) ∙ sym (ap (λ (y : Item). asGlobal (one which y)) p)
 
     picked-proper : (x : Bool) (g : Met) → Proper ts g → Each (Proper ts) (pick x (g ∷ []) [])
     unfolding pick
     picked-proper true g h = (h, tt)
     picked-proper false g h = tt
 
-    proper-one : (a : ℕ) (x : Item) (e : ℕ) → Begins true w s ts a x e → (which : ℕ) → Each (Proper ts) (one which x)
-    unfolding nonterminalOf
+    proper-one : (a : ℕ) (x : Item) (e : ℕ) → Begins w s ts a x e → (which : ℕ) → Each (Proper ts) (one which x)
+    unfolding nonterminalOf codeOf
     proper-one a x e (nonterminal k m h n) which =
         rw (n .is) (picked-proper (eqb which 16) (metOf (nonterminalOf ts k (n .args) (n .alternatives))) (record {
-          atom = has-text ts (k .name .0) (nonterminal-below k (h .known));
-          plain = rw (n .many) (args-small a k (h .is));
+          atom = has-text ts (k .name .0) (nonterminal-below k (h .passes .known));
+          plain = tt;
+          small = let z = h .passes .fits .3 in omega (arith, n .many);
         }))
     proper-one a x e (terminal k h p) which =
-        rw (p, terminal-is k (source a k (h .is)) which) (picked-proper (eqb which (k .source)) (record { name = getD ts (k .name .0) []; def = terminalDef; span = k .span }) (record {
-          atom = has-text ts (k .name .0) (terminal-below k (h .known));
+        rw (p, terminal-is k (h .passes .fits .2) which) (picked-proper (eqb which (k .source)) (record { name = getD ts (k .name .0) []; def = terminalDef; span = k .span }) (record {
+          atom = has-text ts (k .name .0) (terminal-below k (h .passes .known));
           plain = tt;
+          small = omega arith;
         }))
 
     chain-proper : (a : ℕ) (xs : List Item) → Chain a xs → (which : ℕ) → Each (Proper ts) (select which xs)
@@ -207,13 +188,13 @@ module _ (m : Scope) (s : List ℕ) (which : ℕ) where
     one-entered (Item.terminal sp extern n) t = picked-entered (eqb which 48) (record { name = n; def = terminalDef; span = sp }) t
     one-entered (Item.terminal sp match n) t = picked-entered (eqb which 49) (record { name = n; def = terminalDef; span = sp }) t
 
-    begins-stands : (a : ℕ) (x : Item) (e : ℕ) → Begins true (m .width) s ts a x e → Stands (m .width) s a
-    begins-stands a x e (nonterminal k n h i) = known-stands h
-    begins-stands a x e (terminal k h p) = known-stands h
+    begins-stands : (a : ℕ) (x : Item) (e : ℕ) → Begins (m .width) s ts a x e → Stands (m .width) s a
+    begins-stands a x e (nonterminal k n h i) = standing-stands h
+    begins-stands a x e (terminal k h p) = standing-stands h
 
-    begins-rest : (a : ℕ) (x : Item) (e : ℕ) → Begins true (m .width) s ts a x e → Passing (m .width) s (a + sizeOf (m .width) (nodeAt (m .width) s a)) e
-    begins-rest a x e (nonterminal k n h i) = rw (h .is, ← h .end) (i .rest)
-    begins-rest a x e (terminal k h p) = record { many = 0; through = rw (h .is) (sym (h .end)) }
+    begins-rest : (a : ℕ) (x : Item) (e : ℕ) → Begins (m .width) s ts a x e → Passing (m .width) s (a + sizeOf (m .width) (nodeAt (m .width) s a)) e
+    begins-rest a x e (nonterminal k n h i) = rw (h .here, h .behind) (i .rest)
+    begins-rest a x e (terminal k h p) = record { many = 0; through = rw (h .here) (h .behind) }
 
     chain-scan : (a : ℕ) (xs : List Item) → Chain (m .width) s ts a xs → (t : List ℕ) (f : ℕ) → length s ≤ a + f → scanOut m s which f t a ≡ entered m ts t (select which xs)
     unfolding entered
@@ -230,32 +211,27 @@ module _ (m : Scope) (s : List ℕ) (which : ℕ) where
         ∙ sym (entered-append m ts (one which x) (select which xs) t)
 
 -- ---- tables with no definition
-zero-at : (n i : ℕ) → getD {A = ℕ} (replicate n 0) i 0 ≡ 0
-zero-at zero i = refl
-zero-at (suc n) zero = refl
-zero-at (suc n) (suc i) = zero-at n i
-
-leAt-zero : (k : ℕ) (s : List ℕ) (a : ℕ) → ((i : ℕ) → a ≤ i → getD s i 0 ≡ 0) → leAt k s a ≡ 0
+leAt-zero : (k : ℕ) (s : List ℕ) (a : ℕ) → ((i : ℕ) → a ≤ i → i < a + k → getD s i 0 ≡ 0) → leAt k s a ≡ 0
 unfolding leAt
 leAt-zero zero s a h = refl
-leAt-zero (suc k) s a h = omega (arith, h a (omega arith), leAt-zero k s (a + 1) (λ i l. h i (omega arith)))
+leAt-zero (suc k) s a h = omega (arith, h a (omega arith) (omega arith), leAt-zero k s (a + 1) (λ i l n. h i (omega arith) (omega arith)))
 
 blank-tabular : (m : Scope) (ts : List Text) (t : List ℕ) → length ts ≤ m .room → length t ≡ base m → Tabular m ts (blank m t) []
 unfolding blank base entry
 blank-tabular m ts t r l = record {
   long = length-append (take (8 * m .room) t) (replicate (16 * m .room) 0) ∙ omega (arith, length-replicate {A = ℕ} (16 * m .room) 0, long-take);
-  coded = λ k h. leAt-zero 8 _ (8 * (m .room + k)) (λ i z. none i (omega arith));
-  free = λ k h. leAt-zero 8 _ (8 * (m .room + m .room + k)) (λ i z. none i (omega arith));
+  coded = λ k h. leAt-zero 8 _ (8 * (m .room + k)) (λ i z y. none i (omega arith) (omega arith));
+  free = λ k h. leAt-zero 8 _ (8 * (m .room + m .room + k)) (λ i z y. none i (omega arith) (omega arith));
 }
   where
     long-take : length (take (8 * m .room) t) ≡ 8 * m .room
     long-take = length-take-le (8 * m .room) t (omega arith)
 
-    none : (i : ℕ) → 8 * m .room ≤ i → getD (take (8 * m .room) t ++ replicate (16 * m .room) 0) i 0 ≡ 0
-    none i h =
+    none : (i : ℕ) → 8 * m .room ≤ i → i < 24 * m .room → getD (take (8 * m .room) t ++ replicate (16 * m .room) 0) i 0 ≡ 0
+    none i h n =
         let z : i ≡ length (take (8 * m .room) t) + (i - 8 * m .room) = omega (arith, long-take) in
         ap (λ (j : ℕ). getD (take (8 * m .room) t ++ replicate (16 * m .room) 0) j 0) z
-        ∙ getD-append-add (take (8 * m .room) t) (replicate (16 * m .room) 0) (i - 8 * m .room) 0 ∙ zero-at (16 * m .room) (i - 8 * m .room)
+        ∙ getD-append-add (take (8 * m .room) t) (replicate (16 * m .room) 0) (i - 8 * m .room) 0 ∙ getD-replicate (16 * m .room) (i - 8 * m .room) 0 0 (omega arith)
 
 -- ---- the theorem
 -- what entering the globals of the items is leaves, by what `checkGlobals` says of them
@@ -283,7 +259,7 @@ module _ (m : Scope) (ts : List Text) (d : distinct ts ≡ true) (c : m .count �
   globals-mean at is e t l p = go (checkGlobals [] (globals is)) refl
     where
       h : Chain (m .width) s ts at is
-      h = items-chain (m .width) s ts (length s) at is e (omega arith) p
+      h = items-chain (m .width) s ts b d (length s) at is e (omega arith) p
 
       proper : Each (Proper ts) (globals is)
       proper =

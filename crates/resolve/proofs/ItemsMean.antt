@@ -31,15 +31,16 @@ use Rattle.parse_tree.proofs.Asking.{Passes}
 use Rattle.parse_tree.proofs.Expecting.{item-wanted, argument-wanted}
 use Rattle.parse_tree.proofs.FromCommands.{argument-within, terminal-within}
 use Rattle.parse_tree.proofs.ItemFound.{item-finds}
+use Rattle.validate.proofs.Onward.{item-inside}
 use Rattle.grammar.specs.Outcome.{Tree, Outcome, yes, no, after, withAlternatives}
 use Rattle.grammar.specs.Resolve.{checkCondition, validateSymbols, validateAlternatives, validateMacroArgs, validateItems}
 use Rattle.resolve.specs.declared.Scope.{Scope}
 use Rattle.resolve.specs.Scopes.{base}
-use Rattle.resolve.specs.Walks.{prefix, many}
+use Rattle.resolve.specs.Walks.{prefix}
 use Rattle.resolve.specs.Items.{Put, put, unput, argumentsOut, putBy, stampedThen, prefixPut, putThen, within, dataOut, nowhere, itemIn, itemOut, itemsOut}
 use Rattle.resolve.proofs.NamesMean.{outOf}
-use Rattle.resolve.proofs.Readings.{Standing, stands-then}
-use Rattle.resolve.proofs.SymbolsMean.{after-yes, yes-as, times-length}
+use Rattle.resolve.proofs.Readings.{Standing, stands-then, times-length}
+use Rattle.resolve.proofs.SymbolsMean.{after-yes, yes-as}
 use Rattle.resolve.proofs.AlternativesMean.{Copies, skip-all, alternatives-mean}
 use Rattle.resolve.proofs.ArgumentsMean.{Scoped, Answer, marks-look, arguments-mean}
 
@@ -96,13 +97,7 @@ module _ (w : ℕ) (ts : List Text) (d : distinct ts ≡ true) where
   front-bytes n args alts bs p =
       rw p (sym (append-assoc (nodeBytes w (Node.Nonterminal n)) (bytesOfEach (argumentBytes w ts) args) (bytesOfEach (alternativeBytes w ts) bs)))
 
--- an item has a byte
-item-bytes : (w : ℕ) (ts : List Text) (x : Item) → 1 ≤ length (itemBytes w ts x)
-unfolding itemBytes nodeBytes nonterminalNode
-item-bytes w ts (item d) = omega arith
-item-bytes w ts (Item.terminal s o t) = omega arith
-
--- a nonterminal those of its command
+-- a nonterminal has the bytes of its command
 data-bytes : (w : ℕ) (ts : List Text) (x : Nonterminal) → 13 + w ≤ length (itemBytes w ts (item x))
 unfolding itemBytes sizeOf nonterminalNode
 data-bytes w ts x =
@@ -244,10 +239,10 @@ module _ (m : Scope) (s : List ℕ) (ts : List Text) (b : Bytes s) (d : distinct
   next-mean n f a t is e p h =
       let i = then-got (readItem true (m .width) s ts a) _ p in
       let j = then-got (readItems true (m .width) s ts n (i .mid)) _ (i .second) in
-      let l = item-finds true (m .width) s ts b d a (i .value) (i .mid) (i .first) .lies in
+      let l = item-inside (m .width) s b ts d a (i .value) (i .mid) (i .first) .0 in
       got-as (λ vs q. Puts m ts G (bytesOfEach (itemBytes (m .width) ts)) (validateItems G vs) (putThen (itemOut m t s a) (λ t′ e′. pick (leb e′ a) nowhere (itemsOut m s n t′ e′))) q) (j .second)
       (rw (← (answers G (i .value) (j .value)))
-      (more-mean n f a (j .value) (j .mid) (i .mid) (j .first) (omega (arith, l .end, item-bytes (m .width) ts (i .value))) (itemAnswer G (i .value)) (itemOut m t s a)
+      (more-mean n f a (j .value) (j .mid) (i .mid) (j .first) l (itemAnswer G (i .value)) (itemOut m t s a)
       (item-means a t (i .value) (i .mid) (i .first) h)))
 
   pub items-mean : (n a : ℕ) (t : List ℕ) (is : List Item) (e : ℕ) → readItems true (m .width) s ts n a ≡ got is e → Scoped m t ts G a
@@ -264,12 +259,3 @@ module _ (m : Scope) (s : List ℕ) (ts : List Text) (b : Bytes s) (d : distinct
           → Puts m ts G (bytesOfEach (itemBytes (m .width) ts)) (validateItems G is) (pick u (put [] t a) (putThen (itemOut m t s a) (λ t′ e′. pick (leb e′ a) nowhere (itemsOut m s n t′ e′)))) e
       go true f q = got-as (λ vs l. Puts m ts G (bytesOfEach (itemBytes (m .width) ts)) (validateItems G vs) (put [] t a) l) q (record { table = t; is = refl; scoped = h })
       go false f q = next-mean n f a t is e q h
-
-  -- the two answers by themselves
-  pub items-yes : (n a : ℕ) (t : List ℕ) (is : List Item) (e : ℕ) (R : List Item) → readItems true (m .width) s ts n a ≡ got is e → Scoped m t ts G a → validateItems G is ≡ yes R
-      → Putting m ts G (itemsOut m s n t a) (bytesOfEach (itemBytes (m .width) ts) R) e
-  items-yes n a t is e R p h q = rw q at (items-mean n a t is e p h)
-
-  pub items-no : (n a : ℕ) (t : List ℕ) (is : List Item) (e k : ℕ) (sp : Span) → readItems true (m .width) s ts n a ≡ got is e → Scoped m t ts G a → validateItems G is ≡ no k sp
-      → itemsOut m s n t a ≡ unput k sp
-  items-no n a t is e k sp p h q = rw q at (items-mean n a t is e p h)

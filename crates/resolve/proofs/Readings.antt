@@ -1,8 +1,8 @@
--- A command that was read is the one that stands there, and the place behind it is its end. Assumes nothing.
+-- A command that was read is the one that stands there, and the place behind it is its end; and as many are read as were asked for. Assumes nothing.
 use mathlib.Core.Path.{_≡_, refl, sym, ap, _∙_}
 use mathlib.Core.Bool.{Bool, true, false, _&&_}
 use mathlib.Core.List.{List}
-use Prim.Native.Nat.{ℕ, _+_}
+use Prim.Native.Nat.{ℕ, zero, suc, _+_}
 use lib.Dec.{leb}
 use lib.ListN.{length}
 use Rattle.octets.specs.Choice.{pick}
@@ -12,7 +12,7 @@ use Rattle.parse_tree.specs.Tree.{Text}
 use Rattle.parse_tree.specs.Nodes.{nodeBytes, nodeAt, sizeOf}
 use Rattle.parse_tree.specs.Places.{classOf, allowedAt}
 use Rattle.parse_tree.specs.Questions.{defined, suits}
-use Rattle.parse_tree.specs.Reading.{Reading, got, refused, then}
+use Rattle.parse_tree.specs.Reading.{Reading, got, refused, then, times}
 use Rattle.parse_tree.specs.Decode.{ask}
 use Rattle.parse_tree.specs.declared.syntax.Node.{Node}
 use Rattle.parse_tree.proofs.Asking.{Passes, ask-finds}
@@ -49,3 +49,12 @@ module _ (w : ℕ) (s : List ℕ) (ts : List Text) (place left : ℕ) where
       let e₁ : nodeAt w s a ≡ h .value = got-as (λ z k. nodeAt w s a ≡ z) q refl in
       let e₂ : a + sizeOf w (nodeAt w s a) ≡ h .mid = got-as (λ z k. a + sizeOf w (nodeAt w s a) ≡ k) q refl in
       g (h .value) (h .mid) (record { here = e₁; behind = sym (ap (λ z. a + sizeOf w z) e₁) ∙ e₂; lies = i .lies; passes = i .within }) (h .second)
+
+-- as many as were asked for
+pub times-length : {A : Type 0} (f : ℕ → Reading A) (n a : ℕ) (xs : List A) (e : ℕ) → times f n a ≡ got xs e → length xs ≡ n
+unfolding times
+times-length f zero a xs e p = got-as (λ zs k. length zs ≡ 0) p refl
+times-length f (suc n) a xs e p =
+    let h = then-got (f a) _ p in
+    let i = then-got (times f n (h .mid)) _ (h .second) in
+    got-as (λ zs k. length zs ≡ suc n) (i .second) (ap suc (times-length f n (h .mid) (i .value) (i .mid) (i .first)))

@@ -1,22 +1,22 @@
 -- Items: the ways out of put_alternatives, validate_data, validate_item and validate. Assumes nothing.
 use mathlib.Core.Path.{_≡_, refl, sym, ap, _∙_}
-use mathlib.Core.Bool.{Bool, true, false}
+use mathlib.Core.Bool.{Bool}
 use mathlib.Core.List.{List, [], _∷_, _++_}
 use Prim.Native.Nat.{ℕ, zero, suc, _+_, _-_, _<_, _≤_}
 use native.Mathlib.Omega.{arith}
 use borrow.Author.Needs.{needs}
-use borrow.Author.Tests.{le-leb, lt-leb, lt-ltb, le-ltb, ltb-true, ltb-false}
+use borrow.Author.Tests.{le-leb, lt-leb}
 use denote.Enum.Declared.{tagOf}
 use types.Run.{OneOf, miss}
 use mir.Syntax.{w8}
 use mir.Val.{Fits}
-use lib.Dec.{leb, ltb}
+use lib.Dec.{leb}
 use lib.ListN.{length, getD, length-append}
 use Rattle.octets.specs.Choice.{pick}
 use Rattle.octets.specs.Runs.{part}
-use Rattle.octets.specs.Sink.{Laid, step, adv, lay}
+use Rattle.octets.specs.Sink.{Laid, adv, lay}
 use Rattle.octets.proofs.Laying.{adv-append, lay-append}
-use Rattle.octets.proofs.Fitting.{adv-le, lay-over}
+use Rattle.octets.proofs.Fitting.{adv-le}
 use Rattle.parse_tree.specs.Nodes.{nodeAt, sizeOf}
 use Rattle.parse_tree.specs.declared.syntax.Span.{Span}
 use Rattle.parse_tree.specs.declared.syntax.NonterminalData.{NonterminalData}
@@ -30,16 +30,14 @@ use Rattle.resolve.specs.Scopes.{Area, base, tables}
 use Rattle.resolve.specs.Walks.{Out, wrote, denied, prefix, many, Staged}
 use Rattle.resolve.specs.Items.{Stamped, stamped, against, Stamping, argumentsOut, alternativeOut, Put, put, unput, behind, Replaced, putBy, stampedThen, prefixPut, putThen, within, dataOut, nowhere, itemIn, itemOut, itemsOut}
 use Rattle.resolve.proofs.Regions.{tables-lay, behind-lay}
-use Rattle.resolve.proofs.Inside.{command-inside, command-fits}
+use Rattle.resolve.proofs.Inside.{command-inside}
+use Rattle.resolve.proofs.Declaring.{next-not}
 use Rattle.resolve.proofs.Staging.{staged-prefix, area-next, tables-laid}
 use Rattle.resolve.proofs.Stamping.{Ends, arguments-end}
 
 -- ---- answers
 walked-not : {e t q : ℕ} {p : Span} → Walked.Next e t ≡ Walked.Refused q p → ⊥
 walked-not {e} {t} {q} {p} h = let z : _≡_ {A = ℕ} 0 1 = cc in omega arith
-
-passed-not : {e q : ℕ} {p : Span} → Passed.Next e ≡ Passed.Refused q p → ⊥
-passed-not {e} {q} {p} h = let z : _≡_ {A = ℕ} 0 1 = cc in omega arith
 
 replaced-unput : (m : Scope) (x : Put) (q : ℕ) (p : Span) (w : List ℕ) (to : ℕ) (w′ : List ℕ) → x ≡ unput q p → Replaced m x w to (Walked.Refused q p) w′
 unfolding Replaced
@@ -77,11 +75,11 @@ stood m (stamped t e) p w w1 h =
     let a = h .answered in
     let b : e ≡ p = cc in
     record { is = cc (h .kept .tabled); kept = h .kept .others }
-stood m (against q sp) p w w1 h = absurd (passed-not h)
+stood m (against q sp) p w w1 h = absurd (next-not h)
 
 fallen : (m : Scope) (x : Stamped) (q : ℕ) (p : Span) (w w1 : List ℕ) → Stamping m x w (Passed.Refused q p) w1 → x ≡ against q p
 unfolding Stamping
-fallen m (stamped t e) q p w w1 h = absurd (passed-not (sym (h .answered)))
+fallen m (stamped t e) q p w w1 h = absurd (next-not (sym (h .answered)))
 fallen m (against a b) q p w w1 h = cc
 
 module _ (m : Scope) (s : List ℕ) (d : NonterminalData) (at e : ℕ) (w : List ℕ) (to a : ℕ) (f : a ≡ d .args) (x : Passed) (w1 : List ℕ) (g : Stamping m (argumentsOut m s (d .span) a (tables m w) e) w x w1) where
@@ -169,40 +167,15 @@ area-within m to n e a =
 pub item-behind : (at z : ℕ) → at ≤ at + z
 item-behind at z = omega arith
 
-pub ruleset itemizing = (needs, command-fits, command-inside, item-behind, item-other, item-terminal, item-nonterminal, area-within)
+pub ruleset itemizing = (needs, command-inside, item-behind, item-other, item-terminal, item-nonterminal, area-within)
 
 -- ---- validate
--- the same step, counted from b on
-step-minus : (b lim to : ℕ) → b < lim → b ≤ to → (step (lim - b) (to - b) ≡ step lim to - b) × (b ≤ step lim to)
-unfolding step pick
-step-minus b lim to h k = go (ltb lim to) refl
-  where
-    go : (c : Bool) → ltb lim to ≡ c → (step (lim - b) (to - b) ≡ step lim to - b) × (b ≤ step lim to)
-    go true e =
-        let z = ltb-true lim to e in
-        rw (e, lt-ltb (lim - b) (to - b) (omega arith)) (refl, k)
-    go false e =
-        let z = ltb-false lim to e in
-        rw (e, le-ltb (lim - b) (to - b) (omega arith)) (omega arith, omega arith)
-
-adv-minus : (b lim to n : ℕ) → b < lim → b ≤ to → adv (lim - b) (to - b) n ≡ adv lim to n - b
-unfolding adv
-adv-minus b lim to zero h k = refl
-adv-minus b lim to (suc n) h k =
-    let z = step-minus b lim to h k in
-    ap (λ (i : ℕ). adv (lim - b) i n) (z .0) ∙ adv-minus b lim (step lim to) n h (z .1)
-
-lay-two : (b lim to t : ℕ) (w xs ys : List ℕ) → t ≡ adv lim to (length xs) → b ≤ to → lay (lay w (lim - b) (to - b) xs) (lim - b) (t - b) ys ≡ lay w (lim - b) (to - b) (xs ++ ys)
-lay-two b lim to t w xs ys e k = go (ltb b lim) refl
-  where
-    go : (c : Bool) → ltb b lim ≡ c → lay (lay w (lim - b) (to - b) xs) (lim - b) (t - b) ys ≡ lay w (lim - b) (to - b) (xs ++ ys)
-    go true c =
-        let z = adv-minus b lim to (length xs) (ltb-true b lim c) k in
-        let y : t - b ≡ adv (lim - b) (to - b) (length xs) = omega arith in
-        rw y (lay-append w (lim - b) (to - b) xs ys)
-    go false c =
-        let z = ltb-false b lim c in
-        lay-over _ (lim - b) (t - b) ys (omega arith) ∙ lay-over w (lim - b) (to - b) xs (omega arith) ∙ sym (lay-over w (lim - b) (to - b) (xs ++ ys) (omega arith))
+-- two lays behind the tables are one
+lay-two : (m : Scope) (to t : ℕ) (w xs ys : List ℕ) → t ≡ adv (m .lim) to (length xs) → base m ≤ to
+    → lay (lay (behind m w) (m .lim - base m) (to - base m) xs) (m .lim - base m) (t - base m) ys ≡ lay (behind m w) (m .lim - base m) (to - base m) (xs ++ ys)
+lay-two m to t w xs ys e k =
+    let h : base m ≤ t = omega (arith, adv-le (m .lim) to (length xs)) in
+    rw (← (behind-lay m w (m .lim) to xs k), ← (behind-lay m (lay w (m .lim) to xs) (m .lim) t ys h), ← (behind-lay m w (m .lim) to (xs ++ ys) k), e) (ap (behind m) (lay-append w (m .lim) to xs ys))
 
 -- one behind another
 pub replaced-prefix : (m : Scope) (y : Put) (xs w w1 : List ℕ) (to t : ℕ) (r : Walked) (w2 : List ℕ) → t ≡ adv (m .lim) to (length xs) → base m ≤ to
@@ -211,7 +184,7 @@ unfolding Replaced prefixPut
 replaced-prefix m (put ys t′ e) xs w w1 to t r w2 f k b h = record {
   answered = h .answered ∙ ap (Walked.Next e) (ap (λ (i : ℕ). adv (m .lim) i (length ys)) f ∙ adv-append (m .lim) to (length xs) (length ys) ∙ ap (adv (m .lim) to) (sym (length-append xs ys)));
   tabled = h .tabled;
-  bytes = h .bytes ∙ ap (λ (v : List ℕ). lay v (m .lim - base m) (t - base m) ys) b ∙ lay-two (base m) (m .lim) to t (behind m w) xs ys f k;
+  bytes = h .bytes ∙ ap (λ (v : List ℕ). lay v (m .lim - base m) (t - base m) ys) b ∙ lay-two m to t w xs ys f k;
 }
 replaced-prefix m (unput q p) xs w w1 to t r w2 f k b h = h
 

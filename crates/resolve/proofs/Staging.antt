@@ -1,16 +1,14 @@
 -- What is written, one behind another: the ways out of symbols.rt, and the loop of a list. Assumes nothing.
 use mathlib.Core.Path.{_≡_, refl, sym, ap, _∙_}
-use mathlib.Core.Bool.{Bool, true, false}
-use mathlib.Core.List.{List, [], _∷_, _++_}
-use Prim.Native.Nat.{ℕ, zero, suc, _+_, _-_, _*_, _^_, _<_, _≤_}
+use mathlib.Core.List.{List, [], _∷_}
+use Prim.Native.Nat.{ℕ, zero, suc, _+_, _-_, _*_, _<_, _≤_}
 use native.Mathlib.Omega.{arith}
 use borrow.Author.Needs.{needs}
 use denote.Enum.Declared.{tagOf}
 use types.Run.{OneOf, miss}
 use lib.ListN.{length}
-use Rattle.octets.specs.Choice.{pick}
 use Rattle.octets.specs.Sink.{Laid, adv, lay}
-use Rattle.octets.proofs.Laying.{laid-append, laid-none}
+use Rattle.octets.proofs.Laying.{laid-append}
 use Rattle.octets.proofs.Fitting.{adv-le, length-lay}
 use Rattle.parse_tree.specs.Nodes.{nodeAt, nodeBytes, sizeOf}
 use Rattle.parse_tree.specs.Operands.{insideOf}
@@ -27,11 +25,11 @@ use Rattle.resolve.specs.declared.Verdict.{Verdict}
 use Rattle.resolve.specs.declared.Standing.{Standing}
 use Rattle.resolve.proofs.Standing.{the-type as standing-type}
 use Rattle.resolve.specs.declared.Walked.{Walked}
-use Rattle.resolve.specs.Scopes.{Area, Tables, base, tables}
+use Rattle.resolve.specs.Scopes.{Area, base, tables}
 use Rattle.resolve.specs.Names.{leafSays, overSays}
 use Rattle.resolve.specs.Walks.{Out, wrote, denied, prefix, andThen, many, Moved, Staged, astray, leafBy, verdictBy, standing, symbolOut, leafOut, symOut, listOut}
 use Rattle.resolve.proofs.Regions.{tables-lay}
-use Rattle.resolve.proofs.Inside.{symbol-fits}
+use Rattle.resolve.proofs.Inside.{known-fits}
 
 -- ---- composition
 moved-laid : {xs : List ℕ} {e : ℕ} {w : List ℕ} {lim to : ℕ} {r : Walked} {w′ : List ℕ} → Moved xs e w lim to r w′ → Laid w lim to xs (adv lim to (length xs)) w′
@@ -114,21 +112,24 @@ module _ (w at : ℕ) where
   unfolding standing
   standing-is n x sp k z e f g = cc
 
+  nothing-is : {sp : Span} {k : SymbolKind} {e : ℕ} → Standing.Nothing ≡ Standing.Is sp k e → ⊥
+  nothing-is {sp} {k} {e} h = let z : _≡_ {A = ℕ} 0 1 = cc in omega arith
+
   stood : (x : Node) (sp : Span) (k : SymbolKind) (e : ℕ) → standing w at x ≡ Standing.Is sp k e → (x ≡ Node.Symbol sp k) × (e ≡ at + sizeOf w (Node.Symbol sp k))
   unfolding standing
-  stood (Node.Text d) sp k e h = let z : _≡_ {A = ℕ} 0 1 = cc in absurd (omega arith)
-  stood (Node.Nonterminal d) sp k e h = let z : _≡_ {A = ℕ} 0 1 = cc in absurd (omega arith)
-  stood (Node.Terminal d) sp k e h = let z : _≡_ {A = ℕ} 0 1 = cc in absurd (omega arith)
-  stood (Node.Argument d) sp k e h = let z : _≡_ {A = ℕ} 0 1 = cc in absurd (omega arith)
-  stood (Node.Alternative d) sp k e h = let z : _≡_ {A = ℕ} 0 1 = cc in absurd (omega arith)
-  stood (Node.Attribute d) sp k e h = let z : _≡_ {A = ℕ} 0 1 = cc in absurd (omega arith)
-  stood (Node.Condition d) sp k e h = let z : _≡_ {A = ℕ} 0 1 = cc in absurd (omega arith)
+  stood (Node.Text d) sp k e h = absurd (nothing-is h)
+  stood (Node.Nonterminal d) sp k e h = absurd (nothing-is h)
+  stood (Node.Terminal d) sp k e h = absurd (nothing-is h)
+  stood (Node.Argument d) sp k e h = absurd (nothing-is h)
+  stood (Node.Alternative d) sp k e h = absurd (nothing-is h)
+  stood (Node.Attribute d) sp k e h = absurd (nothing-is h)
+  stood (Node.Condition d) sp k e h = absurd (nothing-is h)
   stood (Node.Symbol sp′ k′) sp k e h =
       let a : sp′ ≡ sp = cc in
       let b : k′ ≡ k = cc in
       let c : e ≡ at + sizeOf w (Node.Symbol sp′ k′) = cc in
       (cc, c ∙ cc)
-  stood Node.Unknown sp k e h = let z : _≡_ {A = ℕ} 0 1 = cc in absurd (omega arith)
+  stood Node.Unknown sp k e h = absurd (nothing-is h)
 
   missing : (f : Span → SymbolKind → Out) (x : Node) → OneOf (1 ∷ []) (tagOf standing-type (standing w at x)) → symbolOut f x ≡ astray
   unfolding standing symbolOut
@@ -260,7 +261,4 @@ module _ (m : Scope) (s : List ℕ) (left n at : ℕ) (w : List ℕ) (to k p q :
 pub carry-area : (m : Scope) (f : ℕ → Out) (n at : ℕ) (w : List ℕ) (to k p q : ℕ) (w1 : List ℕ) → Carrying m f n at w to k p q w1 → Area m q (length w1)
 carry-area m f n at w to k p q w1 c = c .area
 
-pub falls : (left t : ℕ) → (left ≡ 0 → ⊥) → t ≡ 2 * left → 2 * (left - 1) < t
-falls left t z e = omega arith
-
-pub ruleset staging = (needs, symbol-fits, standing-no, standing-is, list-refused, list-fine, area-next, put-leaf-refused, put-leaf-is, sym-deep, sym-other, sym-leaf, sym-around, sym-over, carry-start, carry-end, expr-next, expr-stop, carry-area)
+pub ruleset staging = (needs, known-fits, standing-no, standing-is, list-refused, list-fine, area-next, put-leaf-refused, put-leaf-is, sym-deep, sym-other, sym-leaf, sym-around, sym-over, carry-start, carry-end, expr-next, expr-stop, carry-area)

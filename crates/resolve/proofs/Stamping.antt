@@ -29,7 +29,7 @@ use Rattle.resolve.specs.Scopes.{Tables, base, tables}
 use Rattle.resolve.specs.Globals.{Kept}
 use Rattle.resolve.specs.Items.{Stamped, stamped, against, lost, Stamping, argumentIn, argumentsOut}
 use Rattle.resolve.proofs.Regions.{tables-entry, tables-store, behind-store}
-use Rattle.resolve.proofs.Inside.{inside, argument-inside}
+use Rattle.resolve.proofs.Inside.{inside, command-inside, known-fits}
 
 -- ---- answers
 stamping-against : (m : Scope) (x : Stamped) (w w′ : List ℕ) (q : ℕ) (p : Span) → x ≡ against q p → Stamping m x w (Passed.Refused q p) w′
@@ -110,9 +110,9 @@ module _ (m : Scope) (s : List ℕ) (sp : Span) (n at : ℕ) (w₀ w : List ℕ)
         mark-twice e = stop 7 sp w (it ∙ cc (lt-leb (m .count) id c, tables-entry m w (m .room + m .room + id) low))
 
         pub mark-next : v ≡ false → (w′ : List ℕ) → w′ ≡ store w (8 * (m .room + m .room + id)) (le 8 (m .first)) → (z : ℕ) → z ≡ sizeOf (m .width) (Node.Argument a)
-            → ((l : ℕ) → Fits w8 (getD s l 0)) → length s < 2 ^ 64 → Marking m s sp n at w₀ w′ (p + z) (k - 1)
+            → ((l : ℕ) → Fits w8 (getD s l 0)) → Marking m s sp n at w₀ w′ (p + z) (k - 1)
         unfolding turn pick
-        mark-next e w′ u z y b l =
+        mark-next e w′ u z y b =
             let q : length w′ ≡ length w = ap length u ∙ length-store w (8 * (m .room + m .room + id)) (le 8 (m .first)) in
             let t : store (tables m w) (8 * (m .room + m .room + id)) (le 8 (m .first)) ≡ tables m w′ = sym (tables-store m w (m .room + m .room + id) (m .first) low) ∙ ap (tables m) (sym u) in
             let o : argumentsOut m s sp k (tables m w) p ≡ argumentsOut m s sp (k - 1) (tables m w′) (p + z)
@@ -120,7 +120,7 @@ module _ (m : Scope) (s : List ℕ) (sp : Span) (n at : ℕ) (w₀ w : List ℕ)
             record {
               room = rw q (g .room);
               same = q ∙ g .same;
-              inside = argument-inside (m .width) s p x z i b l a j y .1;
+              inside = command-inside (m .width) s p x z i b (rw j y) (g .inside);
               carry = λ r w2 h. g .carry r w2 (rw o (stamping-then m _ w w′ r w2 (record { tabled = refl; others = ap (drop (base m)) u ∙ behind-store m w (m .room + m .room + id) (m .first) low }) h));
             }
 
@@ -137,11 +137,7 @@ module _ (m : Scope) (k w : ℕ) (t : Tables m w) where
   pub mark-room : k < m .count → 8 * (m .room + m .room + k) + 8 ≤ w
   mark-room c = omega (arith, t .fits, t .few)
 
-pub mark-fits : (w : ℕ) (s : List ℕ) (at : ℕ) (n : Node) (z : ℕ) → n ≡ nodeAt w s at → ((j : ℕ) → Fits w8 (getD s j 0)) → length s < 2 ^ 64
-    → (a : NonterminalString) → n ≡ Node.Argument a → z ≡ sizeOf w (Node.Argument a) → Fits w64 (at + z)
-mark-fits w s at n z i b l a e g = record { fits = omega (arith, argument-inside w s at n z i b l a e g) }
-
-pub ruleset marking = (needs, mark-is, mark-start, mark-end, mark-other, mark-above, mark-twice, mark-next, mark-sum, mark-place, mark-room, mark-fits)
+pub ruleset marking = (needs, mark-is, mark-start, mark-end, mark-other, mark-above, mark-twice, mark-next, mark-sum, mark-place, mark-room, known-fits)
 
 -- ---- where the arguments end
 abbrev pub Ends : ℕ → ℕ → Stamped → Type 0
