@@ -29,9 +29,9 @@ use Rattle.resolve.specs.Scopes.{Area, tables}
 use Rattle.resolve.specs.Names.{conditionSays}
 use Rattle.resolve.specs.Walks.{Out, prefix, many, Staged, astray, symOut}
 use Rattle.resolve.specs.Items.{skipTo, stray, passedBy, conditionIn, alternativeIn, passedThen, conditionOut, alternativeOut}
-use Rattle.resolve.proofs.Inside.{command-inside, command-fits, known-fits, alternative-below}
+use Rattle.resolve.proofs.Inside.{command-inside, known-fits, alternative-below}
 use Rattle.resolve.proofs.Declaring.{next-not}
-use Rattle.resolve.proofs.Staging.{staged-prefix, staged-denied, staged-as, area-next, tables-laid, Carrying, carry-start, carry-end, carry-area, step-next, step-stop}
+use Rattle.resolve.proofs.Staging.{staged-prefix, staged-denied, staged-as, area-next, tables-laid, Carrying, carry-start, carry-end, step-next, step-stop}
 
 -- ---- skip: k commands are to come from p on
 pub record Skips (w : ℕ) (s : List ℕ) (n at k p : ℕ) : Type 0 where
@@ -65,13 +65,14 @@ module _ (w : ℕ) (s : List ℕ) (n at k p : ℕ) (c : Skips w s n at k p) wher
   unfolding skipTo
   skip-end h = let z : k ≡ 0 = omega arith in let y = c .same in cc
 
-  pub skip-from : at ≤ p
-  skip-from = c .from
+pub ruleset skipping = (needs, skip-start, skip-next, skip-end)
 
-  pub skip-upto : p ≤ length s
-  skip-upto = c .upto
+-- the numbers of the commands that are no condition, and no alternative
+abbrev noCondition : List ℕ
+noCondition = 0 ∷ 1 ∷ 2 ∷ 3 ∷ 4 ∷ 5 ∷ 7 ∷ 8 ∷ []
 
-pub ruleset skipping = (needs, command-fits, skip-start, skip-next, skip-end, skip-from, skip-upto)
+abbrev noAlternative : List ℕ
+noAlternative = 0 ∷ 1 ∷ 2 ∷ 3 ∷ 5 ∷ 6 ∷ 7 ∷ 8 ∷ []
 
 -- ---- validate_conditions
 module _ (m : Scope) (t s : List ℕ) (n at : ℕ) where
@@ -84,11 +85,11 @@ module _ (m : Scope) (t s : List ℕ) (n at : ℕ) where
     unfolding conditionOut pick
     opened = rw i (ap (λ (y : Bool). pick y (Passed.Next at) (conditionIn (λ c. passedBy (at + sizeOf (m .width) (nodeAt (m .width) s at)) (conditionSays m t c)) (nodeAt (m .width) s at))) (ne-eqb n 0 z))
 
-    pub condition-other : OneOf (0 ∷ 1 ∷ 2 ∷ 3 ∷ 4 ∷ 5 ∷ 7 ∷ 8 ∷ []) (tagOf the-type x) → Passed.Refused 2 (record { 0 = 0; 1 = 0 }) ≡ conditionOut m t s n at
+    pub condition-other : OneOf noCondition (tagOf the-type x) → Passed.Refused 2 (record { 0 = 0; 1 = 0 }) ≡ conditionOut m t s n at
     unfolding conditionIn
     condition-other h = sym (opened ∙ go x refl h)
       where
-        go : (y : Node) → x ≡ y → OneOf (0 ∷ 1 ∷ 2 ∷ 3 ∷ 4 ∷ 5 ∷ 7 ∷ 8 ∷ []) (tagOf the-type y)
+        go : (y : Node) → x ≡ y → OneOf noCondition (tagOf the-type y)
             → conditionIn (λ c. passedBy (at + sizeOf (m .width) x) (conditionSays m t c)) y ≡ stray
         go (Node.Text k) e h = refl
         go (Node.Nonterminal k) e h = refl
@@ -96,7 +97,7 @@ module _ (m : Scope) (t s : List ℕ) (n at : ℕ) where
         go (Node.Argument k) e h = refl
         go (Node.Alternative k) e h = refl
         go (Node.Attribute k) e h = refl
-        go (Node.Condition k) e h = absurd (miss (0 ∷ 1 ∷ 2 ∷ 3 ∷ 4 ∷ 5 ∷ 7 ∷ 8 ∷ []) 6 tt h)
+        go (Node.Condition k) e h = absurd (miss noCondition 6 tt h)
         go (Node.Symbol sp k) e h = refl
         go Node.Unknown e h = refl
 
@@ -117,7 +118,7 @@ unfolding passedBy
 passed-next e Verdict.Fine p h = cc
 passed-next e (Verdict.Refused q sp) p h = absurd (next-not (sym h))
 
-module _ (m : Scope) (t s : List ℕ) (b : (i : ℕ) → Fits w8 (getD s i 0)) (n at p : ℕ) where
+module _ (m : Scope) (t s : List ℕ) (b : (i : ℕ) → Fits w8 (getD s i 0)) (at p : ℕ) where
   in-next : (x : Node) → nodeAt (m .width) s at ≡ x → at ≤ length s → conditionIn (λ c. passedBy (at + sizeOf (m .width) x) (conditionSays m t c)) x ≡ Passed.Next p → (at ≤ p) × (p ≤ length s)
   unfolding conditionIn
   in-next (Node.Text k) i h e = absurd (next-not (sym e))
@@ -133,9 +134,9 @@ module _ (m : Scope) (t s : List ℕ) (b : (i : ℕ) → Fits w8 (getD s i 0)) (
   in-next (Node.Symbol sp k) i h e = absurd (next-not (sym e))
   in-next Node.Unknown i h e = absurd (next-not (sym e))
 
-  condition-ends : at ≤ length s → conditionOut m t s n at ≡ Passed.Next p → (at ≤ p) × (p ≤ length s)
+  condition-ends : (n : ℕ) → at ≤ length s → conditionOut m t s n at ≡ Passed.Next p → (at ≤ p) × (p ≤ length s)
   unfolding conditionOut pick
-  condition-ends h e = go (eqb n 0) refl
+  condition-ends n h e = go (eqb n 0) refl
     where
       go : (y : Bool) → eqb n 0 ≡ y → (at ≤ p) × (p ≤ length s)
       go true y = let z : at ≡ p = cc in (omega arith, omega arith)
@@ -157,20 +158,20 @@ from-is m t s a at k e r f g h = cc
 pub ruleset starting = (needs, from-is)
 
 -- ---- validate_alternative
-no-alternative : (f : Alternative → Out) (y : Node) → OneOf (0 ∷ 1 ∷ 2 ∷ 3 ∷ 5 ∷ 6 ∷ 7 ∷ 8 ∷ []) (tagOf the-type y) → alternativeIn f y ≡ astray
+no-alternative : (f : Alternative → Out) (y : Node) → OneOf noAlternative (tagOf the-type y) → alternativeIn f y ≡ astray
 unfolding alternativeIn
 no-alternative f (Node.Text k) h = refl
 no-alternative f (Node.Nonterminal k) h = refl
 no-alternative f (Node.Terminal k) h = refl
 no-alternative f (Node.Argument k) h = refl
-no-alternative f (Node.Alternative k) h = absurd (miss (0 ∷ 1 ∷ 2 ∷ 3 ∷ 5 ∷ 6 ∷ 7 ∷ 8 ∷ []) 4 tt h)
+no-alternative f (Node.Alternative k) h = absurd (miss noAlternative 4 tt h)
 no-alternative f (Node.Attribute k) h = refl
 no-alternative f (Node.Condition k) h = refl
 no-alternative f (Node.Symbol sp k) h = refl
 no-alternative f Node.Unknown h = refl
 
 module _ (m : Scope) (s : List ℕ) (at : ℕ) (w : List ℕ) (to : ℕ) (n : Node) (i : n ≡ nodeAt (m .width) s at) where
-  pub alternative-other : (w1 : List ℕ) → OneOf (0 ∷ 1 ∷ 2 ∷ 3 ∷ 5 ∷ 6 ∷ 7 ∷ 8 ∷ []) (tagOf the-type n) → Staged (alternativeOut m (tables m w) s at) w (m .lim) to (Walked.Refused 2 (record { 0 = 0; 1 = 0 })) w1
+  pub alternative-other : (w1 : List ℕ) → OneOf noAlternative (tagOf the-type n) → Staged (alternativeOut m (tables m w) s at) w (m .lim) to (Walked.Refused 2 (record { 0 = 0; 1 = 0 })) w1
   unfolding alternativeOut
   alternative-other w1 h = staged-denied _ 2 (record { 0 = 0; 1 = 0 }) w w1 (m .lim) to (no-alternative _ (nodeAt (m .width) s at) (rw i at h))
 
@@ -198,7 +199,7 @@ module _ (x : Passed) (p : ℕ) (u : x ≡ Passed.Next p) (m : Scope) (t s : Lis
   ends =
       let h = alternative-below (m .width) s at n z i b a j g in
       let k = skip-ends (m .width) s b (a .attributes) (at + z) h in
-      let v = condition-ends m t s b (a .conditions) (skipTo (m .width) s (a .attributes) (at + z)) p (k .1) (sym f ∙ u) in
+      let v = condition-ends m t s b (skipTo (m .width) s (a .attributes) (at + z)) p (a .conditions) (k .1) (sym f ∙ u) in
       (omega (arith, k .0, v .0), v .1)
 
   pub alternative-from : at ≤ p
@@ -207,7 +208,7 @@ module _ (x : Passed) (p : ℕ) (u : x ≡ Passed.Next p) (m : Scope) (t s : Lis
   pub alternative-upto : p ≤ length s
   alternative-upto = ends .1
 
-pub ruleset alternating = (needs, alternative-below, known-fits, alternative-other, alternative-refused, alternative-next, alternative-from, alternative-upto, area-next)
+pub ruleset alternating = (needs, alternative-below, known-fits, alternative-other, alternative-refused, alternative-next, area-next)
 
 -- ---- validate_alternatives
 module _ (m : Scope) (s : List ℕ) (n at : ℕ) (w : List ℕ) (to k p q : ℕ) (w1 : List ℕ) (c : Carrying m (alternativeOut m (tables m w) s) n at w to k p q w1) (h : 0 < k) (x : Walked) (w2 : List ℕ) (g : Staged (alternativeOut m (tables m w1) s p) w1 (m .lim) q x w2) where
@@ -217,4 +218,4 @@ module _ (m : Scope) (s : List ℕ) (n at : ℕ) (w : List ℕ) (to k p q : ℕ)
   pub alternatives-stop : (d : ℕ) (sp : Span) → x ≡ Walked.Refused d sp → Staged (many (alternativeOut m (tables m w) s) n at) w (m .lim) to (Walked.Refused d sp) w2
   alternatives-stop d sp y = step-stop m (alternativeOut m (tables m w) s) n at w to k p q w1 c (alternativeOut m (tables m w) s p) refl h d sp w2 (rw (y, c .same) at g)
 
-pub ruleset alternatives = (needs, carry-start, carry-end, carry-area, alternatives-next, alternatives-stop)
+pub ruleset alternatives = (needs, carry-start, carry-end, alternatives-next, alternatives-stop)

@@ -6,7 +6,7 @@ use mathlib.Core.Option.{some}
 use Prim.Native.Nat.{ℕ, zero, suc, _+_, _*_, _^_, _<_, _≤_}
 use native.Mathlib.Omega.{arith}
 use borrow.Author.Tests.{eqb-true, eqb-false, eq-eqb, ne-eqb, lt-leb, ltb-true}
-use lib.Dec.{leb, eqb}
+use lib.Dec.{eqb}
 use lib.ListN.{length, getD}
 use Rattle.octets.specs.Choice.{pick}
 use Rattle.octets.specs.Numbers.{Bytes, le}
@@ -16,7 +16,6 @@ use Rattle.octets.proofs.Sameness.{sameAs-eq, sameAs-refl}
 use Rattle.octets.proofs.Storing.{length-store}
 use Rattle.parse_tree.specs.Tree.{Text, Item, item, extern, match}
 use Rattle.parse_tree.specs.Texts.{has, number, distinct}
-use Rattle.parse_tree.specs.Nodes.{nodeAt, sizeOf}
 use Rattle.parse_tree.specs.Questions.{defined}
 use Rattle.parse_tree.specs.Places.{argumentsPlace}
 use Rattle.parse_tree.specs.Reading.{got, times}
@@ -36,7 +35,8 @@ use Rattle.resolve.specs.declared.Def.{Def}
 use Rattle.resolve.specs.declared.Found.{Found}
 use Rattle.resolve.specs.declared.Scope.{Scope}
 use Rattle.resolve.specs.Scopes.{base, foundBy, found}
-use Rattle.resolve.specs.Items.{Stamped, stamped, against, lost, argumentIn, argumentsOut}
+use Rattle.resolve.specs.Items.{Stamped, stamped, against, argumentIn, argumentsOut}
+use Rattle.resolve.proofs.Stamping.{turn, arguments-turn}
 use Rattle.resolve.proofs.Coding.{codeOfOption, foundOf, Coded, Plain, def-found}
 use Rattle.resolve.proofs.NamesMean.{Looks}
 use Rattle.resolve.proofs.Readings.{Standing, stands-then}
@@ -145,7 +145,7 @@ answer-as : (m : Scope) (ts : List Text) (G : Tree) (sp : Span) (b : Bool) (r r�
 answer-as m ts G sp true r r′ e H H′ p q h = record { table = h .table; is = p ∙ h .is; marking = record { scoped = h .marking .scoped; marked = λ k l. h .marking .marked k l ∙ q (getD ts k []) } }
 answer-as m ts G sp false r r′ e H H′ p q h = p ∙ h
 
-module _ (m : Scope) (ts : List Text) (d : distinct ts ≡ true) (c : m .count ≡ length ts) (few : m .count ≤ m .room) (small : m .first < 2 ^ 64) (G : Tree) where
+module _ (m : Scope) (ts : List Text) (c : m .count ≡ length ts) (G : Tree) where
   pub marks-look : (t : List ℕ) (ps : List Text) → Marks m t ts G (λ x. has x ps) → Looks m t ts G ps
   unfolding found pick
   marks-look t ps h k l =
@@ -155,16 +155,17 @@ module _ (m : Scope) (ts : List Text) (d : distinct ts ≡ true) (c : m .count �
       go true = refl
       go false = def-found (λ g. Plain (g .def)) (λ g h. h) (getD ts k []) (globals G) (plain-globals G)
 
-  -- no two atoms are equal
-  atoms-apart : (i k : ℕ) → i < length ts → k < length ts → (k ≡ i → ⊥) → sameAs (getD ts i []) (getD ts k []) ≡ false
-  atoms-apart i k l l′ n = go (sameAs (getD ts i []) (getD ts k [])) refl
-    where
-      go : (b : Bool) → sameAs (getD ts i []) (getD ts k []) ≡ b → b ≡ false
-      go true e =
-          let x = sameAs-eq (getD ts i []) (getD ts k []) e in
-          absurd (n (sym (number-text ts k d l′) ∙ ap (number ts) (sym x) ∙ number-text ts i d l))
-      go false e = refl
+-- no two atoms are equal
+atoms-apart : (ts : List Text) → distinct ts ≡ true → (i k : ℕ) → i < length ts → k < length ts → (k ≡ i → ⊥) → sameAs (getD ts i []) (getD ts k []) ≡ false
+atoms-apart ts d i k l l′ n = go (sameAs (getD ts i []) (getD ts k [])) refl
+  where
+    go : (b : Bool) → sameAs (getD ts i []) (getD ts k []) ≡ b → b ≡ false
+    go true e =
+        let x = sameAs-eq (getD ts i []) (getD ts k []) e in
+        absurd (n (sym (number-text ts k d l′) ∙ ap (number ts) (sym x) ∙ number-text ts i d l))
+    go false e = refl
 
+module _ (m : Scope) (ts : List Text) (d : distinct ts ≡ true) (c : m .count ≡ length ts) (few : m .count ≤ m .room) (small : m .first < 2 ^ 64) (G : Tree) where
   module _ (t : List ℕ) (qs : List Text) (h : Marks m t ts G (λ x. has x qs)) (i : ℕ) (l : i < length ts) where
     abbrev marked-now : List ℕ
     marked-now = store t (8 * (m .room + m .room + i)) (le 8 (m .first))
@@ -201,20 +202,9 @@ module _ (m : Scope) (ts : List Text) (d : distinct ts ≡ true) (c : m .count �
             rw (z, here, sameAs-refl (getD ts i []), eq-eqb (m .first) (m .first) refl) refl
         now k n false e =
             let z = eqb-false k i e in
-            rw (elsewhere (m .room + m .room + k) (λ y. z (omega arith)), atoms-apart i k l n z) (h .marked k n)
+            rw (elsewhere (m .room + m .room + k) (λ y. z (omega arith)), atoms-apart ts d i k l n z) (h .marked k n)
 
   module _ (s : List ℕ) (b : Bytes s) (sp : Span) where
-    -- what the argument k does, which ends at z; n come behind it
-    abbrev oneOut : ℕ → List ℕ → ℕ → NonterminalString → Stamped
-    oneOut n t z k =
-        pick (leb (m .count) (k .0)) (lost 3)
-        (pick (eqb (entry t (m .room + m .room + k .0)) (m .first)) (against 7 sp)
-        (argumentsOut m s sp n (store t (8 * (m .room + m .room + k .0)) (le 8 (m .first))) z))
-
-    out-at : (n a z : ℕ) (t : List ℕ) (x : Node) → nodeAt (m .width) s a ≡ x → a + sizeOf (m .width) x ≡ z → argumentsOut m s sp (suc n) t a ≡ argumentIn (λ k. oneOut n t z k) x
-    unfolding argumentsOut
-    out-at n a z t x p q = ap (λ y. argumentIn (λ k. oneOut n t (a + sizeOf (m .width) y) k) y) p ∙ ap (λ y. argumentIn (λ k. oneOut n t y k) x) q
-
     abbrev Goes : ℕ → Type 0
     Goes n = (a : ℕ) (xs : List Text) (e : ℕ) (t : List ℕ) (qs : List Text) → times (readArgument true (m .width) s ts) n a ≡ got xs e → Marks m t ts G (λ x. has x qs)
         → Answer m ts G sp (apart qs xs) (argumentsOut m s sp n t a) e (λ x. has x qs || has x xs)
@@ -222,11 +212,11 @@ module _ (m : Scope) (ts : List Text) (d : distinct ts ≡ true) (c : m .count �
     one-goes : (n : ℕ) → Goes n → (k : NonterminalString) (a z : ℕ) (xs : List Text) (e : ℕ) (t : List ℕ) (qs : List Text) → Standing (m .width) s ts a z (Node.Argument k)
         → times (readArgument true (m .width) s ts) n z ≡ got xs e → Marks m t ts G (λ x. has x qs)
         → Answer m ts G sp (apart qs (getD ts (k .0) [] ∷ xs)) (argumentsOut m s sp (suc n) t a) e (λ x. has x qs || has x (getD ts (k .0) [] ∷ xs))
-    unfolding apart defined argumentIn pick
+    unfolding apart defined argumentIn turn pick
     one-goes n f k a z xs e t qs st p h =
         let l = ltb-true (k .0) (length ts) (st .passes .known) in
         let o : argumentsOut m s sp (suc n) t a ≡ pick (has (getD ts (k .0) []) qs) (against 7 sp) (argumentsOut m s sp n (store t (8 * (m .room + m .room + k .0)) (le 8 (m .first))) z) =
-        out-at n a z t (Node.Argument k) (st .here) (st .behind) ∙ rw (lt-leb (m .count) (k .0) (omega arith), h .marked (k .0) l) refl in
+        arguments-turn m s sp n t a z (Node.Argument k) (sym (st .here)) (st .behind) ∙ rw (lt-leb (m .count) (k .0) (omega arith), h .marked (k .0) l) refl in
         go (has (getD ts (k .0) []) qs) o (f z xs e (store t (8 * (m .room + m .room + k .0)) (le 8 (m .first))) (getD ts (k .0) [] ∷ qs) p (mark-one t qs h (k .0) l))
       where
         go : (u : Bool) → argumentsOut m s sp (suc n) t a ≡ pick u (against 7 sp) (argumentsOut m s sp n (store t (8 * (m .room + m .room + k .0)) (le 8 (m .first))) z)

@@ -76,11 +76,15 @@ module _ (which : ℕ) (n : Node) where
   unfolding globalOf pick
   global-other-source t e z = cc (ne-eqb which (t .source) z)
 
-pub global-none : (which : ℕ) (n : Node) → OneOf (0 ∷ 3 ∷ 4 ∷ 5 ∷ 6 ∷ 7 ∷ 8 ∷ []) (tagOf node-type n) → Global.Nothing ≡ globalOf which n
+-- the numbers of the commands that are no item
+abbrev pub noItem : List ℕ
+noItem = 0 ∷ 3 ∷ 4 ∷ 5 ∷ 6 ∷ 7 ∷ 8 ∷ []
+
+pub global-none : (which : ℕ) (n : Node) → OneOf noItem (tagOf node-type n) → Global.Nothing ≡ globalOf which n
 unfolding globalOf
 global-none which (Node.Text k) h = refl
-global-none which (Node.Nonterminal d) h = absurd (miss (0 ∷ 3 ∷ 4 ∷ 5 ∷ 6 ∷ 7 ∷ 8 ∷ []) 1 tt h)
-global-none which (Node.Terminal t) h = absurd (miss (0 ∷ 3 ∷ 4 ∷ 5 ∷ 6 ∷ 7 ∷ 8 ∷ []) 2 tt h)
+global-none which (Node.Nonterminal d) h = absurd (miss noItem 1 tt h)
+global-none which (Node.Terminal t) h = absurd (miss noItem 2 tt h)
 global-none which (Node.Argument a) h = refl
 global-none which (Node.Alternative a) h = refl
 global-none which (Node.Attribute a) h = refl
@@ -106,12 +110,12 @@ not-found : (f : Found) → OneOf (1 ∷ []) (tagOf found-type f) → f ≡ Foun
 not-found (Found.Is d) h = absurd (miss (1 ∷ []) 0 tt h)
 not-found Found.Nothing h = refl
 
-module _ (w : List ℕ) (m : Scope) (t : Tables m (length w)) (id k : ℕ) (e : k ≡ id) (d : Def) (s : Span) where
+module _ (w : List ℕ) (m : Scope) (id k : ℕ) (e : k ≡ id) (d : Def) (s : Span) where
   pub declare-above : m .count ≤ k → Tabling m (declareOut m (tables m w) id d s) w Verdict.Fine w
   unfolding declareOut pick
   declare-above h = tabling-fine m _ (tables m w) w w (cc (le-leb (m .count) k h)) (kept-none m w)
 
-  module _ (h : k < m .count) (v : ℕ) (p : v ≡ entry w (m .room + k)) (f : Found) (u : f ≡ foundBy v) where
+  module _ (t : Tables m (length w)) (h : k < m .count) (v : ℕ) (p : v ≡ entry w (m .room + k)) (f : Found) (u : f ≡ foundBy v) where
     declare-is : declareOut m (tables m w) id d s ≡ declareBy m (tables m w) k d s f
     unfolding declareOut pick
     declare-is = let z = tables-entry m w (m .room + k) (omega (arith, t .few)) in cc (lt-leb (m .count) k h)
@@ -253,9 +257,6 @@ unfolding scanOut turn pick
 scan-turn m s which n t p h = rw (lt-leb (length s) p h) refl
 
 module _ (m : Scope) (s w₀ : List ℕ) (which at : ℕ) (w : List ℕ) (p : ℕ) (g : Scanning m s w₀ which at w p) where
-  pub scan-tables : Tables m (length w)
-  scan-tables = g .room
-
   pub scan-done : length s ≤ p → Tabling m (scanOut m s which (length s) (tables m w₀) at) w₀ Verdict.Fine w
   scan-done h = g .carry Verdict.Fine w (tabling-fine m _ (tables m w) w w (scan-end m s (tables m w) which (g .fuel) p h) (kept-none m w))
 
@@ -297,7 +298,7 @@ module _ (m : Scope) (s w₀ : List ℕ) (which at : ℕ) (w : List ℕ) (p : �
             );
       }
 
-pub ruleset scanning = (needs, scan-start, scan-tables, scan-done, scan-refused, scan-stuck, scan-next)
+pub ruleset scanning = (needs, scan-start, scan-done, scan-refused, scan-stuck, scan-next)
 
 -- ---- `globals`
 -- a verdict, taken apart

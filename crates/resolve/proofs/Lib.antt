@@ -9,7 +9,7 @@ mod Alternating
 mod Stamping
 mod Replacing
 mod Readings
-mod Skipping
+mod Passing
 pub mod Coding
 pub mod GlobalsMean
 pub mod NamesMean

@@ -48,14 +48,14 @@ verdictOf (yes u) = Verdict.Fine
 verdictOf (no q sp) = Verdict.Refused q sp
 
 -- ---- by the definition of the name
-condition-by : (G : Tree) (ps : List Text) (sp : Span) (o : Option Meant)
+condition-by : (sp : Span) (o : Option Meant)
     → conditionBy sp (idBy sp (foundOf o)) ≡ verdictOf (elim o [ none ↦ no 8 sp | some d ↦ cond (eqb (kind d) 3) (yes tt) (no 9 sp) ])
 unfolding conditionBy idBy verdictOf
-condition-by G ps sp none = refl
-condition-by G ps sp (some terminalDef) = refl
-condition-by G ps sp (some (nonterminalDef zero)) = refl
-condition-by G ps sp (some (nonterminalDef (suc n))) = refl
-condition-by G ps sp (some argumentDef) = refl
+condition-by sp none = refl
+condition-by sp (some terminalDef) = refl
+condition-by sp (some (nonterminalDef zero)) = refl
+condition-by sp (some (nonterminalDef (suc n))) = refl
+condition-by sp (some argumentDef) = refl
 
 macro-by : (G : Tree) (ps : List Text) (sp : Span) (k : ℕ) (o : Option Meant) → macroBy sp k (idBy sp (foundOf o)) ≡ verdictOf (validateMacro G ps sp k o)
 unfolding macroBy idBy verdictOf pick
@@ -119,4 +119,4 @@ module _ (m : Scope) (t : List ℕ) (ts : List Text) (d : distinct ts ≡ true) 
   unfolding conditionSays idOf conditionOf defined
   condition-means c p =
       let h = ltb-true (c .lhs .0) (length ts) (both (ltb (c .lhs .0) (length ts)) _ (p .known) .0) in
-      rw (look (c .lhs .0) h) (condition-by G ps (c .span) (lookup G ps (getD ts (c .lhs .0) [])))
+      rw (look (c .lhs .0) h) (condition-by (c .span) (lookup G ps (getD ts (c .lhs .0) [])))

@@ -1,7 +1,7 @@
 -- Items: the ways out of put_alternatives, validate_data, validate_item and validate. Assumes nothing.
 use mathlib.Core.Path.{_≡_, refl, sym, ap, _∙_}
 use mathlib.Core.Bool.{Bool}
-use mathlib.Core.List.{List, [], _∷_, _++_}
+use mathlib.Core.List.{List, [], _++_}
 use Prim.Native.Nat.{ℕ, zero, suc, _+_, _-_, _<_, _≤_}
 use native.Mathlib.Omega.{arith}
 use borrow.Author.Needs.{needs}
@@ -31,7 +31,7 @@ use Rattle.resolve.specs.Walks.{Out, wrote, denied, prefix, many, Staged
 use Rattle.resolve.specs.Items.{Stamped, stamped, against, Stamping, argumentsOut, alternativeOut, Put, put, unput, behind, Replaced, putBy, stampedThen, prefixPut, putThen, within, dataOut, nowhere, itemIn, itemOut, itemsOut}
 use Rattle.resolve.proofs.Regions.{tables-lay, behind-lay}
 use Rattle.resolve.proofs.Inside.{command-inside}
-use Rattle.resolve.proofs.Declaring.{next-not}
+use Rattle.resolve.proofs.Declaring.{noItem, next-not}
 use Rattle.resolve.proofs.Staging.{staged-prefix, area-next, tables-laid}
 use Rattle.resolve.proofs.Stamping.{Ends, arguments-end}
 
@@ -82,28 +82,25 @@ unfolding Stamping
 fallen m (stamped t e) q p w w1 h = absurd (next-not (sym (h .answered)))
 fallen m (against a b) q p w w1 h = cc
 
-module _ (m : Scope) (s : List ℕ) (d : NonterminalData) (at e : ℕ) (w : List ℕ) (to a : ℕ) (f : a ≡ d .args) (x : Passed) (w1 : List ℕ) (g : Stamping m (argumentsOut m s (d .span) a (tables m w) e) w x w1) where
-  pub data-refused : (q : ℕ) (p : Span) → x ≡ Passed.Refused q p → (w2 : List ℕ) → Replaced m (dataOut m (tables m w) s d at e) w to (Walked.Refused q p) w2
+module _ (m : Scope) (s : List ℕ) (d : NonterminalData) (e : ℕ) (w : List ℕ) (a : ℕ) (x : Passed) (w1 : List ℕ) (g : Stamping m (argumentsOut m s (d .span) a (tables m w) e) w x w1) where
+  pub data-refused : (at to q : ℕ) (p : Span) → a ≡ d .args → x ≡ Passed.Refused q p → (w2 : List ℕ) → Replaced m (dataOut m (tables m w) s d at e) w to (Walked.Refused q p) w2
   unfolding dataOut stampedThen
-  data-refused q p u w2 = replaced-unput m _ q p w to w2 (let z = fallen m _ q p w w1 (rw u at g) in cc)
+  data-refused at to q p f u w2 = replaced-unput m _ q p w to w2 (let z = fallen m _ q p w w1 (rw u at g) in cc)
 
   module _ (p : ℕ) (u : x ≡ Passed.Next p) where
-    pub data-from : at ≤ e → e ≤ length s → ((i : ℕ) → Fits w8 (getD s i 0)) → at ≤ p
-    data-from h l b =
-        let z = stood m _ p w w1 (rw u at g) in
-        let y : Ends e (length s) (stamped (tables m w1) p) = rw (z .is) at (arguments-end m s (λ i. b i .fits) (d .span) a (tables m w) e l) in
-        omega (arith, y .0)
+    ends : e ≤ length s → ((i : ℕ) → Fits w8 (getD s i 0)) → Ends e (length s) (stamped (tables m w1) p)
+    ends l b = rw (stood m _ p w w1 (rw u at g) .is) at (arguments-end m s (λ i. b i .fits) (d .span) a (tables m w) e l)
+
+    pub data-from : (at : ℕ) → at ≤ e → e ≤ length s → ((i : ℕ) → Fits w8 (getD s i 0)) → at ≤ p
+    data-from at h l b = omega (arith, ends l b .0)
 
     pub data-upto : e ≤ length s → ((i : ℕ) → Fits w8 (getD s i 0)) → p ≤ length s
-    data-upto l b =
-        let z = stood m _ p w w1 (rw u at g) in
-        let y : Ends e (length s) (stamped (tables m w1) p) = rw (z .is) at (arguments-end m s (λ i. b i .fits) (d .span) a (tables m w) e l) in
-        y .1
+    data-upto l b = ends l b .1
 
-    pub data-next : (nn k : ℕ) (r : Walked) (w2 : List ℕ) → Area m to nn → k ≡ d .alternatives
+    pub data-next : (at to nn k : ℕ) (r : Walked) (w2 : List ℕ) → a ≡ d .args → Area m to nn → k ≡ d .alternatives
         → Staged (prefix (part at p s) (many (alternativeOut m (tables m w1) s) k p)) w1 (m .lim) to r w2 → Replaced m (dataOut m (tables m w) s d at e) w to r w2
     unfolding dataOut stampedThen base
-    data-next nn k r w2 ar v h =
+    data-next at to nn k r w2 f ar v h =
         let z = stood m _ p w w1 (rw u at g) in
         let o : dataOut m (tables m w) s d at e ≡ putBy (tables m w1) (prefix (part at p s) (many (alternativeOut m (tables m w1) s) (d .alternatives) p)) = cc (z .is) in
         replaced-as m _ _ w to r w2 o (replaced-staged m _ w w1 to r w2 (ar .apart) (z .kept) (rw v at h))
@@ -114,11 +111,11 @@ area-same m to n n1 a e = rw e a
 pub ruleset replacing = (needs, data-refused, data-from, data-upto, data-next, area-same)
 
 -- ---- validate_item
-no-item : (f : NonterminalData → Put) (x : Put) (y : Node) → OneOf (0 ∷ 3 ∷ 4 ∷ 5 ∷ 6 ∷ 7 ∷ 8 ∷ []) (tagOf the-type y) → itemIn f x y ≡ nowhere
+no-item : (f : NonterminalData → Put) (x : Put) (y : Node) → OneOf noItem (tagOf the-type y) → itemIn f x y ≡ nowhere
 unfolding itemIn
 no-item f x (Node.Text k) h = refl
-no-item f x (Node.Nonterminal k) h = absurd (miss (0 ∷ 3 ∷ 4 ∷ 5 ∷ 6 ∷ 7 ∷ 8 ∷ []) 1 tt h)
-no-item f x (Node.Terminal k) h = absurd (miss (0 ∷ 3 ∷ 4 ∷ 5 ∷ 6 ∷ 7 ∷ 8 ∷ []) 2 tt h)
+no-item f x (Node.Nonterminal k) h = absurd (miss noItem 1 tt h)
+no-item f x (Node.Terminal k) h = absurd (miss noItem 2 tt h)
 no-item f x (Node.Argument k) h = refl
 no-item f x (Node.Alternative k) h = refl
 no-item f x (Node.Attribute k) h = refl
@@ -133,7 +130,7 @@ replaced-within m c (put xs t e) w to r w1 h = record { answered = h .answered; 
 replaced-within m c (unput q p) w to r w1 h = h
 
 module _ (m : Scope) (s : List ℕ) (at : ℕ) (w : List ℕ) (to : ℕ) (n : Node) (i : n ≡ nodeAt (m .width) s at) where
-  pub item-other : (w1 : List ℕ) → OneOf (0 ∷ 3 ∷ 4 ∷ 5 ∷ 6 ∷ 7 ∷ 8 ∷ []) (tagOf the-type n) → Replaced m (itemOut m (tables m w) s at) w to (Walked.Refused 2 (record { 0 = 0; 1 = 0 })) w1
+  pub item-other : (w1 : List ℕ) → OneOf noItem (tagOf the-type n) → Replaced m (itemOut m (tables m w) s at) w to (Walked.Refused 2 (record { 0 = 0; 1 = 0 })) w1
   unfolding itemOut
   item-other w1 h = replaced-unput m _ 2 (record { 0 = 0; 1 = 0 }) w to w1 (no-item _ _ (nodeAt (m .width) s at) (rw i at h))
 
@@ -159,15 +156,7 @@ module _ (m : Scope) (s : List ℕ) (at : ℕ) (w : List ℕ) (to : ℕ) (n : No
         let o : itemOut m (tables m w) s at ≡ dataOut (within m (at + z)) (tables m w) s d at (at + z) = cc in
         replaced-as m _ _ w to r w1 o (replaced-within m (at + z) _ w to r w1 h)
 
-pub area-within : (m : Scope) (to n e : ℕ) → Area m to n → Area (record { room = m .room; count = m .count; width = m .width; lim = m .lim; first = e }) to n
-area-within m to n e a =
-    let t = a .tabled in
-    record { tabled = record { few = t .few; fits = t .fits; narrow = t .narrow; wide = t .wide }; end = a .end; apart = a .apart }
-
-pub item-behind : (at z : ℕ) → at ≤ at + z
-item-behind at z = omega arith
-
-pub ruleset itemizing = (needs, command-inside, item-behind, item-other, item-terminal, item-nonterminal, area-within)
+pub ruleset itemizing = (needs, command-inside, item-other, item-terminal, item-nonterminal)
 
 -- ---- validate
 -- two lays behind the tables are one
@@ -221,22 +210,19 @@ pub place-start : (m : Scope) (s : List ℕ) (at : ℕ) (w : List ℕ) (to : ℕ
 place-start m s at w to a = record { area = a; same = refl; fuel = length s; enough = omega arith; carry = λ r w′ h. h }
 
 -- an item, then n more
-unfoldable turn : Scope → List ℕ → ℕ → List ℕ → ℕ → Put
+unfoldable pub turn : Scope → List ℕ → ℕ → List ℕ → ℕ → Put
 turn m s n t p = putThen (itemOut m t s p) (λ t′ e. pick (leb e p) nowhere (itemsOut m s n t′ e))
 
-items-turn : (m : Scope) (s : List ℕ) (n : ℕ) (t : List ℕ) (p : ℕ) → p < length s → itemsOut m s (suc n) t p ≡ turn m s n t p
+pub items-turn : (m : Scope) (s : List ℕ) (n : ℕ) (t : List ℕ) (p : ℕ) → p < length s → itemsOut m s (suc n) t p ≡ turn m s n t p
 unfolding itemsOut turn pick
 items-turn m s n t p h = rw (lt-leb (length s) p h) refl
 
-items-end : (m : Scope) (s : List ℕ) (n : ℕ) (t : List ℕ) (p : ℕ) → length s ≤ p → itemsOut m s n t p ≡ put [] t p
+pub items-end : (m : Scope) (s : List ℕ) (n : ℕ) (t : List ℕ) (p : ℕ) → length s ≤ p → itemsOut m s n t p ≡ put [] t p
 unfolding itemsOut pick
 items-end m s zero t p h = refl
 items-end m s (suc n) t p h = cc (le-leb (length s) p h)
 
 module _ (m : Scope) (s : List ℕ) (at : ℕ) (w₀ : List ℕ) (to : ℕ) (w : List ℕ) (p q : ℕ) (g : Placing m s at w₀ to w p q) where
-  pub place-area : Area m q (length w)
-  place-area = g .area
-
   pub place-done : length s ≤ p → Replaced m (itemsOut m s (length s) (tables m w₀) at) w₀ to (Walked.Next p q) w
   unfolding Replaced adv lay
   place-done h = g .carry (Walked.Next p q) w (rw (items-end m s (g .fuel) (tables m w) p h) (record { answered = refl; tabled = refl; bytes = refl }))
@@ -279,4 +265,4 @@ module _ (m : Scope) (s : List ℕ) (at : ℕ) (w₀ : List ℕ) (to : ℕ) (w :
             carry = λ r w2 y. g .carry r w2 (replaced-as m _ _ w q r w2 o (replaced-prefix m _ (gone .written) w w1 q t r w2 (gone .after) (a .apart) (gone .bytes) y));
           }
 
-pub ruleset placing = (needs, place-start, place-area, place-done, place-refused, place-stuck, place-next)
+pub ruleset placing = (needs, place-start, place-done, place-refused, place-stuck, place-next)

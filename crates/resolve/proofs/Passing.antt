@@ -6,9 +6,8 @@ use Prim.Native.Nat.{ℕ, zero, suc, _+_, _≤_, _<_}
 use native.Mathlib.Omega.{arith}
 use lib.ListN.{length}
 use Rattle.octets.specs.Numbers.{Bytes}
-use Rattle.octets.proofs.Lying.{lies-inside}
 use Rattle.parse_tree.specs.Tree.{Text, Sym, Attribute, Condition, Alternative, Item, symsOf}
-use Rattle.parse_tree.specs.Nodes.{nodeAt, nodeBytes, sizeOf}
+use Rattle.parse_tree.specs.Nodes.{nodeAt, sizeOf}
 use Rattle.parse_tree.specs.Places.{itemsPlace, argumentsPlace, alternativesPlace, attributesPlace, conditionsPlace, symbolsPlace}
 use Rattle.parse_tree.specs.Reading.{Reading, got, then, times}
 use Rattle.parse_tree.specs.Operands.{leafOf, aroundOf, overOf, insideOf, nonterminalOf, terminalOf}
@@ -21,10 +20,9 @@ use Rattle.parse_tree.specs.declared.syntax.SymbolKind.{SymbolKind}
 use Rattle.parse_tree.specs.declared.syntax.Node.{Node}
 use Rattle.parse_tree.proofs.ReadingLaws.{never, got-as, then-got}
 use Rattle.parse_tree.proofs.Expecting.{item-wanted, argument-wanted, alternative-wanted, attribute-wanted, condition-wanted, symbol-wanted}
-use Rattle.validate.proofs.Onward.{node-positive}
 use Rattle.resolve.specs.Globals.{globalOf}
 use Rattle.resolve.specs.declared.Global.{Global}
-use Rattle.resolve.proofs.Readings.{Standing, stands-then, times-length}
+use Rattle.resolve.proofs.Readings.{Standing, standing-inside, stands-then, times-length}
 
 -- ---- a place where a command stands, and one where a command stands that declares nothing
 pub record Stands (w : ℕ) (s : List ℕ) (p : ℕ) : Type 0 where
@@ -32,11 +30,10 @@ pub record Stands (w : ℕ) (s : List ℕ) (p : ℕ) : Type 0 where
   pub some : 1 ≤ sizeOf w (nodeAt w s p)
 
 pub standing-stands : {w : ℕ} {s : List ℕ} {ts : List Text} {a c : ℕ} {n : Node} → Standing w s ts a c n → Stands w s a
-unfolding sizeOf
 standing-stands {w} {s} {ts} {a} {c} {n} h =
-    let p = node-positive w (length ts) n (h .passes .known) in
-    let i = lies-inside s a c (nodeBytes w n) p (h .lies) in
-    record { inside = omega (arith, h .lies .end); some = rw (h .here) p }
+    let (p, q) = standing-inside h in
+    let z : a + sizeOf w (nodeAt w s a) ≡ c = rw (h .here) (h .behind) in
+    record { inside = omega arith; some = omega arith }
 
 pub record Silent (w : ℕ) (s : List ℕ) (p : ℕ) : Type 0 where
   pub stands : Stands w s p
