@@ -1,14 +1,14 @@
 -- Alternatives: the ways out of skip, validate_conditions and validate_alternative, and the loop over alternatives. Assumes nothing.
 use mathlib.Core.Path.{_≡_, refl, sym, ap, _∙_}
 use mathlib.Core.Bool.{Bool, true, false}
-use mathlib.Core.List.{List, [], _∷_, _++_}
-use Prim.Native.Nat.{ℕ, zero, suc, _+_, _-_, _^_, _<_, _≤_}
+use mathlib.Core.List.{List, [], _∷_}
+use Prim.Native.Nat.{ℕ, zero, suc, _+_, _-_, _<_, _≤_}
 use native.Mathlib.Omega.{arith}
 use borrow.Author.Needs.{needs}
 use borrow.Author.Tests.{eq-eqb, ne-eqb}
 use denote.Enum.Declared.{tagOf}
 use types.Run.{OneOf, miss}
-use mir.Syntax.{w8, w64}
+use mir.Syntax.{w8}
 use mir.Val.{Fits}
 use lib.Dec.{eqb}
 use lib.ListN.{length, getD}
@@ -29,8 +29,9 @@ use Rattle.resolve.specs.Scopes.{Area, tables}
 use Rattle.resolve.specs.Names.{conditionSays}
 use Rattle.resolve.specs.Walks.{Out, prefix, many, Staged, astray, symOut}
 use Rattle.resolve.specs.Items.{skipTo, stray, passedBy, conditionIn, alternativeIn, passedThen, conditionOut, alternativeOut}
-use Rattle.resolve.proofs.Inside.{command-inside, command-fits, condition-fits, alternative-inside, alternative-below, alternative-fits}
-use Rattle.resolve.proofs.Staging.{staged-prefix, staged-denied, staged-as, area-next, tables-laid, Carrying, carry-start, carry-end, carry-area, step-next, step-stop}
+use Rattle.resolve.proofs.Inside.{command-inside, known-fits, alternative-below}
+use Rattle.resolve.proofs.Declaring.{next-not}
+use Rattle.resolve.proofs.Staging.{staged-prefix, staged-denied, staged-as, area-next, tables-laid, Carrying, carry-start, carry-end, step-next, step-stop}
 
 -- ---- skip: k commands are to come from p on
 pub record Skips (w : ℕ) (s : List ℕ) (n at k p : ℕ) : Type 0 where
@@ -42,15 +43,15 @@ pub skip-start : (w : ℕ) (s : List ℕ) (n at : ℕ) → at ≤ length s → S
 skip-start w s n at h = record { same = refl; from = omega arith; upto = h }
 
 module _ (w : ℕ) (s : List ℕ) (n at k p : ℕ) (c : Skips w s n at k p) where
-  pub skip-next : (x : Node) (z : ℕ) → x ≡ nodeAt w s p → z ≡ sizeOf w x → ((i : ℕ) → Fits w8 (getD s i 0)) → length s < 2 ^ 64 → 0 < k → Skips w s n at (k - 1) (p + z)
+  pub skip-next : (x : Node) (z : ℕ) → x ≡ nodeAt w s p → z ≡ sizeOf w x → ((i : ℕ) → Fits w8 (getD s i 0)) → 0 < k → Skips w s n at (k - 1) (p + z)
   unfolding skipTo
-  skip-next x z i g b l h =
+  skip-next x z i g b h =
       let u = c .upto in
       let f = c .from in
       record {
         same = go k refl;
         from = omega arith;
-        upto = command-inside w s p x z i b l g u;
+        upto = command-inside w s p x z i b g u;
       }
     where
       go : (j : ℕ) → k ≡ j → skipTo w s (k - 1) (p + z) ≡ skipTo w s n at
@@ -64,13 +65,14 @@ module _ (w : ℕ) (s : List ℕ) (n at k p : ℕ) (c : Skips w s n at k p) wher
   unfolding skipTo
   skip-end h = let z : k ≡ 0 = omega arith in let y = c .same in cc
 
-  pub skip-from : at ≤ p
-  skip-from = c .from
+pub ruleset skipping = (needs, skip-start, skip-next, skip-end)
 
-  pub skip-upto : p ≤ length s
-  skip-upto = c .upto
+-- the numbers of the commands that are no condition, and no alternative
+abbrev noCondition : List ℕ
+noCondition = 0 ∷ 1 ∷ 2 ∷ 3 ∷ 4 ∷ 5 ∷ 7 ∷ 8 ∷ []
 
-pub ruleset skipping = (needs, command-fits, skip-start, skip-next, skip-end, skip-from, skip-upto)
+abbrev noAlternative : List ℕ
+noAlternative = 0 ∷ 1 ∷ 2 ∷ 3 ∷ 5 ∷ 6 ∷ 7 ∷ 8 ∷ []
 
 -- ---- validate_conditions
 module _ (m : Scope) (t s : List ℕ) (n at : ℕ) where
@@ -83,11 +85,11 @@ module _ (m : Scope) (t s : List ℕ) (n at : ℕ) where
     unfolding conditionOut pick
     opened = rw i (ap (λ (y : Bool). pick y (Passed.Next at) (conditionIn (λ c. passedBy (at + sizeOf (m .width) (nodeAt (m .width) s at)) (conditionSays m t c)) (nodeAt (m .width) s at))) (ne-eqb n 0 z))
 
-    pub condition-other : OneOf (0 ∷ 1 ∷ 2 ∷ 3 ∷ 4 ∷ 5 ∷ 7 ∷ 8 ∷ []) (tagOf the-type x) → Passed.Refused 2 (record { 0 = 0; 1 = 0 }) ≡ conditionOut m t s n at
+    pub condition-other : OneOf noCondition (tagOf the-type x) → Passed.Refused 2 (record { 0 = 0; 1 = 0 }) ≡ conditionOut m t s n at
     unfolding conditionIn
     condition-other h = sym (opened ∙ go x refl h)
       where
-        go : (y : Node) → x ≡ y → OneOf (0 ∷ 1 ∷ 2 ∷ 3 ∷ 4 ∷ 5 ∷ 7 ∷ 8 ∷ []) (tagOf the-type y)
+        go : (y : Node) → x ≡ y → OneOf noCondition (tagOf the-type y)
             → conditionIn (λ c. passedBy (at + sizeOf (m .width) x) (conditionSays m t c)) y ≡ stray
         go (Node.Text k) e h = refl
         go (Node.Nonterminal k) e h = refl
@@ -95,7 +97,7 @@ module _ (m : Scope) (t s : List ℕ) (n at : ℕ) where
         go (Node.Argument k) e h = refl
         go (Node.Alternative k) e h = refl
         go (Node.Attribute k) e h = refl
-        go (Node.Condition k) e h = absurd (miss (0 ∷ 1 ∷ 2 ∷ 3 ∷ 4 ∷ 5 ∷ 7 ∷ 8 ∷ []) 6 tt h)
+        go (Node.Condition k) e h = absurd (miss noCondition 6 tt h)
         go (Node.Symbol sp k) e h = refl
         go Node.Unknown e h = refl
 
@@ -108,45 +110,45 @@ module _ (m : Scope) (t s : List ℕ) (n at : ℕ) where
       unfolding conditionIn passedBy
       condition-fine k e g = sym (opened ∙ cc)
 
-pub ruleset conditions = (needs, condition-fits, condition-none, condition-other, condition-refused, condition-fine)
+pub ruleset conditions = (needs, known-fits, condition-none, condition-other, condition-refused, condition-fine)
 
 -- where the conditions end
 passed-next : (e : ℕ) (v : Verdict) (p : ℕ) → passedBy e v ≡ Passed.Next p → e ≡ p
 unfolding passedBy
 passed-next e Verdict.Fine p h = cc
-passed-next e (Verdict.Refused q sp) p h = let z : _≡_ {A = ℕ} 0 1 = cc in absurd (omega arith)
+passed-next e (Verdict.Refused q sp) p h = absurd (next-not (sym h))
 
-module _ (m : Scope) (t s : List ℕ) (b : (i : ℕ) → Fits w8 (getD s i 0)) (l : length s < 2 ^ 64) (n at p : ℕ) where
+module _ (m : Scope) (t s : List ℕ) (b : (i : ℕ) → Fits w8 (getD s i 0)) (at p : ℕ) where
   in-next : (x : Node) → nodeAt (m .width) s at ≡ x → at ≤ length s → conditionIn (λ c. passedBy (at + sizeOf (m .width) x) (conditionSays m t c)) x ≡ Passed.Next p → (at ≤ p) × (p ≤ length s)
   unfolding conditionIn
-  in-next (Node.Text k) i h e = let z : _≡_ {A = ℕ} 0 1 = cc in absurd (omega arith)
-  in-next (Node.Nonterminal k) i h e = let z : _≡_ {A = ℕ} 0 1 = cc in absurd (omega arith)
-  in-next (Node.Terminal k) i h e = let z : _≡_ {A = ℕ} 0 1 = cc in absurd (omega arith)
-  in-next (Node.Argument k) i h e = let z : _≡_ {A = ℕ} 0 1 = cc in absurd (omega arith)
-  in-next (Node.Alternative k) i h e = let z : _≡_ {A = ℕ} 0 1 = cc in absurd (omega arith)
-  in-next (Node.Attribute k) i h e = let z : _≡_ {A = ℕ} 0 1 = cc in absurd (omega arith)
+  in-next (Node.Text k) i h e = absurd (next-not (sym e))
+  in-next (Node.Nonterminal k) i h e = absurd (next-not (sym e))
+  in-next (Node.Terminal k) i h e = absurd (next-not (sym e))
+  in-next (Node.Argument k) i h e = absurd (next-not (sym e))
+  in-next (Node.Alternative k) i h e = absurd (next-not (sym e))
+  in-next (Node.Attribute k) i h e = absurd (next-not (sym e))
   in-next (Node.Condition k) i h e =
       let z = passed-next (at + sizeOf (m .width) (Node.Condition k)) (conditionSays m t k) p e in
-      let y = command-inside (m .width) s at (Node.Condition k) (sizeOf (m .width) (Node.Condition k)) (sym i) b l refl h in
+      let y = command-inside (m .width) s at (Node.Condition k) (sizeOf (m .width) (Node.Condition k)) (sym i) b refl h in
       (omega arith, omega arith)
-  in-next (Node.Symbol sp k) i h e = let z : _≡_ {A = ℕ} 0 1 = cc in absurd (omega arith)
-  in-next Node.Unknown i h e = let z : _≡_ {A = ℕ} 0 1 = cc in absurd (omega arith)
+  in-next (Node.Symbol sp k) i h e = absurd (next-not (sym e))
+  in-next Node.Unknown i h e = absurd (next-not (sym e))
 
-  condition-ends : at ≤ length s → conditionOut m t s n at ≡ Passed.Next p → (at ≤ p) × (p ≤ length s)
+  condition-ends : (n : ℕ) → at ≤ length s → conditionOut m t s n at ≡ Passed.Next p → (at ≤ p) × (p ≤ length s)
   unfolding conditionOut pick
-  condition-ends h e = go (eqb n 0) refl
+  condition-ends n h e = go (eqb n 0) refl
     where
       go : (y : Bool) → eqb n 0 ≡ y → (at ≤ p) × (p ≤ length s)
       go true y = let z : at ≡ p = cc in (omega arith, omega arith)
       go false y = in-next (nodeAt (m .width) s at) refl h cc
 
 -- ---- symbols_from
-skip-ends : (w : ℕ) (s : List ℕ) → ((i : ℕ) → Fits w8 (getD s i 0)) → length s < 2 ^ 64 → (n at : ℕ) → at ≤ length s → (at ≤ skipTo w s n at) × (skipTo w s n at ≤ length s)
+skip-ends : (w : ℕ) (s : List ℕ) → ((i : ℕ) → Fits w8 (getD s i 0)) → (n at : ℕ) → at ≤ length s → (at ≤ skipTo w s n at) × (skipTo w s n at ≤ length s)
 unfolding skipTo
-skip-ends w s b l zero at h = (omega arith, h)
-skip-ends w s b l (suc n) at h =
-    let i = command-inside w s at (nodeAt w s at) (sizeOf w (nodeAt w s at)) refl b l refl h in
-    let r = skip-ends w s b l n (at + sizeOf w (nodeAt w s at)) i in
+skip-ends w s b zero at h = (omega arith, h)
+skip-ends w s b (suc n) at h =
+    let i = command-inside w s at (nodeAt w s at) (sizeOf w (nodeAt w s at)) refl b refl h in
+    let r = skip-ends w s b n (at + sizeOf w (nodeAt w s at)) i in
     (omega (arith, r .0), r .1)
 
 pub from-is : (m : Scope) (t s : List ℕ) (a : Alternative) (at k e : ℕ) (r : Passed) → k ≡ a .attributes → e ≡ skipTo (m .width) s k at → r ≡ conditionOut m t s (a .conditions) e
@@ -156,20 +158,20 @@ from-is m t s a at k e r f g h = cc
 pub ruleset starting = (needs, from-is)
 
 -- ---- validate_alternative
-no-alternative : (f : Alternative → Out) (y : Node) → OneOf (0 ∷ 1 ∷ 2 ∷ 3 ∷ 5 ∷ 6 ∷ 7 ∷ 8 ∷ []) (tagOf the-type y) → alternativeIn f y ≡ astray
+no-alternative : (f : Alternative → Out) (y : Node) → OneOf noAlternative (tagOf the-type y) → alternativeIn f y ≡ astray
 unfolding alternativeIn
 no-alternative f (Node.Text k) h = refl
 no-alternative f (Node.Nonterminal k) h = refl
 no-alternative f (Node.Terminal k) h = refl
 no-alternative f (Node.Argument k) h = refl
-no-alternative f (Node.Alternative k) h = absurd (miss (0 ∷ 1 ∷ 2 ∷ 3 ∷ 5 ∷ 6 ∷ 7 ∷ 8 ∷ []) 4 tt h)
+no-alternative f (Node.Alternative k) h = absurd (miss noAlternative 4 tt h)
 no-alternative f (Node.Attribute k) h = refl
 no-alternative f (Node.Condition k) h = refl
 no-alternative f (Node.Symbol sp k) h = refl
 no-alternative f Node.Unknown h = refl
 
 module _ (m : Scope) (s : List ℕ) (at : ℕ) (w : List ℕ) (to : ℕ) (n : Node) (i : n ≡ nodeAt (m .width) s at) where
-  pub alternative-other : (w1 : List ℕ) → OneOf (0 ∷ 1 ∷ 2 ∷ 3 ∷ 5 ∷ 6 ∷ 7 ∷ 8 ∷ []) (tagOf the-type n) → Staged (alternativeOut m (tables m w) s at) w (m .lim) to (Walked.Refused 2 (record { 0 = 0; 1 = 0 })) w1
+  pub alternative-other : (w1 : List ℕ) → OneOf noAlternative (tagOf the-type n) → Staged (alternativeOut m (tables m w) s at) w (m .lim) to (Walked.Refused 2 (record { 0 = 0; 1 = 0 })) w1
   unfolding alternativeOut
   alternative-other w1 h = staged-denied _ 2 (record { 0 = 0; 1 = 0 }) w w1 (m .lim) to (no-alternative _ (nodeAt (m .width) s at) (rw i at h))
 
@@ -192,12 +194,12 @@ module _ (m : Scope) (s : List ℕ) (at : ℕ) (w : List ℕ) (to : ℕ) (n : No
 
 -- the symbols stand inside the tape
 module _ (x : Passed) (p : ℕ) (u : x ≡ Passed.Next p) (m : Scope) (t s : List ℕ) (a : Alternative) (at z : ℕ) (f : x ≡ conditionOut m t s (a .conditions) (skipTo (m .width) s (a .attributes) (at + z)))
-    (n : Node) (i : n ≡ nodeAt (m .width) s at) (j : n ≡ Node.Alternative a) (g : z ≡ sizeOf (m .width) (Node.Alternative a)) (b : (i : ℕ) → Fits w8 (getD s i 0)) (l : length s < 2 ^ 64) where
+    (n : Node) (i : n ≡ nodeAt (m .width) s at) (j : n ≡ Node.Alternative a) (g : z ≡ sizeOf (m .width) (Node.Alternative a)) (b : (i : ℕ) → Fits w8 (getD s i 0)) where
   ends : (at ≤ p) × (p ≤ length s)
   ends =
-      let h = alternative-inside (m .width) s at n z i b l a j g in
-      let k = skip-ends (m .width) s b l (a .attributes) (at + z) (h .1) in
-      let v = condition-ends m t s b l (a .conditions) (skipTo (m .width) s (a .attributes) (at + z)) p (k .1) (sym f ∙ u) in
+      let h = alternative-below (m .width) s at n z i b a j g in
+      let k = skip-ends (m .width) s b (a .attributes) (at + z) h in
+      let v = condition-ends m t s b (skipTo (m .width) s (a .attributes) (at + z)) p (a .conditions) (k .1) (sym f ∙ u) in
       (omega (arith, k .0, v .0), v .1)
 
   pub alternative-from : at ≤ p
@@ -206,7 +208,7 @@ module _ (x : Passed) (p : ℕ) (u : x ≡ Passed.Next p) (m : Scope) (t s : Lis
   pub alternative-upto : p ≤ length s
   alternative-upto = ends .1
 
-pub ruleset alternating = (needs, alternative-below, alternative-fits, alternative-other, alternative-refused, alternative-next, alternative-from, alternative-upto, area-next)
+pub ruleset alternating = (needs, alternative-below, known-fits, alternative-other, alternative-refused, alternative-next, area-next)
 
 -- ---- validate_alternatives
 module _ (m : Scope) (s : List ℕ) (n at : ℕ) (w : List ℕ) (to k p q : ℕ) (w1 : List ℕ) (c : Carrying m (alternativeOut m (tables m w) s) n at w to k p q w1) (h : 0 < k) (x : Walked) (w2 : List ℕ) (g : Staged (alternativeOut m (tables m w1) s p) w1 (m .lim) q x w2) where
@@ -216,4 +218,4 @@ module _ (m : Scope) (s : List ℕ) (n at : ℕ) (w : List ℕ) (to k p q : ℕ)
   pub alternatives-stop : (d : ℕ) (sp : Span) → x ≡ Walked.Refused d sp → Staged (many (alternativeOut m (tables m w) s) n at) w (m .lim) to (Walked.Refused d sp) w2
   alternatives-stop d sp y = step-stop m (alternativeOut m (tables m w) s) n at w to k p q w1 c (alternativeOut m (tables m w) s p) refl h d sp w2 (rw (y, c .same) at g)
 
-pub ruleset alternatives = (needs, carry-start, carry-end, carry-area, alternatives-next, alternatives-stop)
+pub ruleset alternatives = (needs, carry-start, carry-end, alternatives-next, alternatives-stop)

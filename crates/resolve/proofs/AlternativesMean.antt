@@ -2,7 +2,7 @@
 use mathlib.Core.Path.{_≡_, refl, sym, ap, _∙_}
 use mathlib.Core.Bool.{true}
 use mathlib.Core.List.{List, [], _∷_, _++_, append-assoc}
-use mathlib.Core.Option.{Option, none, some}
+use mathlib.Core.Option.{Option, some}
 use Prim.Native.Nat.{ℕ, zero, suc, _+_, _≤_}
 use native.Mathlib.Omega.{arith}
 use lib.Dec.{leb}
@@ -36,8 +36,8 @@ use Rattle.resolve.specs.Names.{conditionSays}
 use Rattle.resolve.specs.Walks.{Out, wrote, prefix, andThen, many, symOut}
 use Rattle.resolve.specs.Items.{skipTo, passedBy, conditionIn, alternativeIn, passedThen, conditionOut, alternativeOut}
 use Rattle.resolve.proofs.NamesMean.{Looks, outOf, verdictOf, condition-means}
-use Rattle.resolve.proofs.Readings.{Standing, stands-then}
-use Rattle.resolve.proofs.SymbolsMean.{then-out, times-length, count-kept, syms-mean}
+use Rattle.resolve.proofs.Readings.{Standing, stands-then, times-length}
+use Rattle.resolve.proofs.SymbolsMean.{then-out, count-kept, syms-mean}
 
 -- ---- commands that are copied
 module _ {A : Type 0} (w : ℕ) (s : List ℕ) (f : ℕ → Reading A) (bytes : A → List ℕ) where
@@ -79,11 +79,11 @@ unfolding passedThen passedBy verdictOf outOf
 condition-then f (yes u) p e k r h = h
 condition-then f (no q sp) p e k r h = refl
 
-module _ (w : ℕ) (ts : List Text) (d : distinct ts ≡ true) where
-  alternative-node : (n : AlternativeNode) (as' : List Attribute) (o : Option Condition) (xs : Syms) → Passes true w ts (Node.Alternative n)
+module _ (w : ℕ) (ts : List Text) where
+  alternative-node : distinct ts ≡ true → (n : AlternativeNode) (as' : List Attribute) (o : Option Condition) (xs : Syms) → Passes true w ts (Node.Alternative n)
       → length as' ≡ n .attributes → length (conditions o) ≡ n .conditions → count xs ≡ n .symbols → alternativeNode ts (alternativeOf ts n as' o xs) ≡ Node.Alternative n
   unfolding alternativeOf alternativeNode defined alternativeDefined suits
-  alternative-node n as' o xs p i j k =
+  alternative-node d n as' o xs p i j k =
       let (u, v, x) = action-within true w ts d (n .action) (n .text .0) (p .fits .4) (both (leb (n .conditions) 1) _ (p .known) .1) (p .apt) in
       rw (i, j, k, v, x)
 
@@ -164,8 +164,8 @@ module _ (m : Scope) (t s : List ℕ) (ts : List Text) (b : Bytes s) (d : distin
       let g = lies-part s a (j .mid) _ (lies-append (h .lies) (lies-append v z)) in
       got-as (λ q r. partsOut a c k ≡ outOf (alternativeBytes (m .width) ts) (alternativeAnswer G ps q) r) (l .second)
       (rw (u, y) (condition-then (alternativeBytes (m .width) ts) (checkCondition G ps (firstOf (j .value))) (j .mid) (l .mid) _ _
-      (rw (f, g) (symbols-out (m .width) ts d (alternativeOf ts k (i .value) (firstOf (j .value)) (symsOf (l .value))) _ (validateSymbols G ps (symsOf (l .value))) (l .mid) (λ ys q.
-      front-bytes (m .width) ts d k (i .value) (firstOf (j .value)) (symsOf (l .value)) ys
+      (rw (f, g) (symbols-out (m .width) ts (alternativeOf ts k (i .value) (firstOf (j .value)) (symsOf (l .value))) _ (validateSymbols G ps (symsOf (l .value))) (l .mid) (λ ys q.
+      front-bytes (m .width) ts k (i .value) (firstOf (j .value)) (symsOf (l .value)) ys
       (alternative-node (m .width) ts d k (i .value) (firstOf (j .value)) ys (h .passes)
       (times-length (readAttribute true (m .width) s ts) (k .attributes) c (i .value) (i .mid) (i .first)) o
       (count-kept G ps (symsOf (l .value)) ys q ∙ count-syms (l .value) ∙ times-length (readSym true (m .width) s ts 64) (k .symbols) (j .mid) (l .value) (l .mid) (l .first))))))))

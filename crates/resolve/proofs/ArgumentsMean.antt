@@ -1,12 +1,12 @@
 -- The arguments of an item are marked if no two are equal, and then the tables answer as the lookup does. Assumes nothing.
 use mathlib.Core.Path.{_≡_, refl, sym, ap, _∙_}
-use mathlib.Core.Bool.{Bool, true, false, _&&_, _||_, not, cond, false≢true}
+use mathlib.Core.Bool.{Bool, true, false, _&&_, _||_, not, cond, false≢true, and-assoc, or-false}
 use mathlib.Core.List.{List, [], _∷_, _++_}
-use mathlib.Core.Option.{Option, none, some}
-use Prim.Native.Nat.{ℕ, zero, suc, _+_, _-_, _*_, _^_, _<_, _≤_}
+use mathlib.Core.Option.{some}
+use Prim.Native.Nat.{ℕ, zero, suc, _+_, _*_, _^_, _<_, _≤_}
 use native.Mathlib.Omega.{arith}
 use borrow.Author.Tests.{eqb-true, eqb-false, eq-eqb, ne-eqb, lt-leb, ltb-true}
-use lib.Dec.{leb, eqb}
+use lib.Dec.{eqb}
 use lib.ListN.{length, getD}
 use Rattle.octets.specs.Choice.{pick}
 use Rattle.octets.specs.Numbers.{Bytes, le}
@@ -16,10 +16,9 @@ use Rattle.octets.proofs.Sameness.{sameAs-eq, sameAs-refl}
 use Rattle.octets.proofs.Storing.{length-store}
 use Rattle.parse_tree.specs.Tree.{Text, Item, item, extern, match}
 use Rattle.parse_tree.specs.Texts.{has, number, distinct}
-use Rattle.parse_tree.specs.Nodes.{nodeAt, sizeOf}
 use Rattle.parse_tree.specs.Questions.{defined}
 use Rattle.parse_tree.specs.Places.{argumentsPlace}
-use Rattle.parse_tree.specs.Reading.{got, then, times}
+use Rattle.parse_tree.specs.Reading.{got, times}
 use Rattle.parse_tree.specs.Decode.{readArgument}
 use Rattle.parse_tree.specs.Within.{Each}
 use Rattle.parse_tree.specs.declared.syntax.Span.{Span}
@@ -31,29 +30,16 @@ use Rattle.parse_tree.proofs.Expecting.{argument-wanted}
 use Rattle.texts.specs.Table.{entry}
 use Rattle.texts.proofs.Tabling.{entry-same, entry-other}
 use Rattle.grammar.specs.Outcome.{Tree}
-use Rattle.grammar.specs.Resolve.{Def as Meant, terminalDef, nonterminalDef, argumentDef, Global, nonterminals, externs, matches, globals, defIn, lookup}
+use Rattle.grammar.specs.Resolve.{argumentDef, Global, nonterminals, externs, matches, globals, defIn}
 use Rattle.resolve.specs.declared.Def.{Def}
 use Rattle.resolve.specs.declared.Found.{Found}
 use Rattle.resolve.specs.declared.Scope.{Scope}
 use Rattle.resolve.specs.Scopes.{base, foundBy, found}
-use Rattle.resolve.specs.Items.{Stamped, stamped, against, lost, argumentIn, argumentsOut}
-use Rattle.resolve.proofs.Coding.{codeOfOption, Coded}
-use Rattle.resolve.proofs.NamesMean.{foundOf, Looks}
+use Rattle.resolve.specs.Items.{Stamped, stamped, against, argumentIn, argumentsOut}
+use Rattle.resolve.proofs.Stamping.{turn, arguments-turn}
+use Rattle.resolve.proofs.Coding.{codeOfOption, foundOf, Coded, Plain, def-found}
+use Rattle.resolve.proofs.NamesMean.{Looks}
 use Rattle.resolve.proofs.Readings.{Standing, stands-then}
-
--- no argument
-abbrev Plain : Meant → Type 0
-Plain terminalDef = Unit
-Plain (nonterminalDef n) = Unit
-Plain argumentDef = ⊥
-
-plain-found : (d : Meant) → Plain d → foundBy (codeOfOption (some d)) ≡ foundOf (some d)
-unfolding foundBy foundOf pick
-plain-found terminalDef p = refl
-plain-found (nonterminalDef n) p =
-    let z : n + 2 - 2 ≡ n = omega arith in
-    rw (ne-eqb (n + 2) 0 (λ e. omega arith), ne-eqb (n + 2) 1 (λ e. omega arith), z) refl
-plain-found argumentDef p = absurd p
 
 -- no global is an argument
 plain-nonterminals : (G : Tree) → Each (λ g. Plain (g .def)) (nonterminals G)
@@ -77,16 +63,6 @@ plain-globals : (G : Tree) → Each (λ g. Plain (g .def)) (globals G)
 plain-globals G = each-append (λ (g : Global). Plain (g .def)) (nonterminals G) (externs G ++ matches G) (plain-nonterminals G)
     (each-append (λ (g : Global). Plain (g .def)) (externs G) (matches G) (plain-externs G) (plain-matches G))
 
-def-found : (x : Text) (gs : List Global) → Each (λ g. Plain (g .def)) gs → foundBy (codeOfOption (defIn x gs)) ≡ foundOf (defIn x gs)
-unfolding foundBy foundOf pick
-def-found x [] h = refl
-def-found x (g ∷ gs) h = go (sameAs x (g .name)) (def-found x gs (h .1))
-  where
-    go : (b : Bool) → foundBy (codeOfOption (defIn x gs)) ≡ foundOf (defIn x gs)
-        → foundBy (codeOfOption (cond b (some (g .def)) (defIn x gs))) ≡ foundOf (cond b (some (g .def)) (defIn x gs))
-    go true i = plain-found (g .def) (h .0)
-    go false i = i
-
 -- ---- the marks go from the front, each against those before it
 unfoldable apart : List Text → List Text → Bool
 apart qs [] = true
@@ -106,11 +82,6 @@ same-sym x y = go (sameAs x y) refl (sameAs y x) refl
     go false p true q = let e = sameAs-eq y x q in absurd (false≢true (sym p ∙ rw e (sameAs-refl x)))
     go false p false q = refl
 
-and-shift : (a f h d : Bool) → (a && ((f && h) && d)) ≡ ((a && f) && (h && d))
-and-shift true true h d = refl
-and-shift true false h d = refl
-and-shift false f h d = refl
-
 free-more : (p : Text) (qs xs : List Text) → free (p ∷ qs) xs ≡ (free qs xs && not (has p xs))
 unfolding free has
 free-more p qs [] = refl
@@ -127,7 +98,7 @@ free-more p qs (x ∷ xs) = cc (free-more p qs xs, same-sym p x, go (sameAs x p)
 apart-is : (qs xs : List Text) → apart qs xs ≡ (free qs xs && distinct xs)
 unfolding apart free distinct
 apart-is qs [] = refl
-apart-is qs (x ∷ xs) = cc (apart-is (x ∷ qs) xs, free-more x qs xs, and-shift (not (has x qs)) (free qs xs) (not (has x xs)) (distinct xs))
+apart-is qs (x ∷ xs) = cc (apart-is (x ∷ qs) xs, free-more x qs xs, and-assoc (free qs xs) (not (has x xs)) (distinct xs), and-assoc (not (has x qs)) (free qs xs) (not (has x xs) && distinct xs))
 
 free-none : (xs : List Text) → free [] xs ≡ true
 unfolding free has
@@ -136,10 +107,6 @@ free-none (x ∷ xs) = free-none xs
 
 apart-distinct : (xs : List Text) → apart [] xs ≡ distinct xs
 apart-distinct xs = rw (apart-is [] xs, free-none xs) refl
-
-or-false : (x : Bool) → (x || false) ≡ x
-or-false true = refl
-or-false false = refl
 
 -- a text that is marked belongs to those before
 has-shift : (x p : Text) (qs xs : List Text) → (has x (p ∷ qs) || has x xs) ≡ (has x qs || has x (p ∷ xs))
@@ -178,26 +145,27 @@ answer-as : (m : Scope) (ts : List Text) (G : Tree) (sp : Span) (b : Bool) (r r�
 answer-as m ts G sp true r r′ e H H′ p q h = record { table = h .table; is = p ∙ h .is; marking = record { scoped = h .marking .scoped; marked = λ k l. h .marking .marked k l ∙ q (getD ts k []) } }
 answer-as m ts G sp false r r′ e H H′ p q h = p ∙ h
 
-module _ (m : Scope) (ts : List Text) (d : distinct ts ≡ true) (c : m .count ≡ length ts) (few : m .count ≤ m .room) (small : m .first < 2 ^ 64) (G : Tree) where
+module _ (m : Scope) (ts : List Text) (c : m .count ≡ length ts) (G : Tree) where
   pub marks-look : (t : List ℕ) (ps : List Text) → Marks m t ts G (λ x. has x ps) → Looks m t ts G ps
-  unfolding found pick foundOf
+  unfolding found pick
   marks-look t ps h k l =
       rw (lt-leb (m .count) k (omega arith), h .marked k l, h .scoped .coded k l) (go (has (getD ts k []) ps))
     where
       go : (b : Bool) → pick b (Found.Is Def.MacroArg) (foundBy (codeOfOption (defIn (getD ts k []) (globals G)))) ≡ foundOf (cond b (some argumentDef) (defIn (getD ts k []) (globals G)))
       go true = refl
-      go false = def-found (getD ts k []) (globals G) (plain-globals G)
+      go false = def-found (λ g. Plain (g .def)) (λ g h. h) (getD ts k []) (globals G) (plain-globals G)
 
-  -- no two atoms are equal
-  atoms-apart : (i k : ℕ) → i < length ts → k < length ts → (k ≡ i → ⊥) → sameAs (getD ts i []) (getD ts k []) ≡ false
-  atoms-apart i k l l′ n = go (sameAs (getD ts i []) (getD ts k [])) refl
-    where
-      go : (b : Bool) → sameAs (getD ts i []) (getD ts k []) ≡ b → b ≡ false
-      go true e =
-          let x = sameAs-eq (getD ts i []) (getD ts k []) e in
-          absurd (n (sym (number-text ts k d l′) ∙ ap (number ts) (sym x) ∙ number-text ts i d l))
-      go false e = refl
+-- no two atoms are equal
+atoms-apart : (ts : List Text) → distinct ts ≡ true → (i k : ℕ) → i < length ts → k < length ts → (k ≡ i → ⊥) → sameAs (getD ts i []) (getD ts k []) ≡ false
+atoms-apart ts d i k l l′ n = go (sameAs (getD ts i []) (getD ts k [])) refl
+  where
+    go : (b : Bool) → sameAs (getD ts i []) (getD ts k []) ≡ b → b ≡ false
+    go true e =
+        let x = sameAs-eq (getD ts i []) (getD ts k []) e in
+        absurd (n (sym (number-text ts k d l′) ∙ ap (number ts) (sym x) ∙ number-text ts i d l))
+    go false e = refl
 
+module _ (m : Scope) (ts : List Text) (d : distinct ts ≡ true) (c : m .count ≡ length ts) (few : m .count ≤ m .room) (small : m .first < 2 ^ 64) (G : Tree) where
   module _ (t : List ℕ) (qs : List Text) (h : Marks m t ts G (λ x. has x qs)) (i : ℕ) (l : i < length ts) where
     abbrev marked-now : List ℕ
     marked-now = store t (8 * (m .room + m .room + i)) (le 8 (m .first))
@@ -234,20 +202,9 @@ module _ (m : Scope) (ts : List Text) (d : distinct ts ≡ true) (c : m .count �
             rw (z, here, sameAs-refl (getD ts i []), eq-eqb (m .first) (m .first) refl) refl
         now k n false e =
             let z = eqb-false k i e in
-            rw (elsewhere (m .room + m .room + k) (λ y. z (omega arith)), atoms-apart i k l n z) (h .marked k n)
+            rw (elsewhere (m .room + m .room + k) (λ y. z (omega arith)), atoms-apart ts d i k l n z) (h .marked k n)
 
   module _ (s : List ℕ) (b : Bytes s) (sp : Span) where
-    -- what the argument k does, which ends at z; n come behind it
-    abbrev oneOut : ℕ → List ℕ → ℕ → NonterminalString → Stamped
-    oneOut n t z k =
-        pick (leb (m .count) (k .0)) (lost 3)
-        (pick (eqb (entry t (m .room + m .room + k .0)) (m .first)) (against 7 sp)
-        (argumentsOut m s sp n (store t (8 * (m .room + m .room + k .0)) (le 8 (m .first))) z))
-
-    out-at : (n a z : ℕ) (t : List ℕ) (x : Node) → nodeAt (m .width) s a ≡ x → a + sizeOf (m .width) x ≡ z → argumentsOut m s sp (suc n) t a ≡ argumentIn (λ k. oneOut n t z k) x
-    unfolding argumentsOut
-    out-at n a z t x p q = ap (λ y. argumentIn (λ k. oneOut n t (a + sizeOf (m .width) y) k) y) p ∙ ap (λ y. argumentIn (λ k. oneOut n t y k) x) q
-
     abbrev Goes : ℕ → Type 0
     Goes n = (a : ℕ) (xs : List Text) (e : ℕ) (t : List ℕ) (qs : List Text) → times (readArgument true (m .width) s ts) n a ≡ got xs e → Marks m t ts G (λ x. has x qs)
         → Answer m ts G sp (apart qs xs) (argumentsOut m s sp n t a) e (λ x. has x qs || has x xs)
@@ -255,11 +212,11 @@ module _ (m : Scope) (ts : List Text) (d : distinct ts ≡ true) (c : m .count �
     one-goes : (n : ℕ) → Goes n → (k : NonterminalString) (a z : ℕ) (xs : List Text) (e : ℕ) (t : List ℕ) (qs : List Text) → Standing (m .width) s ts a z (Node.Argument k)
         → times (readArgument true (m .width) s ts) n z ≡ got xs e → Marks m t ts G (λ x. has x qs)
         → Answer m ts G sp (apart qs (getD ts (k .0) [] ∷ xs)) (argumentsOut m s sp (suc n) t a) e (λ x. has x qs || has x (getD ts (k .0) [] ∷ xs))
-    unfolding apart defined argumentIn pick
+    unfolding apart defined argumentIn turn pick
     one-goes n f k a z xs e t qs st p h =
         let l = ltb-true (k .0) (length ts) (st .passes .known) in
         let o : argumentsOut m s sp (suc n) t a ≡ pick (has (getD ts (k .0) []) qs) (against 7 sp) (argumentsOut m s sp n (store t (8 * (m .room + m .room + k .0)) (le 8 (m .first))) z) =
-        out-at n a z t (Node.Argument k) (st .here) (st .behind) ∙ rw (lt-leb (m .count) (k .0) (omega arith), h .marked (k .0) l) refl in
+        arguments-turn m s sp n t a z (Node.Argument k) (sym (st .here)) (st .behind) ∙ rw (lt-leb (m .count) (k .0) (omega arith), h .marked (k .0) l) refl in
         go (has (getD ts (k .0) []) qs) o (f z xs e (store t (8 * (m .room + m .room + k .0)) (le 8 (m .first))) (getD ts (k .0) [] ∷ qs) p (mark-one t qs h (k .0) l))
       where
         go : (u : Bool) → argumentsOut m s sp (suc n) t a ≡ pick u (against 7 sp) (argumentsOut m s sp n (store t (8 * (m .room + m .room + k .0)) (le 8 (m .first))) z)
@@ -295,12 +252,3 @@ module _ (m : Scope) (ts : List Text) (d : distinct ts ≡ true) (c : m .count �
           scoped = record { size = z; coded = o; marks = λ k i. omega (arith, l k i) };
           marked = λ k i. ne-eqb (entry t (m .room + m .room + k)) (m .first) (λ q. omega (arith, l k (omega arith)));
         }))
-
-    -- the two answers by themselves
-    module _ (n a : ℕ) (ps : List Text) (e : ℕ) (t : List ℕ) (p : times (readArgument true (m .width) s ts) n a ≡ got ps e)
-        (size : length t ≡ base m) (coded : Coded m ts t (globals G)) (below : (k : ℕ) → k < m .room → entry t (m .room + m .room + k) < m .first) where
-      pub arguments-yes : distinct ps ≡ true → Marking m ts G (argumentsOut m s sp n t a) e (λ x. has x ps)
-      arguments-yes q = rw q at (arguments-mean n a ps e t p size coded below)
-
-      pub arguments-no : distinct ps ≡ false → argumentsOut m s sp n t a ≡ against 7 sp
-      arguments-no q = rw q at (arguments-mean n a ps e t p size coded below)

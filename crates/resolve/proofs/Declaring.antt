@@ -1,8 +1,7 @@
 -- The ways out of the functions that enter globals. Assumes nothing.
 use mathlib.Core.Path.{_≡_, refl, sym, ap, _∙_}
-use mathlib.Core.Logic.{_⊎_, inl, inr}
 use mathlib.Core.List.{List, [], _∷_, _++_, append-assoc}
-use Prim.Native.Nat.{ℕ, zero, suc, _+_, _-_, _*_, _^_, _≤_, _<_}
+use Prim.Native.Nat.{ℕ, zero, suc, _+_, _-_, _*_, _≤_, _<_}
 use native.Mathlib.Omega.{arith}
 use borrow.Author.Needs.{needs}
 use borrow.Author.Tests.{le-leb, lt-leb, lt-ltb, le-ltb, eq-eqb, ne-eqb}
@@ -12,21 +11,17 @@ use types.Run.{OneOf, miss}
 use lib.Dec.{eqb, leb}
 use lib.ListN.{length, take, drop, getD, replicate, length-drop, length-append, length-replicate}
 use lib.Seq.{take-at, take-take, drop-at, drop-drop, length-take-le}
-use mir.Syntax.{w8, w64}
+use mir.Syntax.{w8}
 use mir.Val.{Fits}
 use Rattle.octets.specs.Choice.{pick}
 use Rattle.octets.specs.Numbers.{le}
 use Rattle.octets.specs.Stores.{store}
 use Rattle.octets.proofs.Choices.{by-pick}
-use Rattle.octets.proofs.Lying.{lies-inside}
 use Rattle.parse_tree.proofs.syntax.Node.{the-type as node-type}
-use Rattle.parse_tree.specs.Nodes.{nodeAt, nodeBytes, symbolBytes, sizeOf}
+use Rattle.parse_tree.specs.Nodes.{nodeAt, sizeOf}
 use Rattle.parse_tree.specs.declared.syntax.Span.{Span}
 use Rattle.parse_tree.specs.declared.syntax.NonterminalData.{NonterminalData}
 use Rattle.parse_tree.specs.declared.syntax.TerminalData.{TerminalData}
-use Rattle.parse_tree.specs.declared.syntax.SymbolKind.{SymbolKind}
-use Rattle.parse_tree.specs.declared.syntax.Around.{Around}
-use Rattle.parse_tree.specs.declared.syntax.Over.{Over}
 use Rattle.parse_tree.specs.declared.syntax.Node.{Node}
 use Rattle.parse_tree.proofs.NodeFits.{NodeSays}
 use Rattle.parse_tree.proofs.NodeSays.{node-says}
@@ -42,6 +37,7 @@ use Rattle.resolve.specs.declared.Verdict.{Verdict}
 use Rattle.resolve.proofs.Found.{the-type as found-type}
 use Rattle.resolve.proofs.Global.{the-type as global-type}
 use Rattle.resolve.proofs.Regions.{tables-entry, tables-store, behind-store}
+use Rattle.resolve.proofs.Inside.{command-fits}
 
 -- ---- `description`
 pub describe-terminal : (d : Def) → d ≡ Def.Terminal → 0 ≡ describe d
@@ -66,7 +62,7 @@ pub ruleset describing = (needs, describe-terminal, describe-macro, describe-pla
 module _ (which : ℕ) (n : Node) where
   pub global-nonterminal : (d : NonterminalData) (k : ℕ) → n ≡ Node.Nonterminal d → which ≡ 16 → k ≡ d .args → Global.Is (d .name .0) (Def.Nonterminal k) (d .span) ≡ globalOf which n
   unfolding globalOf pick
-  global-nonterminal d k e z p = cc (eq-eqb which 16 z)
+  global-nonterminal d k e z p = cc
 
   pub global-otherwise : (d : NonterminalData) → n ≡ Node.Nonterminal d → (which ≡ 16 → ⊥) → Global.Nothing ≡ globalOf which n
   unfolding globalOf pick
@@ -80,11 +76,15 @@ module _ (which : ℕ) (n : Node) where
   unfolding globalOf pick
   global-other-source t e z = cc (ne-eqb which (t .source) z)
 
-pub global-none : (which : ℕ) (n : Node) → OneOf (0 ∷ 3 ∷ 4 ∷ 5 ∷ 6 ∷ 7 ∷ 8 ∷ []) (tagOf node-type n) → Global.Nothing ≡ globalOf which n
+-- the numbers of the commands that are no item
+abbrev pub noItem : List ℕ
+noItem = 0 ∷ 3 ∷ 4 ∷ 5 ∷ 6 ∷ 7 ∷ 8 ∷ []
+
+pub global-none : (which : ℕ) (n : Node) → OneOf noItem (tagOf node-type n) → Global.Nothing ≡ globalOf which n
 unfolding globalOf
 global-none which (Node.Text k) h = refl
-global-none which (Node.Nonterminal d) h = absurd (miss (0 ∷ 3 ∷ 4 ∷ 5 ∷ 6 ∷ 7 ∷ 8 ∷ []) 1 tt h)
-global-none which (Node.Terminal t) h = absurd (miss (0 ∷ 3 ∷ 4 ∷ 5 ∷ 6 ∷ 7 ∷ 8 ∷ []) 2 tt h)
+global-none which (Node.Nonterminal d) h = absurd (miss noItem 1 tt h)
+global-none which (Node.Terminal t) h = absurd (miss noItem 2 tt h)
 global-none which (Node.Argument a) h = refl
 global-none which (Node.Alternative a) h = refl
 global-none which (Node.Attribute a) h = refl
@@ -110,12 +110,12 @@ not-found : (f : Found) → OneOf (1 ∷ []) (tagOf found-type f) → f ≡ Foun
 not-found (Found.Is d) h = absurd (miss (1 ∷ []) 0 tt h)
 not-found Found.Nothing h = refl
 
-module _ (w : List ℕ) (m : Scope) (t : Tables m (length w)) (id k : ℕ) (e : k ≡ id) (d : Def) (s : Span) where
+module _ (w : List ℕ) (m : Scope) (id k : ℕ) (e : k ≡ id) (d : Def) (s : Span) where
   pub declare-above : m .count ≤ k → Tabling m (declareOut m (tables m w) id d s) w Verdict.Fine w
   unfolding declareOut pick
   declare-above h = tabling-fine m _ (tables m w) w w (cc (le-leb (m .count) k h)) (kept-none m w)
 
-  module _ (h : k < m .count) (v : ℕ) (p : v ≡ entry w (m .room + k)) (f : Found) (u : f ≡ foundBy v) where
+  module _ (t : Tables m (length w)) (h : k < m .count) (v : ℕ) (p : v ≡ entry w (m .room + k)) (f : Found) (u : f ≡ foundBy v) where
     declare-is : declareOut m (tables m w) id d s ≡ declareBy m (tables m w) k d s f
     unfolding declareOut pick
     declare-is = let z = tables-entry m w (m .room + k) (omega (arith, t .few)) in cc (lt-leb (m .count) k h)
@@ -147,40 +147,11 @@ pub ruleset declaring = (needs, declare-above, declare-new, declare-alike, decla
 nothing-is : {k : ℕ} {d : Def} {s : Span} → Global.Nothing ≡ Global.Is k d s → ⊥
 nothing-is {k} {d} {s} e = let z : _≡_ {A = ℕ} 0 1 = cc in omega arith
 
-fine-not : {q : ℕ} {p : Span} → Verdict.Fine ≡ Verdict.Refused q p → ⊥
+pub fine-not : {q : ℕ} {p : Span} → Verdict.Fine ≡ Verdict.Refused q p → ⊥
 fine-not {q} {p} e = let z : _≡_ {A = ℕ} 0 1 = cc in omega arith
 
-next-not : {e q : ℕ} {p : Span} → Passed.Next e ≡ Passed.Refused q p → ⊥
+pub next-not : {e q : ℕ} {p : Span} → Passed.Next e ≡ Passed.Refused q p → ⊥
 next-not {e} {q} {p} h = let z : _≡_ {A = ℕ} 0 1 = cc in omega arith
-
-pub symbol-positive : (w : ℕ) (sp : Span) (k : SymbolKind) → 0 < length (symbolBytes w sp k)
-unfolding symbolBytes
-symbol-positive w sp (SymbolKind.Leaf l) = omega arith
-symbol-positive w sp (SymbolKind.Around (Around.Repeat op)) = omega arith
-symbol-positive w sp (SymbolKind.Around Around.Choose) = omega arith
-symbol-positive w sp (SymbolKind.Around (Around.Name m n)) = omega arith
-symbol-positive w sp (SymbolKind.Over (Over.Macro n k)) = omega arith
-symbol-positive w sp (SymbolKind.Over (Over.Group k)) = omega arith
-
--- a command that is known lies inside
-command-end : (w : ℕ) (s : List ℕ) (at : ℕ) (n : Node) → NodeSays w s at n → (sizeOf w n ≡ 0) ⊎ (at + sizeOf w n ≤ length s)
-unfolding sizeOf nodeBytes
-command-end w s at (Node.Text k) h = inr (lies-inside s at _ (nodeBytes w (Node.Text k)) (omega arith) (h .lies))
-command-end w s at (Node.Nonterminal d) h = inr (lies-inside s at _ (nodeBytes w (Node.Nonterminal d)) (omega arith) (h .lies))
-command-end w s at (Node.Terminal t) h = inr (lies-inside s at _ (nodeBytes w (Node.Terminal t)) (omega arith) (h .lies))
-command-end w s at (Node.Argument a) h = inr (lies-inside s at _ (nodeBytes w (Node.Argument a)) (omega arith) (h .lies))
-command-end w s at (Node.Alternative a) h = inr (lies-inside s at _ (nodeBytes w (Node.Alternative a)) (omega arith) (h .lies))
-command-end w s at (Node.Attribute a) h = inr (lies-inside s at _ (nodeBytes w (Node.Attribute a)) (omega arith) (h .lies))
-command-end w s at (Node.Condition c) h = inr (lies-inside s at _ (nodeBytes w (Node.Condition c)) (omega arith) (h .lies))
-command-end w s at (Node.Symbol sp k) h = inr (lies-inside s at _ (nodeBytes w (Node.Symbol sp k)) (symbol-positive w sp k) (h .lies))
-command-end w s at Node.Unknown h = inl refl
-
-pub command-fits : (w : ℕ) (s : List ℕ) (at z : ℕ) (n : Node) → n ≡ nodeAt w s at → z ≡ sizeOf w n → ((i : ℕ) → Fits w8 (getD s i 0)) → length s < 2 ^ 64 → at < 2 ^ 64 → Fits w64 (at + z)
-command-fits w s at z n p q b l k = record { fits = go (command-end w s at n (rw p (node-says w s at (λ i. b i .fits)))) }
-  where
-    go : (sizeOf w n ≡ 0) ⊎ (at + sizeOf w n ≤ length s) → at + z < 2 ^ 64
-    go (inl h) = omega arith
-    go (inr h) = omega arith
 
 -- a number of arguments is a byte
 args-small : (w : ℕ) (s : List ℕ) (at : ℕ) (n : Node) → NodeSays w s at n → (which k : ℕ) (d : Def) (sp : Span) → globalOf which n ≡ Global.Is k d sp → codeOf d ≤ 257
@@ -188,10 +159,10 @@ unfolding globalOf codeOf
 args-small w s at (Node.Text i) h which k d sp e = absurd (nothing-is e)
 args-small w s at (Node.Nonterminal x) h which k d sp e =
     by-pick (λ (g : Global). g ≡ Global.Is k d sp → codeOf d ≤ 257) (eqb which 16)
-    (λ _ q. let z : d ≡ Def.Nonterminal (x .args) = cc in rw z (omega (arith, h .fits .3))) (λ _ q. absurd (nothing-is q)) e
+    (λ _ (q : Global.Is (x .name .0) (Def.Nonterminal (x .args)) (x .span) ≡ Global.Is k d sp). let z : d ≡ Def.Nonterminal (x .args) = cc in rw z (omega (arith, h .fits .3))) (λ _ q. absurd (nothing-is q)) e
 args-small w s at (Node.Terminal x) h which k d sp e =
     by-pick (λ (g : Global). g ≡ Global.Is k d sp → codeOf d ≤ 257) (eqb which (x .source))
-    (λ _ q. let z : d ≡ Def.Terminal = cc in rw z (omega arith)) (λ _ q. absurd (nothing-is q)) e
+    (λ _ (q : Global.Is (x .name .0) Def.Terminal (x .span) ≡ Global.Is k d sp). let z : d ≡ Def.Terminal = cc in rw z (omega arith)) (λ _ q. absurd (nothing-is q)) e
 args-small w s at (Node.Argument a) h which k d sp e = absurd (nothing-is e)
 args-small w s at (Node.Alternative a) h which k d sp e = absurd (nothing-is e)
 args-small w s at (Node.Attribute a) h which k d sp e = absurd (nothing-is e)
@@ -286,9 +257,6 @@ unfolding scanOut turn pick
 scan-turn m s which n t p h = rw (lt-leb (length s) p h) refl
 
 module _ (m : Scope) (s w₀ : List ℕ) (which at : ℕ) (w : List ℕ) (p : ℕ) (g : Scanning m s w₀ which at w p) where
-  pub scan-tables : Tables m (length w)
-  scan-tables = g .room
-
   pub scan-done : length s ≤ p → Tabling m (scanOut m s which (length s) (tables m w₀) at) w₀ Verdict.Fine w
   scan-done h = g .carry Verdict.Fine w (tabling-fine m _ (tables m w) w w (scan-end m s (tables m w) which (g .fuel) p h) (kept-none m w))
 
@@ -330,7 +298,7 @@ module _ (m : Scope) (s w₀ : List ℕ) (which at : ℕ) (w : List ℕ) (p : �
             );
       }
 
-pub ruleset scanning = (needs, scan-start, scan-tables, scan-done, scan-refused, scan-stuck, scan-next)
+pub ruleset scanning = (needs, scan-start, scan-done, scan-refused, scan-stuck, scan-next)
 
 -- ---- `globals`
 -- a verdict, taken apart

@@ -5,9 +5,9 @@ use mathlib.Core.Bool.{Bool, true, false}
 use mathlib.Core.List.{List, [], _∷_, _++_}
 use Prim.Native.Nat.{ℕ, zero, suc, _+_, _-_, _*_, _≤_, _<_}
 use native.Mathlib.Omega.{arith}
-use borrow.Author.Tests.{lt-leb, leb-true, ltb-true}
+use borrow.Author.Tests.{lt-leb, ltb-true}
 use lib.Dec.{eqb, ltb, leb}
-use lib.ListN.{length, take, getD, replicate, length-append, length-replicate}
+use lib.ListN.{length, take, getD, replicate, length-append, length-replicate, getD-replicate}
 use lib.Seq.{getD-append-add, length-take-le}
 use Rattle.octets.specs.Choice.{pick}
 use Rattle.octets.specs.Numbers.{leAt, Bytes}
@@ -16,36 +16,40 @@ use Rattle.parse_tree.specs.Texts.{number, distinct}
 use Rattle.parse_tree.specs.Within.{Each}
 use Rattle.parse_tree.specs.Nodes.{nodeAt, sizeOf}
 use Rattle.parse_tree.specs.Questions.{defined}
-use Rattle.parse_tree.specs.Reading.{got, then}
+use Rattle.parse_tree.specs.Reading.{got}
 use Rattle.parse_tree.specs.Operands.{nonterminalOf, terminalOf}
-use Rattle.parse_tree.specs.Decode.{readItem, readItems}
+use Rattle.parse_tree.specs.Decode.{readItems}
+use Rattle.parse_tree.specs.declared.syntax.Span.{Span}
 use Rattle.parse_tree.specs.declared.syntax.NonterminalData.{NonterminalData}
 use Rattle.parse_tree.specs.declared.syntax.TerminalData.{TerminalData}
 use Rattle.parse_tree.specs.declared.syntax.Node.{Node}
 use Rattle.parse_tree.proofs.TextLaws.{both, has-text, number-text}
-use Rattle.parse_tree.proofs.NodeFits.{NodeSays}
-use Rattle.parse_tree.proofs.NodeSays.{node-says}
-use Rattle.parse_tree.proofs.ReadingLaws.{got-as, then-got, each-append}
+use Rattle.parse_tree.proofs.ReadingLaws.{got-as, each-append}
 use Rattle.texts.specs.Table.{entry}
-use Rattle.grammar.specs.Outcome.{Outcome, yes, no}
+use Rattle.validate.proofs.Onward.{item-inside}
+use Rattle.grammar.specs.Outcome.{Outcome}
 use Rattle.grammar.specs.Resolve.{terminalDef, nonterminalDef, Global as Met, nonterminals, externs, matches, globals, checkGlobals}
-use Rattle.resolve.specs.Scopes.{base}
-use Rattle.resolve.specs.Globals.{Tabled, tabled, refused, thenTabled, globalOf, globalOut, commandOut, scanOut, blank, globalsOut}
+use Rattle.resolve.specs.Scopes.{base, codeOf}
+use Rattle.resolve.specs.Globals.{Tabled, thenTabled, globalOf, globalOut, commandOut, scanOut, blank, globalsOut}
 use Rattle.resolve.specs.declared.Def.{Def}
 use Rattle.resolve.specs.declared.Global.{Global}
 use Rattle.resolve.specs.declared.Scope.{Scope}
 use Rattle.resolve.proofs.Declaring.{scan-end, turn, scan-turn}
-use Rattle.resolve.proofs.Skipping.{Stands, known-stands, Through, Passing, Begins, nonterminal, terminal, item-begins}
-use Rattle.resolve.proofs.Coding.{defOf, Proper, entered, then-same, then-tabled, entered-append, Tabular, Says, entered-says}
+use Rattle.resolve.proofs.Readings.{items-then}
+use Rattle.resolve.proofs.Passing.{Stands, standing-stands, Through, Passing, Begins, nonterminal, terminal, item-begins}
+use Rattle.resolve.proofs.Coding.{defOf, Proper, entered, then-same, then-tabled, entered-append, Tabular, Says, says-as, entered-says}
 
 -- ---- the globals of one code
 abbrev metOf : Nonterminal → Met
 metOf d = record { name = d .name; def = nonterminalDef (length (d .args)); span = d .span }
 
+abbrev namedOf : Span → Text → Met
+namedOf s t = record { name = t; def = terminalDef; span = s }
+
 abbrev one : ℕ → Item → List Met
 one which (item d) = pick (eqb which 16) (metOf d ∷ []) []
-one which (Item.terminal s extern t) = pick (eqb which 48) (record { name = t; def = terminalDef; span = s } ∷ []) []
-one which (Item.terminal s match t) = pick (eqb which 49) (record { name = t; def = terminalDef; span = s } ∷ []) []
+one which (Item.terminal s extern t) = pick (eqb which 48) (namedOf s t ∷ []) []
+one which (Item.terminal s match t) = pick (eqb which 49) (namedOf s t ∷ []) []
 
 abbrev select : ℕ → List Item → List Met
 select which [] = []
@@ -62,7 +66,7 @@ select-48 : (xs : List Item) → select 48 xs ≡ externs xs
 unfolding pick
 select-48 [] = refl
 select-48 (item d ∷ xs) = select-48 xs
-select-48 (Item.terminal s extern t ∷ xs) = ap (λ (l : List Met). record { name = t; def = terminalDef; span = s } ∷ l) (select-48 xs)
+select-48 (Item.terminal s extern t ∷ xs) = ap (λ (l : List Met). namedOf s t ∷ l) (select-48 xs)
 select-48 (Item.terminal s match t ∷ xs) = select-48 xs
 
 select-49 : (xs : List Item) → select 49 xs ≡ matches xs
@@ -70,109 +74,83 @@ unfolding pick
 select-49 [] = refl
 select-49 (item d ∷ xs) = select-49 xs
 select-49 (Item.terminal s extern t ∷ xs) = select-49 xs
-select-49 (Item.terminal s match t ∷ xs) = ap (λ (l : List Met). record { name = t; def = terminalDef; span = s } ∷ l) (select-49 xs)
+select-49 (Item.terminal s match t ∷ xs) = ap (λ (l : List Met). namedOf s t ∷ l) (select-49 xs)
 
--- ---- items one behind another, to the tape's end
-through-le : (w : ℕ) (s : List ℕ) (n p q : ℕ) → Through w s n p q → p ≤ q
-through-le w s zero p q h = omega arith
-through-le w s (suc n) p q h = omega (arith, through-le w s n (p + sizeOf w (nodeAt w s p)) q (h .1))
-
-module _ (w : ℕ) (s : List ℕ) (ts : List Text) where
-  begins-on : (a : ℕ) (x : Item) (e : ℕ) → Begins true w s ts a x e → (a < length s) × (a < e)
-  begins-on a x e (nonterminal d m k n) =
-      let g = known-stands k in
-      let z : m ≡ a + sizeOf w (nodeAt w s a) = rw (k .is) (k .end) in
-      (g .inside, omega (arith, g .some, through-le w s (n .rest .many) m e (n .rest .through)))
-  begins-on a x e (terminal t k p) =
-      let g = known-stands k in
-      let z : e ≡ a + sizeOf w (nodeAt w s a) = rw (k .is) (k .end) in
-      (g .inside, omega (arith, g .some))
-
-  abbrev Chain : ℕ → List Item → Type 0
-  Chain a [] = length s ≤ a
-  Chain a (x ∷ xs) = (e : ℕ) × Begins true w s ts a x e × Chain e xs
-
-  items-chain : (n a : ℕ) (xs : List Item) (e : ℕ) → length s ≤ a + n → readItems true w s ts n a ≡ got xs e → Chain a xs
-  unfolding readItems
-  items-chain zero a xs e h p = got-as (λ (ys : List Item) m. Chain a ys) p (let z : length s ≤ a = omega arith in z)
-  items-chain (suc n) a xs e h p = go (leb (length s) a) refl p (λ d ys e′ l q. items-chain n d ys e′ l q)
-    where
-      go : (b : Bool) → leb (length s) a ≡ b
-          → elim b [ true ↦ got [] a | false ↦ then (readItem true w s ts a) (λ i d. then (readItems true w s ts n d) (λ is e′. got (i ∷ is) e′)) ] ≡ got xs e
-          → ((d : ℕ) (ys : List Item) (e′ : ℕ) → length s ≤ d + n → readItems true w s ts n d ≡ got ys e′ → Chain d ys) → Chain a xs
-      go true z q rest = got-as (λ (ys : List Item) m. Chain a ys) q (leb-true (length s) a z)
-      go false z q rest =
-          let f = then-got (readItem true w s ts a) _ q in
-          let g = then-got (readItems true w s ts n (f .mid)) _ (f .second) in
-          let i = item-begins true w s ts a (f .value) (f .mid) (f .first) in
-          let l : length s ≤ f .mid + n = omega (arith, begins-on a (f .value) (f .mid) i .1) in
-          got-as (λ (ys : List Item) m. Chain a ys) (g .second) (f .mid, i, rest (f .mid) (g .value) (g .mid) l (g .first))
-
-  -- ---- what an item's command declares
+-- ---- what an item's command declares
+module _ (ts : List Text) where
   abbrev asGlobal : List Met → Global
   asGlobal [] = Global.Nothing
   asGlobal (g ∷ gs) = Global.Is (number ts (g .name)) (defOf (g .def)) (g .span)
 
+  -- the name of a nonterminal and of a terminal is an atom
+  nonterminal-below : (k : NonterminalData) → defined (length ts) (Node.Nonterminal k) ≡ true → k .name .0 < length ts
+  unfolding defined
+  nonterminal-below k h = ltb-true (k .name .0) (length ts) (both (ltb (k .name .0) (length ts)) (leb (k .flags) 3) h .0)
+
+  terminal-below : (k : TerminalData) → defined (length ts) (Node.Terminal k) ≡ true → k .name .0 < length ts
+  unfolding defined
+  terminal-below k h = ltb-true (k .name .0) (length ts) h
+
+  terminal-is : (k : TerminalData) → (k .source ≡ 48) ⊎ (k .source ≡ 49) → (which : ℕ)
+      → one which (terminalOf ts k) ≡ pick (eqb which (k .source)) (namedOf (k .span) (getD ts (k .name .0) []) ∷ []) []
+  unfolding terminalOf pick
+  terminal-is k (inl e) which = cc
+  terminal-is k (inr e) which = cc
+
+  picked : (x : Bool) (k : ℕ) (g : Met) (y : Def) → number ts (g .name) ≡ k → y ≡ defOf (g .def)
+      → pick x (Global.Is k y (g .span)) Global.Nothing ≡ asGlobal (pick x (g ∷ []) [])
+  unfolding pick
+  picked true k g y p q = cc
+  picked false k g y p q = refl
+
+  picked-proper : (x : Bool) (g : Met) → Proper ts g → Each (Proper ts) (pick x (g ∷ []) [])
+  unfolding pick
+  picked-proper true g h = (h, tt)
+  picked-proper false g h = tt
+
+-- ---- items one behind another, to the tape's end
+module _ (w : ℕ) (s : List ℕ) (ts : List Text) where
+  abbrev Chain : ℕ → List Item → Type 0
+  Chain a [] = length s ≤ a
+  Chain a (x ∷ xs) = (e : ℕ) × Begins w s ts a x e × Chain e xs
+
   module _ (b : Bytes s) (d : distinct ts ≡ true) where
-    -- the name of a nonterminal and of a terminal is an atom
-    nonterminal-below : (k : NonterminalData) → defined (length ts) (Node.Nonterminal k) ≡ true → k .name .0 < length ts
-    unfolding defined
-    nonterminal-below k h = ltb-true (k .name .0) (length ts) (both (ltb (k .name .0) (length ts)) (leb (k .flags) 3) h .0)
+    items-chain : (n a : ℕ) (xs : List Item) (e : ℕ) → length s ≤ a + n → readItems true w s ts n a ≡ got xs e → Chain a xs
+    unfolding readItems
+    items-chain zero a xs e h p = got-as (λ (ys : List Item) m. Chain a ys) p (let z : length s ≤ a = omega arith in z)
+    items-chain (suc n) a xs e h p =
+        items-then w s ts n a (λ (ys : List Item) m. Chain a ys) (λ z. z)
+        (λ z x c q ys k r. (c, item-begins w s ts b a x c q, items-chain n c ys k (omega (arith, item-inside w s b ts d a x c q .0)) r)) xs e p
 
-    terminal-below : (k : TerminalData) → defined (length ts) (Node.Terminal k) ≡ true → k .name .0 < length ts
-    unfolding defined
-    terminal-below k h = ltb-true (k .name .0) (length ts) h
+  declares : distinct ts ≡ true → (a : ℕ) (x : Item) (e : ℕ) → Begins w s ts a x e → (which : ℕ) → globalOf which (nodeAt w s a) ≡ asGlobal ts (one which x)
+  unfolding globalOf nonterminalOf
+  declares d a x e (nonterminal k m h n) which =
+      ap (globalOf which) (h .here)
+      ∙ picked ts (eqb which 16) (k .name .0) (metOf (nonterminalOf ts k (n .args) (n .alternatives))) (Def.Nonterminal (k .args)) (number-text ts (k .name .0) d (nonterminal-below ts k (h .passes .known))) (ap Def.Nonterminal (sym (n .many)))
+      ∙ sym (ap (λ (y : Item). asGlobal ts (one which y)) (n .is))
+  declares d a x e (terminal k h p) which =
+      ap (globalOf which) (h .here)
+      ∙ picked ts (eqb which (k .source)) (k .name .0) (namedOf (k .span) (getD ts (k .name .0) [])) Def.Terminal (number-text ts (k .name .0) d (terminal-below ts k (h .passes .known))) refl
+      ∙ sym (ap (asGlobal ts) (terminal-is ts k (h .passes .fits .2) which)) ∙ sym (ap (λ (y : Item). asGlobal ts (one which y)) p)
 
-    args-small : (a : ℕ) (k : NonterminalData) → nodeAt w s a ≡ Node.Nonterminal k → k .args < 256
-    args-small a k e = let h : NodeSays w s a (Node.Nonterminal k) = rw e at (node-says w s a b) in h .fits .3
+  proper-one : (a : ℕ) (x : Item) (e : ℕ) → Begins w s ts a x e → (which : ℕ) → Each (Proper ts) (one which x)
+  unfolding nonterminalOf codeOf
+  proper-one a x e (nonterminal k m h n) which =
+      rw (n .is) (picked-proper ts (eqb which 16) (metOf (nonterminalOf ts k (n .args) (n .alternatives))) (record {
+        atom = has-text ts (k .name .0) (nonterminal-below ts k (h .passes .known));
+        plain = tt;
+        small = let z = h .passes .fits .3 in omega (arith, n .many);
+      }))
+  proper-one a x e (terminal k h p) which =
+      rw (p, terminal-is ts k (h .passes .fits .2) which) (picked-proper ts (eqb which (k .source)) (namedOf (k .span) (getD ts (k .name .0) [])) (record {
+        atom = has-text ts (k .name .0) (terminal-below ts k (h .passes .known));
+        plain = tt;
+        small = omega arith;
+      }))
 
-    source : (a : ℕ) (k : TerminalData) → nodeAt w s a ≡ Node.Terminal k → (k .source ≡ 48) ⊎ (k .source ≡ 49)
-    source a k e = let h : NodeSays w s a (Node.Terminal k) = rw e at (node-says w s a b) in h .fits .2
-
-    terminal-is : (k : TerminalData) → (k .source ≡ 48) ⊎ (k .source ≡ 49) → (which : ℕ)
-        → one which (terminalOf ts k) ≡ pick (eqb which (k .source)) (record { name = getD ts (k .name .0) []; def = terminalDef; span = k .span } ∷ []) []
-    unfolding terminalOf pick
-    terminal-is k (inl e) which = cc
-    terminal-is k (inr e) which = cc
-
-    picked : (x : Bool) (k : ℕ) (g : Met) (y : Def) → number ts (g .name) ≡ k → y ≡ defOf (g .def)
-        → pick x (Global.Is k y (g .span)) Global.Nothing ≡ asGlobal (pick x (g ∷ []) [])
-    unfolding pick
-    picked true k g y p q = cc
-    picked false k g y p q = refl
-
-    declares : (a : ℕ) (x : Item) (e : ℕ) → Begins true w s ts a x e → (which : ℕ) → globalOf which (nodeAt w s a) ≡ asGlobal (one which x)
-    unfolding globalOf nonterminalOf
-    declares a x e (nonterminal k m h n) which =
-        ap (globalOf which) (h .is)
-        ∙ picked (eqb which 16) (k .name .0) (metOf (nonterminalOf ts k (n .args) (n .alternatives))) (Def.Nonterminal (k .args)) (number-text ts (k .name .0) d (nonterminal-below k (h .known))) (ap Def.Nonterminal (sym (n .many)))
-        ∙ sym (ap (λ (y : Item). asGlobal (one which y)) (n .is))
-    declares a x e (terminal k h p) which =
-        ap (globalOf which) (h .is)
-        ∙ picked (eqb which (k .source)) (k .name .0) (record { name = getD ts (k .name .0) []; def = terminalDef; span = k .span }) Def.Terminal (number-text ts (k .name .0) d (terminal-below k (h .known))) refl
-        ∙ sym (ap asGlobal (terminal-is k (source a k (h .is)) which)) ∙ sym (ap (λ (y : Item). asGlobal (one which y)) p)
-
-    picked-proper : (x : Bool) (g : Met) → Proper ts g → Each (Proper ts) (pick x (g ∷ []) [])
-    unfolding pick
-    picked-proper true g h = (h, tt)
-    picked-proper false g h = tt
-
-    proper-one : (a : ℕ) (x : Item) (e : ℕ) → Begins true w s ts a x e → (which : ℕ) → Each (Proper ts) (one which x)
-    unfolding nonterminalOf
-    proper-one a x e (nonterminal k m h n) which =
-        rw (n .is) (picked-proper (eqb which 16) (metOf (nonterminalOf ts k (n .args) (n .alternatives))) (record {
-          atom = has-text ts (k .name .0) (nonterminal-below k (h .known));
-          plain = rw (n .many) (args-small a k (h .is));
-        }))
-    proper-one a x e (terminal k h p) which =
-        rw (p, terminal-is k (source a k (h .is)) which) (picked-proper (eqb which (k .source)) (record { name = getD ts (k .name .0) []; def = terminalDef; span = k .span }) (record {
-          atom = has-text ts (k .name .0) (terminal-below k (h .known));
-          plain = tt;
-        }))
-
-    chain-proper : (a : ℕ) (xs : List Item) → Chain a xs → (which : ℕ) → Each (Proper ts) (select which xs)
-    chain-proper a [] h which = tt
-    chain-proper a (x ∷ xs) (e, i, h) which = each-append (Proper ts) (one which x) (select which xs) (proper-one a x e i which) (chain-proper e xs h which)
+  chain-proper : (a : ℕ) (xs : List Item) → Chain a xs → (which : ℕ) → Each (Proper ts) (select which xs)
+  chain-proper a [] h which = tt
+  chain-proper a (x ∷ xs) (e, i, h) which = each-append (Proper ts) (one which x) (select which xs) (proper-one a x e i which) (chain-proper e xs h which)
 
 -- ---- the scan of one code
 module _ (m : Scope) (s : List ℕ) (which : ℕ) where
@@ -196,104 +174,93 @@ module _ (m : Scope) (s : List ℕ) (which : ℕ) where
       = ap (λ (v : Global). thenTabled (globalOut m t v) (λ t′. scanOut m s which g t′ (p + sizeOf (m .width) (nodeAt (m .width) s p)))) (h .0 .nothing which) in
       o ∙ turn-is t g p (h .0 .stands) ∙ y ∙ through-scan t n (p + sizeOf (m .width) (nodeAt (m .width) s p)) q (h .1) x k g (omega (arith, h .0 .stands .some))
 
-  module _ (ts : List Text) (b : Bytes s) (d : distinct ts ≡ true) where
-    picked-entered : (x : Bool) (g : Met) (t : List ℕ) → globalOut m t (asGlobal (m .width) s ts (pick x (g ∷ []) [])) ≡ entered m ts t (pick x (g ∷ []) [])
+  module _ (ts : List Text) where
+    picked-entered : (x : Bool) (g : Met) (t : List ℕ) → globalOut m t (asGlobal ts (pick x (g ∷ []) [])) ≡ entered m ts t (pick x (g ∷ []) [])
     unfolding globalOut entered pick
     picked-entered true g t = sym (then-tabled _)
     picked-entered false g t = refl
 
-    one-entered : (x : Item) (t : List ℕ) → globalOut m t (asGlobal (m .width) s ts (one which x)) ≡ entered m ts t (one which x)
+    one-entered : (x : Item) (t : List ℕ) → globalOut m t (asGlobal ts (one which x)) ≡ entered m ts t (one which x)
     one-entered (item k) t = picked-entered (eqb which 16) (metOf k) t
-    one-entered (Item.terminal sp extern n) t = picked-entered (eqb which 48) (record { name = n; def = terminalDef; span = sp }) t
-    one-entered (Item.terminal sp match n) t = picked-entered (eqb which 49) (record { name = n; def = terminalDef; span = sp }) t
+    one-entered (Item.terminal sp extern n) t = picked-entered (eqb which 48) (namedOf sp n) t
+    one-entered (Item.terminal sp match n) t = picked-entered (eqb which 49) (namedOf sp n) t
 
-    begins-stands : (a : ℕ) (x : Item) (e : ℕ) → Begins true (m .width) s ts a x e → Stands (m .width) s a
-    begins-stands a x e (nonterminal k n h i) = known-stands h
-    begins-stands a x e (terminal k h p) = known-stands h
+    begins-stands : (a : ℕ) (x : Item) (e : ℕ) → Begins (m .width) s ts a x e → Stands (m .width) s a
+    begins-stands a x e (nonterminal k n h i) = standing-stands h
+    begins-stands a x e (terminal k h p) = standing-stands h
 
-    begins-rest : (a : ℕ) (x : Item) (e : ℕ) → Begins true (m .width) s ts a x e → Passing (m .width) s (a + sizeOf (m .width) (nodeAt (m .width) s a)) e
-    begins-rest a x e (nonterminal k n h i) = rw (h .is, ← h .end) (i .rest)
-    begins-rest a x e (terminal k h p) = record { many = 0; through = rw (h .is) (sym (h .end)) }
+    begins-rest : (a : ℕ) (x : Item) (e : ℕ) → Begins (m .width) s ts a x e → Passing (m .width) s (a + sizeOf (m .width) (nodeAt (m .width) s a)) e
+    begins-rest a x e (nonterminal k n h i) = rw (h .here, h .behind) (i .rest)
+    begins-rest a x e (terminal k h p) = record { many = 0; through = rw (h .here) (h .behind) }
 
-    chain-scan : (a : ℕ) (xs : List Item) → Chain (m .width) s ts a xs → (t : List ℕ) (f : ℕ) → length s ≤ a + f → scanOut m s which f t a ≡ entered m ts t (select which xs)
+    chain-scan : distinct ts ≡ true → (a : ℕ) (xs : List Item) → Chain (m .width) s ts a xs → (t : List ℕ) (f : ℕ) → length s ≤ a + f → scanOut m s which f t a ≡ entered m ts t (select which xs)
     unfolding entered
-    chain-scan a [] h t f l = scan-end m s t which f a h
-    chain-scan a (x ∷ xs) (e, i, h) t f l =
+    chain-scan d a [] h t f l = scan-end m s t which f a h
+    chain-scan d a (x ∷ xs) (e, i, h) t f l =
         let k = begins-stands a x e i in
         let (g, z, o) = scan-opens t f a l k in
         let n = a + sizeOf (m .width) (nodeAt (m .width) s a) in
         let r = begins-rest a x e i in
-        let y : globalOut m t (globalOf which (nodeAt (m .width) s a)) ≡ entered m ts t (one which x) = ap (globalOut m t) (declares (m .width) s ts b d a x e i which) ∙ one-entered x t in
+        let y : globalOut m t (globalOf which (nodeAt (m .width) s a)) ≡ entered m ts t (one which x) = ap (globalOut m t) (declares (m .width) s ts d a x e i which) ∙ one-entered x t in
         o ∙ turn-is t g a k ∙ ap (λ (v : Tabled). thenTabled v (λ t′. scanOut m s which g t′ n)) y
         ∙ then-same (entered m ts t (one which x)) (λ t′. scanOut m s which g t′ n) (λ t′. entered m ts t′ (select which xs))
-        (λ t′. through-scan t′ (r .many) n e (r .through) (entered m ts t′ (select which xs)) (λ f′ l′. chain-scan e xs h t′ f′ l′) g (omega (arith, k .some)))
+        (λ t′. through-scan t′ (r .many) n e (r .through) (entered m ts t′ (select which xs)) (λ f′ l′. chain-scan d e xs h t′ f′ l′) g (omega (arith, k .some)))
         ∙ sym (entered-append m ts (one which x) (select which xs) t)
 
 -- ---- tables with no definition
-zero-at : (n i : ℕ) → getD {A = ℕ} (replicate n 0) i 0 ≡ 0
-zero-at zero i = refl
-zero-at (suc n) zero = refl
-zero-at (suc n) (suc i) = zero-at n i
-
-leAt-zero : (k : ℕ) (s : List ℕ) (a : ℕ) → ((i : ℕ) → a ≤ i → getD s i 0 ≡ 0) → leAt k s a ≡ 0
+leAt-zero : (k : ℕ) (s : List ℕ) (a : ℕ) → ((i : ℕ) → a ≤ i → i < a + k → getD s i 0 ≡ 0) → leAt k s a ≡ 0
 unfolding leAt
 leAt-zero zero s a h = refl
-leAt-zero (suc k) s a h = omega (arith, h a (omega arith), leAt-zero k s (a + 1) (λ i l. h i (omega arith)))
+leAt-zero (suc k) s a h = omega (arith, h a (omega arith) (omega arith), leAt-zero k s (a + 1) (λ i l n. h i (omega arith) (omega arith)))
 
 blank-tabular : (m : Scope) (ts : List Text) (t : List ℕ) → length ts ≤ m .room → length t ≡ base m → Tabular m ts (blank m t) []
 unfolding blank base entry
 blank-tabular m ts t r l = record {
   long = length-append (take (8 * m .room) t) (replicate (16 * m .room) 0) ∙ omega (arith, length-replicate {A = ℕ} (16 * m .room) 0, long-take);
-  coded = λ k h. leAt-zero 8 _ (8 * (m .room + k)) (λ i z. none i (omega arith));
-  free = λ k h. leAt-zero 8 _ (8 * (m .room + m .room + k)) (λ i z. none i (omega arith));
+  coded = λ k h. leAt-zero 8 _ (8 * (m .room + k)) (λ i z y. none i (omega arith) (omega arith));
+  free = λ k h. leAt-zero 8 _ (8 * (m .room + m .room + k)) (λ i z y. none i (omega arith) (omega arith));
 }
   where
     long-take : length (take (8 * m .room) t) ≡ 8 * m .room
     long-take = length-take-le (8 * m .room) t (omega arith)
 
-    none : (i : ℕ) → 8 * m .room ≤ i → getD (take (8 * m .room) t ++ replicate (16 * m .room) 0) i 0 ≡ 0
-    none i h =
+    none : (i : ℕ) → 8 * m .room ≤ i → i < 24 * m .room → getD (take (8 * m .room) t ++ replicate (16 * m .room) 0) i 0 ≡ 0
+    none i h n =
         let z : i ≡ length (take (8 * m .room) t) + (i - 8 * m .room) = omega (arith, long-take) in
         ap (λ (j : ℕ). getD (take (8 * m .room) t ++ replicate (16 * m .room) 0) j 0) z
-        ∙ getD-append-add (take (8 * m .room) t) (replicate (16 * m .room) 0) (i - 8 * m .room) 0 ∙ zero-at (16 * m .room) (i - 8 * m .room)
+        ∙ getD-append-add (take (8 * m .room) t) (replicate (16 * m .room) 0) (i - 8 * m .room) 0 ∙ getD-replicate (16 * m .room) (i - 8 * m .room) 0 0 (omega arith)
 
 -- ---- the theorem
 -- what entering the globals of the items is leaves, by what `checkGlobals` says of them
 abbrev pub GlobalsSay : Scope → List Text → List Item → Outcome (Unit {0}) → Tabled → Type 0
-GlobalsSay m ts is (yes u) x = (t : List ℕ) × (x ≡ tabled t) × Tabular m ts t (globals is)
-GlobalsSay m ts is (no q sp) x = x ≡ refused q sp
+GlobalsSay m ts is o x = Says m ts (globals is) o x
+
+globals-are : (m : Scope) (ts : List Text) → distinct ts ≡ true → (s : List ℕ) (at : ℕ) (is : List Item) → Chain (m .width) s ts at is → (t : List ℕ) → globalsOut m s t at ≡ entered m ts (blank m t) (globals is)
+unfolding globalsOut
+globals-are m ts d s at is h t =
+    let l : length s ≤ at + length s = omega arith in
+    let e₁ : (x : List ℕ) → scanOut m s 16 (length s) x at ≡ entered m ts x (nonterminals is) = λ x. chain-scan m s 16 ts d at is h x (length s) l ∙ ap (entered m ts x) (select-16 is) in
+    let e₂ : (x : List ℕ) → scanOut m s 48 (length s) x at ≡ entered m ts x (externs is) = λ x. chain-scan m s 48 ts d at is h x (length s) l ∙ ap (entered m ts x) (select-48 is) in
+    let e₃ : (x : List ℕ) → scanOut m s 49 (length s) x at ≡ entered m ts x (matches is) = λ x. chain-scan m s 49 ts d at is h x (length s) l ∙ ap (entered m ts x) (select-49 is) in
+    ap (λ (x : Tabled). thenTabled x (λ t₁. thenTabled (scanOut m s 48 (length s) t₁ at) (λ t₂. scanOut m s 49 (length s) t₂ at))) (e₁ (blank m t))
+    ∙ then-same (entered m ts (blank m t) (nonterminals is)) (λ t₁. thenTabled (scanOut m s 48 (length s) t₁ at) (λ t₂. scanOut m s 49 (length s) t₂ at)) (λ t₁. entered m ts t₁ (externs is ++ matches is))
+    (λ t₁. ap (λ (x : Tabled). thenTabled x (λ t₂. scanOut m s 49 (length s) t₂ at)) (e₂ t₁)
+    ∙ then-same (entered m ts t₁ (externs is)) (λ t₂. scanOut m s 49 (length s) t₂ at) (λ t₂. entered m ts t₂ (matches is)) e₃
+    ∙ sym (entered-append m ts (externs is) (matches is) t₁))
+    ∙ sym (entered-append m ts (nonterminals is) (externs is ++ matches is) (blank m t))
 
 module _ (m : Scope) (ts : List Text) (d : distinct ts ≡ true) (c : m .count ≡ length ts) (r : m .count ≤ m .room) (s : List ℕ) (b : Bytes s) where
-  globals-are : (at : ℕ) (is : List Item) → Chain (m .width) s ts at is → (t : List ℕ) → globalsOut m s t at ≡ entered m ts (blank m t) (globals is)
-  unfolding globalsOut
-  globals-are at is h t =
-      let l : length s ≤ at + length s = omega arith in
-      let e₁ : (x : List ℕ) → scanOut m s 16 (length s) x at ≡ entered m ts x (nonterminals is) = λ x. chain-scan m s 16 ts b d at is h x (length s) l ∙ ap (entered m ts x) (select-16 is) in
-      let e₂ : (x : List ℕ) → scanOut m s 48 (length s) x at ≡ entered m ts x (externs is) = λ x. chain-scan m s 48 ts b d at is h x (length s) l ∙ ap (entered m ts x) (select-48 is) in
-      let e₃ : (x : List ℕ) → scanOut m s 49 (length s) x at ≡ entered m ts x (matches is) = λ x. chain-scan m s 49 ts b d at is h x (length s) l ∙ ap (entered m ts x) (select-49 is) in
-      ap (λ (x : Tabled). thenTabled x (λ t₁. thenTabled (scanOut m s 48 (length s) t₁ at) (λ t₂. scanOut m s 49 (length s) t₂ at))) (e₁ (blank m t))
-      ∙ then-same (entered m ts (blank m t) (nonterminals is)) (λ t₁. thenTabled (scanOut m s 48 (length s) t₁ at) (λ t₂. scanOut m s 49 (length s) t₂ at)) (λ t₁. entered m ts t₁ (externs is ++ matches is))
-      (λ t₁. ap (λ (x : Tabled). thenTabled x (λ t₂. scanOut m s 49 (length s) t₂ at)) (e₂ t₁)
-      ∙ then-same (entered m ts t₁ (externs is)) (λ t₂. scanOut m s 49 (length s) t₂ at) (λ t₂. entered m ts t₂ (matches is)) e₃
-      ∙ sym (entered-append m ts (externs is) (matches is) t₁))
-      ∙ sym (entered-append m ts (nonterminals is) (externs is ++ matches is) (blank m t))
-
   pub globals-mean : (at : ℕ) (is : List Item) (e : ℕ) (t : List ℕ) → length t ≡ base m → readItems true (m .width) s ts (length s) at ≡ got is e
       → GlobalsSay m ts is (checkGlobals [] (globals is)) (globalsOut m s t at)
-  globals-mean at is e t l p = go (checkGlobals [] (globals is)) refl
+  globals-mean at is e t l p =
+      says-as m ts (globals is) (checkGlobals [] (globals is)) _ _ (globals-are m ts d s at is h t)
+      (entered-says m ts d c r (globals is) (blank m t) (blank-tabular m ts t (omega arith) l) proper (checkGlobals [] (globals is)) refl)
     where
       h : Chain (m .width) s ts at is
-      h = items-chain (m .width) s ts (length s) at is e (omega arith) p
+      h = items-chain (m .width) s ts b d (length s) at is e (omega arith) p
 
       proper : Each (Proper ts) (globals is)
       proper =
-          let f = chain-proper (m .width) s ts b d at is h in
+          let f = chain-proper (m .width) s ts at is h in
           each-append (Proper ts) (nonterminals is) (externs is ++ matches is) (rw (select-16 is) at (f 16))
           (each-append (Proper ts) (externs is) (matches is) (rw (select-48 is) at (f 48)) (rw (select-49 is) at (f 49)))
-
-      go : (o : Outcome (Unit {0})) → checkGlobals [] (globals is) ≡ o → GlobalsSay m ts is o (globalsOut m s t at)
-      go o z = says o (entered-says m ts d c r (globals is) (blank m t) (blank-tabular m ts t (omega arith) l) proper o z)
-        where
-          says : (o : Outcome (Unit {0})) → Says m ts d c r (globals is) o (entered m ts (blank m t) (globals is)) → GlobalsSay m ts is o (globalsOut m s t at)
-          says (yes u) (t′, i, k) = (t′, globals-are at is h t ∙ i, k)
-          says (no q sp) i = globals-are at is h t ∙ i

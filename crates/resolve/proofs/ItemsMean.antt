@@ -10,13 +10,13 @@ use lib.ListN.{length, length-append}
 use Rattle.octets.specs.Choice.{pick}
 use Rattle.octets.specs.Numbers.{Bytes}
 use Rattle.octets.specs.Runs.{part, Lies}
-use Rattle.octets.proofs.Lying.{lies-append, lies-part, lies-inside}
+use Rattle.octets.proofs.Lying.{lies-append, lies-part}
 use Rattle.parse_tree.specs.Tree.{Text, Alternative, Nonterminal, Item, item}
 use Rattle.parse_tree.specs.Texts.{has, distinct}
 use Rattle.parse_tree.specs.Nodes.{nodeBytes, nodeAt, sizeOf}
 use Rattle.parse_tree.specs.Questions.{defined}
 use Rattle.parse_tree.specs.Places.{itemsPlace, argumentsPlace}
-use Rattle.parse_tree.specs.Reading.{got, then, times}
+use Rattle.parse_tree.specs.Reading.{got, times}
 use Rattle.parse_tree.specs.Operands.{nonterminalOf, terminalOf}
 use Rattle.parse_tree.specs.Decode.{readArgument, readAlternative, nonterminalParts, readItem, readItems}
 use Rattle.parse_tree.specs.Encode.{bit, bytesOfEach, argumentBytes, alternativeBytes, nonterminalNode, itemBytes}
@@ -31,15 +31,17 @@ use Rattle.parse_tree.proofs.Asking.{Passes}
 use Rattle.parse_tree.proofs.Expecting.{item-wanted, argument-wanted}
 use Rattle.parse_tree.proofs.FromCommands.{argument-within, terminal-within}
 use Rattle.parse_tree.proofs.ItemFound.{item-finds}
+use Rattle.validate.proofs.Onward.{item-inside}
 use Rattle.grammar.specs.Outcome.{Tree, Outcome, yes, no, after, withAlternatives}
 use Rattle.grammar.specs.Resolve.{checkCondition, validateSymbols, validateAlternatives, validateMacroArgs, validateItems}
 use Rattle.resolve.specs.declared.Scope.{Scope}
 use Rattle.resolve.specs.Scopes.{base}
-use Rattle.resolve.specs.Walks.{prefix, many}
+use Rattle.resolve.specs.Walks.{prefix}
 use Rattle.resolve.specs.Items.{Put, put, unput, argumentsOut, putBy, stampedThen, prefixPut, putThen, within, dataOut, nowhere, itemIn, itemOut, itemsOut}
+use Rattle.resolve.proofs.Replacing.{turn, items-turn, items-end}
 use Rattle.resolve.proofs.NamesMean.{outOf}
-use Rattle.resolve.proofs.Readings.{Standing, stands-then}
-use Rattle.resolve.proofs.SymbolsMean.{after-yes, yes-as, times-length}
+use Rattle.resolve.proofs.Readings.{Standing, standing-inside, stands-then, times-length, items-then}
+use Rattle.resolve.proofs.SymbolsMean.{after-yes, yes-as}
 use Rattle.resolve.proofs.AlternativesMean.{Copies, skip-all, alternatives-mean}
 use Rattle.resolve.proofs.ArgumentsMean.{Scoped, Answer, marks-look, arguments-mean}
 
@@ -80,11 +82,11 @@ flags-code (suc (suc zero)) p = refl
 flags-code (suc (suc (suc zero))) p = refl
 flags-code (suc (suc (suc (suc k)))) p = absurd (omega (arith, leb-true (suc (suc (suc (suc k)))) 3 p))
 
-module _ (w : ℕ) (ts : List Text) (d : distinct ts ≡ true) where
-  nonterminal-node : (n : NonterminalData) (args : List Text) (alts : List Alternative) → Passes true w ts (Node.Nonterminal n)
+module _ (w : ℕ) (ts : List Text) where
+  nonterminal-node : distinct ts ≡ true → (n : NonterminalData) (args : List Text) (alts : List Alternative) → Passes true w ts (Node.Nonterminal n)
       → length args ≡ n .args → length alts ≡ n .alternatives → nonterminalNode ts (nonterminalOf ts n args alts) ≡ Node.Nonterminal n
   unfolding nonterminalOf nonterminalNode defined
-  nonterminal-node n args alts p i j =
+  nonterminal-node d n args alts p i j =
       let (k, f) = both (ltb (n .name .0) (length ts)) (leb (n .flags) 3) (p .known) in
       rw (i, j, number-text ts (n .name .0) d (ltb-true (n .name .0) (length ts) k), flags-code (n .flags) f)
 
@@ -96,13 +98,7 @@ module _ (w : ℕ) (ts : List Text) (d : distinct ts ≡ true) where
   front-bytes n args alts bs p =
       rw p (sym (append-assoc (nodeBytes w (Node.Nonterminal n)) (bytesOfEach (argumentBytes w ts) args) (bytesOfEach (alternativeBytes w ts) bs)))
 
--- an item has a byte
-item-bytes : (w : ℕ) (ts : List Text) (x : Item) → 1 ≤ length (itemBytes w ts x)
-unfolding itemBytes nodeBytes nonterminalNode
-item-bytes w ts (item d) = omega arith
-item-bytes w ts (Item.terminal s o t) = omega arith
-
--- a nonterminal those of its command
+-- a nonterminal has the bytes of its command
 data-bytes : (w : ℕ) (ts : List Text) (x : Nonterminal) → 13 + w ≤ length (itemBytes w ts (item x))
 unfolding itemBytes sizeOf nonterminalNode
 data-bytes w ts x =
@@ -149,33 +145,26 @@ module _ (m : Scope) (s : List ℕ) (ts : List Text) (b : Bytes s) (d : distinct
       got-as (λ v l. (a + sizeOf (m .width) (nodeAt (m .width) s a) ≡ l) × Lies s a (argumentBytes (m .width) ts v) l) r
       (rw (i .here) (i .behind), rw (argument-within true (m .width) ts d k (i .passes) .1) (i .lies))))
 
-  -- a nonterminal's command lies inside
-  data-inside : (k : NonterminalData) (a c : ℕ) → Standing (m .width) s ts a c (Node.Nonterminal k) → (c ≤ length s) × (c ≡ a + (13 + m .width))
-  unfolding nodeBytes sizeOf
-  data-inside k a c h =
-      let n : 13 + m .width ≡ length (nodeBytes (m .width) (Node.Nonterminal k)) = nonterminal-size (m .width) (Node.Nonterminal k) k refl in
-      (lies-inside s a c (nodeBytes (m .width) (Node.Nonterminal k)) (omega arith) (h .lies), omega (arith, h .lies .end))
-
   -- by whether no two arguments are equal
   parts-put : (k : NonterminalData) (a c : ℕ) (t : List ℕ) (args : List Text) (alts : List Alternative) (e₁ e : ℕ) → Standing (m .width) s ts a c (Node.Nonterminal k)
       → times (readArgument true (m .width) s ts) (k .args) c ≡ got args e₁ → times (readAlternative true (m .width) s ts) (k .alternatives) e₁ ≡ got alts e
-      → c < 2 ^ 64 → c ≤ e → (u : Bool) → Answer (within m c) ts G (k .span) u (argumentsOut (within m c) s (k .span) (k .args) t c) e₁ (λ x. has x args)
+      → c ≤ e → (u : Bool) → Answer (within m c) ts G (k .span) u (argumentsOut (within m c) s (k .span) (k .args) t c) e₁ (λ x. has x args)
       → Puts m ts G (itemBytes (m .width) ts) (after (apartBy (k .span) u) (λ v. after (validateAlternatives G args alts) (λ bs. yes (item (withAlternatives (nonterminalOf ts k args alts) bs)))))
       (dataOut (within m c) t s k a c) e
   unfolding dataOut within stampedThen base
-  parts-put k a c t args alts e₁ e st p q f l true h =
+  parts-put k a c t args alts e₁ e st p q l true h =
       let o = h .marking .scoped in
-      let x = alternatives-mean (within m c) (h .table) s ts b d G args (marks-look (within m c) ts d z few f G (h .table) args (h .marking)) (k .alternatives) e₁ alts e q in
+      let x = alternatives-mean (within m c) (h .table) s ts b d G args (marks-look (within m c) ts z G (h .table) args (h .marking)) (k .alternatives) e₁ alts e q in
       let (u, v) = skip-all (m .width) s (readArgument true (m .width) s ts) (argumentBytes (m .width) ts) argument-copies (k .args) c args e₁ p in
       let y = lies-part s a e₁ _ (lies-append (st .lies) v) in
       rw (h .is, x, y)
       (alternatives-put m ts G (bytesOfEach (alternativeBytes (m .width) ts)) (itemBytes (m .width) ts) (λ bs. item (withAlternatives (nonterminalOf ts k args alts) bs)) _ (h .table) (validateAlternatives G args alts) e
       (λ bs r.
-      front-bytes (m .width) ts d k args alts bs (nonterminal-node (m .width) ts d k args bs (st .passes)
+      front-bytes (m .width) ts k args alts bs (nonterminal-node (m .width) ts d k args bs (st .passes)
       (times-length (readArgument true (m .width) s ts) (k .args) c args e₁ p)
       (length-kept G args alts bs r ∙ times-length (readAlternative true (m .width) s ts) (k .alternatives) e₁ alts e q)))
       (record { size = o .size; coded = o .coded; marks = λ j i. omega (arith, o .marks j i) }))
-  parts-put k a c t args alts e₁ e st p q f l false h = rw h refl
+  parts-put k a c t args alts e₁ e st p q l false h = rw h refl
 
   data-means : (k : NonterminalData) (a c : ℕ) (t : List ℕ) (x : Item) (e : ℕ) → Standing (m .width) s ts a c (Node.Nonterminal k) → nonterminalParts true (m .width) s ts k c ≡ got x e
       → Lies s a (itemBytes (m .width) ts x) e → Scoped m t ts G a → Puts m ts G (itemBytes (m .width) ts) (itemAnswer G x) (dataOut (within m c) t s k a c) e
@@ -183,12 +172,13 @@ module _ (m : Scope) (s : List ℕ) (ts : List Text) (b : Bytes s) (d : distinct
   data-means k a c t x e st p y h =
       let i = then-got (times (readArgument true (m .width) s ts) (k .args) c) _ p in
       let j = then-got (times (readAlternative true (m .width) s ts) (k .alternatives) (i .mid)) _ (i .second) in
-      let (u, v) = data-inside k a c st in
+      let u = standing-inside st in
+      let v = nonterminal-size (m .width) (Node.Nonterminal k) k refl in
       got-as (λ q l. Lies s a (itemBytes (m .width) ts q) l → Puts m ts G (itemBytes (m .width) ts) (itemAnswer G q) (dataOut (within m c) t s k a c) l) (j .second)
       (λ o.
-      parts-put k a c t (i .value) (j .value) (i .mid) (j .mid) st (i .first) (j .first) (omega arith)
-      (omega (arith, data-bytes (m .width) ts (nonterminalOf ts k (i .value) (j .value)), o .end)) (distinct (i .value))
-      (arguments-mean (within m c) ts d z few (omega arith) G s b (k .span) (k .args) c (i .value) (i .mid) t (i .first) (h .size) (h .coded) (λ q n. omega (arith, h .marks q n)))) y
+      parts-put k a c t (i .value) (j .value) (i .mid) (j .mid) st (i .first) (j .first)
+      (omega (arith, data-bytes (m .width) ts (nonterminalOf ts k (i .value) (j .value)), o .end, st .behind)) (distinct (i .value))
+      (arguments-mean (within m c) ts d z few (omega (arith, u .1)) G s b (k .span) (k .args) c (i .value) (i .mid) t (i .first) (h .size) (h .coded) (λ q n. omega (arith, h .marks q n, u .0)))) y
 
   -- what is written of the command n, which ends at c
   out-at : (a c : ℕ) (t : List ℕ) (n : Node) → nodeAt (m .width) s a ≡ n → a + sizeOf (m .width) n ≡ c → itemOut m t s a ≡ itemIn (λ k. dataOut (within m c) t s k a c) (put (part a c s) t c) n
@@ -238,38 +228,14 @@ module _ (m : Scope) (s : List ℕ) (ts : List Text) (b : Bytes s) (d : distinct
       go (no q sp) o i = rw i refl
   more-mean n f a is e c p l (no q sp) y h = rw h refl
 
-  next-mean : (n : ℕ) → ItemsMean n → (a : ℕ) (t : List ℕ) (is : List Item) (e : ℕ)
-      → then (readItem true (m .width) s ts a) (λ i e′. then (readItems true (m .width) s ts n e′) (λ js e″. got (i ∷ js) e″)) ≡ got is e → Scoped m t ts G a
-      → Puts m ts G (bytesOfEach (itemBytes (m .width) ts)) (validateItems G is) (putThen (itemOut m t s a) (λ t′ e′. pick (leb e′ a) nowhere (itemsOut m s n t′ e′))) e
-  next-mean n f a t is e p h =
-      let i = then-got (readItem true (m .width) s ts a) _ p in
-      let j = then-got (readItems true (m .width) s ts n (i .mid)) _ (i .second) in
-      let l = item-finds true (m .width) s ts b d a (i .value) (i .mid) (i .first) .lies in
-      got-as (λ vs q. Puts m ts G (bytesOfEach (itemBytes (m .width) ts)) (validateItems G vs) (putThen (itemOut m t s a) (λ t′ e′. pick (leb e′ a) nowhere (itemsOut m s n t′ e′))) q) (j .second)
-      (rw (← (answers G (i .value) (j .value)))
-      (more-mean n f a (j .value) (j .mid) (i .mid) (j .first) (omega (arith, l .end, item-bytes (m .width) ts (i .value))) (itemAnswer G (i .value)) (itemOut m t s a)
-      (item-means a t (i .value) (i .mid) (i .first) h)))
-
   pub items-mean : (n a : ℕ) (t : List ℕ) (is : List Item) (e : ℕ) → readItems true (m .width) s ts n a ≡ got is e → Scoped m t ts G a
       → Puts m ts G (bytesOfEach (itemBytes (m .width) ts)) (validateItems G is) (itemsOut m s n t a) e
-  unfolding readItems itemsOut validateItems bytesOfEach pick
+  unfolding readItems itemsOut turn validateItems bytesOfEach
   items-mean zero a t is e p h =
       got-as (λ vs l. Puts m ts G (bytesOfEach (itemBytes (m .width) ts)) (validateItems G vs) (put [] t a) l) p (record { table = t; is = refl; scoped = h })
-  items-mean (suc n) a t is e p h = go (leb (length s) a) (items-mean n) p
-    where
-      go : (u : Bool) → ItemsMean n → elim u [
-        | true ↦ got [] a
-        | false ↦ then (readItem true (m .width) s ts a) (λ i e′. then (readItems true (m .width) s ts n e′) (λ js e″. got (i ∷ js) e″))
-      ] ≡ got is e
-          → Puts m ts G (bytesOfEach (itemBytes (m .width) ts)) (validateItems G is) (pick u (put [] t a) (putThen (itemOut m t s a) (λ t′ e′. pick (leb e′ a) nowhere (itemsOut m s n t′ e′)))) e
-      go true f q = got-as (λ vs l. Puts m ts G (bytesOfEach (itemBytes (m .width) ts)) (validateItems G vs) (put [] t a) l) q (record { table = t; is = refl; scoped = h })
-      go false f q = next-mean n f a t is e q h
-
-  -- the two answers by themselves
-  pub items-yes : (n a : ℕ) (t : List ℕ) (is : List Item) (e : ℕ) (R : List Item) → readItems true (m .width) s ts n a ≡ got is e → Scoped m t ts G a → validateItems G is ≡ yes R
-      → Putting m ts G (itemsOut m s n t a) (bytesOfEach (itemBytes (m .width) ts) R) e
-  items-yes n a t is e R p h q = rw q at (items-mean n a t is e p h)
-
-  pub items-no : (n a : ℕ) (t : List ℕ) (is : List Item) (e k : ℕ) (sp : Span) → readItems true (m .width) s ts n a ≡ got is e → Scoped m t ts G a → validateItems G is ≡ no k sp
-      → itemsOut m s n t a ≡ unput k sp
-  items-no n a t is e k sp p h q = rw q at (items-mean n a t is e p h)
+  items-mean (suc n) a t is e p h =
+      items-then (m .width) s ts n a (λ vs l. Puts m ts G (bytesOfEach (itemBytes (m .width) ts)) (validateItems G vs) (itemsOut m s (suc n) t a) l)
+      (λ o. rw (items-end m s (suc n) t a o) (record { table = t; is = refl; scoped = h }))
+      (λ o x c q js k r.
+      rw (items-turn m s n t a o, ← (answers G x js))
+      (more-mean n (items-mean n) a js k c r (item-inside (m .width) s b ts d a x c q .0) (itemAnswer G x) (itemOut m t s a) (item-means a t x c q h))) is e p

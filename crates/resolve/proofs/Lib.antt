@@ -4,14 +4,14 @@ mod Inside
 mod Scoping
 mod Naming
 mod Staging
-mod Alternating
 mod Declaring
+mod Alternating
 mod Stamping
 mod Replacing
-mod Skipping
+mod Readings
+mod Passing
 pub mod Coding
 pub mod GlobalsMean
-mod Readings
 pub mod NamesMean
 pub mod SymbolsMean
 pub mod AlternativesMean

@@ -27,20 +27,12 @@ use Rattle.parse_tree.proofs.Asking.{Passes}
 use Rattle.parse_tree.proofs.FromCommands.{leaf-within}
 use Rattle.grammar.specs.Outcome.{Tree, Outcome, yes, no}
 use Rattle.grammar.specs.Resolve.{Def as Meant, terminalDef, nonterminalDef, argumentDef, kind, lookup, checkCondition, validateNonterminal, rewriteAmbiguousId, validateMacro, validateLeaf, validateOver}
-use Rattle.resolve.specs.declared.Def.{Def}
-use Rattle.resolve.specs.declared.Found.{Found}
 use Rattle.resolve.specs.declared.Scope.{Scope}
 use Rattle.resolve.specs.declared.Verdict.{Verdict}
 use Rattle.resolve.specs.Scopes.{found}
 use Rattle.resolve.specs.Names.{idBy, conditionBy, nonterminalBy, ambiguousBy, macroBy, idOf, conditionSays, nonterminalSays, macroSays, overSays, ambiguousSays, leafSays}
 use Rattle.resolve.specs.Walks.{Out, wrote, denied, leafBy}
-
--- what the tables answer for a definition
-unfoldable pub foundOf : Option Meant → Found
-foundOf none = Found.Nothing
-foundOf (some terminalDef) = Found.Is Def.Terminal
-foundOf (some (nonterminalDef n)) = Found.Is (Def.Nonterminal n)
-foundOf (some argumentDef) = Found.Is Def.MacroArg
+use Rattle.resolve.proofs.Coding.{foundOf}
 
 -- the tables answer each atom as the lookup does
 abbrev pub Looks : Scope → List ℕ → List Text → Tree → List Text → Type 0
@@ -56,17 +48,17 @@ verdictOf (yes u) = Verdict.Fine
 verdictOf (no q sp) = Verdict.Refused q sp
 
 -- ---- by the definition of the name
-condition-by : (G : Tree) (ps : List Text) (sp : Span) (o : Option Meant)
+condition-by : (sp : Span) (o : Option Meant)
     → conditionBy sp (idBy sp (foundOf o)) ≡ verdictOf (elim o [ none ↦ no 8 sp | some d ↦ cond (eqb (kind d) 3) (yes tt) (no 9 sp) ])
-unfolding conditionBy idBy foundOf verdictOf
-condition-by G ps sp none = refl
-condition-by G ps sp (some terminalDef) = refl
-condition-by G ps sp (some (nonterminalDef zero)) = refl
-condition-by G ps sp (some (nonterminalDef (suc n))) = refl
-condition-by G ps sp (some argumentDef) = refl
+unfolding conditionBy idBy verdictOf
+condition-by sp none = refl
+condition-by sp (some terminalDef) = refl
+condition-by sp (some (nonterminalDef zero)) = refl
+condition-by sp (some (nonterminalDef (suc n))) = refl
+condition-by sp (some argumentDef) = refl
 
 macro-by : (G : Tree) (ps : List Text) (sp : Span) (k : ℕ) (o : Option Meant) → macroBy sp k (idBy sp (foundOf o)) ≡ verdictOf (validateMacro G ps sp k o)
-unfolding macroBy idBy foundOf verdictOf pick
+unfolding macroBy idBy verdictOf pick
 macro-by G ps sp k none = refl
 macro-by G ps sp k (some terminalDef) = refl
 macro-by G ps sp k (some (nonterminalDef zero)) = refl
@@ -80,7 +72,7 @@ macro-by G ps sp k (some argumentDef) = refl
 module _ (w : ℕ) (ts : List Text) (G : Tree) (ps : List Text) (sp : Span) (e : ℕ) where
   ambiguous-by : (a : Atom) (x : Text) → number ts x ≡ a .0 → (o : Option Meant)
       → leafBy w sp e (ambiguousBy sp a (idBy sp (foundOf o))) ≡ outOf (symBytes w ts) (rewriteAmbiguousId G ps sp x o) e
-  unfolding ambiguousBy idBy foundOf outOf leafBy symBytes leafNode pick
+  unfolding ambiguousBy idBy outOf leafBy symBytes leafNode pick
   ambiguous-by a x n none = refl
   ambiguous-by a x n (some terminalDef) = rw n refl
   ambiguous-by a x n (some (nonterminalDef zero)) = rw n refl
@@ -89,7 +81,7 @@ module _ (w : ℕ) (ts : List Text) (G : Tree) (ps : List Text) (sp : Span) (e :
 
   nonterminal-by : (a : NonterminalString) (x : Text) → number ts x ≡ a .0 → (o : Option Meant)
       → leafBy w sp e (nonterminalBy sp a (idBy sp (foundOf o))) ≡ outOf (symBytes w ts) (validateNonterminal G ps sp x o) e
-  unfolding nonterminalBy idBy foundOf outOf leafBy symBytes leafNode pick
+  unfolding nonterminalBy idBy outOf leafBy symBytes leafNode pick
   nonterminal-by a x n none = refl
   nonterminal-by a x n (some terminalDef) = refl
   nonterminal-by a x n (some (nonterminalDef zero)) = rw n refl
@@ -127,4 +119,4 @@ module _ (m : Scope) (t : List ℕ) (ts : List Text) (d : distinct ts ≡ true) 
   unfolding conditionSays idOf conditionOf defined
   condition-means c p =
       let h = ltb-true (c .lhs .0) (length ts) (both (ltb (c .lhs .0) (length ts)) _ (p .known) .0) in
-      rw (look (c .lhs .0) h) (condition-by G ps (c .span) (lookup G ps (getD ts (c .lhs .0) [])))
+      rw (look (c .lhs .0) h) (condition-by (c .span) (lookup G ps (getD ts (c .lhs .0) [])))

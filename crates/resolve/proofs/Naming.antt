@@ -1,5 +1,5 @@
 -- What one name is answered: one law for each way out of the functions of names.rt. Assumes nothing.
-use mathlib.Core.Path.{_≡_, refl, sym, _∙_}
+use mathlib.Core.Path.{_≡_, refl, _∙_}
 use mathlib.Core.List.{List, [], _∷_}
 use Prim.Native.Nat.{ℕ, _<_, _≤_}
 use borrow.Author.Needs.{needs}
@@ -9,7 +9,6 @@ use types.Run.{OneOf, miss}
 use Rattle.octets.specs.Choice.{pick}
 use Rattle.parse_tree.specs.declared.syntax.Span.{Span}
 use Rattle.parse_tree.specs.declared.syntax.Atom.{Atom}
-use Rattle.parse_tree.specs.declared.syntax.TerminalString.{TerminalString}
 use Rattle.parse_tree.specs.declared.syntax.NonterminalString.{NonterminalString}
 use Rattle.parse_tree.specs.declared.syntax.Leaf.{Leaf}
 use Rattle.parse_tree.specs.declared.syntax.Over.{Over}

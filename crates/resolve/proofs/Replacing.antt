@@ -1,22 +1,22 @@
 -- Items: the ways out of put_alternatives, validate_data, validate_item and validate. Assumes nothing.
 use mathlib.Core.Path.{_≡_, refl, sym, ap, _∙_}
-use mathlib.Core.Bool.{Bool, true, false}
-use mathlib.Core.List.{List, [], _∷_, _++_}
+use mathlib.Core.Bool.{Bool}
+use mathlib.Core.List.{List, [], _++_}
 use Prim.Native.Nat.{ℕ, zero, suc, _+_, _-_, _<_, _≤_}
 use native.Mathlib.Omega.{arith}
 use borrow.Author.Needs.{needs}
-use borrow.Author.Tests.{le-leb, lt-leb, lt-ltb, le-ltb, ltb-true, ltb-false}
+use borrow.Author.Tests.{le-leb, lt-leb}
 use denote.Enum.Declared.{tagOf}
 use types.Run.{OneOf, miss}
 use mir.Syntax.{w8}
 use mir.Val.{Fits}
-use lib.Dec.{leb, ltb}
+use lib.Dec.{leb}
 use lib.ListN.{length, getD, length-append}
 use Rattle.octets.specs.Choice.{pick}
 use Rattle.octets.specs.Runs.{part}
-use Rattle.octets.specs.Sink.{Laid, step, adv, lay}
+use Rattle.octets.specs.Sink.{Laid, adv, lay}
 use Rattle.octets.proofs.Laying.{adv-append, lay-append}
-use Rattle.octets.proofs.Fitting.{adv-le, lay-over}
+use Rattle.octets.proofs.Fitting.{adv-le}
 use Rattle.parse_tree.specs.Nodes.{nodeAt, sizeOf}
 use Rattle.parse_tree.specs.declared.syntax.Span.{Span}
 use Rattle.parse_tree.specs.declared.syntax.NonterminalData.{NonterminalData}
@@ -30,16 +30,14 @@ use Rattle.resolve.specs.Scopes.{Area, base, tables}
 use Rattle.resolve.specs.Walks.{Out, wrote, denied, prefix, many, Staged}
 use Rattle.resolve.specs.Items.{Stamped, stamped, against, Stamping, argumentsOut, alternativeOut, Put, put, unput, behind, Replaced, putBy, stampedThen, prefixPut, putThen, within, dataOut, nowhere, itemIn, itemOut, itemsOut}
 use Rattle.resolve.proofs.Regions.{tables-lay, behind-lay}
-use Rattle.resolve.proofs.Inside.{command-inside, command-fits}
+use Rattle.resolve.proofs.Inside.{command-inside}
+use Rattle.resolve.proofs.Declaring.{noItem, next-not}
 use Rattle.resolve.proofs.Staging.{staged-prefix, area-next, tables-laid}
 use Rattle.resolve.proofs.Stamping.{Ends, arguments-end}
 
 -- ---- answers
 walked-not : {e t q : ℕ} {p : Span} → Walked.Next e t ≡ Walked.Refused q p → ⊥
 walked-not {e} {t} {q} {p} h = let z : _≡_ {A = ℕ} 0 1 = cc in omega arith
-
-passed-not : {e q : ℕ} {p : Span} → Passed.Next e ≡ Passed.Refused q p → ⊥
-passed-not {e} {q} {p} h = let z : _≡_ {A = ℕ} 0 1 = cc in omega arith
 
 replaced-unput : (m : Scope) (x : Put) (q : ℕ) (p : Span) (w : List ℕ) (to : ℕ) (w′ : List ℕ) → x ≡ unput q p → Replaced m x w to (Walked.Refused q p) w′
 unfolding Replaced
@@ -77,35 +75,32 @@ stood m (stamped t e) p w w1 h =
     let a = h .answered in
     let b : e ≡ p = cc in
     record { is = cc (h .kept .tabled); kept = h .kept .others }
-stood m (against q sp) p w w1 h = absurd (passed-not h)
+stood m (against q sp) p w w1 h = absurd (next-not h)
 
 fallen : (m : Scope) (x : Stamped) (q : ℕ) (p : Span) (w w1 : List ℕ) → Stamping m x w (Passed.Refused q p) w1 → x ≡ against q p
 unfolding Stamping
-fallen m (stamped t e) q p w w1 h = absurd (passed-not (sym (h .answered)))
+fallen m (stamped t e) q p w w1 h = absurd (next-not (sym (h .answered)))
 fallen m (against a b) q p w w1 h = cc
 
-module _ (m : Scope) (s : List ℕ) (d : NonterminalData) (at e : ℕ) (w : List ℕ) (to a : ℕ) (f : a ≡ d .args) (x : Passed) (w1 : List ℕ) (g : Stamping m (argumentsOut m s (d .span) a (tables m w) e) w x w1) where
-  pub data-refused : (q : ℕ) (p : Span) → x ≡ Passed.Refused q p → (w2 : List ℕ) → Replaced m (dataOut m (tables m w) s d at e) w to (Walked.Refused q p) w2
+module _ (m : Scope) (s : List ℕ) (d : NonterminalData) (e : ℕ) (w : List ℕ) (a : ℕ) (x : Passed) (w1 : List ℕ) (g : Stamping m (argumentsOut m s (d .span) a (tables m w) e) w x w1) where
+  pub data-refused : (at to q : ℕ) (p : Span) → a ≡ d .args → x ≡ Passed.Refused q p → (w2 : List ℕ) → Replaced m (dataOut m (tables m w) s d at e) w to (Walked.Refused q p) w2
   unfolding dataOut stampedThen
-  data-refused q p u w2 = replaced-unput m _ q p w to w2 (let z = fallen m _ q p w w1 (rw u at g) in cc)
+  data-refused at to q p f u w2 = replaced-unput m _ q p w to w2 (let z = fallen m _ q p w w1 (rw u at g) in cc)
 
   module _ (p : ℕ) (u : x ≡ Passed.Next p) where
-    pub data-from : at ≤ e → e ≤ length s → ((i : ℕ) → Fits w8 (getD s i 0)) → at ≤ p
-    data-from h l b =
-        let z = stood m _ p w w1 (rw u at g) in
-        let y : Ends e (length s) (stamped (tables m w1) p) = rw (z .is) at (arguments-end m s (λ i. b i .fits) (d .span) a (tables m w) e l) in
-        omega (arith, y .0)
+    ends : e ≤ length s → ((i : ℕ) → Fits w8 (getD s i 0)) → Ends e (length s) (stamped (tables m w1) p)
+    ends l b = rw (stood m _ p w w1 (rw u at g) .is) at (arguments-end m s (λ i. b i .fits) (d .span) a (tables m w) e l)
+
+    pub data-from : (at : ℕ) → at ≤ e → e ≤ length s → ((i : ℕ) → Fits w8 (getD s i 0)) → at ≤ p
+    data-from at h l b = omega (arith, ends l b .0)
 
     pub data-upto : e ≤ length s → ((i : ℕ) → Fits w8 (getD s i 0)) → p ≤ length s
-    data-upto l b =
-        let z = stood m _ p w w1 (rw u at g) in
-        let y : Ends e (length s) (stamped (tables m w1) p) = rw (z .is) at (arguments-end m s (λ i. b i .fits) (d .span) a (tables m w) e l) in
-        y .1
+    data-upto l b = ends l b .1
 
-    pub data-next : (nn k : ℕ) (r : Walked) (w2 : List ℕ) → Area m to nn → k ≡ d .alternatives
+    pub data-next : (at to nn k : ℕ) (r : Walked) (w2 : List ℕ) → a ≡ d .args → Area m to nn → k ≡ d .alternatives
         → Staged (prefix (part at p s) (many (alternativeOut m (tables m w1) s) k p)) w1 (m .lim) to r w2 → Replaced m (dataOut m (tables m w) s d at e) w to r w2
     unfolding dataOut stampedThen base
-    data-next nn k r w2 ar v h =
+    data-next at to nn k r w2 f ar v h =
         let z = stood m _ p w w1 (rw u at g) in
         let o : dataOut m (tables m w) s d at e ≡ putBy (tables m w1) (prefix (part at p s) (many (alternativeOut m (tables m w1) s) (d .alternatives) p)) = cc (z .is) in
         replaced-as m _ _ w to r w2 o (replaced-staged m _ w w1 to r w2 (ar .apart) (z .kept) (rw v at h))
@@ -116,11 +111,11 @@ area-same m to n n1 a e = rw e a
 pub ruleset replacing = (needs, data-refused, data-from, data-upto, data-next, area-same)
 
 -- ---- validate_item
-no-item : (f : NonterminalData → Put) (x : Put) (y : Node) → OneOf (0 ∷ 3 ∷ 4 ∷ 5 ∷ 6 ∷ 7 ∷ 8 ∷ []) (tagOf the-type y) → itemIn f x y ≡ nowhere
+no-item : (f : NonterminalData → Put) (x : Put) (y : Node) → OneOf noItem (tagOf the-type y) → itemIn f x y ≡ nowhere
 unfolding itemIn
 no-item f x (Node.Text k) h = refl
-no-item f x (Node.Nonterminal k) h = absurd (miss (0 ∷ 3 ∷ 4 ∷ 5 ∷ 6 ∷ 7 ∷ 8 ∷ []) 1 tt h)
-no-item f x (Node.Terminal k) h = absurd (miss (0 ∷ 3 ∷ 4 ∷ 5 ∷ 6 ∷ 7 ∷ 8 ∷ []) 2 tt h)
+no-item f x (Node.Nonterminal k) h = absurd (miss noItem 1 tt h)
+no-item f x (Node.Terminal k) h = absurd (miss noItem 2 tt h)
 no-item f x (Node.Argument k) h = refl
 no-item f x (Node.Alternative k) h = refl
 no-item f x (Node.Attribute k) h = refl
@@ -135,7 +130,7 @@ replaced-within m c (put xs t e) w to r w1 h = record { answered = h .answered; 
 replaced-within m c (unput q p) w to r w1 h = h
 
 module _ (m : Scope) (s : List ℕ) (at : ℕ) (w : List ℕ) (to : ℕ) (n : Node) (i : n ≡ nodeAt (m .width) s at) where
-  pub item-other : (w1 : List ℕ) → OneOf (0 ∷ 3 ∷ 4 ∷ 5 ∷ 6 ∷ 7 ∷ 8 ∷ []) (tagOf the-type n) → Replaced m (itemOut m (tables m w) s at) w to (Walked.Refused 2 (record { 0 = 0; 1 = 0 })) w1
+  pub item-other : (w1 : List ℕ) → OneOf noItem (tagOf the-type n) → Replaced m (itemOut m (tables m w) s at) w to (Walked.Refused 2 (record { 0 = 0; 1 = 0 })) w1
   unfolding itemOut
   item-other w1 h = replaced-unput m _ 2 (record { 0 = 0; 1 = 0 }) w to w1 (no-item _ _ (nodeAt (m .width) s at) (rw i at h))
 
@@ -161,48 +156,15 @@ module _ (m : Scope) (s : List ℕ) (at : ℕ) (w : List ℕ) (to : ℕ) (n : No
         let o : itemOut m (tables m w) s at ≡ dataOut (within m (at + z)) (tables m w) s d at (at + z) = cc in
         replaced-as m _ _ w to r w1 o (replaced-within m (at + z) _ w to r w1 h)
 
-pub area-within : (m : Scope) (to n e : ℕ) → Area m to n → Area (record { room = m .room; count = m .count; width = m .width; lim = m .lim; first = e }) to n
-area-within m to n e a =
-    let t = a .tabled in
-    record { tabled = record { few = t .few; fits = t .fits; narrow = t .narrow; wide = t .wide }; end = a .end; apart = a .apart }
-
-pub item-behind : (at z : ℕ) → at ≤ at + z
-item-behind at z = omega arith
-
-pub ruleset itemizing = (needs, command-fits, command-inside, item-behind, item-other, item-terminal, item-nonterminal, area-within)
+pub ruleset itemizing = (needs, command-inside, item-other, item-terminal, item-nonterminal)
 
 -- ---- validate
--- the same step, counted from b on
-step-minus : (b lim to : ℕ) → b < lim → b ≤ to → (step (lim - b) (to - b) ≡ step lim to - b) × (b ≤ step lim to)
-unfolding step pick
-step-minus b lim to h k = go (ltb lim to) refl
-  where
-    go : (c : Bool) → ltb lim to ≡ c → (step (lim - b) (to - b) ≡ step lim to - b) × (b ≤ step lim to)
-    go true e =
-        let z = ltb-true lim to e in
-        rw (e, lt-ltb (lim - b) (to - b) (omega arith)) (refl, k)
-    go false e =
-        let z = ltb-false lim to e in
-        rw (e, le-ltb (lim - b) (to - b) (omega arith)) (omega arith, omega arith)
-
-adv-minus : (b lim to n : ℕ) → b < lim → b ≤ to → adv (lim - b) (to - b) n ≡ adv lim to n - b
-unfolding adv
-adv-minus b lim to zero h k = refl
-adv-minus b lim to (suc n) h k =
-    let z = step-minus b lim to h k in
-    ap (λ (i : ℕ). adv (lim - b) i n) (z .0) ∙ adv-minus b lim (step lim to) n h (z .1)
-
-lay-two : (b lim to t : ℕ) (w xs ys : List ℕ) → t ≡ adv lim to (length xs) → b ≤ to → lay (lay w (lim - b) (to - b) xs) (lim - b) (t - b) ys ≡ lay w (lim - b) (to - b) (xs ++ ys)
-lay-two b lim to t w xs ys e k = go (ltb b lim) refl
-  where
-    go : (c : Bool) → ltb b lim ≡ c → lay (lay w (lim - b) (to - b) xs) (lim - b) (t - b) ys ≡ lay w (lim - b) (to - b) (xs ++ ys)
-    go true c =
-        let z = adv-minus b lim to (length xs) (ltb-true b lim c) k in
-        let y : t - b ≡ adv (lim - b) (to - b) (length xs) = omega arith in
-        rw y (lay-append w (lim - b) (to - b) xs ys)
-    go false c =
-        let z = ltb-false b lim c in
-        lay-over _ (lim - b) (t - b) ys (omega arith) ∙ lay-over w (lim - b) (to - b) xs (omega arith) ∙ sym (lay-over w (lim - b) (to - b) (xs ++ ys) (omega arith))
+-- two lays behind the tables are one
+lay-two : (m : Scope) (to t : ℕ) (w xs ys : List ℕ) → t ≡ adv (m .lim) to (length xs) → base m ≤ to
+    → lay (lay (behind m w) (m .lim - base m) (to - base m) xs) (m .lim - base m) (t - base m) ys ≡ lay (behind m w) (m .lim - base m) (to - base m) (xs ++ ys)
+lay-two m to t w xs ys e k =
+    let h : base m ≤ t = omega (arith, adv-le (m .lim) to (length xs)) in
+    rw (← (behind-lay m w (m .lim) to xs k), ← (behind-lay m (lay w (m .lim) to xs) (m .lim) t ys h), ← (behind-lay m w (m .lim) to (xs ++ ys) k), e) (ap (behind m) (lay-append w (m .lim) to xs ys))
 
 -- one behind another
 pub replaced-prefix : (m : Scope) (y : Put) (xs w w1 : List ℕ) (to t : ℕ) (r : Walked) (w2 : List ℕ) → t ≡ adv (m .lim) to (length xs) → base m ≤ to
@@ -211,7 +173,7 @@ unfolding Replaced prefixPut
 replaced-prefix m (put ys t′ e) xs w w1 to t r w2 f k b h = record {
   answered = h .answered ∙ ap (Walked.Next e) (ap (λ (i : ℕ). adv (m .lim) i (length ys)) f ∙ adv-append (m .lim) to (length xs) (length ys) ∙ ap (adv (m .lim) to) (sym (length-append xs ys)));
   tabled = h .tabled;
-  bytes = h .bytes ∙ ap (λ (v : List ℕ). lay v (m .lim - base m) (t - base m) ys) b ∙ lay-two (base m) (m .lim) to t (behind m w) xs ys f k;
+  bytes = h .bytes ∙ ap (λ (v : List ℕ). lay v (m .lim - base m) (t - base m) ys) b ∙ lay-two m to t w xs ys f k;
 }
 replaced-prefix m (unput q p) xs w w1 to t r w2 f k b h = h
 
@@ -248,22 +210,19 @@ pub place-start : (m : Scope) (s : List ℕ) (at : ℕ) (w : List ℕ) (to : ℕ
 place-start m s at w to a = record { area = a; same = refl; fuel = length s; enough = omega arith; carry = λ r w′ h. h }
 
 -- an item, then n more
-unfoldable turn : Scope → List ℕ → ℕ → List ℕ → ℕ → Put
+unfoldable pub turn : Scope → List ℕ → ℕ → List ℕ → ℕ → Put
 turn m s n t p = putThen (itemOut m t s p) (λ t′ e. pick (leb e p) nowhere (itemsOut m s n t′ e))
 
-items-turn : (m : Scope) (s : List ℕ) (n : ℕ) (t : List ℕ) (p : ℕ) → p < length s → itemsOut m s (suc n) t p ≡ turn m s n t p
+pub items-turn : (m : Scope) (s : List ℕ) (n : ℕ) (t : List ℕ) (p : ℕ) → p < length s → itemsOut m s (suc n) t p ≡ turn m s n t p
 unfolding itemsOut turn pick
 items-turn m s n t p h = rw (lt-leb (length s) p h) refl
 
-items-end : (m : Scope) (s : List ℕ) (n : ℕ) (t : List ℕ) (p : ℕ) → length s ≤ p → itemsOut m s n t p ≡ put [] t p
+pub items-end : (m : Scope) (s : List ℕ) (n : ℕ) (t : List ℕ) (p : ℕ) → length s ≤ p → itemsOut m s n t p ≡ put [] t p
 unfolding itemsOut pick
 items-end m s zero t p h = refl
 items-end m s (suc n) t p h = cc (le-leb (length s) p h)
 
 module _ (m : Scope) (s : List ℕ) (at : ℕ) (w₀ : List ℕ) (to : ℕ) (w : List ℕ) (p q : ℕ) (g : Placing m s at w₀ to w p q) where
-  pub place-area : Area m q (length w)
-  place-area = g .area
-
   pub place-done : length s ≤ p → Replaced m (itemsOut m s (length s) (tables m w₀) at) w₀ to (Walked.Next p q) w
   unfolding Replaced adv lay
   place-done h = g .carry (Walked.Next p q) w (rw (items-end m s (g .fuel) (tables m w) p h) (record { answered = refl; tabled = refl; bytes = refl }))
@@ -306,4 +265,4 @@ module _ (m : Scope) (s : List ℕ) (at : ℕ) (w₀ : List ℕ) (to : ℕ) (w :
             carry = λ r w2 y. g .carry r w2 (replaced-as m _ _ w q r w2 o (replaced-prefix m _ (gone .written) w w1 q t r w2 (gone .after) (a .apart) (gone .bytes) y));
           }
 
-pub ruleset placing = (needs, place-start, place-area, place-done, place-refused, place-stuck, place-next)
+pub ruleset placing = (needs, place-start, place-done, place-refused, place-stuck, place-next)

@@ -11,7 +11,7 @@ use Rattle.parse_tree.specs.Tree.{Text, Leaf, Around, Over, Sym, Syms, leaf, ar
 use Rattle.parse_tree.specs.References.{textsOfEach, leafTexts, symTexts, symsTexts, alternativeTexts, itemTexts}
 use Rattle.parse_tree.specs.Within.{Each, SymWithin, SymsWithin, OverWithin, AlternativeWithin, ItemWithin, StageWithin}
 use Rattle.parse_tree.specs.declared.syntax.Span.{Span}
-use Rattle.grammar.specs.Outcome.{Tree, yes}
+use Rattle.grammar.specs.Outcome.{Tree, Outcome, yes}
 use Rattle.grammar.specs.Resolve.{Def, terminalDef, nonterminalDef, argumentDef, lookup, checkCondition, validateNonterminal, rewriteAmbiguousId, validateLeaf, validateOver, validateSymbol, validateSymbols, validateAlternatives, validateMacroArgs, validateItems}
 use Rattle.grammar.specs.Sizes.{each, overFits, symFits, symsFit, alternativeFits, itemFits, stageFits}
 use Rattle.parse_tree.proofs.TextLaws.{and-both}
@@ -28,9 +28,9 @@ record KeptSyms (xs ys : Syms) : Type 0 where
   fits : (left : ℕ) → symsFit ys left ≡ symsFit xs left
 
 -- a leaf with the same text
-leaf-kept : (s : Span) (l k : Leaf) → leafTexts k ≡ leafTexts l → KeptSym (leaf s l) (leaf s k)
+leaf-kept : (s : Span) (l k : Leaf) (y : Sym) → leafTexts k ≡ leafTexts l → _≡_ {A = Outcome Sym} (yes (leaf s k)) (yes y) → KeptSym (leaf s l) y
 unfolding symTexts
-leaf-kept s l k p = record { texts = p; fits = go }
+leaf-kept s l k y p q = yes-as (λ z. KeptSym (leaf s l) z) q (record { texts = p; fits = go })
   where
     go : (left : ℕ) → symFits (leaf s k) left ≡ symFits (leaf s l) left
     go zero = refl
@@ -56,27 +56,27 @@ module _ (G : Tree) (ps : List Text) where
   nonterminal-keeps : (s : Span) (n : Text) (o : Option Def) (y : Sym) → validateNonterminal G ps s n o ≡ yes y → KeptSym (leaf s (nonterminal n)) y
   nonterminal-keeps s n none y p = absurd (no-yes p)
   nonterminal-keeps s n (some terminalDef) y p = absurd (no-yes p)
-  nonterminal-keeps s n (some (nonterminalDef zero)) y p = yes-as (λ z. KeptSym (leaf s (nonterminal n)) z) p (leaf-kept s (nonterminal n) (nonterminal n) refl)
+  nonterminal-keeps s n (some (nonterminalDef zero)) y p = leaf-kept s (nonterminal n) (nonterminal n) y refl p
   nonterminal-keeps s n (some (nonterminalDef (suc k))) y p = absurd (no-yes p)
-  nonterminal-keeps s n (some argumentDef) y p = yes-as (λ z. KeptSym (leaf s (nonterminal n)) z) p (leaf-kept s (nonterminal n) (nonterminal n) refl)
+  nonterminal-keeps s n (some argumentDef) y p = leaf-kept s (nonterminal n) (nonterminal n) y refl p
 
   ambiguous-keeps : (s : Span) (n : Text) (o : Option Def) (y : Sym) → rewriteAmbiguousId G ps s n o ≡ yes y → KeptSym (leaf s (ambiguous n)) y
   unfolding leafTexts
   ambiguous-keeps s n none y p = absurd (no-yes p)
-  ambiguous-keeps s n (some terminalDef) y p = yes-as (λ z. KeptSym (leaf s (ambiguous n)) z) p (leaf-kept s (ambiguous n) (bare n) refl)
-  ambiguous-keeps s n (some (nonterminalDef zero)) y p = yes-as (λ z. KeptSym (leaf s (ambiguous n)) z) p (leaf-kept s (ambiguous n) (nonterminal n) refl)
+  ambiguous-keeps s n (some terminalDef) y p = leaf-kept s (ambiguous n) (bare n) y refl p
+  ambiguous-keeps s n (some (nonterminalDef zero)) y p = leaf-kept s (ambiguous n) (nonterminal n) y refl p
   ambiguous-keeps s n (some (nonterminalDef (suc k))) y p = absurd (no-yes p)
-  ambiguous-keeps s n (some argumentDef) y p = yes-as (λ z. KeptSym (leaf s (ambiguous n)) z) p (leaf-kept s (ambiguous n) (nonterminal n) refl)
+  ambiguous-keeps s n (some argumentDef) y p = leaf-kept s (ambiguous n) (nonterminal n) y refl p
 
   leaf-keeps : (s : Span) (l : Leaf) (y : Sym) → validateLeaf G ps s l ≡ yes y → KeptSym (leaf s l) y
   leaf-keeps s (ambiguous n) y p = ambiguous-keeps s n (lookup G ps n) y p
-  leaf-keeps s (bare n) y p = yes-as (λ z. KeptSym (leaf s (bare n)) z) p (leaf-kept s (bare n) (bare n) refl)
-  leaf-keeps s (quoted n) y p = yes-as (λ z. KeptSym (leaf s (quoted n)) z) p (leaf-kept s (quoted n) (quoted n) refl)
-  leaf-keeps s (regex n) y p = yes-as (λ z. KeptSym (leaf s (regex n)) z) p (leaf-kept s (regex n) (regex n) refl)
+  leaf-keeps s (bare n) y p = leaf-kept s (bare n) (bare n) y refl p
+  leaf-keeps s (quoted n) y p = leaf-kept s (quoted n) (quoted n) y refl p
+  leaf-keeps s (regex n) y p = leaf-kept s (regex n) (regex n) y refl p
   leaf-keeps s (nonterminal n) y p = nonterminal-keeps s n (lookup G ps n) y p
-  leaf-keeps s lookahead y p = yes-as (λ z. KeptSym (leaf s lookahead) z) p (leaf-kept s lookahead lookahead refl)
-  leaf-keeps s lookbehind y p = yes-as (λ z. KeptSym (leaf s lookbehind) z) p (leaf-kept s lookbehind lookbehind refl)
-  leaf-keeps s error y p = yes-as (λ z. KeptSym (leaf s error) z) p (leaf-kept s error error refl)
+  leaf-keeps s lookahead y p = leaf-kept s lookahead lookahead y refl p
+  leaf-keeps s lookbehind y p = leaf-kept s lookbehind lookbehind y refl p
+  leaf-keeps s error y p = leaf-kept s error error y refl p
 
   mutual
     unfolding validateSymbol validateSymbols symTexts symsTexts

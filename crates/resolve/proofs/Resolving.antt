@@ -1,27 +1,26 @@
 -- The pass: what its two steps leave is what `resolve` says of the tree. Assumes nothing.
 use mathlib.Core.Path.{_≡_, refl, sym, ap, _∙_}
-use mathlib.Core.Bool.{Bool, true, false}
-use mathlib.Core.List.{List, [], _∷_, _++_}
-use Prim.Native.Nat.{ℕ, zero, suc, _+_, _-_, _*_, _^_, _<_, _≤_}
+use mathlib.Core.Bool.{true}
+use mathlib.Core.List.{List, [], _++_}
+use Prim.Native.Nat.{ℕ, zero, suc, _+_, _-_, _*_, _^_, _<_}
 use native.Mathlib.Omega.{arith}
 use borrow.Author.Needs.{needs}
 use mir.Syntax.{w8}
 use mir.Val.{Fits}
-use lib.Dec.{leb}
 use lib.ListN.{length, getD, drop, take, length-append}
-use lib.Seq.{length-take-le}
+use lib.Seq.{length-take-le, take-append-seam}
 use Rattle.octets.specs.Numbers.{Bytes}
 use Rattle.octets.specs.Runs.{part}
 use Rattle.octets.specs.Sink.{Laid, lay}
-use Rattle.parse_tree.specs.Tree.{Text, Item, Stage}
+use Rattle.parse_tree.specs.Tree.{Text, Item}
 use Rattle.parse_tree.specs.Texts.{distinct}
-use Rattle.parse_tree.specs.Reading.{Reading, got, refused, then}
-use Rattle.parse_tree.specs.Decode.{decode, readItem, readItems}
+use Rattle.parse_tree.specs.Reading.{got}
+use Rattle.parse_tree.specs.Decode.{decode, readItems}
 use Rattle.parse_tree.specs.Encode.{stageBytes, bytesOfEach, atomBytes, itemBytes}
 use Rattle.parse_tree.specs.declared.syntax.Span.{Span}
-use Rattle.parse_tree.proofs.Written.{Written as WrittenBack, written}
+use Rattle.parse_tree.proofs.Written.{written}
 use Rattle.parse_tree.proofs.ItemFound.{item-finds}
-use Rattle.parse_tree.proofs.ReadingLaws.{then-got, got-as}
+use Rattle.parse_tree.proofs.ReadingLaws.{got-as}
 use Rattle.texts.specs.Atoms.{atomsOf}
 use Rattle.texts.proofs.Tabling.{length-atoms}
 use Rattle.grammar.specs.Outcome.{Outcome, yes, no, after}
@@ -30,40 +29,28 @@ use Rattle.resolve.specs.declared.Scope.{Scope}
 use Rattle.resolve.specs.declared.Verdict.{Verdict}
 use Rattle.resolve.specs.declared.Walked.{Walked}
 use Rattle.resolve.specs.Scopes.{Area, base, tables}
-use Rattle.resolve.specs.Globals.{Tabled, tabled, Kept, Fined, Tabling, globalsOut}
-use Rattle.resolve.specs.Items.{Put, put, unput, prefixPut, behind, Laying, Replaced, itemsOut}
+use Rattle.resolve.specs.Globals.{Tabled, Kept, Fined, Tabling, globalsOut}
+use Rattle.resolve.specs.Items.{Put, prefixPut, behind, Laying, Replaced, itemsOut}
 use Rattle.resolve.specs.Whole.{Resolving, treeOut, Written, Answers, ResolvesRead, Resolves}
 use Rattle.resolve.proofs.Regions.{behind-lay}
+use Rattle.resolve.proofs.Readings.{items-then}
 use Rattle.resolve.proofs.Staging.{area-next, tables-laid}
+use Rattle.resolve.proofs.Declaring.{fine-not}
 use Rattle.resolve.proofs.Replacing.{replaced-prefix}
 use Rattle.resolve.proofs.Coding.{Tabular}
 use Rattle.resolve.proofs.GlobalsMean.{GlobalsSay, globals-mean}
 use Rattle.resolve.proofs.ArgumentsMean.{Scoped}
-use Rattle.resolve.proofs.ItemsMean.{Putting, Puts, items-mean}
-
-take-front : (xs ys : List ℕ) → take (length xs) (xs ++ ys) ≡ xs
-take-front [] ys = refl
-take-front (x ∷ xs) ys = ap (λ (zs : List ℕ). x ∷ zs) (take-front xs ys)
+use Rattle.resolve.proofs.ItemsMean.{Puts, items-mean}
 
 -- ---- the atoms stand before the items
 module _ (w : ℕ) (s : List ℕ) (ts : List Text) (b : Bytes s) (d : distinct ts ≡ true) where
   items-end : (n a : ℕ) (is : List Item) (e : ℕ) → readItems true w s ts n a ≡ got is e → e ≡ a + length (bytesOfEach (itemBytes w ts) is)
   unfolding readItems bytesOfEach
   items-end zero a is e p = got-as (λ js k. k ≡ a + length (bytesOfEach (itemBytes w ts) js)) p (omega arith)
-  items-end (suc n) a is e p = go (leb (length s) a) p (λ m js k q. items-end n m js k q)
-    where
-      go : (y : Bool) → elim y [
-        | true ↦ got [] a
-        | false ↦ then (readItem true w s ts a) (λ i m. then (readItems true w s ts n m) (λ js k. got (i ∷ js) k))
-      ] ≡ got is e → ((m : ℕ) (js : List Item) (k : ℕ) → readItems true w s ts n m ≡ got js k → k ≡ m + length (bytesOfEach (itemBytes w ts) js)) → e ≡ a + length (bytesOfEach (itemBytes w ts) is)
-      go true q f = got-as (λ js k. k ≡ a + length (bytesOfEach (itemBytes w ts) js)) q (omega arith)
-      go false q f =
-          let x = then-got (readItem true w s ts a) _ q in
-          let y = then-got (readItems true w s ts n (x .mid)) _ (x .second) in
-          let i = item-finds true w s ts b d a (x .value) (x .mid) (x .first) .lies .end in
-          let j = f (x .mid) (y .value) (y .mid) (y .first) in
-          let l = length-append (itemBytes w ts (x .value)) (bytesOfEach (itemBytes w ts) (y .value)) in
-          got-as (λ js k. k ≡ a + length (bytesOfEach (itemBytes w ts) js)) (y .second) (omega (arith, i, j, l))
+  items-end (suc n) a is e p =
+      items-then w s ts n a (λ js k. k ≡ a + length (bytesOfEach (itemBytes w ts) js)) (λ z. omega arith)
+      (λ z x c q js k r.
+      omega (arith, item-finds true w s ts b d a x c q .lies .end, items-end n c js k r, length-append (itemBytes w ts x) (bytesOfEach (itemBytes w ts) js))) is e p
 
 atoms-part : (s : List ℕ) (at : ℕ) (ts : List Text) (is : List Item) → Bytes s → distinct ts ≡ true → readItems true 2 s ts (length s) at ≡ got is (length s)
     → decode s ≡ got (record { atoms = ts; items = is }) (length s) → part 0 at s ≡ bytesOfEach (atomBytes 2) ts
@@ -76,7 +63,7 @@ atoms-part s at ts is b d p q =
     let n : at ≡ length (bytesOfEach (atomBytes 2) ts) = omega (arith, e, l, k) in
     let z : at - 0 ≡ at = omega arith in
     ap (λ (i : ℕ). take i (drop 0 s)) z ∙ ap (λ (x : List ℕ). take at (drop 0 x)) (sym w) ∙ ap (λ (i : ℕ). take i (bytesOfEach (atomBytes 2) ts ++ bytesOfEach (itemBytes 2 ts) is)) n
-    ∙ take-front (bytesOfEach (atomBytes 2) ts) (bytesOfEach (itemBytes 2 ts) is)
+    ∙ take-append-seam (bytesOfEach (atomBytes 2) ts) (bytesOfEach (itemBytes 2 ts) is)
 
 -- ---- put_tree
 pub tree-behind : (m : Scope) (s : List ℕ) (at : ℕ) (w : List ℕ) (to nn q : ℕ) (w1 : List ℕ) (r : Walked) (w2 : List ℕ) → Area m to nn → Laid w (m .lim) to (part 0 at s) q w1
@@ -118,9 +105,7 @@ module _ (s w : List ℕ) (m : Scope) (at to : ℕ) (h : Resolving s w m at to) 
       go : (o : Outcome (Unit {0})) → checkGlobals [] (globals (h .items)) ≡ o → (x : Tabled) → GlobalsSay m ts (h .items) o x → Tabling m x w v w1 → Resolves s m w to (Walked.Refused q p) w1
       go (yes u) i x (t, j, k) z =
           let y : Fined m t w v w1 = rw j at z in
-          let c = y .answered in
-          let d : _≡_ {A = ℕ} 0 1 = cc in
-          absurd (omega arith)
+          absurd (fine-not (sym (y .answered) ∙ e))
       go (no q′ p′) i x j z =
           let y : v ≡ Verdict.Refused q′ p′ = rw j at z in
           resolves (no q′ p′) (Walked.Refused q p) w1 (ap (λ (o : Outcome (Unit {0})). after o (λ u. validateItems (h .items) (h .items))) i) cc
@@ -156,7 +141,6 @@ module _ (s w : List ℕ) (m : Scope) (at to : ℕ) (h : Resolving s w m at to) 
             (walked t (y .kept) (validateItems (h .items) (h .items)) (itemsOut m s (length s) (tables m w1) at) (items-say t c (y .kept .tabled)) k)
         go (no q′ p′) i x j z =
             let y : v ≡ Verdict.Refused q′ p′ = rw j at z in
-            let n : _≡_ {A = ℕ} 0 1 = cc in
-            absurd (omega arith)
+            absurd (fine-not (sym e ∙ y))
 
 pub ruleset resolving = (needs, whole-refused, whole-fine)

@@ -36,12 +36,12 @@ code-fits d n e h = record { fits = omega (arith, code-nonterminal d n e) }
 pub ruleset coding = (needs, code-terminal, code-nonterminal, code-argument, code-fits)
 
 -- ---- `def`
-module _ (w : List ℕ) (m : Scope) (t : Tables m (length w)) (id k : ℕ) (e : k ≡ id) where
+module _ (w : List ℕ) (m : Scope) (id k : ℕ) (e : k ≡ id) where
   pub found-above : m .count ≤ k → Found.Nothing ≡ found m (tables m w) id
   unfolding found pick
   found-above h = cc (le-leb (m .count) k h)
 
-  module _ (h : k < m .count) (x : ℕ) (p : x ≡ entry w (m .room + m .room + k)) where
+  module _ (t : Tables m (length w)) (h : k < m .count) (x : ℕ) (p : x ≡ entry w (m .room + m .room + k)) where
     mark : x ≡ entry (tables m w) (m .room + m .room + id)
     mark = rw (← e) (p ∙ (let z = tables-entry m w (m .room + m .room + k) (omega (arith, t .few)) in cc))
 

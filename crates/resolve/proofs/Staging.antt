@@ -1,16 +1,14 @@
 -- What is written, one behind another: the ways out of symbols.rt, and the loop of a list. Assumes nothing.
 use mathlib.Core.Path.{_≡_, refl, sym, ap, _∙_}
-use mathlib.Core.Bool.{Bool, true, false}
-use mathlib.Core.List.{List, [], _∷_, _++_}
-use Prim.Native.Nat.{ℕ, zero, suc, _+_, _-_, _*_, _^_, _<_, _≤_}
+use mathlib.Core.List.{List, [], _∷_}
+use Prim.Native.Nat.{ℕ, zero, suc, _+_, _-_, _<_, _≤_}
 use native.Mathlib.Omega.{arith}
 use borrow.Author.Needs.{needs}
 use denote.Enum.Declared.{tagOf}
 use types.Run.{OneOf, miss}
 use lib.ListN.{length}
-use Rattle.octets.specs.Choice.{pick}
 use Rattle.octets.specs.Sink.{Laid, adv, lay}
-use Rattle.octets.proofs.Laying.{laid-append, laid-none}
+use Rattle.octets.proofs.Laying.{laid-append}
 use Rattle.octets.proofs.Fitting.{adv-le, length-lay}
 use Rattle.parse_tree.specs.Nodes.{nodeAt, nodeBytes, sizeOf}
 use Rattle.parse_tree.specs.Operands.{insideOf}
@@ -27,11 +25,11 @@ use Rattle.resolve.specs.declared.Verdict.{Verdict}
 use Rattle.resolve.specs.declared.Standing.{Standing}
 use Rattle.resolve.proofs.Standing.{the-type as standing-type}
 use Rattle.resolve.specs.declared.Walked.{Walked}
-use Rattle.resolve.specs.Scopes.{Area, Tables, base, tables}
+use Rattle.resolve.specs.Scopes.{Area, base, tables}
 use Rattle.resolve.specs.Names.{leafSays, overSays}
 use Rattle.resolve.specs.Walks.{Out, wrote, denied, prefix, andThen, many, Moved, Staged, astray, leafBy, verdictBy, standing, symbolOut, leafOut, symOut, listOut}
 use Rattle.resolve.proofs.Regions.{tables-lay}
-use Rattle.resolve.proofs.Inside.{symbol-fits}
+use Rattle.resolve.proofs.Inside.{known-fits}
 
 -- ---- composition
 moved-laid : {xs : List ℕ} {e : ℕ} {w : List ℕ} {lim to : ℕ} {r : Walked} {w′ : List ℕ} → Moved xs e w lim to r w′ → Laid w lim to xs (adv lim to (length xs)) w′
@@ -96,9 +94,13 @@ module _ (m : Scope) (s : List ℕ) (sp : Span) (o : Over) (left at : ℕ) (w : 
       staged-as (listOut m (tables m w) s sp o left at) (prefix (nodeBytes (m .width) (Node.Symbol sp (SymbolKind.Over o))) (many (symOut m (tables m w) s left) (insideOf o) at)) w w2 (m .lim) to r e
       (staged-prefix _ (nodeBytes (m .width) (Node.Symbol sp (SymbolKind.Over o))) w w1 w2 (m .lim) to q r l (rw (u, b) at g))
 
+-- the numbers of the commands that are no symbol
+abbrev noSymbol : List ℕ
+noSymbol = 0 ∷ 1 ∷ 2 ∷ 3 ∷ 4 ∷ 5 ∷ 6 ∷ 8 ∷ []
+
 -- ---- symbol_at
 module _ (w at : ℕ) where
-  pub standing-no : (n x : Node) → n ≡ x → OneOf (0 ∷ 1 ∷ 2 ∷ 3 ∷ 4 ∷ 5 ∷ 6 ∷ 8 ∷ []) (tagOf the-type n) → Standing.Nothing ≡ standing w at x
+  pub standing-no : (n x : Node) → n ≡ x → OneOf noSymbol (tagOf the-type n) → Standing.Nothing ≡ standing w at x
   unfolding standing
   standing-no (Node.Text k) x e h = cc
   standing-no (Node.Nonterminal d) x e h = cc
@@ -107,28 +109,31 @@ module _ (w at : ℕ) where
   standing-no (Node.Alternative a) x e h = cc
   standing-no (Node.Attribute a) x e h = cc
   standing-no (Node.Condition c) x e h = cc
-  standing-no (Node.Symbol sp k) x e h = absurd (miss (0 ∷ 1 ∷ 2 ∷ 3 ∷ 4 ∷ 5 ∷ 6 ∷ 8 ∷ []) 7 tt h)
+  standing-no (Node.Symbol sp k) x e h = absurd (miss noSymbol 7 tt h)
   standing-no Node.Unknown x e h = cc
 
   pub standing-is : (n x : Node) (sp : Span) (k : SymbolKind) (z : ℕ) → n ≡ x → n ≡ Node.Symbol sp k → z ≡ sizeOf w (Node.Symbol sp k) → Standing.Is sp k (at + z) ≡ standing w at x
   unfolding standing
   standing-is n x sp k z e f g = cc
 
+  nothing-is : {sp : Span} {k : SymbolKind} {e : ℕ} → Standing.Nothing ≡ Standing.Is sp k e → ⊥
+  nothing-is {sp} {k} {e} h = let z : _≡_ {A = ℕ} 0 1 = cc in omega arith
+
   stood : (x : Node) (sp : Span) (k : SymbolKind) (e : ℕ) → standing w at x ≡ Standing.Is sp k e → (x ≡ Node.Symbol sp k) × (e ≡ at + sizeOf w (Node.Symbol sp k))
   unfolding standing
-  stood (Node.Text d) sp k e h = let z : _≡_ {A = ℕ} 0 1 = cc in absurd (omega arith)
-  stood (Node.Nonterminal d) sp k e h = let z : _≡_ {A = ℕ} 0 1 = cc in absurd (omega arith)
-  stood (Node.Terminal d) sp k e h = let z : _≡_ {A = ℕ} 0 1 = cc in absurd (omega arith)
-  stood (Node.Argument d) sp k e h = let z : _≡_ {A = ℕ} 0 1 = cc in absurd (omega arith)
-  stood (Node.Alternative d) sp k e h = let z : _≡_ {A = ℕ} 0 1 = cc in absurd (omega arith)
-  stood (Node.Attribute d) sp k e h = let z : _≡_ {A = ℕ} 0 1 = cc in absurd (omega arith)
-  stood (Node.Condition d) sp k e h = let z : _≡_ {A = ℕ} 0 1 = cc in absurd (omega arith)
+  stood (Node.Text d) sp k e h = absurd (nothing-is h)
+  stood (Node.Nonterminal d) sp k e h = absurd (nothing-is h)
+  stood (Node.Terminal d) sp k e h = absurd (nothing-is h)
+  stood (Node.Argument d) sp k e h = absurd (nothing-is h)
+  stood (Node.Alternative d) sp k e h = absurd (nothing-is h)
+  stood (Node.Attribute d) sp k e h = absurd (nothing-is h)
+  stood (Node.Condition d) sp k e h = absurd (nothing-is h)
   stood (Node.Symbol sp′ k′) sp k e h =
       let a : sp′ ≡ sp = cc in
       let b : k′ ≡ k = cc in
       let c : e ≡ at + sizeOf w (Node.Symbol sp′ k′) = cc in
       (cc, c ∙ cc)
-  stood Node.Unknown sp k e h = let z : _≡_ {A = ℕ} 0 1 = cc in absurd (omega arith)
+  stood Node.Unknown sp k e h = absurd (nothing-is h)
 
   missing : (f : Span → SymbolKind → Out) (x : Node) → OneOf (1 ∷ []) (tagOf standing-type (standing w at x)) → symbolOut f x ≡ astray
   unfolding standing symbolOut
@@ -149,58 +154,42 @@ module _ (m : Scope) (s : List ℕ) (at left : ℕ) (w : List ℕ) (to : ℕ) wh
   sym-deep w1 z = staged-denied (symOut m (tables m w) s left at) 2 (record { 0 = 0; 1 = 0 }) w w1 (m .lim) to (ap (λ l. symOut m (tables m w) s l at) z)
 
   module _ (z : left ≡ 0 → ⊥) (n : Standing) (i : n ≡ standing (m .width) at (nodeAt (m .width) s at)) where
+    opened : (t : List ℕ) → symOut m t s left at ≡ symOut m t s (suc (left - 1)) at
+    opened t = let y : left ≡ suc (left - 1) = omega arith in ap (λ (l : ℕ). symOut m t s l at) y
+
     pub sym-other : (w1 : List ℕ) → OneOf (1 ∷ []) (tagOf standing-type n) → Staged (symOut m (tables m w) s left at) w (m .lim) to (Walked.Refused 2 (record { 0 = 0; 1 = 0 })) w1
     unfolding symOut
-    sym-other w1 h = staged-denied (symOut m (tables m w) s left at) 2 (record { 0 = 0; 1 = 0 }) w w1 (m .lim) to (go left refl)
-      where
-        go : (l : ℕ) → left ≡ l → symOut m (tables m w) s l at ≡ astray
-        go zero e = absurd (z e)
-        go (suc l) e = missing (m .width) at _ (nodeAt (m .width) s at) (rw i at h)
+    sym-other w1 h = staged-denied _ 2 (record { 0 = 0; 1 = 0 }) w w1 (m .lim) to (opened (tables m w) ∙ missing (m .width) at _ (nodeAt (m .width) s at) (rw i at h))
 
     module _ (sp : Span) (k : SymbolKind) (e : ℕ) (j : n ≡ Standing.Is sp k e) where
       it : (nodeAt (m .width) s at ≡ Node.Symbol sp k) × (e ≡ at + sizeOf (m .width) (Node.Symbol sp k))
       it = stood (m .width) at (nodeAt (m .width) s at) sp k e (sym i ∙ j)
 
-      leaf-is : (t : List ℕ) (d : ℕ) (l : Leaf) → k ≡ SymbolKind.Leaf l → symOut m t s (suc d) at ≡ leafOut m t sp l e
+      leaf-is : (t : List ℕ) (l : Leaf) → k ≡ SymbolKind.Leaf l → symOut m t s left at ≡ leafOut m t sp l e
       unfolding symOut symbolOut
-      leaf-is t d l f = let a = it .0 in let b = it .1 in cc
+      leaf-is t l f = let a = it .0 in let b = it .1 in opened t ∙ cc
 
-      around-is : (t : List ℕ) (d : ℕ) (a : Around) → k ≡ SymbolKind.Around a → symOut m t s (suc d) at ≡ prefix (nodeBytes (m .width) (Node.Symbol sp k)) (symOut m t s d e)
+      around-is : (t : List ℕ) (a : Around) → k ≡ SymbolKind.Around a → symOut m t s left at ≡ prefix (nodeBytes (m .width) (Node.Symbol sp k)) (symOut m t s (left - 1) e)
       unfolding symOut symbolOut
-      around-is t d a f = let a = it .0 in let b = it .1 in cc
+      around-is t a f = let a = it .0 in let b = it .1 in opened t ∙ cc
 
-      over-is : (t : List ℕ) (d : ℕ) (o : Over) → k ≡ SymbolKind.Over o → symOut m t s (suc d) at ≡ listOut m t s sp o d e
+      over-is : (t : List ℕ) (o : Over) → k ≡ SymbolKind.Over o → symOut m t s left at ≡ listOut m t s sp o (left - 1) e
       unfolding symOut symbolOut listOut
-      over-is t d o f = let a = it .0 in let b = it .1 in cc
+      over-is t o f = let a = it .0 in let b = it .1 in opened t ∙ cc
 
       pub sym-leaf : (l : Leaf) (r : Walked) (w1 : List ℕ) → k ≡ SymbolKind.Leaf l → Staged (leafOut m (tables m w) sp l e) w (m .lim) to r w1
           → Staged (symOut m (tables m w) s left at) w (m .lim) to r w1
-      sym-leaf l r w1 f h = go left refl
-        where
-          go : (d : ℕ) → left ≡ d → Staged (symOut m (tables m w) s d at) w (m .lim) to r w1
-          go zero q = absurd (z q)
-          go (suc d) q = staged-as _ _ w w1 (m .lim) to r (leaf-is (tables m w) d l f) h
+      sym-leaf l r w1 f h = staged-as _ _ w w1 (m .lim) to r (leaf-is (tables m w) l f) h
 
       pub sym-around : (a : Around) (nn q : ℕ) (w1 : List ℕ) (r : Walked) (w2 : List ℕ) → k ≡ SymbolKind.Around a → Area m to nn
           → Laid w (m .lim) to (nodeBytes (m .width) (Node.Symbol sp k)) q w1 → Staged (symOut m (tables m w1) s (left - 1) e) w1 (m .lim) q r w2
           → Staged (symOut m (tables m w) s left at) w (m .lim) to r w2
-      sym-around a nn q w1 r w2 f ar l h = go left refl
-        where
-          go : (d : ℕ) → left ≡ d → Staged (symOut m (tables m w) s d at) w (m .lim) to r w2
-          go zero x = absurd (z x)
-          go (suc d) x =
-              let y : left - 1 ≡ d = omega arith in
-              staged-as _ _ w w2 (m .lim) to r (around-is (tables m w) d a f)
-              (staged-prefix _ (nodeBytes (m .width) (Node.Symbol sp k)) w w1 w2 (m .lim) to q r l (rw (y, tables-laid m to nn q (nodeBytes (m .width) (Node.Symbol sp k)) w w1 ar l) at h))
+      sym-around a nn q w1 r w2 f ar l h =
+          let xs = nodeBytes (m .width) (Node.Symbol sp k) in
+          staged-as _ _ w w2 (m .lim) to r (around-is (tables m w) a f) (staged-prefix _ xs w w1 w2 (m .lim) to q r l (rw (tables-laid m to nn q xs w w1 ar l) at h))
 
       pub sym-over : (o : Over) (r : Walked) (w1 : List ℕ) → k ≡ SymbolKind.Over o → Staged (listOut m (tables m w) s sp o (left - 1) e) w (m .lim) to r w1 → Staged (symOut m (tables m w) s left at) w (m .lim) to r w1
-      sym-over o r w1 f h = go left refl
-        where
-          go : (d : ℕ) → left ≡ d → Staged (symOut m (tables m w) s d at) w (m .lim) to r w1
-          go zero q = absurd (z q)
-          go (suc d) q =
-              let y : left - 1 ≡ d = omega arith in
-              staged-as _ _ w w1 (m .lim) to r (over-is (tables m w) d o f) (rw y at h)
+      sym-over o r w1 f h = staged-as _ _ w w1 (m .lim) to r (over-is (tables m w) o f) h
 
 -- ---- a list: k are to come from p on, to be written from q on in w1; all of them are n from at on, written to w
 pub record Carrying (m : Scope) (f : ℕ → Out) (n at : ℕ) (w : List ℕ) (to k p q : ℕ) (w1 : List ℕ) : Type 0 where
@@ -212,15 +201,12 @@ pub record Carrying (m : Scope) (f : ℕ → Out) (n at : ℕ) (w : List ℕ) (t
 pub carry-start : (m : Scope) (f : ℕ → Out) (n at : ℕ) (w : List ℕ) (to : ℕ) → Area m to (length w) → Carrying m f n at w to n at to w
 carry-start m f n at w to a = record { carry = λ r w2 h. h; same = refl; kept = refl; area = a }
 
-module _ (m : Scope) (f : ℕ → Out) (n at : ℕ) (w : List ℕ) (to k p q : ℕ) (w1 : List ℕ) (c : Carrying m f n at w to k p q w1) where
-  opened : 0 < k → many f k p ≡ andThen (f p) (λ e. many f (k - 1) e)
-  unfolding many
-  opened h = go k refl
-    where
-      go : (j : ℕ) → k ≡ j → many f j p ≡ andThen (f p) (λ e. many f (k - 1) e)
-      go zero e = absurd (omega arith)
-      go (suc j) e = let z : j ≡ k - 1 = omega arith in rw z
+many-opens : (f : ℕ → Out) (k p : ℕ) → 0 < k → many f k p ≡ andThen (f p) (λ e. many f (k - 1) e)
+unfolding many
+many-opens f zero p h = absurd (omega arith)
+many-opens f (suc j) p h = let z : suc j - 1 ≡ j = omega arith in rw z
 
+module _ (m : Scope) (f : ℕ → Out) (n at : ℕ) (w : List ℕ) (to k p q : ℕ) (w1 : List ℕ) (c : Carrying m f n at w to k p q w1) where
   pub carry-end : k ≤ 0 → Staged (many f n at) w (m .lim) to (Walked.Next p q) w1
   unfolding many Staged adv lay
   carry-end h = c .carry (Walked.Next p q) w1 (let z : k ≡ 0 = omega arith in rw z (record { answered = refl; bytes = refl }))
@@ -232,7 +218,7 @@ module _ (m : Scope) (f : ℕ → Out) (n at : ℕ) (w : List ℕ) (to k p q : �
       let b : e ≡ e′ = cc in
       let d : t ≡ adv (m .lim) q (length xs) = cc in
       let l : Laid w1 (m .lim) q xs t w2 = record { bytes = g .bytes; after = d } in
-      let o : many f k p ≡ prefix xs (many f (k - 1) e) = opened h ∙ cc in
+      let o : many f k p ≡ prefix xs (many f (k - 1) e) = many-opens f k p h ∙ cc in
       record {
         carry = λ r w3 s. c .carry r w3 (staged-as (many f k p) (prefix xs (many f (k - 1) e)) w1 w3 (m .lim) q r o (staged-prefix (many f (k - 1) e) xs w1 w2 w3 (m .lim) q t r l s));
         same = tables-laid m q (length w1) t xs w1 w2 (c .area) l ∙ c .same;
@@ -247,7 +233,7 @@ module _ (m : Scope) (f : ℕ → Out) (n at : ℕ) (w : List ℕ) (to k p q : �
       let a = g .answered in
       let z : _≡_ {A = ℕ} 0 1 = cc in
       absurd (omega arith)
-  step-stop (denied d′ s′) i h d s w2 g = c .carry (Walked.Refused d s) w2 (staged-as (many f k p) (denied d′ s′) w1 w2 (m .lim) q (Walked.Refused d s) (opened h ∙ cc) g)
+  step-stop (denied d′ s′) i h d s w2 g = c .carry (Walked.Refused d s) w2 (staged-as (many f k p) (denied d′ s′) w1 w2 (m .lim) q (Walked.Refused d s) (many-opens f k p h ∙ cc) g)
 
 -- ---- validate_expr
 module _ (m : Scope) (s : List ℕ) (left n at : ℕ) (w : List ℕ) (to k p q : ℕ) (w1 : List ℕ) (c : Carrying m (symOut m (tables m w) s left) n at w to k p q w1) (h : 0 < k) (x : Walked) (w2 : List ℕ) (g : Staged (symOut m (tables m w1) s left p) w1 (m .lim) q x w2) where
@@ -257,10 +243,4 @@ module _ (m : Scope) (s : List ℕ) (left n at : ℕ) (w : List ℕ) (to k p q :
   pub expr-stop : (d : ℕ) (sp : Span) → x ≡ Walked.Refused d sp → Staged (many (symOut m (tables m w) s left) n at) w (m .lim) to (Walked.Refused d sp) w2
   expr-stop d sp y = step-stop m (symOut m (tables m w) s left) n at w to k p q w1 c (symOut m (tables m w) s left p) refl h d sp w2 (rw (y, c .same) at g)
 
-pub carry-area : (m : Scope) (f : ℕ → Out) (n at : ℕ) (w : List ℕ) (to k p q : ℕ) (w1 : List ℕ) → Carrying m f n at w to k p q w1 → Area m q (length w1)
-carry-area m f n at w to k p q w1 c = c .area
-
-pub falls : (left t : ℕ) → (left ≡ 0 → ⊥) → t ≡ 2 * left → 2 * (left - 1) < t
-falls left t z e = omega arith
-
-pub ruleset staging = (needs, symbol-fits, standing-no, standing-is, list-refused, list-fine, area-next, put-leaf-refused, put-leaf-is, sym-deep, sym-other, sym-leaf, sym-around, sym-over, carry-start, carry-end, expr-next, expr-stop, carry-area)
+pub ruleset staging = (needs, known-fits, standing-no, standing-is, list-refused, list-fine, area-next, put-leaf-refused, put-leaf-is, sym-deep, sym-other, sym-leaf, sym-around, sym-over, carry-start, carry-end, expr-next, expr-stop)

@@ -2,7 +2,7 @@
 use mathlib.Core.Path.{_≡_, refl, sym, ap, _∙_}
 use mathlib.Core.Bool.{Bool, true, false}
 use mathlib.Core.List.{List, [], _∷_}
-use Prim.Native.Nat.{ℕ, zero, suc, _+_, _-_, _*_, _^_, _<_, _≤_}
+use Prim.Native.Nat.{ℕ, zero, suc, _+_, _-_, _*_, _<_, _≤_}
 use native.Mathlib.Omega.{arith}
 use borrow.Author.Needs.{needs}
 use borrow.Author.Tests.{le-leb, lt-leb}
@@ -10,7 +10,7 @@ use denote.Enum.Declared.{tagOf}
 use types.Run.{OneOf, miss}
 use lib.Dec.{leb, eqb}
 use lib.ListN.{length, drop, getD}
-use mir.Syntax.{w8, w64}
+use mir.Syntax.{w8}
 use mir.Val.{Fits}
 use Rattle.octets.specs.Choice.{pick}
 use Rattle.octets.specs.Numbers.{Bytes, le}
@@ -29,7 +29,7 @@ use Rattle.resolve.specs.Scopes.{Tables, base, tables}
 use Rattle.resolve.specs.Globals.{Kept}
 use Rattle.resolve.specs.Items.{Stamped, stamped, against, lost, Stamping, argumentIn, argumentsOut}
 use Rattle.resolve.proofs.Regions.{tables-entry, tables-store, behind-store}
-use Rattle.resolve.proofs.Inside.{inside, argument-inside}
+use Rattle.resolve.proofs.Inside.{inside, command-inside}
 
 -- ---- answers
 stamping-against : (m : Scope) (x : Stamped) (w w′ : List ℕ) (q : ℕ) (p : Span) → x ≡ against q p → Stamping m x w (Passed.Refused q p) w′
@@ -42,13 +42,17 @@ unfolding Stamping
 stamping-then m (stamped t e) w w1 r w′ k h = record { answered = h .answered; kept = record { tabled = h .kept .tabled; others = h .kept .others ∙ k .others } }
 stamping-then m (against q p) w w1 r w′ k h = h
 
+-- the numbers of the commands that are no argument
+abbrev noArgument : List ℕ
+noArgument = 0 ∷ 1 ∷ 2 ∷ 4 ∷ 5 ∷ 6 ∷ 7 ∷ 8 ∷ []
+
 -- no argument stands there
-no-argument : (f : NonterminalString → Stamped) (x : Node) → OneOf (0 ∷ 1 ∷ 2 ∷ 4 ∷ 5 ∷ 6 ∷ 7 ∷ 8 ∷ []) (tagOf the-type x) → argumentIn f x ≡ lost 2
+no-argument : (f : NonterminalString → Stamped) (x : Node) → OneOf noArgument (tagOf the-type x) → argumentIn f x ≡ lost 2
 unfolding argumentIn
 no-argument f (Node.Text k) h = refl
 no-argument f (Node.Nonterminal d) h = refl
 no-argument f (Node.Terminal t) h = refl
-no-argument f (Node.Argument a) h = absurd (miss (0 ∷ 1 ∷ 2 ∷ 4 ∷ 5 ∷ 6 ∷ 7 ∷ 8 ∷ []) 3 tt h)
+no-argument f (Node.Argument a) h = absurd (miss noArgument 3 tt h)
 no-argument f (Node.Alternative a) h = refl
 no-argument f (Node.Attribute a) h = refl
 no-argument f (Node.Condition c) h = refl
@@ -65,12 +69,17 @@ pub record Marking (m : Scope) (s : List ℕ) (sp : Span) (n at : ℕ) (w₀ w :
 pub mark-start : (m : Scope) (s : List ℕ) (sp : Span) (n at : ℕ) (w : List ℕ) → Tables m (length w) → at ≤ length s → Marking m s sp n at w w at n
 mark-start m s sp n at w t h = record { room = t; same = refl; inside = h; carry = λ r w′ h. h }
 
--- an argument, then k - 1 others
-unfoldable turn : Scope → List ℕ → Span → List ℕ → ℕ → ℕ → NonterminalString → Stamped
-turn m s sp t p k a =
+-- an argument that ends at z, then n others
+unfoldable pub turn : Scope → List ℕ → Span → ℕ → List ℕ → ℕ → NonterminalString → Stamped
+turn m s sp n t z a =
     pick (leb (m .count) (a .0)) (lost 3)
     (pick (eqb (entry t (m .room + m .room + a .0)) (m .first)) (against 7 sp)
-    (argumentsOut m s sp (k - 1) (store t (8 * (m .room + m .room + a .0)) (le 8 (m .first))) (p + sizeOf (m .width) (nodeAt (m .width) s p))))
+    (argumentsOut m s sp n (store t (8 * (m .room + m .room + a .0)) (le 8 (m .first))) z))
+
+pub arguments-turn : (m : Scope) (s : List ℕ) (sp : Span) (n : ℕ) (t : List ℕ) (p z : ℕ) (x : Node) → x ≡ nodeAt (m .width) s p → p + sizeOf (m .width) x ≡ z
+    → argumentsOut m s sp (suc n) t p ≡ argumentIn (turn m s sp n t z) x
+unfolding argumentsOut turn
+arguments-turn m s sp n t p z x i e = rw (← e, i) refl
 
 module _ (m : Scope) (s : List ℕ) (sp : Span) (n at : ℕ) (w₀ w : List ℕ) (p k : ℕ) (g : Marking m s sp n at w₀ w p k) where
   pub mark-end : k ≤ 0 → Stamping m (argumentsOut m s sp n (tables m w₀) at) w₀ (Passed.Next p) w
@@ -78,22 +87,19 @@ module _ (m : Scope) (s : List ℕ) (sp : Span) (n at : ℕ) (w₀ w : List ℕ)
   mark-end h = g .carry (Passed.Next p) w (let z : k ≡ 0 = omega arith in rw z (record { answered = refl; kept = record { tabled = refl; others = refl } }))
 
   module _ (h : 0 < k) (x : Node) (i : x ≡ nodeAt (m .width) s p) where
-    opened : argumentsOut m s sp k (tables m w) p ≡ argumentIn (turn m s sp (tables m w) p k) x
-    unfolding argumentsOut turn
-    opened = go k refl
-      where
-        go : (j : ℕ) → k ≡ j → argumentsOut m s sp j (tables m w) p ≡ argumentIn (turn m s sp (tables m w) p k) x
-        go zero e = absurd (omega arith)
-        go (suc j) e = let z : j ≡ k - 1 = omega arith in rw (z, i) refl
+    opened : argumentsOut m s sp k (tables m w) p ≡ argumentIn (turn m s sp (k - 1) (tables m w) (p + sizeOf (m .width) x)) x
+    opened =
+        let z : k ≡ suc (k - 1) = omega arith in
+        ap (λ (j : ℕ). argumentsOut m s sp j (tables m w) p) z ∙ arguments-turn m s sp (k - 1) (tables m w) p (p + sizeOf (m .width) x) x i refl
 
-    stop : (q : ℕ) (u : Span) (w′ : List ℕ) → argumentIn (turn m s sp (tables m w) p k) x ≡ against q u → Stamping m (argumentsOut m s sp n (tables m w₀) at) w₀ (Passed.Refused q u) w′
+    stop : (q : ℕ) (u : Span) (w′ : List ℕ) → argumentIn (turn m s sp (k - 1) (tables m w) (p + sizeOf (m .width) x)) x ≡ against q u → Stamping m (argumentsOut m s sp n (tables m w₀) at) w₀ (Passed.Refused q u) w′
     stop q u w′ e = g .carry (Passed.Refused q u) w′ (stamping-against m _ w w′ q u (opened ∙ e))
 
-    pub mark-other : OneOf (0 ∷ 1 ∷ 2 ∷ 4 ∷ 5 ∷ 6 ∷ 7 ∷ 8 ∷ []) (tagOf the-type x) → Stamping m (argumentsOut m s sp n (tables m w₀) at) w₀ (Passed.Refused 2 (record { 0 = 0; 1 = 0 })) w
-    mark-other o = stop 2 (record { 0 = 0; 1 = 0 }) w (no-argument (turn m s sp (tables m w) p k) x o)
+    pub mark-other : OneOf noArgument (tagOf the-type x) → Stamping m (argumentsOut m s sp n (tables m w₀) at) w₀ (Passed.Refused 2 (record { 0 = 0; 1 = 0 })) w
+    mark-other o = stop 2 (record { 0 = 0; 1 = 0 }) w (no-argument (turn m s sp (k - 1) (tables m w) (p + sizeOf (m .width) x)) x o)
 
     module _ (a : NonterminalString) (j : x ≡ Node.Argument a) (id : ℕ) (f : id ≡ a .0) where
-      it : argumentIn (turn m s sp (tables m w) p k) x ≡ turn m s sp (tables m w) p k a
+      it : argumentIn (turn m s sp (k - 1) (tables m w) (p + sizeOf (m .width) x)) x ≡ turn m s sp (k - 1) (tables m w) (p + sizeOf (m .width) x) a
       unfolding argumentIn
       it = cc
 
@@ -110,9 +116,9 @@ module _ (m : Scope) (s : List ℕ) (sp : Span) (n at : ℕ) (w₀ w : List ℕ)
         mark-twice e = stop 7 sp w (it ∙ cc (lt-leb (m .count) id c, tables-entry m w (m .room + m .room + id) low))
 
         pub mark-next : v ≡ false → (w′ : List ℕ) → w′ ≡ store w (8 * (m .room + m .room + id)) (le 8 (m .first)) → (z : ℕ) → z ≡ sizeOf (m .width) (Node.Argument a)
-            → ((l : ℕ) → Fits w8 (getD s l 0)) → length s < 2 ^ 64 → Marking m s sp n at w₀ w′ (p + z) (k - 1)
+            → ((l : ℕ) → Fits w8 (getD s l 0)) → Marking m s sp n at w₀ w′ (p + z) (k - 1)
         unfolding turn pick
-        mark-next e w′ u z y b l =
+        mark-next e w′ u z y b =
             let q : length w′ ≡ length w = ap length u ∙ length-store w (8 * (m .room + m .room + id)) (le 8 (m .first)) in
             let t : store (tables m w) (8 * (m .room + m .room + id)) (le 8 (m .first)) ≡ tables m w′ = sym (tables-store m w (m .room + m .room + id) (m .first) low) ∙ ap (tables m) (sym u) in
             let o : argumentsOut m s sp k (tables m w) p ≡ argumentsOut m s sp (k - 1) (tables m w′) (p + z)
@@ -120,28 +126,14 @@ module _ (m : Scope) (s : List ℕ) (sp : Span) (n at : ℕ) (w₀ w : List ℕ)
             record {
               room = rw q (g .room);
               same = q ∙ g .same;
-              inside = argument-inside (m .width) s p x z i b l a j y .1;
+              inside = command-inside (m .width) s p x z i b (rw j y) (g .inside);
               carry = λ r w2 h. g .carry r w2 (rw o (stamping-then m _ w w′ r w2 (record { tabled = refl; others = ap (drop (base m)) u ∙ behind-store m w (m .room + m .room + id) (m .first) low }) h));
             }
 
 pub mark-is : (w : List ℕ) (i f v : ℕ) → v ≡ entry w i → eqb v f ≡ eqb (entry w i) f
 mark-is w i f v e = cc
 
-module _ (m : Scope) (k w : ℕ) (t : Tables m w) where
-  pub mark-sum : w < 2 ^ 64 → Fits w64 (m .room + m .room)
-  mark-sum h = record { fits = omega (arith, t .fits) }
-
-  pub mark-place : w < 2 ^ 64 → k < m .count → Fits w64 (m .room + m .room + k)
-  mark-place h c = record { fits = omega (arith, t .fits, t .few) }
-
-  pub mark-room : k < m .count → 8 * (m .room + m .room + k) + 8 ≤ w
-  mark-room c = omega (arith, t .fits, t .few)
-
-pub mark-fits : (w : ℕ) (s : List ℕ) (at : ℕ) (n : Node) (z : ℕ) → n ≡ nodeAt w s at → ((j : ℕ) → Fits w8 (getD s j 0)) → length s < 2 ^ 64
-    → (a : NonterminalString) → n ≡ Node.Argument a → z ≡ sizeOf w (Node.Argument a) → Fits w64 (at + z)
-mark-fits w s at n z i b l a e g = record { fits = omega (arith, argument-inside w s at n z i b l a e g) }
-
-pub ruleset marking = (needs, mark-is, mark-start, mark-end, mark-other, mark-above, mark-twice, mark-next, mark-sum, mark-place, mark-room, mark-fits)
+pub ruleset marking = (needs, mark-is, mark-start, mark-end, mark-other, mark-above, mark-twice, mark-next)
 
 -- ---- where the arguments end
 abbrev pub Ends : ℕ → ℕ → Stamped → Type 0

@@ -4,13 +4,12 @@ use mathlib.Core.Bool.{true}
 use mathlib.Core.List.{List, [], _++_}
 use Prim.Native.Nat.{ℕ, zero, suc, _+_}
 use native.Mathlib.Omega.{arith}
-use lib.ListN.{length}
 use Rattle.octets.specs.Numbers.{Bytes}
 use Rattle.parse_tree.specs.Tree.{Text, Around, Over, Sym, Syms, leaf, around, over, nil, cons, count, symsOf}
 use Rattle.parse_tree.specs.Texts.{distinct}
 use Rattle.parse_tree.specs.Nodes.{nodeBytes, nodeAt, sizeOf}
 use Rattle.parse_tree.specs.Places.{symbolsPlace}
-use Rattle.parse_tree.specs.Reading.{Reading, got, then, times}
+use Rattle.parse_tree.specs.Reading.{got, then, times}
 use Rattle.parse_tree.specs.Operands.{leafOf, aroundOf, overOf, insideOf}
 use Rattle.parse_tree.specs.Decode.{readSym}
 use Rattle.parse_tree.specs.Encode.{aroundNode, overNode, symBytes, symsBytes}
@@ -29,7 +28,7 @@ use Rattle.resolve.specs.declared.Scope.{Scope}
 use Rattle.resolve.specs.Names.{overSays}
 use Rattle.resolve.specs.Walks.{Out, wrote, prefix, andThen, many, verdictBy, symbolOut, leafOut, symOut}
 use Rattle.resolve.proofs.NamesMean.{Looks, outOf, verdictOf, leaf-means, over-means}
-use Rattle.resolve.proofs.Readings.{Standing, stands-then}
+use Rattle.resolve.proofs.Readings.{Standing, stands-then, times-length}
 
 -- ---- answers one behind another
 
@@ -57,15 +56,6 @@ unfolding outOf andThen prefix
 then-out f g h c q (yes a) (yes b) e e′ k p = rw p (ap (λ (l : List ℕ). wrote l e′) (sym (q a b)))
 then-out f g h c q (yes a) (no n sp) e e′ k p = rw p refl
 then-out f g h c q (no n sp) r′ e e′ k p = refl
-
--- as many as were asked for
-pub times-length : {A : Type 0} (f : ℕ → Reading A) (n a : ℕ) (xs : List A) (e : ℕ) → times f n a ≡ got xs e → length xs ≡ n
-unfolding times
-times-length f zero a xs e p = got-as (λ zs k. length zs ≡ 0) p refl
-times-length f (suc n) a xs e p =
-    let h = then-got (f a) _ p in
-    let i = then-got (times f n (h .mid)) _ (h .second) in
-    got-as (λ zs k. length zs ≡ suc n) (i .second) (ap suc (times-length f n (h .mid) (i .value) (i .mid) (i .first)))
 
 -- ---- resolving keeps how many symbols there are
 pub count-kept : (G : Tree) (ps : List Text) (xs ys : Syms) → validateSymbols G ps xs ≡ yes ys → count ys ≡ count xs

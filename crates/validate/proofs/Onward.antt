@@ -35,7 +35,7 @@ symbol-positive w sp (SymbolKind.Around (Around.Name m n)) = omega arith
 symbol-positive w sp (SymbolKind.Over (Over.Macro n k)) = omega arith
 symbol-positive w sp (SymbolKind.Over (Over.Group k)) = omega arith
 
-node-positive : (w k : ℕ) (n : Node) → defined k n ≡ true → 0 < length (nodeBytes w n)
+pub node-positive : (w k : ℕ) (n : Node) → defined k n ≡ true → 0 < length (nodeBytes w n)
 unfolding defined nodeBytes
 node-positive w k (Node.Text n) d = omega arith
 node-positive w k (Node.Nonterminal n) d = omega arith
