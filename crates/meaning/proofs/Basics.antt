@@ -1,45 +1,23 @@
 -- Small laws of tests, texts, outcomes and items. Assumes nothing.
-use mathlib.Core.Path.{_≡_, refl, ap, _∙_}
+use mathlib.Core.Path.{_≡_, refl, sym, ap, _∙_}
 use mathlib.Core.Logic.{_⊎_, inl, inr}
-use mathlib.Core.Bool.{Bool, true, false, _&&_, _||_}
+use mathlib.Core.Bool.{Bool, true, false, _||_, or-assoc}
 use mathlib.Core.Option.{Option, none, some}
-use mathlib.Core.List.{List, _∷_}
+use mathlib.Core.List.{List, [], _∷_, _++_}
 use Prim.Native.Nat.{ℕ}
 use native.Mathlib.Omega.{arith}
-use lib.Dec.{T}
 use Rattle.octets.specs.Runs.{sameAs}
 use Rattle.octets.proofs.Sameness.{sameAs-eq, sameAs-refl}
 use Rattle.parse_tree.specs.Tree.{Text, Nonterminal, Source, Item, item}
 use Rattle.parse_tree.specs.Texts.{has}
 use Rattle.parse_tree.specs.declared.syntax.Span.{Span}
 use Rattle.grammar.specs.Outcome.{Outcome, yes, no, after}
+use Rattle.grammar.specs.Meaning.{isTerminal}
 
 -- ---- tests
 pub test : (b : Bool) → (b ≡ true) ⊎ (b ≡ false)
 test true = inl refl
 test false = inr refl
-
-pub T-is : (b : Bool) → T b → b ≡ true
-T-is true h = refl
-T-is false h = absurd h
-
-pub is-T : (b : Bool) → b ≡ true → T b
-is-T b e = rw e tt
-
-pub and-l : (a b : Bool) → (a && b) ≡ true → a ≡ true
-and-l true b h = refl
-and-l false b h = h
-
-pub and-r : (a b : Bool) → (a && b) ≡ true → b ≡ true
-and-r true b h = h
-and-r false b h = absurd (let z : _≡_ {A = ℕ} 0 1 = cc in omega arith)
-
-pub or-left : (a b : Bool) → a ≡ true → (a || b) ≡ true
-or-left a b h = rw h
-
-pub or-right : (a b : Bool) → b ≡ true → (a || b) ≡ true
-or-right true b h = refl
-or-right false b h = h
 
 pub or-cases : (a b : Bool) → (a || b) ≡ true → (a ≡ true) ⊎ (b ≡ true)
 or-cases true b h = inl refl
@@ -93,3 +71,8 @@ item-inj d e p = cc
 
 pub item≢terminal : (d : Nonterminal) (s : Span) (o : Source) (t : Text) → item d ≡ Item.terminal s o t → ⊥
 item≢terminal d s o t p = let z : _≡_ {A = ℕ} 0 1 = cc in omega arith
+
+pub terminal-append : (a b : List Item) (n : Text) → isTerminal (a ++ b) n ≡ isTerminal a n || isTerminal b n
+terminal-append [] b n = refl
+terminal-append (item d ∷ a) b n = terminal-append a b n
+terminal-append (Item.terminal s o t ∷ a) b n = ap (sameAs n t ||_) (terminal-append a b n) ∙ sym (or-assoc (sameAs n t) (isTerminal a n) (isTerminal b n))

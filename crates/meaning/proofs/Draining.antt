@@ -112,19 +112,6 @@ has-replaced a b σ n (d, i, e, p) = go (List·Memᴰ·append-cases a i)
     go (inl j) = has-left a ((replaceItems b σ) .0) n (d, j, e, p)
     go (inr j) = has-right a ((replaceItems b σ) .0) n (items-keep b σ n (d, j, e, p))
 
-or-assoc : (a b c : Bool) → (a || b) || c ≡ a || (b || c)
-or-assoc true b c = refl
-or-assoc false b c = refl
-
-pub terminal-append : (a b : List Item) (n : Text) → isTerminal (a ++ b) n ≡ isTerminal a n || isTerminal b n
-terminal-append [] b n = refl
-terminal-append (item d ∷ a) b n = terminal-append a b n
-terminal-append (Item.terminal s o t ∷ a) b n = ap (sameAs n t ||_) (terminal-append a b n) ∙ sym (or-assoc (sameAs n t) (isTerminal a n) (isTerminal b n))
-
-pub or-false : (a : Bool) → a || false ≡ a
-or-false true = refl
-or-false false = refl
-
 -- ---- the tree without its macros
 abbrev Kept : Nonterminal → List Text → Tree → Tree
 Kept x l rest = elim l [ [] ↦ item x ∷ rest | p ∷ ps ↦ rest ]

@@ -4,12 +4,13 @@ use mathlib.Core.Logic.{_⊎_, inl, inr, _≢_}
 use Prim.Native.Nat.{ℕ, suc, _≤_, _<_}
 use mathlib.Core.List.{List, [], _∷_, _++_, List·Memᴰ, List·Memᴰ·head, List·Memᴰ·tail, List·Memᴰ·not-nil}
 use mathlib.Core.Bool.{Bool, true, false, cond, not, _&&_, true≢false, false≢true}
-use lib.Dec.{T, eqb, ltb, leb, leb→le, nleb→lt, ltb→lt, nltb→le, eqb→eq, leb·zero, eqb-refl}
+use borrow.Author.Tests.{leb-true, leb-false, ltb-true, ltb-false, eqb-true, eq-eqb}
+use lib.Dec.{eqb, ltb, leb, leb·zero}
 use native.Mathlib.Omega.{arith}
 use Rattle.parse_tree.specs.Tree.{Alternative, Nonterminal}
 use Rattle.grammar.specs.Grades.{Side, all, non, left, right, startsAnnotated, annotated, withLevels, Graded, withSides, graded, below, ceiling}
 use Rattle.grammar.specs.Levels.{insert, levelsOf, decimal, highest, levelName, isLowest}
-use Rattle.meaning.proofs.Basics.{test, is-T, T-is}
+use Rattle.meaning.proofs.Basics.{test}
 
 -- some alternative has the level v
 abbrev pub Level : List Graded → ℕ → Type 0
@@ -17,9 +18,6 @@ Level gs v = (g : Graded) × List·Memᴰ g gs × (g .level ≡ v)
 
 up : (g : Graded) (gs : List Graded) (v : ℕ) → Level gs v → Level (g ∷ gs) v
 up g gs v (x, i, e) = (x, List·Memᴰ·tail i, e)
-
-not-T : (b : Bool) → b ≡ false → T (not b)
-not-T b e = rw e tt
 
 same-level : (g x : Graded) (v : ℕ) → g .level ≡ v → g ≡ x → v ≡ x .level
 same-level g x v e q = sym e ∙ ap (λ (y : Graded). y .level) q
@@ -34,8 +32,8 @@ highest-max (x ∷ gs) v (g, i, e) = go (leb (highest gs) (x .level)) refl i (λ
   where
     go : (b : Bool) → leb (highest gs) (x .level) ≡ b → List·Memᴰ g (x ∷ gs) → (List·Memᴰ g gs → v ≤ highest gs) → v ≤ cond b (x .level) (highest gs)
     go true t (List·Memᴰ·head q) k = let z : v ≡ x .level = same-level g x v e q in omega arith
-    go true t (List·Memᴰ·tail j) k = let z : v ≤ highest gs = k j in let z′ : highest gs ≤ x .level = leb→le (highest gs) (x .level) (is-T _ t) in omega arith
-    go false t (List·Memᴰ·head q) k = let z : v ≡ x .level = same-level g x v e q in let z′ : x .level < highest gs = nleb→lt (highest gs) (x .level) (not-T _ t) in omega arith
+    go true t (List·Memᴰ·tail j) k = let z : v ≤ highest gs = k j in let z′ : highest gs ≤ x .level = leb-true (highest gs) (x .level) t in omega arith
+    go false t (List·Memᴰ·head q) k = let z : v ≡ x .level = same-level g x v e q in let z′ : x .level < highest gs = leb-false (highest gs) (x .level) t in omega arith
     go false t (List·Memᴰ·tail j) k = k j
 
 pub highest-level : (g : Graded) (gs : List Graded) → Level (g ∷ gs) (highest (g ∷ gs))
@@ -55,7 +53,7 @@ has-highest d an = go (d .alternatives) refl
 
 pub highest-name : (d : Nonterminal) → levelName d (highest (graded d)) ≡ d .name
 unfolding levelName
-highest-name d = ap (λ (b : Bool). cond b (d .name) (d .name ++ decimal (highest (graded d)))) (T-is (eqb (highest (graded d)) (highest (graded d))) (eqb-refl (highest (graded d))))
+highest-name d = ap (λ (b : Bool). cond b (d .name) (d .name ++ decimal (highest (graded d)))) (eq-eqb (highest (graded d)) (highest (graded d)) refl)
 
 -- ---- the next lower level is the highest one below v
 pub below-max : (v : ℕ) (gs : List Graded) (u : ℕ) → Level gs u → u < v → u ≤ below v gs
@@ -64,9 +62,9 @@ below-max v (x ∷ gs) u (g, i, e) h = go (ltb (x .level) v) (leb (below v gs) (
   where
     go : (b c : Bool) → ltb (x .level) v ≡ b → leb (below v gs) (x .level) ≡ c → List·Memᴰ g (x ∷ gs) → (List·Memᴰ g gs → u ≤ below v gs) → u ≤ cond (b && c) (x .level) (below v gs)
     go true true t t′ (List·Memᴰ·head q) k = let z : u ≡ x .level = same-level g x u e q in omega arith
-    go true false t t′ (List·Memᴰ·head q) k = let z : u ≡ x .level = same-level g x u e q in let z′ : x .level < below v gs = nleb→lt (below v gs) (x .level) (not-T _ t′) in omega arith
-    go false c t t′ (List·Memᴰ·head q) k = absurd (between-bad u (x .level) v (same-level g x u e q) h (nltb→le (x .level) v (not-T _ t)))
-    go true true t t′ (List·Memᴰ·tail j) k = let z : u ≤ below v gs = k j in let z′ : below v gs ≤ x .level = leb→le (below v gs) (x .level) (is-T _ t′) in omega arith
+    go true false t t′ (List·Memᴰ·head q) k = let z : u ≡ x .level = same-level g x u e q in let z′ : x .level < below v gs = leb-false (below v gs) (x .level) t′ in omega arith
+    go false c t t′ (List·Memᴰ·head q) k = absurd (between-bad u (x .level) v (same-level g x u e q) h (ltb-false (x .level) v t))
+    go true true t t′ (List·Memᴰ·tail j) k = let z : u ≤ below v gs = k j in let z′ : below v gs ≤ x .level = leb-true (below v gs) (x .level) t′ in omega arith
     go true false t t′ (List·Memᴰ·tail j) k = k j
     go false c t t′ (List·Memᴰ·tail j) k = k j
 
@@ -86,7 +84,7 @@ below-or v (x ∷ gs) = go (ltb (x .level) v) (leb (below v gs) (x .level)) refl
     low (inr l) = inr (lower-up v x gs (below v gs) l)
 
     go : (b c : Bool) → ltb (x .level) v ≡ b → (below v gs ≡ 0) ⊎ Lower v gs (below v gs) → (cond (b && c) (x .level) (below v gs) ≡ 0) ⊎ Lower v (x ∷ gs) (cond (b && c) (x .level) (below v gs))
-    go true true t k = inr ((x, List·Memᴰ·head refl, refl), ltb→lt (x .level) v (is-T _ t))
+    go true true t k = inr ((x, List·Memᴰ·head refl, refl), ltb-true (x .level) v t)
     go true false t k = low k
     go false c t k = low k
 
@@ -100,8 +98,8 @@ below-level v (x ∷ gs) e = go (ltb (x .level) v) (leb (below v gs) (x .level))
 
     go : (b c : Bool) → ltb (x .level) v ≡ b → leb (below v gs) (x .level) ≡ c → not b && isLowest v gs ≡ false → (isLowest v gs ≡ false → Lower v gs (below v gs))
         → (below v gs ≡ 0) ⊎ Lower v gs (below v gs) → Lower v (x ∷ gs) (cond (b && c) (x .level) (below v gs))
-    go true true t t′ e′ k o = ((x, List·Memᴰ·head refl, refl), ltb→lt (x .level) v (is-T _ t))
-    go true false t t′ e′ k (inl z) = absurd (positive (x .level) (below v gs) (nleb→lt (below v gs) (x .level) (not-T _ t′)) z)
+    go true true t t′ e′ k o = ((x, List·Memᴰ·head refl, refl), ltb-true (x .level) v t)
+    go true false t t′ e′ k (inl z) = absurd (positive (x .level) (below v gs) (leb-false (below v gs) (x .level) t′) z)
     go true false t t′ e′ k (inr o) = lower-up v x gs (below v gs) o
     go false c t t′ e′ k o = lower-up v x gs (below v gs) (k e′)
 
@@ -111,7 +109,7 @@ not-lowest v (x ∷ gs) u (g, i, e) h = go (ltb (x .level) v) refl i (λ j. not-
   where
     go : (b : Bool) → ltb (x .level) v ≡ b → List·Memᴰ g (x ∷ gs) → (List·Memᴰ g gs → isLowest v gs ≡ false) → not b && isLowest v gs ≡ false
     go true t j k = refl
-    go false t (List·Memᴰ·head q) k = absurd (between-bad u (x .level) v (same-level g x u e q) h (nltb→le (x .level) v (not-T _ t)))
+    go false t (List·Memᴰ·head q) k = absurd (between-bad u (x .level) v (same-level g x u e q) h (ltb-false (x .level) v t))
     go false t (List·Memᴰ·tail j) k = k j
 
 -- ---- the list of levels has the levels and no others
@@ -124,7 +122,7 @@ insert-here v (x ∷ l) = go (ltb v x) (eqb v x) refl (insert-here v l)
   where
     go : (b c : Bool) → eqb v x ≡ c → List·Memᴰ v (insert v l) → List·Memᴰ v (inserted b c v x l)
     go true c t k = List·Memᴰ·head refl
-    go false true t k = List·Memᴰ·head (eqb→eq v x (is-T _ t))
+    go false true t k = List·Memᴰ·head (eqb-true v x t)
     go false false t k = List·Memᴰ·tail k
 
 insert-keep : (v : ℕ) (l : List ℕ) (u : ℕ) → List·Memᴰ u l → List·Memᴰ u (insert v l)

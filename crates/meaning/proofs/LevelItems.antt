@@ -2,16 +2,17 @@
 use mathlib.Core.Path.{_≡_, refl, sym, ap, _∙_, subst}
 use mathlib.Core.Logic.{_⊎_, inl, inr}
 use Prim.Native.Nat.{ℕ}
-use mathlib.Core.List.{List, [], _∷_, _++_, map, List·Memᴰ, List·Memᴰ·head, List·Memᴰ·tail, List·Memᴰ·not-nil, List·Memᴰ·append-cases, Memᴰ·append-left, Memᴰ·append-right, List·Memᴰ·eq-of-singleton, Memᴰ·map, Memᴰ·of-map}
+use mathlib.Core.List.{List, [], _∷_, map, List·Memᴰ, List·Memᴰ·head, List·Memᴰ·tail, List·Memᴰ·not-nil, List·Memᴰ·append-cases, Memᴰ·append-left, Memᴰ·append-right, List·Memᴰ·eq-of-singleton, Memᴰ·map, Memᴰ·of-map}
 use mathlib.Core.Bool.{Bool, true, false, cond, _||_, false≢true}
-use lib.Dec.{T, eqb, eqb→eq, eqb-refl}
+use borrow.Author.Tests.{eqb-true, eq-eqb}
+use lib.Dec.{eqb}
 use Rattle.octets.specs.Runs.{sameAs}
 use Rattle.parse_tree.specs.Tree.{Text, Alternative, Nonterminal, Item, item}
 use Rattle.grammar.specs.Outcome.{Tree}
 use Rattle.grammar.specs.Grades.{annotated, Graded, graded}
 use Rattle.grammar.specs.Meaning.{isTerminal}
 use Rattle.grammar.specs.Levels.{levelsOf, ofLevel, levelName, isLowest, substituted, fallThrough, fallThroughs, levelItem, levelItems, levelled}
-use Rattle.meaning.proofs.Basics.{is-T, T-is, item-inj, item≢terminal}
+use Rattle.meaning.proofs.Basics.{item-inj, item≢terminal, terminal-append}
 use Rattle.meaning.proofs.LevelFacts.{Level, levels-have, levels-only}
 
 -- what stands for the nonterminal d in the levelled tree
@@ -19,15 +20,6 @@ abbrev inPlace : Bool → Nonterminal → List Item
 inPlace b d = cond b (levelItems d (levelsOf (graded d))) (item d ∷ [])
 
 -- ---- terminals stay
-or-assoc : (a b c : Bool) → (a || b) || c ≡ a || (b || c)
-or-assoc true b c = refl
-or-assoc false b c = refl
-
-terminal-append : (a b : List Item) (n : Text) → isTerminal (a ++ b) n ≡ isTerminal a n || isTerminal b n
-terminal-append [] b n = refl
-terminal-append (item d ∷ a) b n = terminal-append a b n
-terminal-append (Item.terminal s o t ∷ a) b n = ap (sameAs n t ||_) (terminal-append a b n) ∙ sym (or-assoc (sameAs n t) (isTerminal a n) (isTerminal b n))
-
 no-level-terminal : (d : Nonterminal) (vs : List ℕ) (n : Text) → isTerminal (levelItems d vs) n ≡ false
 unfolding levelItems
 no-level-terminal d [] n = refl
@@ -118,7 +110,7 @@ ofLevel-have [] g i = absurd (List·Memᴰ·not-nil i)
 ofLevel-have (x ∷ gs) g i = go (eqb (x .level) (g .level)) refl i (ofLevel-have gs g)
   where
     its-own : x .level ≡ g .level → eqb (x .level) (g .level) ≡ true
-    its-own e = T-is _ (subst (λ (y : ℕ). T (eqb (x .level) y)) e (eqb-refl (x .level)))
+    its-own e = eq-eqb (x .level) (g .level) e
 
     go : (b : Bool) → eqb (x .level) (g .level) ≡ b → List·Memᴰ g (x ∷ gs) → (List·Memᴰ g gs → List·Memᴰ g (ofLevel (g .level) gs)) → List·Memᴰ g (cond b (x ∷ ofLevel (g .level) gs) (ofLevel (g .level) gs))
     go true t (List·Memᴰ·head e) k = List·Memᴰ·head e
@@ -135,7 +127,7 @@ ofLevel-only v (x ∷ gs) g i = go (eqb (x .level) v) refl i (ofLevel-only v gs 
     low (j, p) = (List·Memᴰ·tail j, p)
 
     go : (b : Bool) → eqb (x .level) v ≡ b → List·Memᴰ g (cond b (x ∷ ofLevel v gs) (ofLevel v gs)) → (List·Memᴰ g (ofLevel v gs) → List·Memᴰ g gs × (g .level ≡ v)) → List·Memᴰ g (x ∷ gs) × (g .level ≡ v)
-    go true t (List·Memᴰ·head e) k = (List·Memᴰ·head e, ap (λ (y : Graded). y .level) e ∙ eqb→eq (x .level) v (is-T _ t))
+    go true t (List·Memᴰ·head e) k = (List·Memᴰ·head e, ap (λ (y : Graded). y .level) e ∙ eqb-true (x .level) v t)
     go true t (List·Memᴰ·tail j) k = low (k j)
     go false t j k = low (k j)
 

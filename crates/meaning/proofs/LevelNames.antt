@@ -3,8 +3,10 @@ use mathlib.Core.Path.{_≡_, refl, sym, ap, _∙_}
 use mathlib.Core.Logic.{_⊎_, inl, inr}
 use Prim.Native.Nat.{ℕ, zero, suc, _+_, _/_, _%_}
 use mathlib.Core.List.{[], _∷_, _++_}
-use mathlib.Core.Bool.{Bool, true, false, cond, not, _&&_, false≢true}
-use lib.Dec.{eqb, ltb, leb, le→leb}
+use mathlib.Core.Bool.{Bool, true, false, cond, not, _&&_, false≢true, and-false}
+use mathlib.Mathlib.Data.Bool.Basic.{and-elim-left, and-elim-right, and-intro, or-inr}
+use borrow.Author.Tests.{le-leb}
+use lib.Dec.{eqb, ltb}
 use native.Mathlib.Omega.{arith}
 use Rattle.octets.specs.Runs.{sameAs}
 use Rattle.octets.proofs.Sameness.{sameAs-eq}
@@ -12,9 +14,8 @@ use Rattle.parse_tree.specs.Tree.{Text, Nonterminal}
 use Rattle.parse_tree.specs.Texts.{every, between, startsName, inName, mutText, errorText}
 use Rattle.grammar.specs.Grades.{isDigit, graded}
 use Rattle.grammar.specs.Levels.{decimalFrom, decimal, highest, levelName}
-use Rattle.meaning.proofs.Basics.{test, T-is, and-l, and-r, or-right}
+use Rattle.meaning.proofs.Basics.{test}
 use Rattle.meaning.proofs.Predicates.{Ident, startsWell}
-use Rattle.parse_tree.proofs.TextLaws.{and-both}
 
 -- ---- a decimal is some digits
 abbrev areDigits : Text → Bool
@@ -30,7 +31,7 @@ abbrev last : ℕ → ℕ
 last n = 48 + n % 10
 
 last-digit : (n : ℕ) → isDigit (last n) ≡ true
-last-digit n = and-both (leb 48 (last n)) (leb (last n) 57) (T-is _ (le→leb 48 (last n) (omega arith))) (T-is _ (le→leb (last n) 57 (omega arith)))
+last-digit n = and-intro (le-leb 48 (last n) (omega arith)) (le-leb (last n) 57 (omega arith))
 
 -- either of two texts
 either : (f : Text → Bool) (b : Bool) (x y : Text) → f x ≡ true → f y ≡ true → f (cond b x y) ≡ true
@@ -40,7 +41,7 @@ either f false x y p q = q
 digits-are : (k n : ℕ) (r : Text) → areDigits r ≡ true → areDigits (decimalFrom k n r) ≡ true
 digits-are zero n r e = e
 digits-are (suc k) n r e =
-    let h = and-both (isDigit (last n)) (areDigits r) (last-digit n) e in
+    let h = and-intro (last-digit n) e in
     either areDigits (ltb n 10) (last n ∷ r) (decimalFrom k (n / 10) (last n ∷ r)) h (digits-are k (n / 10) (last n ∷ r) h)
 
 digits-filled : (k n b : ℕ) (r : Text) → isFilled (decimalFrom k n (b ∷ r)) ≡ true
@@ -53,25 +54,21 @@ decimal-filled k n = either isFilled (ltb n 10) (last n ∷ []) (decimalFrom k (
 -- ---- digits stand in names, but neither in `mut` nor in `error`
 digit-in : (b : ℕ) → isDigit b ≡ true → inName b ≡ true
 unfolding inName
-digit-in b e = or-right (startsName b) (between 48 57 b) e
+digit-in b e = or-inr (startsName b) (between 48 57 b) e
 
 digits-in : (t : Text) → areDigits t ≡ true → every inName t ≡ true
 unfolding every
 digits-in [] e = refl
-digits-in (b ∷ t) e = and-both (inName b) (every inName t) (digit-in b (and-l (isDigit b) (areDigits t) e)) (digits-in t (and-r (isDigit b) (areDigits t) e))
+digits-in (b ∷ t) e = and-intro (digit-in b (and-elim-left (isDigit b) (areDigits t) e)) (digits-in t (and-elim-right (isDigit b) (areDigits t) e))
 
 every-append : (n t : Text) → every inName n ≡ true → every inName t ≡ true → every inName (n ++ t) ≡ true
 unfolding every
 every-append [] t p q = q
-every-append (b ∷ n) t p q = and-both (inName b) (every inName (n ++ t)) (and-l (inName b) (every inName n) p) (every-append n t (and-r (inName b) (every inName n) p) q)
+every-append (b ∷ n) t p q = and-intro (and-elim-left (inName b) (every inName n) p) (every-append n t (and-elim-right (inName b) (every inName n) p) q)
 
 abbrev noDigit : Text → Bool
 noDigit [] = true
 noDigit (b ∷ t) = not (isDigit b) && noDigit t
-
-and-false : (a : Bool) → a && false ≡ false
-and-false true = refl
-and-false false = refl
 
 has-digit : (n : Text) (b : ℕ) (t : Text) → isDigit b ≡ true → noDigit (n ++ (b ∷ t)) ≡ false
 has-digit [] b t e = rw e
@@ -91,7 +88,7 @@ starts-append (b ∷ n) t e = e
 ident-digits : (n t : Text) → Ident n → areDigits t ≡ true → isFilled t ≡ true → Ident (n ++ t)
 ident-digits n [] i a e = absurd (false≢true e)
 ident-digits n (b ∷ t) i a e =
-    let nd = has-digit n b t (and-l (isDigit b) (areDigits t) a) in
+    let nd = has-digit n b t (and-elim-left (isDigit b) (areDigits t) a) in
     record {
       first = starts-append n (b ∷ t) (i .first);
       rest = every-append n (b ∷ t) (i .rest) (digits-in (b ∷ t) a);

@@ -5,6 +5,7 @@ use Prim.Native.Nat.{ℕ}
 use mathlib.Core.List.{List, [], _∷_, _++_, List·Memᴰ, List·Memᴰ·head, List·Memᴰ·tail}
 use mathlib.Core.Option.{some}
 use mathlib.Core.Bool.{Bool, true, false, cond, _||_}
+use mathlib.Mathlib.Data.Bool.Basic.{or-inr}
 use lib.ListN.{length}
 use Rattle.octets.specs.Runs.{sameAs}
 use Rattle.octets.proofs.Sameness.{sameAs-eq}
@@ -13,7 +14,7 @@ use Rattle.parse_tree.specs.Texts.{has}
 use Rattle.grammar.specs.Outcome.{Tree}
 use Rattle.grammar.specs.Meaning.{isTerminal}
 use Rattle.grammar.specs.Resolve.{Def, terminalDef, nonterminalDef, argumentDef, Global, nonterminals, externs, matches, globals, defIn, lookup}
-use Rattle.meaning.proofs.Basics.{or-right, some-inj, none≢some}
+use Rattle.meaning.proofs.Basics.{some-inj, none≢some}
 
 defIn-append : (n : Text) (xs ys : List Global) (o : Def) → defIn n (xs ++ ys) ≡ some o → (defIn n xs ≡ some o) ⊎ (defIn n ys ≡ some o)
 defIn-append n [] ys o e = inr e
@@ -54,7 +55,7 @@ found-here n t rest gs o e k = go (sameAs n t) e
     go false q = k q
 
 found-further : (n t : Text) (rest : Tree) (o : Def) → Terminal-found rest n o → (o ≡ terminalDef) × (sameAs n t || isTerminal rest n ≡ true)
-found-further n t rest o (p, q) = (p, or-right (sameAs n t) (isTerminal rest n) q)
+found-further n t rest o (p, q) = (p, or-inr (sameAs n t) (isTerminal rest n) q)
 
 found-extern : (G : Tree) (n : Text) (o : Def) → defIn n (externs G) ≡ some o → Terminal-found G n o
 found-extern [] n o e = absurd (none≢some o e)

@@ -1,6 +1,6 @@
 -- The stage that a yes of the call for all ends with is within a tape's limits, so its tape is read back. Assumes nothing.
 use mathlib.Core.Path.{_≡_, refl, subst}
-use mathlib.Core.Bool.{Bool, true, false, _&&_, false≢true}
+use mathlib.Core.Bool.{Bool, true, false, _&&_, false≢true, and-eq-true-iff}
 use mathlib.Core.List.{List, [], _∷_, _++_}
 use mathlib.Core.Option.{Option, none, some}
 use Prim.Native.Nat.{ℕ, zero, suc, _+_, _^_, _<_, _≤_}
@@ -17,7 +17,7 @@ use Rattle.parse_tree.specs.Decode.{decode, decodeAny}
 use Rattle.parse_tree.specs.Encode.{conditions, stageBytes}
 use Rattle.parse_tree.specs.References.{textsOfEach, leafTexts, aroundTexts, overTexts, symTexts, symsTexts, actionTexts, attributeTexts, conditionTexts, alternativeTexts, itemTexts}
 use Rattle.parse_tree.specs.Within.{Each, SpanWithin, Uses, LeafWithin, AroundWithin, OverWithin, SymWithin, SymsWithin, ActionWithin, ArgumentWithin, AttributeWithin, ConditionWithin, AlternativeWithin, ItemWithin, StageWithin}
-use Rattle.parse_tree.proofs.TextLaws.{both, number-below}
+use Rattle.parse_tree.proofs.TextLaws.{number-below}
 use Rattle.parse_tree.proofs.Written.{written}
 use Rattle.parse_tree.proofs.ReadBack.{read-back}
 use Rattle.grammar.specs.Resolve.{resolve}
@@ -89,7 +89,7 @@ module _ (ts : List Text) (few : length ts ≤ 256 ^ 2) where
 
   over-within : (o : Over) (n : ℕ) → There ts (overTexts o) → overFits o n ≡ true → OverWithin false 2 ts o n
   unfolding overTexts
-  over-within (macro x) n h f = let (a, b) = both (leb 1 n) (ltb n 256) f in (uses isName x (h .0), leb-true 1 n a, ltb-true n 256 b)
+  over-within (macro x) n h f = let (a, b) = and-eq-true-iff (leb 1 n) (ltb n 256) .0 f in (uses isName x (h .0), leb-true 1 n a, ltb-true n 256 b)
   over-within group n h f = ltb-true n 65536 f
 
   mutual
@@ -105,14 +105,14 @@ module _ (ts : List Text) (few : length ts ≤ 256 ^ 2) where
     sym-within (over s o xs) zero h f p = absurd (false≢true f)
     sym-within (over s o xs) (suc left) h f p =
         let (k, l) = there-split (overTexts o) (symsTexts xs) h in
-        let (a, b) = both (overFits o (count xs)) (symsFit xs left) f in
+        let (a, b) = and-eq-true-iff (overFits o (count xs)) (symsFit xs left) .0 f in
         (p .0, over-within o (count xs) k a, syms-within xs left l b (p .1))
 
     syms-within : (xs : Syms) (left : ℕ) → There ts (symsTexts xs) → symsFit xs left ≡ true → SymsSpans SpanWithin xs → SymsWithin false 2 ts xs left
     syms-within nil left h f p = tt
     syms-within (cons x xs) left h f p =
         let (k, l) = there-split (symTexts x) (symsTexts xs) h in
-        let (a, b) = both (symFits x left) (symsFit xs left) f in
+        let (a, b) = and-eq-true-iff (symFits x left) (symsFit xs left) .0 f in
         (sym-within x left k a (p .0), syms-within xs left l b (p .1))
 
   action-within : (a : Action) → There ts (actionTexts a) → ActionWithin false 2 ts a
@@ -146,8 +146,8 @@ module _ (ts : List Text) (few : length ts ≤ 256 ^ 2) where
       let (h1, k1) = there-split (actionTexts (a .action)) (textsOfEach attributeTexts (a .attributes) ++ (textsOfEach conditionTexts (conditions (a .condition)) ++ symsTexts (a .symbols))) h in
       let (h2, k2) = there-split (textsOfEach attributeTexts (a .attributes)) (textsOfEach conditionTexts (conditions (a .condition)) ++ symsTexts (a .symbols)) k1 in
       let (h3, h4) = there-split (textsOfEach conditionTexts (conditions (a .condition))) (symsTexts (a .symbols)) k2 in
-      let (f1, g1) = both (ltb (length (a .attributes)) 256) (ltb (count (a .symbols)) 65536 && symsFit (a .symbols) 64) f in
-      let (f2, f3) = both (ltb (count (a .symbols)) 65536) (symsFit (a .symbols) 64) g1 in
+      let (f1, g1) = and-eq-true-iff (ltb (length (a .attributes)) 256) (ltb (count (a .symbols)) 65536 && symsFit (a .symbols) 64) .0 f in
+      let (f2, f3) = and-eq-true-iff (ltb (count (a .symbols)) 65536) (symsFit (a .symbols) 64) .0 g1 in
       record {
         span = p .0;
         few = ltb-true (length (a .attributes)) 256 f1;
@@ -163,15 +163,15 @@ module _ (ts : List Text) (few : length ts ≤ 256 ^ 2) where
   alternatives-within [] h f p = tt
   alternatives-within (a ∷ rest) h f p =
       let (k, l) = there-split (alternativeTexts a) (textsOfEach alternativeTexts rest) h in
-      let (b, c) = both (alternativeFits a) (each alternativeFits rest) f in
+      let (b, c) = and-eq-true-iff (alternativeFits a) (each alternativeFits rest) .0 f in
       (alternative-within a k b (p .0), alternatives-within rest l c (p .1))
 
   item-within : (i : Item) → There ts (itemTexts i) → itemFits i ≡ true → ItemSpans SpanWithin i → ItemWithin false 2 ts i
   unfolding itemTexts
   item-within (item d) h f p =
       let (h1, h2) = there-split (d .args) (textsOfEach alternativeTexts (d .alternatives)) (h .1) in
-      let (f1, g1) = both (ltb (length (d .args)) 256) (ltb (length (d .alternatives)) 65536 && each alternativeFits (d .alternatives)) f in
-      let (f2, f3) = both (ltb (length (d .alternatives)) 65536) (each alternativeFits (d .alternatives)) g1 in
+      let (f1, g1) = and-eq-true-iff (ltb (length (d .args)) 256) (ltb (length (d .alternatives)) 65536 && each alternativeFits (d .alternatives)) .0 f in
+      let (f2, f3) = and-eq-true-iff (ltb (length (d .alternatives)) 65536) (each alternativeFits (d .alternatives)) .0 g1 in
       record {
         span = p .0;
         name = uses isName (d .name) (h .0);
@@ -187,20 +187,20 @@ module _ (ts : List Text) (few : length ts ≤ 256 ^ 2) where
   items-within [] h f p = tt
   items-within (i ∷ rest) h f p =
       let (k, l) = there-split (itemTexts i) (textsOfEach itemTexts rest) h in
-      let (b, c) = both (itemFits i) (each itemFits rest) f in
+      let (b, c) = and-eq-true-iff (itemFits i) (each itemFits rest) .0 f in
       (item-within i k b (p .0), items-within rest l c (p .1))
 
 short-texts : (ts : List Text) → each (λ (t : Text). ltb (length t) 65536) ts ≡ true → Each (λ (t : Text). length t < 65536) ts
 short-texts [] f = tt
 short-texts (t ∷ ts) f =
-    let (a, b) = both (ltb (length t) 65536) (each (λ (t : Text). ltb (length t) 65536) ts) f in
+    let (a, b) = and-eq-true-iff (ltb (length t) 65536) (each (λ (t : Text). ltb (length t) 65536) ts) .0 f in
     (ltb-true (length t) 65536 a, short-texts ts b)
 
 stage-within : (g : Stage) → Stocked g → Each (ItemSpans SpanWithin) (g .items) → StageWithin false 2 g
 unfolding stageFits
 stage-within g h p =
-    let (f1, k) = both (leb (length (g .atoms)) (256 ^ 2)) (each (λ (t : Text). ltb (length t) 65536) (g .atoms) && each itemFits (g .items)) (h .fits) in
-    let (f2, f3) = both (each (λ (t : Text). ltb (length t) 65536) (g .atoms)) (each itemFits (g .items)) k in
+    let (f1, k) = and-eq-true-iff (leb (length (g .atoms)) (256 ^ 2)) (each (λ (t : Text). ltb (length t) 65536) (g .atoms) && each itemFits (g .items)) .0 (h .fits) in
+    let (f2, f3) = and-eq-true-iff (each (λ (t : Text). ltb (length t) 65536) (g .atoms)) (each itemFits (g .items)) .0 k in
     record { apart = h .apart; short = short-texts (g .atoms) f2; items = items-within (g .atoms) (leb-true (length (g .atoms)) (256 ^ 2) f1) (g .items) (h .there) f3 p }
 
 -- what the passes carry from stage to stage

@@ -1,6 +1,7 @@
 -- A printed form can be read in one way: the machine comes to what the symbol says, whatever stands behind it. Assumes nothing.
 use mathlib.Core.Path.{_≡_, refl, sym, ap, _∙_}
 use mathlib.Core.Bool.{Bool, true, false, cond, _||_, false≢true}
+use mathlib.Mathlib.Data.Bool.Basic.{and-elim-left, and-elim-right}
 use mathlib.Core.List.{[], _∷_, _++_, append-assoc, append-nil}
 use mathlib.Core.Option.{Option, some}
 use Prim.Native.Nat.{ℕ}
@@ -13,7 +14,7 @@ use Rattle.parse_tree.specs.Display.{escaped, shownOp, shownLeaf, shownBefore, 
 use Rattle.grammar.specs.Outcome.{Tree}
 use Rattle.grammar.specs.Phrases.{Phrase, Phrases, token, quotedToken, regexToken, errorToken, bareToken, repeated, pnil}
 use Rattle.grammar.specs.Meaning.{isTerminal, named, meanLeaf, meanAround, meanOver, mean, means}
-use Rattle.meaning.proofs.Basics.{and-l, and-r, some-inj}
+use Rattle.meaning.proofs.Basics.{some-inj}
 use Rattle.meaning.proofs.Machine.{snoc, join, snoc-join, join-nil, Stack, bottom, inChoice, inOver, Mode, start, inWord, inQuoted, inRegex, behind, says, next, step, run}
 use Rattle.meaning.proofs.Predicates.{Ident, IdentAround, IdentOver, PureLeaf, Pure, Pures}
 
@@ -49,16 +50,16 @@ module _ (G : Tree) where
   unfolding run every
   run-letters read [] K r e = ap (λ (t : Text). run G (inWord t K) r) (sym (append-nil read))
   run-letters read (b ∷ bs) K r e =
-      ap (λ (μ : Mode). run G μ (bs ++ r)) (step-word read b K (and-l (inName b) (every inName bs) e))
-      ∙ run-letters (read ++ (b ∷ [])) bs K r (and-r (inName b) (every inName bs) e)
+      ap (λ (μ : Mode). run G μ (bs ++ r)) (step-word read b K (and-elim-left (inName b) (every inName bs) e))
+      ∙ run-letters (read ++ (b ∷ [])) bs K r (and-elim-right (inName b) (every inName bs) e)
       ∙ ap (λ (t : Text). run G (inWord t K) r) (append-assoc read (b ∷ []) bs)
 
   run-ident : (n : Text) (K : Stack) (r : Text) → Ident n → run G (start K) (n ++ r) ≡ run G (inWord n K) r
   unfolding run every
   run-ident [] K r i = absurd (false≢true (i .first))
   run-ident (b ∷ bs) K r i =
-      ap (λ (μ : Mode). run G μ (bs ++ r)) (step-first b K (and-l (inName b) (every inName bs) (i .rest)))
-      ∙ run-letters (b ∷ []) bs K r (and-r (inName b) (every inName bs) (i .rest))
+      ap (λ (μ : Mode). run G μ (bs ++ r)) (step-first b K (and-elim-left (inName b) (every inName bs) (i .rest)))
+      ∙ run-letters (b ∷ []) bs K r (and-elim-right (inName b) (every inName bs) (i .rest))
 
   -- a whole word
   run-name : (n : Text) (K : Stack) (r : Text) → Ident n → Follow r → run G (start K) (n ++ r) ≡ run G (behind (named G [] n) K) r

@@ -5,7 +5,8 @@ use Prim.Native.Nat.{ℕ, zero, suc}
 use mathlib.Core.List.{List, [], _∷_, List·Memᴰ}
 use mathlib.Core.Option.{Option, none, some}
 use mathlib.Core.Bool.{Bool, true, false, cond}
-use lib.Dec.{eqb, eqb→eq}
+use borrow.Author.Tests.{eqb-true}
+use lib.Dec.{eqb}
 use lib.ListN.{length}
 use native.Mathlib.Omega.{arith}
 use Rattle.parse_tree.specs.Tree.{Text, Leaf, Around, Over, Sym, Syms, ambiguous, bare, quoted, regex, nonterminal, lookahead, lookbehind, error, repeat, choose, name, macro, group, leaf, around, over, nil, cons, count, Nonterminal, item}
@@ -15,7 +16,7 @@ use Rattle.grammar.specs.Phrases.{token, bareToken, pcons}
 use Rattle.grammar.specs.Meaning.{isTerminal, named, meanAround, meanOver, mean, means}
 use Rattle.grammar.specs.Resolve.{Def, terminalDef, nonterminalDef, argumentDef, globals, lookup, rewriteAmbiguousId, validateNonterminal, validateMacro, validateLeaf, validateOver, validateSymbol, validateSymbols}
 use Rattle.grammar.specs.Premises.{UnresolvedLeaf, NamedAround, NamedOver, UnresolvedSym, UnresolvedSyms}
-use Rattle.meaning.proofs.Basics.{is-T, no≢yes, yes-inj, after-yes}
+use Rattle.meaning.proofs.Basics.{no≢yes, yes-inj, after-yes}
 use Rattle.meaning.proofs.Predicates.{Ident, IdentAround, Arity, Okay, OkayOver, Okays}
 use Rattle.meaning.proofs.Idents.{ident-of}
 use Rattle.meaning.proofs.Globals.{Distinct, no-terminal}
@@ -168,7 +169,7 @@ module _ (U R : Tree) (dis : Distinct [] (globals U)) (same-terminals : (n : Tex
           (d′, g′, q′ ∙ q, subst (λ (z : List Text). z ≢ []) (sym p′) (some-arguments j (d .args) f), subst (λ (z : List Text). Arity z ys) (sym p′) (arity-of (d .args) ys (sym f ∙ t ∙ sym c)), i)
 
       counted : (b : Bool) → eqb (suc j) k ≡ b → cond b (yes tt) (no 12 s) ≡ yes u → Found U ps n (nonterminalDef (suc j)) → OkayOver R ps (macro n) ys
-      counted true t z f = go (eqb→eq (suc j) k (is-T (eqb (suc j) k) t)) f
+      counted true t z f = go (eqb-true (suc j) k t) f
       counted false t z f = absurd (no≢yes _ _ _ z)
   macro-okay s n ys k c i (some argumentDef) l u e = absurd (no≢yes _ _ _ e)
 

@@ -1,7 +1,7 @@
 -- The expanded tree has, for each name in it, the item that the name's symbol says; so it derives what the tree derives. Assumes nothing.
 use mathlib.Core.Path.{_≡_, refl, sym, ap, _∙_, subst}
 use mathlib.Core.Logic.{_⊎_, inl, inr, _↔_}
-use mathlib.Core.Bool.{true, false, _||_, false≢true}
+use mathlib.Core.Bool.{true, false, _||_, false≢true, or-false}
 use mathlib.Core.List.{List, [], _∷_, _++_, List·Memᴰ, List·Memᴰ·not-nil, List·Memᴰ·append-cases}
 use mathlib.Core.Option.{none}
 use Prim.Native.Nat.{ℕ, zero, suc}
@@ -12,14 +12,14 @@ use Rattle.grammar.specs.Phrases.{Token, Phrases, reference}
 use Rattle.grammar.specs.Meaning.{isTerminal, means, Step, s-plain, s-level, Derives-expanded}
 use Rattle.grammar.specs.Macros.{Expander, replaceItems, drain, atLimit, unlessDone, rounds, withoutMacros, macros}
 use Rattle.grammar.specs.Premises.{HasItem, Flat}
-use Rattle.meaning.proofs.Basics.{no≢yes, yes-inj, after-yes}
+use Rattle.meaning.proofs.Basics.{no≢yes, yes-inj, after-yes, terminal-append}
 use Rattle.meaning.proofs.Predicates.{Okays, Resolved}
 use Rattle.meaning.proofs.Sources.{Name, Srcs}
 use Rattle.meaning.proofs.Certificate.{FlatSrcs, Made, Rel, r-name, sound, complete}
 use Rattle.meaning.proofs.Replacing.{Key, items-keys, AllKnown, Sourced, Replaced, items-made, items-sayings, items-terminals}
 use Rattle.meaning.proofs.Arguments.{plain-name, okays-src}
 use Rattle.meaning.proofs.Expanding.{expanded-made}
-use Rattle.meaning.proofs.Draining.{bears, drain-in, drain-out, drain-terminals, has-left, has-right, has-replaced, terminal-append, or-false, plain-in, plain-has, plain-terminals}
+use Rattle.meaning.proofs.Draining.{bears, drain-in, drain-out, drain-terminals, has-left, has-right, has-replaced, plain-in, plain-has, plain-terminals}
 
 -- ---- one round
 abbrev begin : List Text → Expander

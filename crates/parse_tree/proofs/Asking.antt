@@ -1,6 +1,6 @@
 -- The questions of one command: what passes them is read, and what is read has passed them. Assumes nothing.
 use mathlib.Core.Path.{_≡_, refl}
-use mathlib.Core.Bool.{Bool, true, false, _&&_, false≢true}
+use mathlib.Core.Bool.{Bool, true, false, _&&_, false≢true, and-eq-true-iff}
 use mathlib.Core.List.{List}
 use Prim.Native.Nat.{ℕ, _≤_}
 use borrow.Author.Tests.{le-leb}
@@ -19,7 +19,6 @@ use Rattle.parse_tree.specs.declared.syntax.Node.{Node}
 use Rattle.parse_tree.proofs.NodeFits.{NodeFits, TextFits, NodeSays, Stands}
 use Rattle.parse_tree.proofs.NodeSays.{node-says}
 use Rattle.parse_tree.proofs.NodeBack.{node-back}
-use Rattle.parse_tree.proofs.TextLaws.{both}
 use Rattle.parse_tree.proofs.ReadingLaws.{never, then-got, Found, found-as}
 
 -- every operand fits its width, is defined, and its text suits its use
@@ -58,7 +57,7 @@ module _ (four : Bool) (w : ℕ) (s : List ℕ) (ts : List Text) (place left : �
       let x = pick-got (allowedAt place (classOf (nodeAt w s a))) _ 2 a q in
       let y = pick-got (defined (length ts) (nodeAt w s a) && leb 1 left) _ 3 a (x .1) in
       let z = pick-got (pick four (suits ts (nodeAt w s a)) true) _ 4 a (y .1) in
-      let d = both (defined (length ts) (nodeAt w s a)) (leb 1 left) (y .0) .0 in
+      let d = and-eq-true-iff (defined (length ts) (nodeAt w s a)) (leb 1 left) .0 (y .0) .0 in
       let h = stands (length ts) w s a (nodeAt w s a) d (node-says w s a b) in
       found-as (z .1) (record { lies = h .lies; within = record { fits = h .fits; known = d; apt = z .0 } })
 

@@ -1,6 +1,6 @@
 -- From commands to the tree: what passes the questions is within its limits, and its command is the one that was read. Assumes nothing.
 use mathlib.Core.Path.{_≡_, refl, sym, ap}
-use mathlib.Core.Bool.{Bool, true, false, _&&_}
+use mathlib.Core.Bool.{Bool, true, false, _&&_, and-eq-true-iff}
 use mathlib.Core.List.{List, []}
 use mathlib.Core.Logic.{_⊎_, inl, inr}
 use mathlib.Core.Option.{Option}
@@ -29,13 +29,13 @@ use Rattle.parse_tree.specs.declared.syntax.NonterminalData.{Nonterminal
 use Rattle.parse_tree.specs.declared.syntax.TerminalData.{TerminalData}
 use Rattle.parse_tree.specs.declared.syntax.SymbolKind.{SymbolKind}
 use Rattle.parse_tree.specs.declared.syntax.Node.{Node}
-use Rattle.parse_tree.proofs.TextLaws.{both, has-text, number-text}
+use Rattle.parse_tree.proofs.TextLaws.{has-text, number-text}
 use Rattle.parse_tree.proofs.Asking.{Passes}
 
 -- ---- question 4, if it is asked
 apt-each : (four a b : Bool) → pick four (a && b) true ≡ true → (pick four a true ≡ true) × (pick four b true ≡ true)
 unfolding pick
-apt-each true a b p = both a b p
+apt-each true a b p = and-eq-true-iff a b .0 p
 apt-each false a b p = (refl, refl)
 
 -- ---- codes
@@ -99,14 +99,14 @@ module _ (four : Bool) (w : ℕ) (ts : List Text) (d : distinct ts ≡ true) whe
   around-within s (AroundNode.Repeat k) p = (tt, ap AroundNode.Repeat (op-code k (p .known)))
   around-within s AroundNode.Choose p = (tt, refl)
   around-within s (AroundNode.Name m a) p =
-      let k = both (leb m 1) (ltb (a .0) (length ts)) (p .known) in
+      let k = and-eq-true-iff (leb m 1) (ltb (a .0) (length ts)) .0 (p .known) in
       let u = text-uses isName (a .0) (p .fits .1 .1) (k .1) (p .apt) in
       (u .0, rw (u .1, bit-code m (k .0)))
 
   pub over-within : (s : Span) (o : OverNode) → Passes four w ts (Node.Symbol s (SymbolKind.Over o)) → OverWithin four w ts (overOf ts o) (insideOf o) × (overNode ts (overOf ts o) (insideOf o) ≡ o)
   unfolding overOf overNode insideOf defined symbolDefined suits symbolSuits
   over-within s (OverNode.Macro a n) p =
-      let k = both (ltb (a .0) (length ts)) (leb 1 n) (p .known) in
+      let k = and-eq-true-iff (ltb (a .0) (length ts)) (leb 1 n) .0 (p .known) in
       let u = text-uses isName (a .0) (p .fits .1 .0) (k .0) (p .apt) in
       ((u .0, leb-true 1 n (k .1), p .fits .1 .1), rw (u .1))
   over-within s (OverNode.Group n) p = (p .fits .1, refl)
@@ -119,13 +119,13 @@ module _ (four : Bool) (w : ℕ) (ts : List Text) (d : distinct ts ≡ true) whe
   attribute-with : (i k m n : ℕ) → Passes four w ts (Node.Attribute (attributeBy i k m n)) → AttributeWithin four w ts (attributeOf ts (attributeBy i k m n)) × (attributeNode ts (attributeOf ts (attributeBy i k m n)) ≡ Node.Attribute (attributeBy i k m n))
   unfolding attributeOf attributeNode defined attributeDefined suits pick
   attribute-with i zero m n p =
-      let (h, l) = both (ltb i (length ts)) (eqb m 0 && eqb n 0) (p .known) in
-      let (x, y) = both (eqb m 0) (eqb n 0) l in
+      let (h, l) = and-eq-true-iff (ltb i (length ts)) (eqb m 0 && eqb n 0) .0 (p .known) in
+      let (x, y) = and-eq-true-iff (eqb m 0) (eqb n 0) .0 l in
       let u = text-uses isName i (p .fits .0) h (apt-each four (isName (getD ts i [])) true (p .apt) .0) in
       ((u .0, tt), cc (u .1, eqb-true m 0 x, eqb-true n 0 y))
   attribute-with i (suc zero) m n p =
-      let (h, l) = both (ltb i (length ts)) (ltb m (length ts) && ltb n (length ts)) (p .known) in
-      let (x, y) = both (ltb m (length ts)) (ltb n (length ts)) l in
+      let (h, l) = and-eq-true-iff (ltb i (length ts)) (ltb m (length ts) && ltb n (length ts)) .0 (p .known) in
+      let (x, y) = and-eq-true-iff (ltb m (length ts)) (ltb n (length ts)) .0 l in
       let (q, r) = apt-each four (isName (getD ts i [])) (isAscii (getD ts m []) && isAscii (getD ts n [])) (p .apt) in
       let (a, b) = apt-each four (isAscii (getD ts m [])) (isAscii (getD ts n [])) r in
       let u = text-uses isName i (p .fits .0) h q in
@@ -133,8 +133,8 @@ module _ (four : Bool) (w : ℕ) (ts : List Text) (d : distinct ts ≡ true) whe
       let z = text-uses isAscii n (p .fits .3) y b in
       ((u .0, (v .0, z .0)), cc (u .1, v .1, z .1))
   attribute-with i (suc (suc k)) m n p =
-      let (h, l) = both (ltb i (length ts)) _ (p .known) in
-      absurd (omega (arith, leb-true (suc (suc k)) 1 (both (leb (suc (suc k)) 1) _ l .0)))
+      let (h, l) = and-eq-true-iff (ltb i (length ts)) _ .0 (p .known) in
+      absurd (omega (arith, leb-true (suc (suc k)) 1 (and-eq-true-iff (leb (suc (suc k)) 1) _ .0 l .0)))
 
   pub attribute-within : (a : AttributeNode) → Passes four w ts (Node.Attribute a) → AttributeWithin four w ts (attributeOf ts a) × (attributeNode ts (attributeOf ts a) ≡ Node.Attribute a)
   attribute-within a p = attribute-with (a .id .0) (a .kind) (a .key .0) (a .value .0) p
@@ -142,8 +142,8 @@ module _ (four : Bool) (w : ℕ) (ts : List Text) (d : distinct ts ≡ true) whe
   pub condition-within : (c : ConditionNode) → Passes four w ts (Node.Condition c) → ConditionWithin four w ts (conditionOf ts c) × (conditionNode ts (conditionOf ts c) ≡ Node.Condition c)
   unfolding conditionOf conditionNode defined suits
   condition-within c p =
-      let (h, l) = both (ltb (c .lhs .0) (length ts)) _ (p .known) in
-      let (x, y) = both (leb (c .op) 1) _ l in
+      let (h, l) = and-eq-true-iff (ltb (c .lhs .0) (length ts)) _ .0 (p .known) in
+      let (x, y) = and-eq-true-iff (leb (c .op) 1) _ .0 l in
       let (q, r) = apt-each four (isName (getD ts (c .lhs .0) [])) _ (p .apt) in
       let u = text-uses isName (c .lhs .0) (p .fits .1) h q in
       let v = text-uses isLiteral (c .rhs .0) (p .fits .3) y r in
@@ -161,12 +161,12 @@ module _ (four : Bool) (w : ℕ) (ts : List Text) (d : distinct ts ≡ true) whe
   action-within (suc (suc (suc zero))) k f p q = (tt, refl, sym (eqb-true k 0 p))
   action-within (suc (suc (suc (suc zero)))) k f p q = (tt, refl, sym (eqb-true k 0 p))
   action-within (suc (suc (suc (suc (suc c))))) k f p q =
-      absurd (omega (arith, leb-true (suc (suc (suc (suc (suc c))))) 4 (both (leb (suc (suc (suc (suc (suc c))))) 4) _ p .0)))
+      absurd (omega (arith, leb-true (suc (suc (suc (suc (suc c))))) 4 (and-eq-true-iff (leb (suc (suc (suc (suc (suc c))))) 4) _ .0 p .0)))
 
   -- ---- alternatives and items: what stands inside is as many as the command says
   pub one-condition : (n : AlternativeNode) → Passes four w ts (Node.Alternative n) → n .conditions ≤ 1
   unfolding defined alternativeDefined
-  one-condition n p = leb-true (n .conditions) 1 (both (leb (n .conditions) 1) _ (p .known) .0)
+  one-condition n p = leb-true (n .conditions) 1 (and-eq-true-iff (leb (n .conditions) 1) _ .0 (p .known) .0)
 
   pub alternative-within : (n : AlternativeNode) (as' : List Attribute) (o : Option Condition) (xs : Syms) → Passes four w ts (Node.Alternative n)
       → Each (AttributeWithin four w ts) as' → length as' ≡ n .attributes → Each (ConditionWithin four w ts) (conditions o) → length (conditions o) ≡ n .conditions
@@ -174,7 +174,7 @@ module _ (four : Bool) (w : ℕ) (ts : List Text) (d : distinct ts ≡ true) whe
       → AlternativeWithin four w ts (alternativeOf ts n as' o xs) × (alternativeNode ts (alternativeOf ts n as' o xs) ≡ Node.Alternative n)
   unfolding alternativeOf alternativeNode defined alternativeDefined suits
   alternative-within n as' o xs p a i c j h k =
-      let (u, v, x) = action-within (n .action) (n .text .0) (p .fits .4) (both (leb (n .conditions) 1) _ (p .known) .1) (p .apt) in (
+      let (u, v, x) = action-within (n .action) (n .text .0) (p .fits .4) (and-eq-true-iff (leb (n .conditions) 1) _ .0 (p .known) .1) (p .apt) in (
         record { span = p .fits .0; few = rw i (p .fits .1); attributes = a; condition = c; action = u; fewer = rw k (p .fits .5); symbols = h },
         rw (i, j, k, v, x),
       )
@@ -184,7 +184,7 @@ module _ (four : Bool) (w : ℕ) (ts : List Text) (d : distinct ts ≡ true) whe
       → NonterminalWithin four w ts (nonterminalOf ts n args alts) × (nonterminalNode ts (nonterminalOf ts n args alts) ≡ Node.Nonterminal n)
   unfolding nonterminalOf nonterminalNode defined suits
   nonterminal-within n args alts p a i b j =
-      let (k, f) = both (ltb (n .name .0) (length ts)) (leb (n .flags) 3) (p .known) in
+      let (k, f) = and-eq-true-iff (ltb (n .name .0) (length ts)) (leb (n .flags) 3) .0 (p .known) in
       let u = text-uses isName (n .name .0) (p .fits .1) k (p .apt) in (
         record { span = p .fits .0; name = u .0; few = rw i (p .fits .3); args = a; fewer = rw j (p .fits .4); alternatives = b },
         rw (i, j, u .1, flags-code (n .flags) f),

@@ -1,6 +1,6 @@
 -- The laws of texts in a list: whether one is there, its number, and that no two are equal. Assumes nothing.
 use mathlib.Core.Path.{_≡_, refl, sym, ap, _∙_}
-use mathlib.Core.Bool.{Bool, true, false, _&&_, _||_, not, false≢true}
+use mathlib.Core.Bool.{Bool, true, false, _&&_, _||_, not, false≢true, and-eq-true-iff}
 use mathlib.Core.List.{List, [], _∷_, _++_}
 use Prim.Native.Nat.{ℕ, zero, suc, _<_}
 use native.Mathlib.Omega.{arith}
@@ -14,11 +14,10 @@ use Rattle.parse_tree.specs.Texts.{has, number, distinct}
 
 -- ---- two tests at once
 pub both : (a b : Bool) → (a && b) ≡ true → (a ≡ true) × (b ≡ true)
-both true b p = (refl, p)
-both false b p = absurd (false≢true p)
+both a b = and-eq-true-iff a b .0
 
 pub and-both : (a b : Bool) → a ≡ true → b ≡ true → (a && b) ≡ true
-and-both a b p q = cc
+and-both a b p q = and-eq-true-iff a b .1 (p, q)
 
 -- ---- the number of a text that is there
 pub number-below : (ts : List Text) (x : Text) → has x ts ≡ true → number ts x < length ts
@@ -61,12 +60,12 @@ unfolding has number distinct
 number-text [] k d h = absurd (omega arith)
 number-text (t ∷ ts) zero d h = cc (sameAs-refl t)
 number-text (t ∷ ts) (suc k) d h =
-    go (sameAs t (getD ts k [])) refl (number-text ts k (both (not (has t ts)) (distinct ts) d .1) (omega arith))
+    go (sameAs t (getD ts k [])) refl (number-text ts k (and-eq-true-iff (not (has t ts)) (distinct ts) .0 d .1) (omega arith))
   where
     go : (b : Bool) → sameAs t (getD ts k []) ≡ b → number ts (getD ts k []) ≡ k → (elim b [ true ↦ 0 | false ↦ suc (number ts (getD ts k [])) ]) ≡ suc k
     go true e f =
         let i = sameAs-eq t (getD ts k []) e in
-        let n = not-true (has t ts) (both (not (has t ts)) (distinct ts) d .0) in
+        let n = not-true (has t ts) (and-eq-true-iff (not (has t ts)) (distinct ts) .0 d .0) in
         let y = has-text ts k (omega arith) in
         absurd (false≢true (cc))
     go false e f = ap suc f
@@ -87,7 +86,7 @@ pub distinct-apart : (ts : List Text) (x : Text) (us : List Text) → distinct (
 unfolding has distinct
 distinct-apart [] x us d = refl
 distinct-apart (t ∷ ts) x us d =
-    let (a, c) = both (not (has t (ts ++ (x ∷ us)))) (distinct (ts ++ (x ∷ us))) d in
+    let (a, c) = and-eq-true-iff (not (has t (ts ++ (x ∷ us)))) (distinct (ts ++ (x ∷ us))) .0 d in
     go (sameAs t x) refl (not-true (has t (ts ++ (x ∷ us))) a) (distinct-apart ts x us c)
   where
     go : (b : Bool) → sameAs t x ≡ b → has t (ts ++ (x ∷ us)) ≡ false → has x ts ≡ false → (elim b [ true ↦ true | false ↦ has x ts ]) ≡ false
@@ -101,7 +100,7 @@ pub distinct-more : (ts : List Text) (x : Text) → distinct ts ≡ true → has
 unfolding has distinct
 distinct-more [] x d n = refl
 distinct-more (t ∷ ts) x d n =
-    let (a, c) = both (not (has t ts)) (distinct ts) d in
+    let (a, c) = and-eq-true-iff (not (has t ts)) (distinct ts) .0 d in
     go (sameAs t x) refl n (not-true (has t ts) a) (distinct-more ts x c)
   where
     apart : (b : Bool) → sameAs x t ≡ b → sameAs t x ≡ false → sameAs x t ≡ false

@@ -1,6 +1,7 @@
 -- From the tree to its commands: what is within its limits passes the questions, and its operands give it back. Assumes nothing.
 use mathlib.Core.Path.{_≡_, refl, ap}
 use mathlib.Core.Bool.{Bool, true, false, _&&_}
+use mathlib.Mathlib.Data.Bool.Basic.{and-intro}
 use mathlib.Core.List.{List, []}
 use mathlib.Core.Logic.{inl, inr}
 use mathlib.Core.Option.{Option, none, some}
@@ -23,7 +24,7 @@ use Rattle.parse_tree.specs.declared.syntax.Span.{Span}
 use Rattle.parse_tree.specs.declared.syntax.Attribute.{Attribute as AttributeNode}
 use Rattle.parse_tree.specs.declared.syntax.SymbolKind.{SymbolKind}
 use Rattle.parse_tree.specs.declared.syntax.Node.{Node}
-use Rattle.parse_tree.proofs.TextLaws.{and-both, number-ltb, text-number}
+use Rattle.parse_tree.proofs.TextLaws.{number-ltb, text-number}
 use Rattle.parse_tree.proofs.Asking.{Passes}
 
 -- ---- question 4, if it is asked
@@ -34,7 +35,7 @@ free false = refl
 
 apt-both : (four a b : Bool) → pick four a true ≡ true → pick four b true ≡ true → pick four (a && b) true ≡ true
 unfolding pick
-apt-both true a b p q = and-both a b p q
+apt-both true a b p q = and-intro p q
 apt-both false a b p q = refl
 
 -- ---- operands that are no texts
@@ -104,7 +105,7 @@ module _ (four : Bool) (w : ℕ) (ts : List Text) where
   unfolding overNode defined symbolDefined suits symbolSuits
   over-passes s (macro x) n h u = record {
     fits = (h, (u .0 .1, u .2));
-    known = and-both _ _ (number-ltb ts x (u .0 .0)) (le-leb 1 n (u .1));
+    known = and-intro (number-ltb ts x (u .0 .0)) (le-leb 1 n (u .1));
     apt = apt-text isName x (u .0);
   }
   over-passes s group n h u = record { fits = (h, u); known = refl; apt = free four }
@@ -133,7 +134,7 @@ module _ (four : Bool) (w : ℕ) (ts : List Text) where
     refl,
     record {
       fits = (u .1, omega arith, one-le-pow w 256 (omega arith), one-le-pow w 256 (omega arith));
-      known = and-both _ _ (number-ltb ts i (u .0)) refl;
+      known = and-intro (number-ltb ts i (u .0)) refl;
       apt = apt-both four _ _ (apt-text isName i u) (free four);
     },
     rw (text-number ts i (u .0)),
@@ -143,7 +144,7 @@ module _ (four : Bool) (w : ℕ) (ts : List Text) where
     refl,
     record {
       fits = (u .1, omega arith, v .0 .1, v .1 .1);
-      known = and-both _ _ (number-ltb ts i (u .0)) (and-both _ _ (number-ltb ts (kv .0) (v .0 .0)) (number-ltb ts (kv .1) (v .1 .0)));
+      known = and-intro (number-ltb ts i (u .0)) (and-intro (number-ltb ts (kv .0) (v .0 .0)) (number-ltb ts (kv .1) (v .1 .0)));
       apt = apt-both four _ _ (apt-text isName i u) (apt-both four _ _ (apt-text isAscii (kv .0) (v .0)) (apt-text isAscii (kv .1) (v .1)));
     },
     rw (text-number ts i (u .0), text-number ts (kv .0) (v .0 .0), text-number ts (kv .1) (v .1 .0)),
@@ -155,7 +156,7 @@ module _ (four : Bool) (w : ℕ) (ts : List Text) where
       let o = equal-code (c .equal) .0 in
       record {
         fits = (h .span, h .lhs .1, omega arith, h .rhs .1);
-        known = and-both _ _ (number-ltb ts (c .lhs) (h .lhs .0)) (and-both _ _ (le-leb _ 1 o) (number-ltb ts (c .rhs) (h .rhs .0)));
+        known = and-intro (number-ltb ts (c .lhs) (h .lhs .0)) (and-intro (le-leb _ 1 o) (number-ltb ts (c .rhs) (h .rhs .0)));
         apt = apt-both four _ _ (apt-text isName (c .lhs) (h .lhs)) (apt-text isLiteral (c .rhs) (h .rhs));
       }
 
@@ -188,7 +189,7 @@ module _ (four : Bool) (w : ℕ) (ts : List Text) where
   alternative-passes a h =
       let (c, t, k, z) = action-passes (a .action) (h .action) in
       let o = one-condition (a .condition) in
-      record { fits = (h .span, h .few, omega arith, c, t, h .fewer); known = and-both _ _ (le-leb (length (conditions (a .condition))) 1 o) k; apt = z }
+      record { fits = (h .span, h .few, omega arith, c, t, h .fewer); known = and-intro (le-leb (length (conditions (a .condition))) 1 o) k; apt = z }
 
   -- the numbers k of attributes, n of conditions and m of symbols are not asked here
   pub alternative-back : (a : Alternative) (k n m : ℕ) → AlternativeWithin four w ts a
@@ -203,7 +204,7 @@ module _ (four : Bool) (w : ℕ) (ts : List Text) where
       let f = flags (d .inline) (d .public) .0 in
       record {
         fits = (h .span, h .name .1, omega arith, h .few, h .fewer);
-        known = and-both _ _ (number-ltb ts (d .name) (h .name .0)) (le-leb _ 3 f);
+        known = and-intro (number-ltb ts (d .name) (h .name .0)) (le-leb _ 3 f);
         apt = apt-text isName (d .name) (h .name);
       }
 

@@ -1,6 +1,6 @@
 -- The loop of `known`: a chain passes every atom of its bucket, from the last to the first. Assumes nothing.
 use mathlib.Core.Path.{_≡_, refl, sym, ap, _∙_}
-use mathlib.Core.Bool.{Bool, true, false, _||_}
+use mathlib.Core.Bool.{Bool, true, false, _||_, or-true, or-false}
 use mathlib.Core.List.{List, [], _∷_, _++_}
 use Prim.Native.Nat.{ℕ, zero, suc, _+_, _*_, _-_, _^_, _<_, _≤_}
 use native.Mathlib.Omega.{arith}
@@ -32,14 +32,6 @@ has-snoc x (y ∷ ts) t = go (sameAs y x) (has-snoc x ts t)
     go : (b : Bool) → has x (ts ++ (t ∷ [])) ≡ has x ts || sameAs t x → elim b [ true ↦ true | false ↦ has x (ts ++ (t ∷ [])) ] ≡ elim b [ true ↦ true | false ↦ has x ts ] || sameAs t x
     go true i = refl
     go false i = i
-
-or-true : (x : Bool) → x || true ≡ true
-or-true true = refl
-or-true false = refl
-
-or-false : (x : Bool) → x || false ≡ x
-or-false true = refl
-or-false false = refl
 
 module _ (s : List ℕ) (c b : ℕ) where
   last-le : (k : ℕ) → last s c b k ≤ k

@@ -1,6 +1,6 @@
 -- The class of a text is found from the least class of its bytes. Assumes nothing.
 use mathlib.Core.Path.{_≡_, refl, sym, _∙_}
-use mathlib.Core.Bool.{Bool, true, false, _||_}
+use mathlib.Core.Bool.{Bool, true, false, or-false}
 use mathlib.Core.List.{List}
 use Prim.Native.Nat.{ℕ, _+_, _-_, _<_, _≤_}
 use native.Mathlib.Omega.{arith}
@@ -35,10 +35,6 @@ module _ (b : ℕ) where
   pub to-z : 90 < b → (b ≡ 95 → ⊥) → 97 ≤ b → leb b 122 ≡ startsName b
   unfolding startsName
   to-z g n h = simp (lt-leb b 90 g, le-leb 97 b h, ne-eqb b 95 n, le-leb 65 b (omega arith)) (sym (or-false (leb b 122)))
-    where
-      or-false : (x : Bool) → x || false ≡ x
-      or-false true = refl
-      or-false false = refl
 
   pub name-start : (x : Bool) → x ≡ startsName b → x ≡ true → true ≡ inName b
   unfolding inName

@@ -1,6 +1,7 @@
 -- What the least class of a text's bytes says of the text: the ways out of `class_of`. Assumes nothing.
 use mathlib.Core.Path.{_≡_, refl, sym, ap, ap₂, _∙_}
-use mathlib.Core.Bool.{Bool, true, false, _&&_, not}
+use mathlib.Core.Bool.{Bool, true, false, _&&_, not, false≢true, and-true, and-assoc}
+use mathlib.Mathlib.Data.Bool.Basic.{and-elim-right}
 use mathlib.Core.List.{List, [], _∷_}
 use Prim.Native.Nat.{ℕ, _+_, _-_, _<_, _≤_}
 use native.Mathlib.Omega.{arith}
@@ -33,17 +34,9 @@ lesser-leb j m n = go (ltb m n) refl (leb j m) refl (leb j n) refl
 least-leb : (j m : ℕ) (t : Text) → leb j (least m t) ≡ leb j m && every (λ b. leb j (byteClass b)) t
 unfolding least every
 least-leb j m [] = sym (and-true (leb j m))
-  where
-    and-true : (x : Bool) → x && true ≡ x
-    and-true true = refl
-    and-true false = refl
 least-leb j m (b ∷ bs) =
     least-leb j (lesser m (byteClass b)) bs ∙ ap (λ (x : Bool). x && every (λ b. leb j (byteClass b)) bs) (lesser-leb j m (byteClass b))
     ∙ and-assoc (leb j m) (leb j (byteClass b)) (every (λ b. leb j (byteClass b)) bs)
-  where
-    and-assoc : (x y z : Bool) → (x && y) && z ≡ x && (y && z)
-    and-assoc true y z = refl
-    and-assoc false y z = refl
 
 -- ---- what a byte's class says
 low-no-name : (b : ℕ) → b < 48 → inName b ≡ false
@@ -101,24 +94,13 @@ module _ (t : Text) where
   least-name : leb 3 (least 3 t) ≡ every inName t
   least-name = least-leb 3 3 t ∙ every-same (λ b. leb 3 (byteClass b)) inName byte-3 t
 
-and-left : (x y : Bool) → x && y ≡ true → x ≡ true
-and-left true y e = refl
-and-left false y e = e
-
-and-right : (x y : Bool) → x && y ≡ true → y ≡ true
-and-right true y e = e
-and-right false y e = go e
-  where
-    go : false ≡ true → y ≡ true
-    go e = absurd (let z : _≡_ {A = ℕ} 0 1 = cc in omega arith)
-
 name-every : (t : Text) → every inName t ≡ false → isName t ≡ false
 unfolding isName nameBytes every inName
 name-every [] e = refl
 name-every (b ∷ bs) e = go (startsName b) refl (every inName bs) refl
   where
     go : (x : Bool) → startsName b ≡ x → (y : Bool) → every inName bs ≡ y → (x && y) && (not (sameAs (b ∷ bs) mutText) && not (sameAs (b ∷ bs) errorText)) ≡ false
-    go true p true q = absurd (let z : _≡_ {A = Bool} false true = sym e ∙ simp (p, q) in let u : _≡_ {A = ℕ} 0 1 = cc in omega arith)
+    go true p true q = absurd (false≢true (sym e ∙ simp (p, q)))
     go true p false q = refl
     go false p y q = refl
 
@@ -160,7 +142,7 @@ is-error t e = rw e (go (nameBytes t) (sameAs t mutText))
 -- a text of name bytes that starts as a name and is neither `mut` nor `error`
 is-name : (b : ℕ) (bs : Text) → startsName b ≡ true → every inName (b ∷ bs) ≡ true → sameAs (b ∷ bs) mutText ≡ false → sameAs (b ∷ bs) errorText ≡ false → 3 ≡ textClass (b ∷ bs)
 unfolding textClass isName nameBytes every pick
-is-name b bs x y u v = simp (x, and-right (inName b) (every inName bs) y, u, v)
+is-name b bs x y u v = simp (x, and-elim-right (inName b) (every inName bs) y, u, v)
 
 -- ---- of the part of a tape from a to e
 module _ (s : List ℕ) (a e m : ℕ) (p : m ≡ least 3 (part a e s)) (h : 3 ≤ m) where
@@ -197,7 +179,7 @@ name-all t h = go (every inName t) refl
   where
     go : (x : Bool) → every inName t ≡ x → every inName t ≡ true
     go true e = e
-    go false e = absurd (let z : _≡_ {A = Bool} false true = sym (name-every t e) ∙ h in let u : _≡_ {A = ℕ} 0 1 = cc in omega arith)
+    go false e = absurd (false≢true (sym (name-every t e) ∙ h))
 
 name-literal : (t : Text) → isName t ≡ true → isLiteral t ≡ true
 name-literal t h = sym (least-literal t) ∙ le-leb 2 (least 3 t) (omega (arith, leb-true 3 (least 3 t) (least-name t ∙ name-all t h)))
