@@ -76,6 +76,10 @@ fn attribute(id: &str, arg: AttributeArg) -> Attribute {
     Attribute { id_span: Span(0, 0), id: Atom::from(id), arg }
 }
 
+fn other_than(place: usize, names: &[&'static str]) -> Vec<&'static str> {
+    names.iter().enumerate().filter(|&(index, _)| index != place).map(|(_, name)| *name).collect()
+}
+
 impl Grower<'_> {
     fn goes_wild(&mut self) -> bool {
         self.chance.percent(self.wild)
@@ -109,7 +113,7 @@ impl Grower<'_> {
             let name = self.new_name(&NAMES, &taken);
             let count = if self.chance.percent(40) { 1 + self.chance.under(2) } else { 0 };
             // arguments named like nonterminals, so that one put in can be taken for the next
-            let like_others = taken.len() > 1 && self.chance.percent(60);
+            let like_others = taken.len() > 1 && self.chance.percent(75);
             let pool = if like_others { &taken[..] } else { &ARGUMENTS };
             let mut args = vec![];
             for _ in 0..count {
@@ -309,12 +313,19 @@ impl Grower<'_> {
             self.chance.one_of(&macros)
         };
         let count = if self.goes_wild() { 1 + self.chance.under(3) } else { head.args.len() };
-        let args = (0..count).map(|_| self.argument(depth)).collect();
+        let args = (0..count).map(|place| self.argument(depth, &other_than(place, &head.args))).collect();
         SymbolKind::Macro(MacroSymbol { name: nonterminal_string(head.name), args })
     }
 
-    /// Often a quoted literal, since conditions ask for one.
-    fn argument(&mut self, depth: usize) -> Symbol {
+    /// Often a quoted literal, since conditions ask for one; often a nonterminal that bears another parameter's name, which putting
+    /// that one in must not catch.
+    fn argument(&mut self, depth: usize, others: &[&'static str]) -> Symbol {
+        let plain = |name: &&&str| self.heads.iter().any(|head| head.args.is_empty() && head.name == **name);
+        let namesakes: Vec<&str> = others.iter().filter(plain).copied().collect();
+        if !namesakes.is_empty() && self.chance.percent(80) {
+            let kind = SymbolKind::AmbiguousId(Atom::from(self.chance.one_of(&namesakes)));
+            return Symbol { span: self.span(), kind };
+        }
         if self.chance.percent(55) {
             let kind = SymbolKind::Terminal(TerminalString::quoted(self.literal()));
             return Symbol { span: self.span(), kind };
