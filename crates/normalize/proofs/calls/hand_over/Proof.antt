@@ -9,27 +9,21 @@ use Rattle.octets.proofs.sink.put_run.Reads as put-run-reads
 enum-told : tie.Need-enum-told
 enum-told c = search needs
 
--- src/calls.rt:20:21
 enum-known-r : tie.Need-enum-known-r
 enum-known-r c = search needs
 
--- src/calls.rt:22:30
 add-put-run : tie.Need-add-put-run
 add-put-run c = search handing
 
--- src/calls.rt:22:13
 put-run-requires : tie.Need-put-run-requires
 put-run-requires c κs = search handing
 
--- src/calls.rt:14:1
 returns : tie.Need-returns
 returns c = search handing
 
--- src/calls.rt:14:1
 same-length : tie.Need-same-length
 same-length c = search needs
 
--- src/calls.rt:14:1
 returns-2 : tie.Need-returns-2
 returns-2 c = search handing
 

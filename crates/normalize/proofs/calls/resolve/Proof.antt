@@ -9,39 +9,30 @@ use Rattle.normalize.proofs.resolving.resolve_stage.Reads as resolve-st
 use Rattle.normalize.proofs.room.enough.Reads as enough-reads
 use Rattle.octets.proofs.runs.clear.Reads as clear-reads
 
--- src/calls.rt:31:8
 enough-requires : tie.Need-enough-requires
 enough-requires c κs = search needs
 
--- src/calls.rt:32:13
 resolve-stage-requires : tie.Need-resolve-stage-requires
 resolve-stage-requires c κs = search calling
 
--- src/calls.rt:33:28
 mul-hand-over : tie.Need-mul-hand-over
 mul-hand-over c = search calling
 
--- src/calls.rt:33:9
 hand-over-requires : tie.Need-hand-over-requires
 hand-over-requires c κs = search calling
 
--- src/calls.rt:34:9
 clear-requires : tie.Need-clear-requires
 clear-requires c κs = search needs
 
--- src/calls.rt:28:1
 same-length : tie.Need-same-length
 same-length c = search needs
 
--- src/calls.rt:28:1
 same-length-2 : tie.Need-same-length-2
 same-length-2 c = search needs
 
--- src/calls.rt:28:1
 returns : tie.Need-returns
 returns c = search calling
 
--- src/calls.rt:28:1
 returns-2 : tie.Need-returns-2
 returns-2 c = search calling
 

@@ -8,55 +8,42 @@ use Rattle.normalize.proofs.calls.resolve.Reads as resolve-reads
 use Rattle.normalize.proofs.export.wide.Reads as wide-reads
 use Rattle.normalize.proofs.export.word.Reads as word-reads
 
--- src/export.rt:31:11
 resolve-requires : tie.Need-resolve-requires
 resolve-requires c κs = search needs
 
--- src/export.rt:32:21
 enum-known-n : tie.Need-enum-known-n
 enum-known-n c = search needs
 
--- src/export.rt:33:27
 word-requires : tie.Need-word-requires
 word-requires c κs = search needs
 
--- src/export.rt:35:20
 enum-known-q : tie.Need-enum-known-q
 enum-known-q c = search needs
 
--- src/export.rt:36:27
 wide-requires : tie.Need-wide-requires
 wide-requires c κs = search needs
 
--- src/export.rt:36:36
 word-requires-2 : tie.Need-word-requires-2
 word-requires-2 c κs = search needs
 
--- src/export.rt:36:45
 word-requires-3 : tie.Need-word-requires-3
 word-requires-3 c κs = search needs
 
--- src/export.rt:22:1
 same-length : tie.Need-same-length
 same-length c = search needs
 
--- src/export.rt:22:1
 same-length-2 : tie.Need-same-length-2
 same-length-2 c = search needs
 
--- src/export.rt:22:1
 returns : tie.Need-returns
 returns c = search exporting
 
--- src/export.rt:22:1
 same-length-3 : tie.Need-same-length-3
 same-length-3 c = search needs
 
--- src/export.rt:22:1
 same-length-4 : tie.Need-same-length-4
 same-length-4 c = search needs
 
--- src/export.rt:22:1
 returns-2 : tie.Need-returns-2
 returns-2 c = search exporting
 

@@ -7,35 +7,27 @@ use Rattle.normalize.proofs.resolving.resolve_stage.Lts as lts
 use Rattle.normalize.proofs.resolving.resolve_valid.Reads as resolve-valid-reads
 use Rattle.validate.proofs.entry.validate.Reads as validate-reads
 
--- src/resolving.rt:24:11
 validate-requires : tie.Need-validate-requires
 validate-requires c κs = search needs
 
--- src/resolving.rt:25:28
 enum-known-q : tie.Need-enum-known-q
 enum-known-q c = search needs
 
--- src/resolving.rt:26:26
 enum-known-a : tie.Need-enum-known-a
 enum-known-a c = search needs
 
--- src/resolving.rt:26:36
 resolve-valid-requires : tie.Need-resolve-valid-requires
 resolve-valid-requires c κs = search stages
 
--- src/resolving.rt:20:1
 same-length : tie.Need-same-length
 same-length c = search needs
 
--- src/resolving.rt:20:1
 returns : tie.Need-returns
 returns c = search stages
 
--- src/resolving.rt:20:1
 same-length-2 : tie.Need-same-length-2
 same-length-2 c = search needs
 
--- src/resolving.rt:20:1
 returns-2 : tie.Need-returns-2
 returns-2 c = search needs
 

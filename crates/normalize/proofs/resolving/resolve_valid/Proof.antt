@@ -8,51 +8,39 @@ use Rattle.resolve.proofs.whole.resolve.Reads as resolve-reads
 use Rattle.normalize.proofs.room.judge.Reads as judge-reads
 use Rattle.octets.proofs.wide.from32.Reads as from32-reads
 
--- src/resolving.rt:28:14
 mul-to : tie.Need-mul-to
 mul-to c = search needs
 
--- src/resolving.rt:33:14
 add-t11 : tie.Need-add-t11
 add-t11 c = search needs
 
--- src/resolving.rt:36:11
 resolve-requires : tie.Need-resolve-requires
 resolve-requires c κs = search validated
 
--- src/resolving.rt:37:25
 enum-known-q : tie.Need-enum-known-q
 enum-known-q c = search needs
 
--- src/resolving.rt:37:48
 from32-requires : tie.Need-from32-requires
 from32-requires c κs = search needs
 
--- src/resolving.rt:37:61
 from32-requires-2 : tie.Need-from32-requires-2
 from32-requires-2 c κs = search needs
 
--- src/resolving.rt:38:25
 enum-known-e : tie.Need-enum-known-e
 enum-known-e c = search needs
 
--- src/resolving.rt:38:31
 judge-requires : tie.Need-judge-requires
 judge-requires c κs = search validated
 
--- src/resolving.rt:24:1
 same-length : tie.Need-same-length
 same-length c = search needs
 
--- src/resolving.rt:24:1
 returns : tie.Need-returns
 returns c = search validated
 
--- src/resolving.rt:24:1
 same-length-2 : tie.Need-same-length-2
 same-length-2 c = search needs
 
--- src/resolving.rt:24:1
 returns-2 : tie.Need-returns-2
 returns-2 c = search validated
 

@@ -5,19 +5,15 @@ use Rattle.normalize.proofs.room.judge.Tie as tie
 use Rattle.normalize.proofs.room.judge.Reads as reads
 use Rattle.normalize.proofs.room.judge.Lts as lts
 
--- src/room.rt:25:9
 returns : tie.Need-returns
 returns c = search rooms
 
--- src/room.rt:28:9
 returns-2 : tie.Need-returns-2
 returns-2 c = search rooms
 
--- src/room.rt:30:17
 sub-t6 : tie.Need-sub-t6
 sub-t6 c = search needs
 
--- src/room.rt:20:1
 returns-3 : tie.Need-returns-3
 returns-3 c = search rooms
 

@@ -15,35 +15,27 @@ Inv-loop src out₀ to q₀ i₀ out q i = length out ≡ length out₀
 abbrev μ-loop : tie.MeasureT-loop
 μ-loop src out₀ to q₀ i₀ out q i = length src - i
 
--- src/bytes.rt:56:5
 loop-holds : tie.Need-loop-holds Inv-loop μ-loop
 loop-holds c = search needs
 
--- src/bytes.rt:57:30
 shared-slice-read-put-pair : tie.Need-shared-slice-read-put-pair Inv-loop μ-loop
 shared-slice-read-put-pair c = search needs
 
--- src/bytes.rt:57:9
 put-pair-requires : tie.Need-put-pair-requires Inv-loop μ-loop
 put-pair-requires c κs = search needs
 
--- src/bytes.rt:58:9
 add-i : tie.Need-add-i Inv-loop μ-loop
 add-i c = search needs
 
--- src/bytes.rt:56:5
 loop-less : tie.Need-loop-less Inv-loop μ-loop
 loop-less c = search needs
 
--- src/bytes.rt:56:5
 loop-again : tie.Need-loop-again Inv-loop μ-loop
 loop-again c = search needs
 
--- src/bytes.rt:53:1
 same-length : tie.Need-same-length Inv-loop μ-loop
 same-length c = search needs
 
--- src/bytes.rt:53:1
 returns : tie.Need-returns Inv-loop μ-loop
 returns c = search needs
 

@@ -11,75 +11,57 @@ use Rattle.resolve.proofs.scopes.code.Reads as code-reads
 use Rattle.texts.proofs.entries.get.Reads as get-reads
 use Rattle.texts.proofs.entries.put.Reads as put-reads
 
--- src/globals.rt:71:9
 from32-requires : tie.Need-from32-requires
 from32-requires c κs = search needs
 
--- src/globals.rt:73:9
 returns : tie.Need-returns
 returns c = search declaring
 
--- src/globals.rt:75:44
 add-get : tie.Need-add-get
 add-get c = search needs
 
--- src/globals.rt:75:34
 get-requires : tie.Need-get-requires
 get-requires c κs = search needs
 
--- src/globals.rt:75:26
 by-code-requires : tie.Need-by-code-requires
 by-code-requires c κs = search needs
 
--- src/globals.rt:75:19
 enum-known-old : tie.Need-enum-known-old
 enum-known-old c = search needs
 
--- src/globals.rt:76:13
 enum-told : tie.Need-enum-told
 enum-told c = search needs
 
--- src/globals.rt:76:19
 add-put : tie.Need-add-put
 add-put c = search needs
 
--- src/globals.rt:76:31
 code-requires : tie.Need-code-requires
 code-requires c κs = search needs
 
--- src/globals.rt:76:9
 put-requires : tie.Need-put-requires
 put-requires c κs = search needs
 
--- src/globals.rt:77:9
 same-length : tie.Need-same-length
 same-length c = search needs
 
--- src/globals.rt:77:9
 returns-2 : tie.Need-returns-2
 returns-2 c = search declaring
 
--- src/globals.rt:79:8
 description-requires : tie.Need-description-requires
 description-requires c κs = search needs
 
--- src/globals.rt:79:26
 description-requires-2 : tie.Need-description-requires-2
 description-requires-2 c κs = search needs
 
--- src/globals.rt:80:9
 same-length-2 : tie.Need-same-length-2
 same-length-2 c = search needs
 
--- src/globals.rt:80:9
 returns-3 : tie.Need-returns-3
 returns-3 c = search declaring
 
--- src/globals.rt:67:1
 same-length-3 : tie.Need-same-length-3
 same-length-3 c = search needs
 
--- src/globals.rt:67:1
 returns-4 : tie.Need-returns-4
 returns-4 c = search declaring
 

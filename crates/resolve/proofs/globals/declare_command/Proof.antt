@@ -9,59 +9,45 @@ use Rattle.parse_tree.proofs.size.size.Reads as size-reads
 use Rattle.resolve.proofs.globals.declare.Reads as declare-reads
 use Rattle.resolve.proofs.globals.global.Reads as global-reads
 
--- src/globals.rt:90:9
 node-requires : tie.Need-node-requires
 node-requires c κs = search needs
 
--- src/globals.rt:91:18
 size-requires : tie.Need-size-requires
 size-requires c κs = search needs
 
--- src/globals.rt:91:13
 add-e : tie.Need-add-e
 add-e c = search commanding
 
--- src/globals.rt:92:32
 global-requires : tie.Need-global-requires
 global-requires c κs = search needs
 
--- src/globals.rt:92:20
 enum-known-id : tie.Need-enum-known-id
 enum-known-id c = search needs
 
--- src/globals.rt:93:9
 enum-told : tie.Need-enum-told
 enum-told c = search needs
 
--- src/globals.rt:93:9
 returns : tie.Need-returns
 returns c = search commanding
 
--- src/globals.rt:95:11
 declare-requires : tie.Need-declare-requires
 declare-requires c κs = search commanding
 
--- src/globals.rt:96:26
 enum-told-2 : tie.Need-enum-told-2
 enum-told-2 c = search needs
 
--- src/globals.rt:97:26
 enum-known-q : tie.Need-enum-known-q
 enum-known-q c = search needs
 
--- src/globals.rt:86:1
 same-length : tie.Need-same-length
 same-length c = search needs
 
--- src/globals.rt:86:1
 returns-2 : tie.Need-returns-2
 returns-2 c = search commanding
 
--- src/globals.rt:86:1
 same-length-2 : tie.Need-same-length-2
 same-length-2 c = search needs
 
--- src/globals.rt:86:1
 returns-3 : tie.Need-returns-3
 returns-3 c = search commanding
 

@@ -13,51 +13,39 @@ Inv-loop tape work₀ m which at p₀ work p = Scanning m tape work₀ which at 
 abbrev μ-loop : tie.MeasureT-loop
 μ-loop tape work₀ m which at p₀ work p = length tape - p
 
--- src/globals.rt:107:5
 loop-holds : tie.Need-loop-holds Inv-loop μ-loop
 loop-holds c = search scanning
 
--- src/globals.rt:108:15
 declare-command-requires : tie.Need-declare-command-requires Inv-loop μ-loop
 declare-command-requires c κs = search scanning
 
--- src/globals.rt:109:29
 enum-known-q : tie.Need-enum-known-q Inv-loop μ-loop
 enum-known-q c = search scanning
 
--- src/globals.rt:110:17
 same-length : tie.Need-same-length Inv-loop μ-loop
 same-length c = search scanning
 
--- src/globals.rt:110:17
 returns : tie.Need-returns Inv-loop μ-loop
 returns c = search scanning
 
--- src/globals.rt:112:26
 enum-known-e : tie.Need-enum-known-e Inv-loop μ-loop
 enum-known-e c = search scanning
 
--- src/globals.rt:114:21
 same-length-2 : tie.Need-same-length-2 Inv-loop μ-loop
 same-length-2 c = search scanning
 
--- src/globals.rt:114:21
 returns-2 : tie.Need-returns-2 Inv-loop μ-loop
 returns-2 c = search scanning
 
--- src/globals.rt:107:5
 loop-less : tie.Need-loop-less Inv-loop μ-loop
 loop-less c = search scanning
 
--- src/globals.rt:107:5
 loop-again : tie.Need-loop-again Inv-loop μ-loop
 loop-again c = search scanning
 
--- src/globals.rt:102:1
 same-length-3 : tie.Need-same-length-3 Inv-loop μ-loop
 same-length-3 c = search scanning
 
--- src/globals.rt:102:1
 returns-3 : tie.Need-returns-3 Inv-loop μ-loop
 returns-3 c = search scanning
 

@@ -5,31 +5,24 @@ use Rattle.resolve.proofs.globals.description.Tie as tie
 use Rattle.resolve.proofs.globals.description.Reads as reads
 use Rattle.resolve.proofs.globals.description.Lts as lts
 
--- src/globals.rt:30:26
 enum-told : tie.Need-enum-told
 enum-told c = search needs
 
--- src/globals.rt:31:26
 enum-known-d : tie.Need-enum-known-d
 enum-known-d c = search needs
 
--- src/globals.rt:33:17
 returns : tie.Need-returns
 returns c = search describing
 
--- src/globals.rt:37:26
 enum-told-2 : tie.Need-enum-told-2
 enum-told-2 c = search needs
 
--- src/globals.rt:26:1
 returns-2 : tie.Need-returns-2
 returns-2 c = search describing
 
--- src/globals.rt:26:1
 returns-3 : tie.Need-returns-3
 returns-3 c = search describing
 
--- src/globals.rt:26:1
 returns-4 : tie.Need-returns-4
 returns-4 c = search describing
 

@@ -6,35 +6,27 @@ use Rattle.resolve.proofs.globals.global.Reads as reads
 use Rattle.resolve.proofs.globals.global.Lts as lts
 use Rattle.octets.proofs.wide.from8.Reads as from8-reads
 
--- src/globals.rt:46:27
 enum-known-n : tie.Need-enum-known-n
 enum-known-n c = search needs
 
--- src/globals.rt:48:17
 returns : tie.Need-returns
 returns c = search declared
 
--- src/globals.rt:52:49
 from8-requires : tie.Need-from8-requires
 from8-requires c κs = search needs
 
--- src/globals.rt:54:24
 enum-known-n-2 : tie.Need-enum-known-n-2
 enum-known-n-2 c = search needs
 
--- src/globals.rt:56:17
 returns-2 : tie.Need-returns-2
 returns-2 c = search declared
 
--- src/globals.rt:42:1
 returns-3 : tie.Need-returns-3
 returns-3 c = search declared
 
--- src/globals.rt:42:1
 returns-4 : tie.Need-returns-4
 returns-4 c = search declared
 
--- src/globals.rt:42:1
 returns-5 : tie.Need-returns-5
 returns-5 c = search declared
 

@@ -6,19 +6,15 @@ use Rattle.resolve.proofs.items.marked.Reads as reads
 use Rattle.resolve.proofs.items.marked.Lts as lts
 use Rattle.texts.proofs.entries.get.Reads as get-reads
 
--- src/items.rt:124:15
 add-get : tie.Need-add-get
 add-get c = search needs
 
--- src/items.rt:124:15
 add-get-2 : tie.Need-add-get-2
 add-get-2 c = search needs
 
--- src/items.rt:124:5
 get-requires : tie.Need-get-requires
 get-requires c κs = search needs
 
--- src/items.rt:120:1
 returns : tie.Need-returns
 returns c = search marking
 

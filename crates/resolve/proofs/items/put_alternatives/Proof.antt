@@ -7,19 +7,15 @@ use Rattle.resolve.proofs.items.put_alternatives.Lts as lts
 use Rattle.octets.proofs.sink.put_run.Reads as put-run-reads
 use Rattle.resolve.proofs.items.validate_alternatives.Reads as validate-alternatives-reads
 
--- src/items.rt:174:9
 put-run-requires : tie.Need-put-run-requires
 put-run-requires c κs = search needs
 
--- src/items.rt:175:5
 validate-alternatives-requires : tie.Need-validate-alternatives-requires
 validate-alternatives-requires c κs = search listing
 
--- src/items.rt:162:1
 same-length : tie.Need-same-length
 same-length c = search needs
 
--- src/items.rt:162:1
 returns : tie.Need-returns
 returns c = search listing
 

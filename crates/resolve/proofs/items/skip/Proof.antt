@@ -12,35 +12,27 @@ Inv-loop tape width n at p₀ k₀ p k = Skips width tape n at k p
 abbrev μ-loop : tie.MeasureT-loop
 μ-loop tape width n at p₀ k₀ p k = k
 
--- src/items.rt:34:5
 loop-holds : tie.Need-loop-holds Inv-loop μ-loop
 loop-holds c = search skipping
 
--- src/items.rt:35:13
 node-requires : tie.Need-node-requires Inv-loop μ-loop
 node-requires c κs = search skipping
 
--- src/items.rt:36:14
 size-requires : tie.Need-size-requires Inv-loop μ-loop
 size-requires c κs = search skipping
 
--- src/items.rt:36:9
 add-p : tie.Need-add-p Inv-loop μ-loop
 add-p c = search skipping
 
--- src/items.rt:37:9
 sub-k : tie.Need-sub-k Inv-loop μ-loop
 sub-k c = search skipping
 
--- src/items.rt:34:5
 loop-less : tie.Need-loop-less Inv-loop μ-loop
 loop-less c = search skipping
 
--- src/items.rt:34:5
 loop-again : tie.Need-loop-again Inv-loop μ-loop
 loop-again c = search skipping
 
--- src/items.rt:28:1
 returns : tie.Need-returns Inv-loop μ-loop
 returns c = search skipping
 

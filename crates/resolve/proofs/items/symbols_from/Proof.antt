@@ -8,19 +8,15 @@ use Rattle.octets.proofs.wide.from8.Reads as from8-reads
 use Rattle.resolve.proofs.items.skip.Reads as skip-reads
 use Rattle.resolve.proofs.items.validate_conditions.Reads as validate-conditions-reads
 
--- src/items.rt:65:33
 from8-requires : tie.Need-from8-requires
 from8-requires c κs = search needs
 
--- src/items.rt:65:9
 skip-requires : tie.Need-skip-requires
 skip-requires c κs = search needs
 
--- src/items.rt:66:5
 validate-conditions-requires : tie.Need-validate-conditions-requires
 validate-conditions-requires c κs = search needs
 
--- src/items.rt:61:1
 returns : tie.Need-returns
 returns c = search starting
 

@@ -13,51 +13,39 @@ Inv-loop tape work₀ m at to p₀ q₀ work p q = Placing m tape at work₀ to 
 abbrev μ-loop : tie.MeasureT-loop
 μ-loop tape work₀ m at to p₀ q₀ work p q = length tape - p
 
--- src/items.rt:216:5
 loop-holds : tie.Need-loop-holds Inv-loop μ-loop
 loop-holds c = search placing
 
--- src/items.rt:217:15
 validate-item-requires : tie.Need-validate-item-requires Inv-loop μ-loop
 validate-item-requires c κs = search placing
 
--- src/items.rt:218:29
 enum-known-c : tie.Need-enum-known-c Inv-loop μ-loop
 enum-known-c c = search placing
 
--- src/items.rt:219:17
 same-length : tie.Need-same-length Inv-loop μ-loop
 same-length c = search placing
 
--- src/items.rt:219:17
 returns : tie.Need-returns Inv-loop μ-loop
 returns c = search placing
 
--- src/items.rt:221:26
 enum-known-e : tie.Need-enum-known-e Inv-loop μ-loop
 enum-known-e c = search placing
 
--- src/items.rt:223:21
 same-length-2 : tie.Need-same-length-2 Inv-loop μ-loop
 same-length-2 c = search placing
 
--- src/items.rt:223:21
 returns-2 : tie.Need-returns-2 Inv-loop μ-loop
 returns-2 c = search placing
 
--- src/items.rt:216:5
 loop-less : tie.Need-loop-less Inv-loop μ-loop
 loop-less c = search placing
 
--- src/items.rt:216:5
 loop-again : tie.Need-loop-again Inv-loop μ-loop
 loop-again c = search placing
 
--- src/items.rt:210:1
 same-length-3 : tie.Need-same-length-3 Inv-loop μ-loop
 same-length-3 c = search placing
 
--- src/items.rt:210:1
 returns-3 : tie.Need-returns-3 Inv-loop μ-loop
 returns-3 c = search placing
 

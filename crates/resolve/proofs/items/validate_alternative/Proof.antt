@@ -12,63 +12,48 @@ use Rattle.parse_tree.proofs.size.size.Reads as size-reads
 use Rattle.resolve.proofs.items.symbols_from.Reads as symbols-from-reads
 use Rattle.resolve.proofs.symbols.validate_expr.Reads as validate-expr-reads
 
--- src/items.rt:74:9
 node-requires : tie.Need-node-requires
 node-requires c κs = search needs
 
--- src/items.rt:75:27
 enum-known-n : tie.Need-enum-known-n
 enum-known-n c = search needs
 
--- src/items.rt:76:9
 returns : tie.Need-returns
 returns c = search alternating
 
--- src/items.rt:78:47
 size-requires : tie.Need-size-requires
 size-requires c κs = search needs
 
--- src/items.rt:78:42
 add-symbols-from : tie.Need-add-symbols-from
 add-symbols-from c = search alternating
 
--- src/items.rt:78:11
 symbols-from-requires : tie.Need-symbols-from-requires
 symbols-from-requires c κs = search alternating
 
--- src/items.rt:79:25
 enum-known-q : tie.Need-enum-known-q
 enum-known-q c = search needs
 
--- src/items.rt:80:22
 enum-known-p : tie.Need-enum-known-p
 enum-known-p c = search needs
 
--- src/items.rt:81:17
 put-run-requires : tie.Need-put-run-requires
 put-run-requires c κs = (search (alternative-from), search (alternative-upto), search alternating)
 
--- src/items.rt:82:45
 from16-requires : tie.Need-from16-requires
 from16-requires c κs = search needs
 
--- src/items.rt:82:13
 validate-expr-requires : tie.Need-validate-expr-requires
 validate-expr-requires c κs = search alternating
 
--- src/items.rt:70:1
 same-length : tie.Need-same-length
 same-length c = search needs
 
--- src/items.rt:70:1
 returns-2 : tie.Need-returns-2
 returns-2 c = search alternating
 
--- src/items.rt:70:1
 same-length-2 : tie.Need-same-length-2
 same-length-2 c = search needs
 
--- src/items.rt:70:1
 returns-3 : tie.Need-returns-3
 returns-3 c = search alternating
 

@@ -14,47 +14,36 @@ Inv-loop tape work₀ m n at to p₀ q₀ k₀ work p q k = Carrying m (alternat
 abbrev μ-loop : tie.MeasureT-loop
 μ-loop tape work₀ m n at to p₀ q₀ k₀ work p q k = k
 
--- src/items.rt:94:5
 loop-holds : tie.Need-loop-holds Inv-loop μ-loop
 loop-holds c = search alternatives
 
--- src/items.rt:95:15
 validate-alternative-requires : tie.Need-validate-alternative-requires Inv-loop μ-loop
 validate-alternative-requires c κs = search alternatives
 
--- src/items.rt:96:26
 enum-known-e : tie.Need-enum-known-e Inv-loop μ-loop
 enum-known-e c = search alternatives
 
--- src/items.rt:99:17
 sub-k : tie.Need-sub-k Inv-loop μ-loop
 sub-k c = search alternatives
 
--- src/items.rt:94:5
 loop-less : tie.Need-loop-less Inv-loop μ-loop
 loop-less c = search alternatives
 
--- src/items.rt:94:5
 loop-again : tie.Need-loop-again Inv-loop μ-loop
 loop-again c = search alternatives
 
--- src/items.rt:101:29
 enum-known-c : tie.Need-enum-known-c Inv-loop μ-loop
 enum-known-c c = search alternatives
 
--- src/items.rt:102:17
 same-length : tie.Need-same-length Inv-loop μ-loop
 same-length c = search alternatives
 
--- src/items.rt:102:17
 returns : tie.Need-returns Inv-loop μ-loop
 returns c = search alternatives
 
--- src/items.rt:80:1
 same-length-2 : tie.Need-same-length-2 Inv-loop μ-loop
 same-length-2 c = search alternatives
 
--- src/items.rt:80:1
 returns-2 : tie.Need-returns-2 Inv-loop μ-loop
 returns-2 c = search alternatives
 

@@ -8,47 +8,36 @@ use Rattle.parse_tree.proofs.node.node.Reads as node-reads
 use Rattle.parse_tree.proofs.size.size.Reads as size-reads
 use Rattle.resolve.proofs.names.validate_condition.Reads as validate-condition-reads
 
--- src/items.rt:48:9
 returns : tie.Need-returns
 returns c = search conditions
 
--- src/items.rt:50:9
 node-requires : tie.Need-node-requires
 node-requires c κs = search needs
 
--- src/items.rt:51:25
 enum-known-x : tie.Need-enum-known-x
 enum-known-x c = search needs
 
--- src/items.rt:52:9
 returns-2 : tie.Need-returns-2
 returns-2 c = search conditions
 
--- src/items.rt:54:11
 validate-condition-requires : tie.Need-validate-condition-requires
 validate-condition-requires c κs = search needs
 
--- src/items.rt:55:26
 enum-known-q : tie.Need-enum-known-q
 enum-known-q c = search needs
 
--- src/items.rt:56:44
 enum-told : tie.Need-enum-told
 enum-told c = search needs
 
--- src/items.rt:56:44
 size-requires : tie.Need-size-requires
 size-requires c κs = search needs
 
--- src/items.rt:56:39
 add-t15 : tie.Need-add-t15
 add-t15 c = search conditions
 
--- src/items.rt:43:1
 returns-3 : tie.Need-returns-3
 returns-3 c = search conditions
 
--- src/items.rt:43:1
 returns-4 : tie.Need-returns-4
 returns-4 c = search conditions
 

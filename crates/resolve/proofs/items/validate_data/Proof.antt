@@ -9,43 +9,33 @@ use Rattle.octets.proofs.wide.from8.Reads as from8-reads
 use Rattle.resolve.proofs.items.put_alternatives.Reads as put-alternatives-reads
 use Rattle.resolve.proofs.items.validate_macro_args.Reads as validate-macro-args-reads
 
--- src/items.rt:192:49
 from8-requires : tie.Need-from8-requires
 from8-requires c κs = search needs
 
--- src/items.rt:192:11
 validate-macro-args-requires : tie.Need-validate-macro-args-requires
 validate-macro-args-requires c κs = search needs
 
--- src/items.rt:193:25
 enum-known-q : tie.Need-enum-known-q
 enum-known-q c = search needs
 
--- src/items.rt:194:22
 enum-known-p : tie.Need-enum-known-p
 enum-known-p c = search needs
 
--- src/items.rt:194:60
 from16-requires : tie.Need-from16-requires
 from16-requires c κs = search needs
 
--- src/items.rt:194:28
 put-alternatives-requires : tie.Need-put-alternatives-requires
 put-alternatives-requires c κs = search replacing
 
--- src/items.rt:179:1
 same-length : tie.Need-same-length
 same-length c = search needs
 
--- src/items.rt:179:1
 returns : tie.Need-returns
 returns c = search replacing
 
--- src/items.rt:179:1
 same-length-2 : tie.Need-same-length-2
 same-length-2 c = search needs
 
--- src/items.rt:179:1
 returns-2 : tie.Need-returns-2
 returns-2 c = search replacing
 

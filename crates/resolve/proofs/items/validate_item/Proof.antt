@@ -9,51 +9,39 @@ use Rattle.parse_tree.proofs.node.node.Reads as node-reads
 use Rattle.parse_tree.proofs.size.size.Reads as size-reads
 use Rattle.resolve.proofs.items.validate_data.Reads as validate-data-reads
 
--- src/items.rt:188:9
 node-requires : tie.Need-node-requires
 node-requires c κs = search needs
 
--- src/items.rt:189:18
 size-requires : tie.Need-size-requires
 size-requires c κs = search needs
 
--- src/items.rt:189:13
 add-e : tie.Need-add-e
 add-e c = search needs
 
--- src/items.rt:192:42
 enum-told : tie.Need-enum-told
 enum-told c = search needs
 
--- src/items.rt:192:17
 put-run-requires : tie.Need-put-run-requires
 put-run-requires c κs = search itemizing
 
--- src/items.rt:195:27
 enum-known-n : tie.Need-enum-known-n
 enum-known-n c = search needs
 
--- src/items.rt:203:13
 validate-data-requires : tie.Need-validate-data-requires
 validate-data-requires c κs = search itemizing
 
--- src/items.rt:184:1
 same-length : tie.Need-same-length
 same-length c = search needs
 
--- src/items.rt:184:1
 returns : tie.Need-returns
 returns c = search itemizing
 
--- src/items.rt:184:1
 same-length-2 : tie.Need-same-length-2
 same-length-2 c = search needs
 
--- src/items.rt:184:1
 returns-2 : tie.Need-returns-2
 returns-2 c = search itemizing
 
--- src/items.rt:184:1
 returns-3 : tie.Need-returns-3
 returns-3 c = search itemizing
 

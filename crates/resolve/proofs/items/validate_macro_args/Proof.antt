@@ -15,87 +15,66 @@ Inv-loop tape work₀ m s n at p₀ k₀ work p k = Marking m tape s n at work�
 abbrev μ-loop : tie.MeasureT-loop
 μ-loop tape work₀ m s n at p₀ k₀ work p k = k
 
--- src/items.rt:141:5
 loop-holds : tie.Need-loop-holds Inv-loop μ-loop
 loop-holds c = search marking
 
--- src/items.rt:142:13
 node-requires : tie.Need-node-requires Inv-loop μ-loop
 node-requires c κs = search marking
 
--- src/items.rt:143:28
 enum-known-x : tie.Need-enum-known-x Inv-loop μ-loop
 enum-known-x c = search marking
 
--- src/items.rt:144:13
 same-length : tie.Need-same-length Inv-loop μ-loop
 same-length c = search marking
 
--- src/items.rt:144:13
 returns : tie.Need-returns Inv-loop μ-loop
 returns c = search marking
 
--- src/items.rt:146:13
 from32-requires : tie.Need-from32-requires Inv-loop μ-loop
 from32-requires c κs = search marking
 
--- src/items.rt:148:13
 same-length-2 : tie.Need-same-length-2 Inv-loop μ-loop
 same-length-2 c = search marking
 
--- src/items.rt:148:13
 returns-2 : tie.Need-returns-2 Inv-loop μ-loop
 returns-2 c = search marking
 
--- src/items.rt:150:12
 marked-requires : tie.Need-marked-requires Inv-loop μ-loop
 marked-requires c κs = search marking
 
--- src/items.rt:151:13
 same-length-3 : tie.Need-same-length-3 Inv-loop μ-loop
 same-length-3 c = search marking
 
--- src/items.rt:151:13
 returns-3 : tie.Need-returns-3 Inv-loop μ-loop
 returns-3 c = search marking
 
--- src/items.rt:153:19
 add-put : tie.Need-add-put Inv-loop μ-loop
 add-put c = search marking
 
--- src/items.rt:153:19
 add-put-2 : tie.Need-add-put-2 Inv-loop μ-loop
 add-put-2 c = search marking
 
--- src/items.rt:153:9
 put-requires : tie.Need-put-requires Inv-loop μ-loop
 put-requires c κs = search marking
 
--- src/items.rt:154:14
 size-requires : tie.Need-size-requires Inv-loop μ-loop
 size-requires c κs = search marking
 
--- src/items.rt:154:9
 add-p : tie.Need-add-p Inv-loop μ-loop
 add-p c = search marking
 
--- src/items.rt:155:9
 sub-k : tie.Need-sub-k Inv-loop μ-loop
 sub-k c = search marking
 
--- src/items.rt:141:5
 loop-less : tie.Need-loop-less Inv-loop μ-loop
 loop-less c = search marking
 
--- src/items.rt:141:5
 loop-again : tie.Need-loop-again Inv-loop μ-loop
 loop-again c = search marking
 
--- src/items.rt:128:1
 same-length-4 : tie.Need-same-length-4 Inv-loop μ-loop
 same-length-4 c = search marking
 
--- src/items.rt:128:1
 returns-4 : tie.Need-returns-4 Inv-loop μ-loop
 returns-4 c = search marking
 

@@ -6,31 +6,24 @@ use Rattle.resolve.proofs.names.validate_condition.Reads as reads
 use Rattle.resolve.proofs.names.validate_condition.Lts as lts
 use Rattle.resolve.proofs.names.validate_id.Reads as validate-id-reads
 
--- src/names.rt:40:11
 validate-id-requires : tie.Need-validate-id-requires
 validate-id-requires c κs = search needs
 
--- src/names.rt:41:21
 enum-known-q : tie.Need-enum-known-q
 enum-known-q c = search needs
 
--- src/names.rt:42:16
 enum-known-d : tie.Need-enum-known-d
 enum-known-d c = search needs
 
--- src/names.rt:43:30
 enum-told : tie.Need-enum-told
 enum-told c = search needs
 
--- src/names.rt:34:1
 returns : tie.Need-returns
 returns c = search naming
 
--- src/names.rt:34:1
 returns-2 : tie.Need-returns-2
 returns-2 c = search naming
 
--- src/names.rt:34:1
 returns-3 : tie.Need-returns-3
 returns-3 c = search naming
 

@@ -6,23 +6,18 @@ use Rattle.resolve.proofs.names.validate_id.Reads as reads
 use Rattle.resolve.proofs.names.validate_id.Lts as lts
 use Rattle.resolve.proofs.scopes.def.Reads as def-reads
 
--- src/names.rt:27:24
 def-requires : tie.Need-def-requires
 def-requires c κs = search needs
 
--- src/names.rt:27:19
 enum-known-d : tie.Need-enum-known-d
 enum-known-d c = search needs
 
--- src/names.rt:28:9
 enum-told : tie.Need-enum-told
 enum-told c = search needs
 
--- src/names.rt:28:9
 returns : tie.Need-returns
 returns c = search naming
 
--- src/names.rt:23:1
 returns-2 : tie.Need-returns-2
 returns-2 c = search naming
 

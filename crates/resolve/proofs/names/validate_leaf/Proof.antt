@@ -7,31 +7,24 @@ use Rattle.resolve.proofs.names.validate_leaf.Lts as lts
 use Rattle.resolve.proofs.names.rewrite_ambiguous_id.Reads as rewrite-ambiguous-id-reads
 use Rattle.resolve.proofs.names.validate_nonterminal.Reads as validate-nonterminal-reads
 
--- src/names.rt:128:27
 enum-known-l : tie.Need-enum-known-l
 enum-known-l c = search needs
 
--- src/names.rt:128:34
 rewrite-ambiguous-id-requires : tie.Need-rewrite-ambiguous-id-requires
 rewrite-ambiguous-id-requires c κs = search needs
 
--- src/names.rt:129:27
 enum-known-l-2 : tie.Need-enum-known-l-2
 enum-known-l-2 c = search needs
 
--- src/names.rt:129:34
 validate-nonterminal-requires : tie.Need-validate-nonterminal-requires
 validate-nonterminal-requires c κs = search needs
 
--- src/names.rt:123:1
 returns : tie.Need-returns
 returns c = search naming
 
--- src/names.rt:123:1
 returns-2 : tie.Need-returns-2
 returns-2 c = search naming
 
--- src/names.rt:123:1
 returns-3 : tie.Need-returns-3
 returns-3 c = search naming
 

@@ -7,43 +7,33 @@ use Rattle.resolve.proofs.names.validate_macro.Lts as lts
 use Rattle.octets.proofs.wide.from8.Reads as from8-reads
 use Rattle.resolve.proofs.names.validate_id.Reads as validate-id-reads
 
--- src/names.rt:74:11
 validate-id-requires : tie.Need-validate-id-requires
 validate-id-requires c κs = search needs
 
--- src/names.rt:75:21
 enum-known-q : tie.Need-enum-known-q
 enum-known-q c = search needs
 
--- src/names.rt:76:16
 enum-known-d : tie.Need-enum-known-d
 enum-known-d c = search needs
 
--- src/names.rt:77:30
 enum-known-d-2 : tie.Need-enum-known-d-2
 enum-known-d-2 c = search needs
 
--- src/names.rt:79:21
 returns : tie.Need-returns
 returns c = search naming
 
--- src/names.rt:81:25
 from8-requires : tie.Need-from8-requires
 from8-requires c κs = search needs
 
--- src/names.rt:82:21
 returns-2 : tie.Need-returns-2
 returns-2 c = search naming
 
--- src/names.rt:70:1
 returns-3 : tie.Need-returns-3
 returns-3 c = search naming
 
--- src/names.rt:70:1
 returns-4 : tie.Need-returns-4
 returns-4 c = search naming
 
--- src/names.rt:70:1
 returns-5 : tie.Need-returns-5
 returns-5 c = search naming
 

@@ -6,23 +6,18 @@ use Rattle.resolve.proofs.names.validate_over.Reads as reads
 use Rattle.resolve.proofs.names.validate_over.Lts as lts
 use Rattle.resolve.proofs.names.validate_macro.Reads as validate-macro-reads
 
--- src/names.rt:97:21
 enum-known-o : tie.Need-enum-known-o
 enum-known-o c = search needs
 
--- src/names.rt:97:31
 validate-macro-requires : tie.Need-validate-macro-requires
 validate-macro-requires c κs = search needs
 
--- src/names.rt:98:27
 enum-told : tie.Need-enum-told
 enum-told c = search needs
 
--- src/names.rt:92:1
 returns : tie.Need-returns
 returns c = search naming
 
--- src/names.rt:92:1
 returns-2 : tie.Need-returns-2
 returns-2 c = search naming
 

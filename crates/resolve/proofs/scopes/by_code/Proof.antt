@@ -7,21 +7,17 @@ use Rattle.resolve.proofs.scopes.by_code.Tie as tie
 use Rattle.resolve.proofs.scopes.by_code.Reads as reads
 use Rattle.resolve.proofs.scopes.by_code.Lts as lts
 
--- src/scopes.rt:30:9
 returns : tie.Need-returns
 unfolding foundBy pick
 returns c = search tests
 
--- src/scopes.rt:33:9
 returns-2 : tie.Need-returns-2
 unfolding foundBy pick
 returns-2 c = search tests
 
--- src/scopes.rt:35:32
 sub-t4 : tie.Need-sub-t4
 sub-t4 c = search needs
 
--- src/scopes.rt:26:1
 returns-3 : tie.Need-returns-3
 unfolding foundBy pick
 returns-3 c = search tests

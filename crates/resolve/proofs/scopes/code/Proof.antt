@@ -5,31 +5,24 @@ use Rattle.resolve.proofs.scopes.code.Tie as tie
 use Rattle.resolve.proofs.scopes.code.Reads as reads
 use Rattle.resolve.proofs.scopes.code.Lts as lts
 
--- src/scopes.rt:19:26
 enum-told : tie.Need-enum-told
 enum-told c = search needs
 
--- src/scopes.rt:20:26
 enum-known-d : tie.Need-enum-known-d
 enum-known-d c = search needs
 
--- src/scopes.rt:20:32
 add-result : tie.Need-add-result
 add-result c = search coding
 
--- src/scopes.rt:21:26
 enum-told-2 : tie.Need-enum-told-2
 enum-told-2 c = search needs
 
--- src/scopes.rt:14:1
 returns : tie.Need-returns
 returns c = search coding
 
--- src/scopes.rt:14:1
 returns-2 : tie.Need-returns-2
 returns-2 c = search coding
 
--- src/scopes.rt:14:1
 returns-3 : tie.Need-returns-3
 returns-3 c = search coding
 

@@ -8,43 +8,33 @@ use Rattle.octets.proofs.wide.from32.Reads as from32-reads
 use Rattle.resolve.proofs.scopes.by_code.Reads as by-code-reads
 use Rattle.texts.proofs.entries.get.Reads as get-reads
 
--- src/scopes.rt:43:9
 from32-requires : tie.Need-from32-requires
 from32-requires c κs = search needs
 
--- src/scopes.rt:45:9
 returns : tie.Need-returns
 returns c = search scoping
 
--- src/scopes.rt:47:18
 add-get : tie.Need-add-get
 add-get c = search needs
 
--- src/scopes.rt:47:18
 add-get-2 : tie.Need-add-get-2
 add-get-2 c = search needs
 
--- src/scopes.rt:47:8
 get-requires : tie.Need-get-requires
 get-requires c κs = search needs
 
--- src/scopes.rt:48:9
 returns-2 : tie.Need-returns-2
 returns-2 c = search scoping
 
--- src/scopes.rt:50:23
 add-get-3 : tie.Need-add-get-3
 add-get-3 c = search needs
 
--- src/scopes.rt:50:13
 get-requires-2 : tie.Need-get-requires-2
 get-requires-2 c κs = search needs
 
--- src/scopes.rt:50:5
 by-code-requires : tie.Need-by-code-requires
 by-code-requires c κs = search needs
 
--- src/scopes.rt:39:1
 returns-3 : tie.Need-returns-3
 returns-3 c = search scoping
 

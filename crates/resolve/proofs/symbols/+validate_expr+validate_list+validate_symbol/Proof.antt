@@ -77,84 +77,72 @@ validate-expr-Inv-loop tape work₀ m at n left to p₀ q₀ k₀ work p q k = C
 abbrev validate-expr-μ-loop : validate-expr-lts.MeasureT-loop
 validate-expr-μ-loop tape work₀ m at n left to p₀ q₀ k₀ work p q k = k
 
--- src/symbols.rt:115:5
 validate-expr-loop-holds : (t : ℕ) → validate-expr-lts.Need-loop-holds (
   validate-symbol-below t,
   validate-symbol.Post,
 ) (validate-expr-at t) validate-expr.Post validate-expr-Inv-loop validate-expr-μ-loop
 validate-expr-loop-holds t c = search staging
 
--- src/symbols.rt:116:15
 validate-expr-validate-symbol-requires : (t : ℕ) → validate-expr-lts.Need-validate-symbol-requires (
   validate-symbol-below t,
   validate-symbol.Post,
 ) (validate-expr-at t) validate-expr.Post validate-expr-Inv-loop validate-expr-μ-loop
 validate-expr-validate-symbol-requires t c κs = search staging
 
--- src/symbols.rt:117:26
 validate-expr-enum-known-e : (t : ℕ) → validate-expr-lts.Need-enum-known-e (
   validate-symbol-below t,
   validate-symbol.Post,
 ) (validate-expr-at t) validate-expr.Post validate-expr-Inv-loop validate-expr-μ-loop
 validate-expr-enum-known-e t c = search staging
 
--- src/symbols.rt:120:17
 validate-expr-sub-k : (t : ℕ) → validate-expr-lts.Need-sub-k (
   validate-symbol-below t,
   validate-symbol.Post,
 ) (validate-expr-at t) validate-expr.Post validate-expr-Inv-loop validate-expr-μ-loop
 validate-expr-sub-k t c = search staging
 
--- src/symbols.rt:115:5
 validate-expr-loop-less : (t : ℕ) → validate-expr-lts.Need-loop-less (
   validate-symbol-below t,
   validate-symbol.Post,
 ) (validate-expr-at t) validate-expr.Post validate-expr-Inv-loop validate-expr-μ-loop
 validate-expr-loop-less t c = search staging
 
--- src/symbols.rt:115:5
 validate-expr-loop-again : (t : ℕ) → validate-expr-lts.Need-loop-again (
   validate-symbol-below t,
   validate-symbol.Post,
 ) (validate-expr-at t) validate-expr.Post validate-expr-Inv-loop validate-expr-μ-loop
 validate-expr-loop-again t c = search staging
 
--- src/symbols.rt:122:29
 validate-expr-enum-known-c : (t : ℕ) → validate-expr-lts.Need-enum-known-c (
   validate-symbol-below t,
   validate-symbol.Post,
 ) (validate-expr-at t) validate-expr.Post validate-expr-Inv-loop validate-expr-μ-loop
 validate-expr-enum-known-c t c = search staging
 
--- src/symbols.rt:123:17
 validate-expr-same-length : (t : ℕ) → validate-expr-lts.Need-same-length (
   validate-symbol-below t,
   validate-symbol.Post,
 ) (validate-expr-at t) validate-expr.Post validate-expr-Inv-loop validate-expr-μ-loop
 validate-expr-same-length t c = search staging
 
--- src/symbols.rt:123:17
 validate-expr-returns : (t : ℕ) → validate-expr-lts.Need-returns (
   validate-symbol-below t,
   validate-symbol.Post,
 ) (validate-expr-at t) validate-expr.Post validate-expr-Inv-loop validate-expr-μ-loop
 validate-expr-returns t c = search staging
 
--- src/symbols.rt:100:1
 validate-expr-same-length-2 : (t : ℕ) → validate-expr-lts.Need-same-length-2 (
   validate-symbol-below t,
   validate-symbol.Post,
 ) (validate-expr-at t) validate-expr.Post validate-expr-Inv-loop validate-expr-μ-loop
 validate-expr-same-length-2 t c = search staging
 
--- src/symbols.rt:100:1
 validate-expr-returns-2 : (t : ℕ) → validate-expr-lts.Need-returns-2 (
   validate-symbol-below t,
   validate-symbol.Post,
 ) (validate-expr-at t) validate-expr.Post validate-expr-Inv-loop validate-expr-μ-loop
 validate-expr-returns-2 t c = search staging
 
--- src/symbols.rt:90:11
 validate-list-validate-over-requires : (t : ℕ) → validate-list-lts.Need-validate-over-requires (
   validate-over-reads.Asked,
   validate-over-reads.Learnt,
@@ -167,7 +155,6 @@ validate-list-validate-over-requires : (t : ℕ) → validate-list-lts.Need-vali
 ) (validate-list-at t) validate-list.Post
 validate-list-validate-over-requires t c κs = search staging
 
--- src/symbols.rt:91:26
 validate-list-enum-known-q : (t : ℕ) → validate-list-lts.Need-enum-known-q (
   validate-over-reads.Asked,
   validate-over-reads.Learnt,
@@ -180,7 +167,6 @@ validate-list-enum-known-q : (t : ℕ) → validate-list-lts.Need-enum-known-q (
 ) (validate-list-at t) validate-list.Post
 validate-list-enum-known-q t c = search staging
 
--- src/symbols.rt:93:30
 validate-list-enum-told : (t : ℕ) → validate-list-lts.Need-enum-told (
   validate-over-reads.Asked,
   validate-over-reads.Learnt,
@@ -193,7 +179,6 @@ validate-list-enum-told : (t : ℕ) → validate-list-lts.Need-enum-told (
 ) (validate-list-at t) validate-list.Post
 validate-list-enum-told t c = search staging
 
--- src/symbols.rt:93:17
 validate-list-put-node-requires : (t : ℕ) → validate-list-lts.Need-put-node-requires (
   validate-over-reads.Asked,
   validate-over-reads.Learnt,
@@ -206,7 +191,6 @@ validate-list-put-node-requires : (t : ℕ) → validate-list-lts.Need-put-node-
 ) (validate-list-at t) validate-list.Post
 validate-list-put-node-requires t c κs = search staging
 
--- src/symbols.rt:94:46
 validate-list-inside-requires : (t : ℕ) → validate-list-lts.Need-inside-requires (
   validate-over-reads.Asked,
   validate-over-reads.Learnt,
@@ -219,7 +203,6 @@ validate-list-inside-requires : (t : ℕ) → validate-list-lts.Need-inside-requ
 ) (validate-list-at t) validate-list.Post
 validate-list-inside-requires t c κs = search staging
 
--- src/symbols.rt:94:13
 validate-list-validate-expr-requires : (t : ℕ) → validate-list-lts.Need-validate-expr-requires (
   validate-over-reads.Asked,
   validate-over-reads.Learnt,
@@ -232,7 +215,6 @@ validate-list-validate-expr-requires : (t : ℕ) → validate-list-lts.Need-vali
 ) (validate-list-at t) validate-list.Post
 validate-list-validate-expr-requires t c κs = search staging
 
--- src/symbols.rt:86:1
 validate-list-same-length : (t : ℕ) → validate-list-lts.Need-same-length (
   validate-over-reads.Asked,
   validate-over-reads.Learnt,
@@ -245,7 +227,6 @@ validate-list-same-length : (t : ℕ) → validate-list-lts.Need-same-length (
 ) (validate-list-at t) validate-list.Post
 validate-list-same-length t c = search staging
 
--- src/symbols.rt:86:1
 validate-list-returns : (t : ℕ) → validate-list-lts.Need-returns (
   validate-over-reads.Asked,
   validate-over-reads.Learnt,
@@ -258,7 +239,6 @@ validate-list-returns : (t : ℕ) → validate-list-lts.Need-returns (
 ) (validate-list-at t) validate-list.Post
 validate-list-returns t c = search staging
 
--- src/symbols.rt:86:1
 validate-list-same-length-2 : (t : ℕ) → validate-list-lts.Need-same-length-2 (
   validate-over-reads.Asked,
   validate-over-reads.Learnt,
@@ -271,7 +251,6 @@ validate-list-same-length-2 : (t : ℕ) → validate-list-lts.Need-same-length-2
 ) (validate-list-at t) validate-list.Post
 validate-list-same-length-2 t c = search staging
 
--- src/symbols.rt:86:1
 validate-list-returns-2 : (t : ℕ) → validate-list-lts.Need-returns-2 (
   validate-over-reads.Asked,
   validate-over-reads.Learnt,
@@ -284,7 +263,6 @@ validate-list-returns-2 : (t : ℕ) → validate-list-lts.Need-returns-2 (
 ) (validate-list-at t) validate-list.Post
 validate-list-returns-2 t c = search staging
 
--- src/symbols.rt:70:9
 validate-symbol-returns : (t : ℕ) → validate-symbol-lts.Need-returns (
   symbol-at-reads.Asked,
   symbol-at-reads.Learnt,
@@ -299,7 +277,6 @@ validate-symbol-returns : (t : ℕ) → validate-symbol-lts.Need-returns (
 ) (validate-symbol-at t) validate-symbol.Post
 validate-symbol-returns t c = search staging
 
--- src/symbols.rt:72:33
 validate-symbol-symbol-at-requires : (t : ℕ) → validate-symbol-lts.Need-symbol-at-requires (
   symbol-at-reads.Asked,
   symbol-at-reads.Learnt,
@@ -314,7 +291,6 @@ validate-symbol-symbol-at-requires : (t : ℕ) → validate-symbol-lts.Need-symb
 ) (validate-symbol-at t) validate-symbol.Post
 validate-symbol-symbol-at-requires t c κs = search staging
 
--- src/symbols.rt:72:22
 validate-symbol-enum-known-s : (t : ℕ) → validate-symbol-lts.Need-enum-known-s (
   symbol-at-reads.Asked,
   symbol-at-reads.Learnt,
@@ -329,7 +305,6 @@ validate-symbol-enum-known-s : (t : ℕ) → validate-symbol-lts.Need-enum-known
 ) (validate-symbol-at t) validate-symbol.Post
 validate-symbol-enum-known-s t c = search staging
 
--- src/symbols.rt:73:35
 validate-symbol-enum-told : (t : ℕ) → validate-symbol-lts.Need-enum-told (
   symbol-at-reads.Asked,
   symbol-at-reads.Learnt,
@@ -344,7 +319,6 @@ validate-symbol-enum-told : (t : ℕ) → validate-symbol-lts.Need-enum-told (
 ) (validate-symbol-at t) validate-symbol.Post
 validate-symbol-enum-told t c = search staging
 
--- src/symbols.rt:73:9
 validate-symbol-returns-2 : (t : ℕ) → validate-symbol-lts.Need-returns-2 (
   symbol-at-reads.Asked,
   symbol-at-reads.Learnt,
@@ -359,7 +333,6 @@ validate-symbol-returns-2 : (t : ℕ) → validate-symbol-lts.Need-returns-2 (
 ) (validate-symbol-at t) validate-symbol.Post
 validate-symbol-returns-2 t c = search staging
 
--- src/symbols.rt:76:26
 validate-symbol-enum-known-k : (t : ℕ) → validate-symbol-lts.Need-enum-known-k (
   symbol-at-reads.Asked,
   symbol-at-reads.Learnt,
@@ -374,7 +347,6 @@ validate-symbol-enum-known-k : (t : ℕ) → validate-symbol-lts.Need-enum-known
 ) (validate-symbol-at t) validate-symbol.Post
 validate-symbol-enum-known-k t c = search staging
 
--- src/symbols.rt:76:32
 validate-symbol-put-leaf-requires : (t : ℕ) → validate-symbol-lts.Need-put-leaf-requires (
   symbol-at-reads.Asked,
   symbol-at-reads.Learnt,
@@ -389,7 +361,6 @@ validate-symbol-put-leaf-requires : (t : ℕ) → validate-symbol-lts.Need-put-l
 ) (validate-symbol-at t) validate-symbol.Post
 validate-symbol-put-leaf-requires t c κs = search staging
 
--- src/symbols.rt:78:30
 validate-symbol-enum-told-2 : (t : ℕ) → validate-symbol-lts.Need-enum-told-2 (
   symbol-at-reads.Asked,
   symbol-at-reads.Learnt,
@@ -404,7 +375,6 @@ validate-symbol-enum-told-2 : (t : ℕ) → validate-symbol-lts.Need-enum-told-2
 ) (validate-symbol-at t) validate-symbol.Post
 validate-symbol-enum-told-2 t c = search staging
 
--- src/symbols.rt:78:17
 validate-symbol-put-node-requires : (t : ℕ) → validate-symbol-lts.Need-put-node-requires (
   symbol-at-reads.Asked,
   symbol-at-reads.Learnt,
@@ -419,7 +389,6 @@ validate-symbol-put-node-requires : (t : ℕ) → validate-symbol-lts.Need-put-n
 ) (validate-symbol-at t) validate-symbol.Post
 validate-symbol-put-node-requires t c κs = search staging
 
--- src/symbols.rt:79:47
 validate-symbol-sub-validate-symbol : (t : ℕ) → validate-symbol-lts.Need-sub-validate-symbol (
   symbol-at-reads.Asked,
   symbol-at-reads.Learnt,
@@ -434,7 +403,6 @@ validate-symbol-sub-validate-symbol : (t : ℕ) → validate-symbol-lts.Need-sub
 ) (validate-symbol-at t) validate-symbol.Post
 validate-symbol-sub-validate-symbol t c = search staging
 
--- src/symbols.rt:79:13
 validate-symbol-validate-symbol-requires :
     (t : ℕ) → validate-symbol-lts.Need-validate-symbol-requires (
       symbol-at-reads.Asked,
@@ -450,7 +418,6 @@ validate-symbol-validate-symbol-requires :
     ) (validate-symbol-at t) validate-symbol.Post
 validate-symbol-validate-symbol-requires t c κs = search staging
 
--- src/symbols.rt:81:26
 validate-symbol-enum-known-k-2 : (t : ℕ) → validate-symbol-lts.Need-enum-known-k-2 (
   symbol-at-reads.Asked,
   symbol-at-reads.Learnt,
@@ -465,7 +432,6 @@ validate-symbol-enum-known-k-2 : (t : ℕ) → validate-symbol-lts.Need-enum-kno
 ) (validate-symbol-at t) validate-symbol.Post
 validate-symbol-enum-known-k-2 t c = search staging
 
--- src/symbols.rt:81:70
 validate-symbol-sub-validate-list : (t : ℕ) → validate-symbol-lts.Need-sub-validate-list (
   symbol-at-reads.Asked,
   symbol-at-reads.Learnt,
@@ -480,7 +446,6 @@ validate-symbol-sub-validate-list : (t : ℕ) → validate-symbol-lts.Need-sub-v
 ) (validate-symbol-at t) validate-symbol.Post
 validate-symbol-sub-validate-list t c = search staging
 
--- src/symbols.rt:81:32
 validate-symbol-validate-list-requires : (t : ℕ) → validate-symbol-lts.Need-validate-list-requires (
   symbol-at-reads.Asked,
   symbol-at-reads.Learnt,
@@ -495,7 +460,6 @@ validate-symbol-validate-list-requires : (t : ℕ) → validate-symbol-lts.Need-
 ) (validate-symbol-at t) validate-symbol.Post
 validate-symbol-validate-list-requires t c κs = search staging
 
--- src/symbols.rt:58:1
 validate-symbol-same-length : (t : ℕ) → validate-symbol-lts.Need-same-length (
   symbol-at-reads.Asked,
   symbol-at-reads.Learnt,
@@ -510,7 +474,6 @@ validate-symbol-same-length : (t : ℕ) → validate-symbol-lts.Need-same-length
 ) (validate-symbol-at t) validate-symbol.Post
 validate-symbol-same-length t c = search staging
 
--- src/symbols.rt:58:1
 validate-symbol-returns-3 : (t : ℕ) → validate-symbol-lts.Need-returns-3 (
   symbol-at-reads.Asked,
   symbol-at-reads.Learnt,
@@ -525,7 +488,6 @@ validate-symbol-returns-3 : (t : ℕ) → validate-symbol-lts.Need-returns-3 (
 ) (validate-symbol-at t) validate-symbol.Post
 validate-symbol-returns-3 t c = search staging
 
--- src/symbols.rt:58:1
 validate-symbol-same-length-2 : (t : ℕ) → validate-symbol-lts.Need-same-length-2 (
   symbol-at-reads.Asked,
   symbol-at-reads.Learnt,
@@ -540,7 +502,6 @@ validate-symbol-same-length-2 : (t : ℕ) → validate-symbol-lts.Need-same-leng
 ) (validate-symbol-at t) validate-symbol.Post
 validate-symbol-same-length-2 t c = search staging
 
--- src/symbols.rt:58:1
 validate-symbol-returns-4 : (t : ℕ) → validate-symbol-lts.Need-returns-4 (
   symbol-at-reads.Asked,
   symbol-at-reads.Learnt,
@@ -555,7 +516,6 @@ validate-symbol-returns-4 : (t : ℕ) → validate-symbol-lts.Need-returns-4 (
 ) (validate-symbol-at t) validate-symbol.Post
 validate-symbol-returns-4 t c = search staging
 
--- src/symbols.rt:58:1
 validate-symbol-same-length-3 : (t : ℕ) → validate-symbol-lts.Need-same-length-3 (
   symbol-at-reads.Asked,
   symbol-at-reads.Learnt,
@@ -570,7 +530,6 @@ validate-symbol-same-length-3 : (t : ℕ) → validate-symbol-lts.Need-same-leng
 ) (validate-symbol-at t) validate-symbol.Post
 validate-symbol-same-length-3 t c = search staging
 
--- src/symbols.rt:58:1
 validate-symbol-returns-5 : (t : ℕ) → validate-symbol-lts.Need-returns-5 (
   symbol-at-reads.Asked,
   symbol-at-reads.Learnt,

@@ -7,35 +7,27 @@ use Rattle.resolve.proofs.symbols.put_leaf.Lts as lts
 use Rattle.parse_tree.proofs.put.put_node.Reads as put-node-reads
 use Rattle.resolve.proofs.names.validate_leaf.Reads as validate-leaf-reads
 
--- src/symbols.rt:25:11
 validate-leaf-requires : tie.Need-validate-leaf-requires
 validate-leaf-requires c κs = search needs
 
--- src/symbols.rt:26:28
 enum-known-q : tie.Need-enum-known-q
 enum-known-q c = search needs
 
--- src/symbols.rt:27:23
 enum-known-x : tie.Need-enum-known-x
 enum-known-x c = search needs
 
--- src/symbols.rt:28:17
 put-node-requires : tie.Need-put-node-requires
 put-node-requires c κs = search needs
 
--- src/symbols.rt:21:1
 same-length : tie.Need-same-length
 same-length c = search needs
 
--- src/symbols.rt:21:1
 returns : tie.Need-returns
 returns c = search staging
 
--- src/symbols.rt:21:1
 same-length-2 : tie.Need-same-length-2
 same-length-2 c = search needs
 
--- src/symbols.rt:21:1
 returns-2 : tie.Need-returns-2
 returns-2 c = search staging
 

@@ -7,27 +7,21 @@ use Rattle.resolve.proofs.symbols.symbol_at.Lts as lts
 use Rattle.parse_tree.proofs.node.node.Reads as node-reads
 use Rattle.parse_tree.proofs.size.size.Reads as size-reads
 
--- src/symbols.rt:64:9
 node-requires : tie.Need-node-requires
 node-requires c κs = search needs
 
--- src/symbols.rt:65:22
 enum-known-n : tie.Need-enum-known-n
 enum-known-n c = search needs
 
--- src/symbols.rt:66:9
 returns : tie.Need-returns
 returns c = search staging
 
--- src/symbols.rt:68:29
 size-requires : tie.Need-size-requires
 size-requires c κs = search needs
 
--- src/symbols.rt:68:24
 add-t8 : tie.Need-add-t8
 add-t8 c = search staging
 
--- src/symbols.rt:60:1
 returns-2 : tie.Need-returns-2
 returns-2 c = search staging
 

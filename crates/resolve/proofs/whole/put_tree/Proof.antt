@@ -7,19 +7,15 @@ use Rattle.resolve.proofs.whole.put_tree.Lts as lts
 use Rattle.octets.proofs.sink.put_run.Reads as put-run-reads
 use Rattle.resolve.proofs.items.validate.Reads as validate-reads
 
--- src/whole.rt:19:9
 put-run-requires : tie.Need-put-run-requires
 put-run-requires c κs = search needs
 
--- src/whole.rt:20:5
 validate-requires : tie.Need-validate-requires
 validate-requires c κs = search planting
 
--- src/whole.rt:15:1
 same-length : tie.Need-same-length
 same-length c = search needs
 
--- src/whole.rt:15:1
 returns : tie.Need-returns
 returns c = search planting
 

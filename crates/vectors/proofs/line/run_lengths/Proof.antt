@@ -10,91 +10,69 @@ use Rattle.notation.proofs.words.find.Reads as find-reads
 use Rattle.vectors.proofs.line.print_bad.Reads as print-bad-reads
 use Rattle.vectors.proofs.line.run_sized.Reads as run-sized-reads
 
--- src/line.rt:43:9
 find-requires : tie.Need-find-requires
 find-requires c κs = search needs
 
--- src/line.rt:45:9
 print-bad-requires : tie.Need-print-bad-requires
 print-bad-requires c κs = search needs
 
--- src/line.rt:46:9
 returns : tie.Need-returns
 returns c = search needs
 
--- src/line.rt:48:33
 slice-aggregate-decimal : tie.Need-slice-aggregate-decimal
 slice-aggregate-decimal c = search parts
 
--- src/line.rt:48:25
 decimal-requires : tie.Need-decimal-requires
 decimal-requires c κs = search needs
 
--- src/line.rt:48:20
 enum-known-o : tie.Need-enum-known-o
 enum-known-o c = search needs
 
--- src/line.rt:49:9
 enum-told : tie.Need-enum-told
 enum-told c = search needs
 
--- src/line.rt:49:9
 print-bad-requires-2 : tie.Need-print-bad-requires-2
 print-bad-requires-2 c κs = search needs
 
--- src/line.rt:50:9
 returns-2 : tie.Need-returns-2
 returns-2 c = search needs
 
--- src/line.rt:52:40
 add-decimal : tie.Need-add-decimal
 add-decimal c = search needs
 
--- src/line.rt:52:33
 sub-decimal : tie.Need-sub-decimal
 sub-decimal c = search needs
 
--- src/line.rt:52:33
 part-decimal-start : tie.Need-part-decimal-start
 part-decimal-start c = search needs
 
--- src/line.rt:52:33
 part-decimal-end : tie.Need-part-decimal-end
 part-decimal-end c = search needs
 
--- src/line.rt:52:25
 decimal-requires-2 : tie.Need-decimal-requires-2
 decimal-requires-2 c κs = search needs
 
--- src/line.rt:52:20
 enum-known-w : tie.Need-enum-known-w
 enum-known-w c = search needs
 
--- src/line.rt:53:9
 enum-told-2 : tie.Need-enum-told-2
 enum-told-2 c = search needs
 
--- src/line.rt:53:9
 print-bad-requires-3 : tie.Need-print-bad-requires-3
 print-bad-requires-3 c κs = search needs
 
--- src/line.rt:54:9
 returns-3 : tie.Need-returns-3
 returns-3 c = search needs
 
--- src/line.rt:56:5
 run-sized-requires : tie.Need-run-sized-requires
 run-sized-requires c κs = search needs
 
--- src/line.rt:42:1
 same-length : tie.Need-same-length
 same-length c = search needs
 
--- src/line.rt:42:1
 same-length-2 : tie.Need-same-length-2
 same-length-2 c = search needs
 
--- src/line.rt:42:1
 returns-4 : tie.Need-returns-4
 returns-4 c = search needs
 

@@ -10,79 +10,60 @@ use Rattle.vectors.proofs.line.print_bad.Reads as print-bad-reads
 use Rattle.vectors.proofs.line.read_tape.Reads as read-tape-reads
 use Rattle.vectors.proofs.line.run_lengths.Reads as run-lengths-reads
 
--- src/line.rt:60:9
 find-requires : tie.Need-find-requires
 find-requires c κs = search needs
 
--- src/line.rt:62:9
 print-bad-requires : tie.Need-print-bad-requires
 print-bad-requires c κs = search needs
 
--- src/line.rt:63:9
 returns : tie.Need-returns
 returns c = search needs
 
--- src/line.rt:65:21
 slice-aggregate-read-tape : tie.Need-slice-aggregate-read-tape
 slice-aggregate-read-tape c = search parts
 
--- src/line.rt:65:11
 read-tape-requires : tie.Need-read-tape-requires
 read-tape-requires c κs = search needs
 
--- src/line.rt:67:13
 enum-told : tie.Need-enum-told
 enum-told c = search needs
 
--- src/line.rt:67:13
 print-bad-requires-2 : tie.Need-print-bad-requires-2
 print-bad-requires-2 c κs = search needs
 
--- src/line.rt:69:21
 enum-known-n : tie.Need-enum-known-n
 enum-known-n c = search needs
 
--- src/line.rt:70:31
 add-run-lengths : tie.Need-add-run-lengths
 add-run-lengths c = search needs
 
--- src/line.rt:70:25
 sub-run-lengths : tie.Need-sub-run-lengths
 sub-run-lengths c = search needs
 
--- src/line.rt:70:25
 part-run-lengths-start : tie.Need-part-run-lengths-start
 part-run-lengths-start c = search needs
 
--- src/line.rt:70:25
 part-run-lengths-end : tie.Need-part-run-lengths-end
 part-run-lengths-end c = search needs
 
--- src/line.rt:70:13
 run-lengths-requires : tie.Need-run-lengths-requires
 run-lengths-requires c κs = search needs
 
--- src/line.rt:59:1
 same-length : tie.Need-same-length
 same-length c = search needs
 
--- src/line.rt:59:1
 returns-2 : tie.Need-returns-2
 returns-2 c = search needs
 
--- src/line.rt:59:1
 same-length-2 : tie.Need-same-length-2
 same-length-2 c = search needs
 
--- src/line.rt:59:1
 same-length-3 : tie.Need-same-length-3
 same-length-3 c = search needs
 
--- src/line.rt:59:1
 same-length-4 : tie.Need-same-length-4
 same-length-4 c = search needs
 
--- src/line.rt:59:1
 returns-3 : tie.Need-returns-3
 returns-3 c = search needs
 

@@ -8,63 +8,48 @@ use Rattle.vectors.proofs.line.run_sized.Lts as lts
 use Rattle.vectors.proofs.line.print_bad.Reads as print-bad-reads
 use Rattle.vectors.proofs.report.run_case.Reads as run-case-reads
 
--- src/line.rt:27:9
 print-bad-requires : tie.Need-print-bad-requires
 print-bad-requires c κs = search needs
 
--- src/line.rt:28:9
 returns : tie.Need-returns
 returns c = search needs
 
--- src/line.rt:31:9
 print-bad-requires-2 : tie.Need-print-bad-requires-2
 print-bad-requires-2 c κs = search needs
 
--- src/line.rt:32:9
 returns-2 : tie.Need-returns-2
 returns-2 c = search needs
 
--- src/line.rt:35:9
 print-bad-requires-3 : tie.Need-print-bad-requires-3
 print-bad-requires-3 c κs = search needs
 
--- src/line.rt:36:9
 returns-3 : tie.Need-returns-3
 returns-3 c = search needs
 
--- src/line.rt:38:14
 slice-aggregate-run-case : tie.Need-slice-aggregate-run-case
 slice-aggregate-run-case c = search parts
 
--- src/line.rt:38:26
 slice-relend-prefix-run-case : tie.Need-slice-relend-prefix-run-case
 slice-relend-prefix-run-case c = search needs
 
--- src/line.rt:38:26
 slice-aggregate-run-case-2 : tie.Need-slice-aggregate-run-case-2
 slice-aggregate-run-case-2 c = search parts
 
--- src/line.rt:38:44
 slice-relend-prefix-run-case-2 : tie.Need-slice-relend-prefix-run-case-2
 slice-relend-prefix-run-case-2 c = search needs
 
--- src/line.rt:38:44
 slice-aggregate-run-case-3 : tie.Need-slice-aggregate-run-case-3
 slice-aggregate-run-case-3 c = search parts
 
--- src/line.rt:38:5
 run-case-requires : tie.Need-run-case-requires
 run-case-requires c κs = search needs
 
--- src/line.rt:25:1
 same-length : tie.Need-same-length
 same-length c = search needs
 
--- src/line.rt:25:1
 same-length-2 : tie.Need-same-length-2
 same-length-2 c = search needs
 
--- src/line.rt:25:1
 returns-4 : tie.Need-returns-4
 returns-4 c = search needs
 

@@ -16,55 +16,42 @@ Inv-loop input tape₀ output₀ work₀ at₀ tape output work at = (length tap
 abbrev μ-loop : tie.MeasureT-loop
 μ-loop input tape₀ output₀ work₀ at₀ tape output work at = length input - at
 
--- src/lines.rt:7:5
 loop-holds : tie.Need-loop-holds Inv-loop μ-loop
 loop-holds c = search needs
 
--- src/lines.rt:8:13
 find-requires : tie.Need-find-requires Inv-loop μ-loop
 find-requires c κs = search needs
 
--- src/lines.rt:9:18
 sub-run-line : tie.Need-sub-run-line Inv-loop μ-loop
 sub-run-line c = search needs
 
--- src/lines.rt:9:18
 part-run-line-start : tie.Need-part-run-line-start Inv-loop μ-loop
 part-run-line-start c = search needs
 
--- src/lines.rt:9:18
 part-run-line-end : tie.Need-part-run-line-end Inv-loop μ-loop
 part-run-line-end c = search needs
 
--- src/lines.rt:9:9
 run-line-requires : tie.Need-run-line-requires Inv-loop μ-loop
 run-line-requires c κs = search needs
 
--- src/lines.rt:10:14
 add-at : tie.Need-add-at Inv-loop μ-loop
 add-at c = search needs
 
--- src/lines.rt:7:5
 loop-less : tie.Need-loop-less Inv-loop μ-loop
 loop-less c = search needs
 
--- src/lines.rt:7:5
 loop-again : tie.Need-loop-again Inv-loop μ-loop
 loop-again c = search needs
 
--- src/lines.rt:5:1
 same-length : tie.Need-same-length Inv-loop μ-loop
 same-length c = search needs
 
--- src/lines.rt:5:1
 same-length-2 : tie.Need-same-length-2 Inv-loop μ-loop
 same-length-2 c = search needs
 
--- src/lines.rt:5:1
 same-length-3 : tie.Need-same-length-3 Inv-loop μ-loop
 same-length-3 c = search needs
 
--- src/lines.rt:5:1
 returns : tie.Need-returns Inv-loop μ-loop
 returns c = search needs
 

@@ -8,31 +8,24 @@ use Rattle.vectors.proofs.report.print_bytes.Lts as lts
 use Rattle.io.proofs.write_all.Reads as write-all-reads
 use Rattle.notation.proofs.bytes.put_digits.Reads as put-digits-reads
 
--- src/report.rt:25:31
 slice-aggregate-put-digits : tie.Need-slice-aggregate-put-digits
 slice-aggregate-put-digits c = search needs
 
--- src/report.rt:25:9
 put-digits-requires : tie.Need-put-digits-requires
 put-digits-requires c κs = search needs
 
--- src/report.rt:27:38
 array-share-prefix-text : tie.Need-array-share-prefix-text
 array-share-prefix-text c = search needs
 
--- src/report.rt:27:38
 slice-aggregate-write-all : tie.Need-slice-aggregate-write-all
 slice-aggregate-write-all c = search parts
 
--- src/report.rt:27:9
 write-all-requires : tie.Need-write-all-requires
 write-all-requires c κs = search needs
 
--- src/report.rt:23:1
 returns : tie.Need-returns
 returns c = search needs
 
--- src/report.rt:23:1
 returns-2 : tie.Need-returns-2
 returns-2 c = search needs
 

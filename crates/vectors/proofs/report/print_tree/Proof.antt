@@ -9,71 +9,54 @@ use Rattle.io.proofs.write_all.Reads as write-all-reads
 use Rattle.notation.proofs.buffers.is_all.Reads as is-all-reads
 use Rattle.vectors.proofs.report.print_bytes.Reads as print-bytes-reads
 
--- src/report.rt:34:38
 slice-aggregate-write-all : tie.Need-slice-aggregate-write-all
 slice-aggregate-write-all c = search needs
 
--- src/report.rt:34:9
 write-all-requires : tie.Need-write-all-requires
 write-all-requires c κs = search needs
 
--- src/report.rt:35:9
 returns : tie.Need-returns
 returns c = search needs
 
--- src/report.rt:38:38
 slice-aggregate-write-all-2 : tie.Need-slice-aggregate-write-all-2
 slice-aggregate-write-all-2 c = search needs
 
--- src/report.rt:38:9
 write-all-requires-2 : tie.Need-write-all-requires-2
 write-all-requires-2 c κs = search needs
 
--- src/report.rt:40:38
 slice-aggregate-write-all-3 : tie.Need-slice-aggregate-write-all-3
 slice-aggregate-write-all-3 c = search needs
 
--- src/report.rt:40:9
 write-all-requires-3 : tie.Need-write-all-requires-3
 write-all-requires-3 c κs = search needs
 
--- src/report.rt:42:17
 slice-aggregate-print-bytes : tie.Need-slice-aggregate-print-bytes
 slice-aggregate-print-bytes c = search parts
 
--- src/report.rt:42:5
 print-bytes-requires : tie.Need-print-bytes-requires
 print-bytes-requires c κs = search needs
 
--- src/report.rt:43:16
 sub-is-all : tie.Need-sub-is-all
 sub-is-all c = search needs
 
--- src/report.rt:43:16
 part-is-all-start : tie.Need-part-is-all-start
 part-is-all-start c = search needs
 
--- src/report.rt:43:16
 part-is-all-end : tie.Need-part-is-all-end
 part-is-all-end c = search needs
 
--- src/report.rt:43:9
 is-all-requires : tie.Need-is-all-requires
 is-all-requires c κs = search needs
 
--- src/report.rt:44:38
 slice-aggregate-write-all-4 : tie.Need-slice-aggregate-write-all-4
 slice-aggregate-write-all-4 c = search needs
 
--- src/report.rt:44:9
 write-all-requires-4 : tie.Need-write-all-requires-4
 write-all-requires-4 c κs = search needs
 
--- src/report.rt:32:1
 returns-2 : tie.Need-returns-2
 returns-2 c = search needs
 
--- src/report.rt:32:1
 returns-3 : tie.Need-returns-3
 returns-3 c = search needs
 
