@@ -8,13 +8,18 @@ use reading::tree::{self, Action, Item, Kind, Repeat, Stage};
 // ---- to LALRPOP's tree
 
 pub fn to_grammar(stage: &Stage) -> Grammar {
+    grammar(stage.items.iter().map(item).collect())
+}
+
+/// A grammar of these items and nothing else.
+pub fn grammar(items: Vec<GrammarItem>) -> Grammar {
     Grammar {
         prefix: String::new(),
         span: Span(0, 0),
         type_parameters: vec![],
         parameters: vec![],
         where_clauses: vec![],
-        items: stage.items.iter().map(item).collect(),
+        items,
         attributes: vec![],
         module_attributes: vec![],
     }
@@ -24,7 +29,7 @@ fn span(span: tree::Span) -> Span {
     Span(span.0 as usize, span.1 as usize)
 }
 
-fn nonterminal_string(name: &str) -> NonterminalString {
+pub fn nonterminal_string(name: &str) -> NonterminalString {
     NonterminalString(Atom::from(name))
 }
 

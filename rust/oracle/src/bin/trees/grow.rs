@@ -1,5 +1,6 @@
 //! Random small trees, in the part of LALRPOP's parse tree that document 01's tape carries.
 use oracle::chance::Chance;
+use oracle::convert::{grammar, nonterminal_string};
 use oracle::grammar::parse_tree::*;
 use oracle::grammar::pattern::Pattern;
 use oracle::DefaultAtom as Atom;
@@ -53,23 +54,6 @@ pub fn tree(chance: &mut Chance) -> Grammar {
         items.insert(place, item);
     }
     grammar(items)
-}
-
-fn grammar(items: Vec<GrammarItem>) -> Grammar {
-    Grammar {
-        prefix: String::new(),
-        span: Span(0, 0),
-        type_parameters: vec![],
-        parameters: vec![],
-        where_clauses: vec![],
-        items,
-        attributes: vec![],
-        module_attributes: vec![],
-    }
-}
-
-fn nonterminal_string(name: &str) -> NonterminalString {
-    NonterminalString(Atom::from(name))
 }
 
 fn attribute(id: &str, arg: AttributeArg) -> Attribute {
