@@ -1,33 +1,42 @@
 # run, test: README's two commands. compare: resolving set against the Rust on some hundred thousand tapes. bench: nanoseconds per byte.
+# proofs-test: that tools/proofs makes two proofs again as they stand.
 # They need the Rattle kit's rt, cargo and make.
-.PHONY: run test rust compare bench clean
+.PHONY: run test rust compare bench proofs-test clean need-rt
 
 cargo = cargo $(1) --quiet --offline --manifest-path rust/Cargo.toml --target-dir target/rust
 
-run:
+run: need-rt
+	@echo "run: proves the validator (3 minutes the first time, seconds afterwards), then asks it about docs/examples/listing.tape" >&2
 	@mkdir -p target
 	@rt check list > target/run.log 2>&1 || { cat target/run.log; exit 1; }
 	@target/bin/list < docs/examples/listing.tape
 
-test:
-	sh tools/check_trust.sh
-	$(MAKE) --no-print-directory rust
-	rt ci
+test: need-rt
+	@.ci/run
 
 # the archive, which its proofs come before, and the tests that link it
-rust:
+rust: need-rt
 	@mkdir -p target
 	@rt staticlib normalize > target/rust.log 2>&1 || { cat target/rust.log; exit 1; }
 	$(call cargo,test)
+	sh tools/check_missing.sh
 
-compare:
+compare: need-rt
 	rt staticlib normalize > /dev/null
 	$(call cargo,run) --release -p compare --bin compare -- $(or $(SEED),1) $(or $(COUNT),200000)
 
-bench:
+bench: need-rt
 	rt staticlib validate > /dev/null
 	rt staticlib normalize > /dev/null
 	$(call cargo,run) --release -p bench
 
+# no part of `test`: what the tools write is proved there, so a fault of theirs costs time and no truth; and two crates are checked once more
+proofs-test:
+	tools/proofs/test.sh
+
 clean:
 	rm -rf target
+
+need-rt:
+	$(if $(shell command -v rt 2> /dev/null),,$(error rt is not on the PATH: it is the command of the Rattle kit; install the kit and put its folder bin on the PATH))
+	@:

@@ -1,10 +1,11 @@
 #!/usr/bin/env bash
-# tools/compare_trees.sh SEED COUNT: compares `passes` (crates/grammar/specs/Passes.antt) with LALRPOP's own Rust on COUNT random trees.
+# tools/compare_trees.sh SEED COUNT: compares `passes` (crates/passes/specs/Passes.antt) with LALRPOP's own Rust on COUNT random trees.
 # rust/oracle compiles LALRPOP's files, unchanged, from the folder LALRPOP_SRC (default: ../shared/docs/src/lalrpop/src beside the
 # repository), grows the trees that SEED fixes and writes an antt module: each tree with its limit, the Rust's answer, and theorems by
 # `refl` that `passes` answers the same. The module is checked with rt in a temporary copy of the crates it needs; nothing is written
 # into the repository but target/. Printed: how many trees agreed, how often each answer occurred, and each tree that differs.
-# Exit status: 0 all agreed, or LALRPOP's files are missing; 1 a tree differs; 2 bad usage or the tools failed.
+# Exit status: 0 all agreed, or LALRPOP's files are missing; 1 a tree differs; 2 bad usage, the tools failed, or the files are missing and
+# REQUIRE_LALRPOP is 1.
 set -euo pipefail
 
 [ $# -eq 2 ] || { echo "usage: tools/compare_trees.sh SEED COUNT" >&2; exit 2; }
@@ -12,24 +13,26 @@ seed=$1 count=$2
 repository=$(cd "$(dirname "$0")/.." && pwd)
 export LALRPOP_SRC=${LALRPOP_SRC:-$repository/../shared/docs/src/lalrpop/src}
 if [ ! -f "$LALRPOP_SRC/normalize/macro_expand/mod.rs" ]; then
-    echo "compare_trees: LALRPOP's files are not there (LALRPOP_SRC names their folder): nothing compared"
+    missing="compare_trees: LALRPOP's files are not there (no normalize/macro_expand/mod.rs in $LALRPOP_SRC; LALRPOP_SRC names their folder)"
+    [ "${REQUIRE_LALRPOP:-}" != 1 ] || { echo "$missing: REQUIRE_LALRPOP=1 asks for them" >&2; exit 2; }
+    echo "$missing: nothing compared"
     exit 0
 fi
 
 LALRPOP_SRC=$(cd "$LALRPOP_SRC" && pwd)
 copy=$(mktemp -d)
 trap 'rm -rf "$copy"' EXIT
-module=$copy/crates/grammar/proofs/Compared.antt
+module=$copy/crates/passes/proofs/Compared.antt
 
-# the crates that the module needs, without grammar's other computed cases, and what is already proved of them
+# the crates that the module needs, without passes's other computed cases, and what is already proved of them
 copy_crates() {
     mkdir -p "$copy/crates" "$copy/target"
-    for crate in octets parse_tree grammar; do
+    for crate in octets parse_tree passes; do
         grep "^$crate:" "$repository/crates.txt" >> "$copy/crates.txt"
         cp -r "$repository/crates/$crate" "$copy/crates/"
     done
-    find "$copy/crates/grammar/proofs" -name '*.antt' ! -name Build.antt -delete
-    printf -- '-- Compared with the Rust.\nmod Build\nmod Compared\n' > "$copy/crates/grammar/proofs/Lib.antt"
+    find "$copy/crates/passes/proofs" -name '*.antt' ! -name Build.antt -delete
+    printf -- '-- Compared with the Rust.\nmod Build\nmod Compared\n' > "$copy/crates/passes/proofs/Lib.antt"
     for part in rlib stamp log; do
         [ ! -d "$repository/target/$part" ] || cp -r "$repository/target/$part" "$copy/target/"
     done
@@ -38,7 +41,7 @@ copy_crates() {
 # compare ROWS: writes the module with so many trees to a theorem and checks it
 compare() {
     "$repository/target/rust/release/trees" "$seed" "$count" "$1" > "$module"
-    (cd "$copy" && RT_CUT=0 rt check grammar) > "$copy/log" 2>&1
+    (cd "$copy" && RT_CUT=0 rt check passes) > "$copy/log" 2>&1
 }
 
 # one line of counts: yes, then the refusals by number

@@ -5,9 +5,9 @@ use mathlib.Mathlib.Data.Bool.Basic.{and-elim-left, and-elim-right, and-intro, o
 use mathlib.Core.List.{[], _∷_}
 use Prim.Native.Nat.{ℕ}
 use borrow.Author.Tests.{not-true}
-use Rattle.octets.specs.Runs.{sameAs}
-use Rattle.parse_tree.specs.Tree.{Text}
-use Rattle.parse_tree.specs.Texts.{every, between, startsName, inName, nameBytes, mutText, errorText, isName}
+use Rattle.octets.specs.plain.Runs.{sameAs}
+use Rattle.parse_tree.specs.plain.Tree.{Text}
+use Rattle.parse_tree.specs.plain.Texts.{every, between, startsName, inName, nameBytes, mutText, errorText, isName}
 use Rattle.meaning.proofs.Predicates.{Ident, startsWell}
 
 first-of : (n : Text) → nameBytes n ≡ true → startsWell n ≡ true

@@ -4,13 +4,13 @@ use mathlib.Core.Logic.{_⊎_, _≢_}
 use mathlib.Core.Bool.{Bool, true, false}
 use mathlib.Core.List.{List, [], _∷_, List·Memᴰ}
 use mathlib.Core.Option.{none}
-use Rattle.octets.specs.Runs.{sameAs}
-use Rattle.parse_tree.specs.Tree.{Text, Leaf, Around, Over, Sym, Syms, ambiguous, bare, quoted, regex, nonterminal, lookahead, lookbehind, error, repeat, choose, name, macro, group, leaf, around, over, nil, cons, Alternative, Nonterminal, item}
-use Rattle.parse_tree.specs.Texts.{every, startsName, inName, mutText, errorText, has}
-use Rattle.grammar.specs.Outcome.{Tree}
-use Rattle.grammar.specs.Phrases.{Phrase, token, parameter, reference, call, repeated, sequence}
-use Rattle.grammar.specs.Meaning.{isTerminal, named}
-use Rattle.grammar.specs.Premises.{HasItem}
+use Rattle.octets.specs.plain.Runs.{sameAs}
+use Rattle.parse_tree.specs.plain.Tree.{Text, Leaf, Around, Over, Sym, Syms, ambiguous, bare, quoted, regex, nonterminal, lookahead, lookbehind, error, repeat, choose, name, macro, group, leaf, around, over, nil, cons, Alternative, Nonterminal, item}
+use Rattle.parse_tree.specs.plain.Texts.{every, startsName, inName, mutText, errorText, has}
+use Rattle.passes.specs.Outcome.{Tree}
+use Rattle.meaning.specs.Phrases.{Phrase, token, parameter, reference, call, repeated, sequence}
+use Rattle.meaning.specs.Meaning.{isTerminal, named}
+use Rattle.meaning.specs.Premises.{HasItem}
 
 abbrev pub startsWell : Text → Bool
 startsWell [] = false

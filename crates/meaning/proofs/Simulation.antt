@@ -1,7 +1,7 @@
 -- One simulation lemma for every pass: related phrases derive the same token strings. Assumes nothing.
 use mathlib.Core.Path.{_≡_}
 use mathlib.Core.List.{List, [], _∷_}
-use Rattle.grammar.specs.Phrases.{Token, Phrase, Phrases, token, pnil, pcons, Derives-from, Derive-from, d-token, d-step, d-nil, d-cons}
+use Rattle.meaning.specs.Phrases.{Token, Phrase, Phrases, token, pnil, pcons, Derives-from, Derive-from, d-token, d-step, d-nil, d-cons}
 
 -- related one by one
 pub data All2 (rel : Phrase → Phrase → Type 0) : Phrases → Phrases → Type 0 where

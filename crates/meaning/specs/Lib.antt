@@ -1,1 +1,4 @@
--- The statements are over the definitions of the crate grammar.
+-- What a tree derives, and what demand 3 asks of it.
+pub mod Phrases
+pub mod Meaning
+pub mod Premises

@@ -6,16 +6,16 @@ use Prim.Native.Nat.{ℕ, _^_, _<_, _≤_}
 use borrow.Author.Tests.{lt-leb, le-leb}
 use lib.Dec.{leb, ltb}
 use lib.ListN.{length}
-use Rattle.parse_tree.specs.Tree.{Text, Item, Stage}
-use Rattle.parse_tree.specs.Encode.{stageBytes}
-use Rattle.parse_tree.specs.References.{stageOf}
-use Rattle.parse_tree.specs.Within.{StageWithin}
+use Rattle.parse_tree.specs.plain.Tree.{Text, Item, Stage}
+use Rattle.parse_tree.specs.working.Encode.{stageBytes}
+use Rattle.parse_tree.specs.plain.References.{stageOf}
+use Rattle.parse_tree.specs.working.Within.{StageWithin}
 use Rattle.parse_tree.proofs.TextLaws.{both, and-both}
 use Rattle.parse_tree.proofs.NothingNew.{none-new}
-use Rattle.grammar.specs.Outcome.{yes}
-use Rattle.grammar.specs.Resolve.{globals, checkGlobals, validateItems, resolve}
-use Rattle.grammar.specs.Sizes.{each, itemFits, stageFits}
-use Rattle.grammar.specs.Calls.{done, denied, admit}
+use Rattle.passes.specs.Outcome.{yes}
+use Rattle.passes.specs.Resolve.{globals, checkGlobals, validateItems, resolve}
+use Rattle.passes.specs.Sizes.{each, itemFits, stageFits}
+use Rattle.passes.specs.Calls.{done, denied, admit}
 use Rattle.resolve.proofs.SymbolsMean.{after-yes}
 use Rattle.resolve.proofs.ResolvedKeeps.{resolve-keeps, resolve-fits, stage-fits}
 

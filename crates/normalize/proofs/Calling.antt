@@ -10,13 +10,13 @@ use lib.Dec.{leb}
 use lib.ListN.{length, replicate}
 use mir.Syntax.{w64}
 use mir.Val as Bound
-use Rattle.parse_tree.specs.Tree.{Stage}
-use Rattle.parse_tree.specs.Decode.{decode}
-use Rattle.parse_tree.specs.Encode.{stageBytes}
-use Rattle.parse_tree.specs.References.{stageOf}
-use Rattle.grammar.specs.Resolve.{resolve}
-use Rattle.grammar.specs.Sizes.{stageFits}
-use Rattle.grammar.specs.Calls.{Answer as Says, done, denied, next, read, passed, admit, resolved, resolveCall, written, workAfter}
+use Rattle.parse_tree.specs.plain.Tree.{Stage}
+use Rattle.parse_tree.specs.working.Decode.{decode}
+use Rattle.parse_tree.specs.working.Encode.{stageBytes}
+use Rattle.parse_tree.specs.plain.References.{stageOf}
+use Rattle.passes.specs.Resolve.{resolve}
+use Rattle.passes.specs.Sizes.{stageFits}
+use Rattle.passes.specs.Calls.{Answer as Says, done, denied, next, read, passed, admit, resolved, resolveCall, written, workAfter}
 use Rattle.normalize.specs.Answers.{answerOf, Called, staged, Holds, Resolved, Fits, handed}
 use Rattle.normalize.specs.declared.Answer.{Answer}
 

@@ -3,8 +3,8 @@ use mathlib.Core.Path.{_≡_, refl, ap, _∙_}
 use mathlib.Core.List.{List, [], _∷_}
 use Prim.Native.Nat.{ℕ}
 use borrow.Author.Needs.{needs}
-use Rattle.parse_tree.specs.Tree.{Stage}
-use Rattle.grammar.specs.Calls.{Answer as Says, done, denied, answerWords}
+use Rattle.parse_tree.specs.plain.Tree.{Stage}
+use Rattle.passes.specs.Calls.{Answer as Says, done, denied, answerWords}
 use Rattle.normalize.specs.Answers.{answerOf, Called, Exported}
 use Rattle.normalize.specs.declared.Answer.{Answer}
 

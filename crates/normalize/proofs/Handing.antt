@@ -8,8 +8,8 @@ use borrow.Author.Needs.{needs}
 use lib.ListN.{length, drop}
 use mir.Syntax.{w64}
 use mir.Val as Bound
-use Rattle.octets.specs.Runs.{part}
-use Rattle.octets.specs.Sink.{lay, Laid}
+use Rattle.octets.specs.plain.Runs.{part}
+use Rattle.octets.specs.working.Sink.{lay, Laid}
 use Rattle.octets.proofs.Fitting.{lay-fits}
 use Rattle.octets.proofs.Parts.{part-length}
 use Rattle.octets.proofs.Storing.{store-is}

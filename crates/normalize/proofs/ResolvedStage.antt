@@ -11,16 +11,16 @@ use lib.ListN.{length, drop, getD, length-drop}
 use lib.Seq.{drop-drop}
 use mir.Syntax.{w8}
 use mir.Val as Bound
-use Rattle.octets.specs.Choice.{pick}
-use Rattle.octets.specs.Runs.{part}
-use Rattle.octets.specs.Sink.{adv, lay}
+use Rattle.octets.specs.working.Choice.{pick}
+use Rattle.octets.specs.plain.Runs.{part}
+use Rattle.octets.specs.working.Sink.{adv, lay}
 use Rattle.octets.proofs.Fitting.{adv-le, adv-fits, adv-in, lay-part}
-use Rattle.parse_tree.specs.Tree.{Text, Item, Stage}
-use Rattle.parse_tree.specs.Reading.{refused}
-use Rattle.parse_tree.specs.Decode.{decode}
-use Rattle.parse_tree.specs.Encode.{stageBytes}
-use Rattle.parse_tree.specs.References.{stageOf}
-use Rattle.parse_tree.specs.Within.{StageWithin}
+use Rattle.parse_tree.specs.plain.Tree.{Text, Item, Stage}
+use Rattle.parse_tree.specs.plain.Reading.{refused}
+use Rattle.parse_tree.specs.working.Decode.{decode}
+use Rattle.parse_tree.specs.working.Encode.{stageBytes}
+use Rattle.parse_tree.specs.plain.References.{stageOf}
+use Rattle.parse_tree.specs.working.Within.{StageWithin}
 use Rattle.parse_tree.specs.declared.syntax.Span.{Span}
 use Rattle.parse_tree.proofs.Written.{written}
 use Rattle.texts.specs.Atoms.{atomsOf}
@@ -28,9 +28,9 @@ use Rattle.texts.proofs.Tabling.{length-atoms}
 use Rattle.validate.specs.Whole.{Valid, Validates}
 use Rattle.validate.specs.declared.Atoms.{Atoms}
 use Rattle.validate.specs.declared.Validated.{Validated}
-use Rattle.grammar.specs.Outcome.{Outcome, yes, no}
-use Rattle.grammar.specs.Resolve.{resolve}
-use Rattle.grammar.specs.Calls.{done, denied, next, passed, stage, admit, resolved}
+use Rattle.passes.specs.Outcome.{Outcome, yes, no}
+use Rattle.passes.specs.Resolve.{resolve}
+use Rattle.passes.specs.Calls.{done, denied, next, passed, stage, admit, resolved}
 use Rattle.resolve.specs.Scopes.{base}
 use Rattle.resolve.specs.Items.{behind}
 use Rattle.resolve.specs.Whole.{Resolving, Answers, ResolvesRead, Resolves}

@@ -6,7 +6,7 @@ use native.Mathlib.Omega.{arith}
 use borrow.Author.Needs.{needs}
 use borrow.Author.Tests.{lt-leb, le-leb, leb-true, leb-false, lt-ltb, le-ltb}
 use lib.Dec.{leb}
-use Rattle.octets.specs.Choice.{pick}
+use Rattle.octets.specs.working.Choice.{pick}
 use Rattle.normalize.specs.Answers.{sized}
 use Rattle.normalize.specs.declared.Answer.{Answer}
 

@@ -4,12 +4,12 @@ use mathlib.Core.List.{List, _++_}
 use Prim.Native.Nat.{ℕ, _+_, _-_, _*_, _≤_}
 use lib.Dec.{ltb}
 use lib.ListN.{length, drop}
-use Rattle.octets.specs.Choice.{pick}
-use Rattle.octets.specs.Runs.{part}
-use Rattle.parse_tree.specs.Tree.{Stage}
-use Rattle.parse_tree.specs.Decode.{decode}
-use Rattle.parse_tree.specs.Encode.{stageBytes}
-use Rattle.grammar.specs.Calls.{Answer as Says, done, denied, next, read, resolved, answerWords, written, workAfter}
+use Rattle.octets.specs.working.Choice.{pick}
+use Rattle.octets.specs.plain.Runs.{part}
+use Rattle.parse_tree.specs.plain.Tree.{Stage}
+use Rattle.parse_tree.specs.working.Decode.{decode}
+use Rattle.parse_tree.specs.working.Encode.{stageBytes}
+use Rattle.passes.specs.Calls.{Answer as Says, done, denied, next, read, resolved, answerWords, written, workAfter}
 use Rattle.normalize.specs.declared.Answer.{Answer}
 
 -- "A yes gives the length of the tree written. A no gives the number and a place of two 64-bit numbers"

@@ -1,2 +1,2 @@
--- What the contracts of the calls cite: beside the calls' definitions in grammar, how an answer is given.
+-- What the contracts of the calls cite: beside the calls' definitions in passes, how an answer is given.
 pub mod Answers

@@ -6,7 +6,7 @@ use octets::runs::clear;
 use octets::sink::put_run;
 ghost use mathlib.Core.Path.{_≡_};
 ghost use lib.ListN.{length};
-ghost use Rattle.grammar.specs.Calls.{resolveCall};
+ghost use Rattle.passes.specs.Calls.{resolveCall};
 ghost use Rattle.normalize.specs.Answers.{Called, Fits, handed};
 
 // At a yes the tree, which stands in work from a on, goes to the front of the output.

@@ -2,7 +2,7 @@
 use crate::Answer;
 use crate::calls::resolve;
 ghost use lib.ListN.{length};
-ghost use Rattle.grammar.specs.Calls.{resolveCall};
+ghost use Rattle.passes.specs.Calls.{resolveCall};
 ghost use Rattle.normalize.specs.Answers.{Exported};
 ghost use mathlib.Core.Path.{_≡_};
 

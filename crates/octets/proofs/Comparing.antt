@@ -9,7 +9,7 @@ use borrow.Author.Tests.{eq-eqb, ne-eqb}
 use lib.Dec.{eqb}
 use lib.ListN.{length, getD}
 use lib.Seq.{take-all}
-use Rattle.octets.specs.Runs.{part, sameAs}
+use Rattle.octets.specs.plain.Runs.{part, sameAs}
 use Rattle.octets.proofs.Parts.{part-none, part-one}
 
 -- k bytes are left, from i and from j on, and x is what the whole says

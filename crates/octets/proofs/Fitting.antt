@@ -9,9 +9,9 @@ use borrow.Author.Tests.{lt-ltb, le-ltb, ltb-true}
 use lib.Dec.{ltb}
 use lib.ListN.{length, set, take, drop, length-set}
 use lib.Seq.{drop-at, length-take-le, take-append-seam}
-use Rattle.octets.specs.Choice.{pick}
-use Rattle.octets.specs.Stores.{store}
-use Rattle.octets.specs.Sink.{step, adv, lay1, lay}
+use Rattle.octets.specs.working.Choice.{pick}
+use Rattle.octets.specs.working.Stores.{store}
+use Rattle.octets.specs.working.Sink.{step, adv, lay1, lay}
 use Rattle.octets.proofs.Choices.{by-pick}
 use Rattle.octets.proofs.Storing.{store-is}
 

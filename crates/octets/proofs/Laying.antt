@@ -6,9 +6,9 @@ use native.Mathlib.Omega.{arith}
 use borrow.Author.Needs.{needs}
 use borrow.Author.Tests.{lt-ltb, le-ltb}
 use lib.ListN.{length, set, length-append}
-use Rattle.octets.specs.Choice.{pick}
-use Rattle.octets.specs.Numbers.{le}
-use Rattle.octets.specs.Sink.{step, adv, lay1, lay, Laid}
+use Rattle.octets.specs.working.Choice.{pick}
+use Rattle.octets.specs.plain.Numbers.{le}
+use Rattle.octets.specs.working.Sink.{step, adv, lay1, lay, Laid}
 use Rattle.octets.proofs.Numbering.{le-16, le-24, le-32}
 
 pub adv-append : (lim to n m : ℕ) → adv lim (adv lim to n) m ≡ adv lim to (n + m)

@@ -7,8 +7,8 @@ use native.Mathlib.Omega.{arith}
 use native.Mathlib.Numerals.{add-one}
 use lib.ListN.{length, getD, take, drop, length-append, length-drop, take-append-drop}
 use lib.Seq.{drop-cons, drop-drop, drop-append-seam, take-append-seam, length-take-le}
-use Rattle.octets.specs.Numbers.{leAt, le, Bytes}
-use Rattle.octets.specs.Runs.{part, Lies}
+use Rattle.octets.specs.plain.Numbers.{leAt, le, Bytes}
+use Rattle.octets.specs.plain.Runs.{part, Lies}
 
 pub lies-none : (s : List ℕ) (a : ℕ) → Lies s a [] a
 lies-none s a = record { is = refl; end = omega arith }

@@ -1,11 +1,11 @@
 -- The laws of little-endian numbers: one for every width. Assumes nothing.
 use mathlib.Core.Path.{_≡_, refl, ap}
 use mathlib.Core.List.{List, [], _∷_, _++_, append-assoc}
-use Prim.Native.Nat.{ℕ, zero, suc, _+_, _-_, _*_, _/_, _%_, _≤_}
+use Prim.Native.Nat.{ℕ, zero, suc, _+_, _*_, _/_, _%_, _≤_}
 use native.Mathlib.Omega.{arith}
 use borrow.Author.Needs.{needs}
 use lib.ListN.{length, getD}
-use Rattle.octets.specs.Numbers.{leAt, le}
+use Rattle.octets.specs.plain.Numbers.{leAt, le}
 
 pub length-le : (w v : ℕ) → length (le w v) ≡ w
 unfolding le

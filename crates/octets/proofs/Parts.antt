@@ -7,7 +7,7 @@ use native.Mathlib.Numerals.{add-one}
 use lib.ListN.{length, take, drop, getD, length-drop, drop-of-length-le}
 use lib.Seq.{take-all, take-at, drop-at, drop-cons, length-take-le}
 use borrow.Rule.Slice.PartMut.{midOf, putMid}
-use Rattle.octets.specs.Runs.{part}
+use Rattle.octets.specs.plain.Runs.{part}
 
 pub part-none : (a e : ℕ) (s : List ℕ) → e ≤ a → part a e s ≡ []
 unfolding part

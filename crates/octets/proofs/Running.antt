@@ -1,12 +1,12 @@
 -- The loop of `put_run`. Assumes nothing.
 use mathlib.Core.Path.{_≡_, refl, _∙_}
 use mathlib.Core.List.{List, [], _∷_}
-use Prim.Native.Nat.{ℕ, _+_, _-_, _<_, _≤_}
+use Prim.Native.Nat.{ℕ, _+_, _<_, _≤_}
 use native.Mathlib.Omega.{arith}
 use borrow.Author.Needs.{needs}
 use lib.ListN.{length, getD}
-use Rattle.octets.specs.Runs.{part}
-use Rattle.octets.specs.Sink.{Laid}
+use Rattle.octets.specs.plain.Runs.{part}
+use Rattle.octets.specs.working.Sink.{Laid}
 use Rattle.octets.proofs.Parts.{part-none, part-one}
 use Rattle.octets.proofs.Laying.{laid-append, laid-none}
 

@@ -6,7 +6,7 @@ use Prim.Native.Nat.{ℕ}
 use native.Mathlib.Omega.{arith}
 use borrow.Author.Tests.{eqb-true, eq-eqb}
 use lib.Dec.{eqb}
-use Rattle.octets.specs.Runs.{sameAs}
+use Rattle.octets.specs.plain.Runs.{sameAs}
 
 pub sameAs-eq : (x y : List ℕ) → sameAs x y ≡ true → x ≡ y
 unfolding sameAs

@@ -8,9 +8,9 @@ use native.Mathlib.Numerals.{add-one}
 use borrow.Author.Needs.{needs}
 use lib.ListN.{length, take, drop, set, getD, length-set}
 use lib.Seq.{sets, sets-eq, length-sets, getD-set-same, getD-set-other, length-take-le, drop-at, drop-drop, drop-append-seam}
-use Rattle.octets.specs.Numbers.{leAt, le}
-use Rattle.octets.specs.Stores.{store}
-use Rattle.octets.specs.Runs.{Lies}
+use Rattle.octets.specs.plain.Numbers.{leAt, le}
+use Rattle.octets.specs.working.Stores.{store}
+use Rattle.octets.specs.plain.Runs.{Lies}
 use Rattle.octets.proofs.Numbering.{length-le, le-32, le-64}
 use Rattle.octets.proofs.Lying.{le-read}
 

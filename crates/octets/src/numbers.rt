@@ -2,8 +2,8 @@
 ghost use mathlib.Core.Path.{_≡_};
 ghost use Prim.Native.Nat.{_+_, _≤_, _<_};
 ghost use lib.ListN.{length};
-ghost use Rattle.octets.specs.Numbers.{leAt, le};
-ghost use Rattle.octets.specs.Stores.{store};
+ghost use Rattle.octets.specs.plain.Numbers.{leAt, le};
+ghost use Rattle.octets.specs.working.Stores.{store};
 
 fn wide16(x: u8) -> u16
     ensures { λ r. ⌜ (r ≡ x) × (r < 256) ⌝ }

@@ -2,7 +2,7 @@
 ghost use mathlib.Core.Path.{_≡_};
 ghost use Prim.Native.Nat.{_+_, _≤_};
 ghost use lib.ListN.{length, replicate};
-ghost use Rattle.octets.specs.Runs.{part, sameAs};
+ghost use Rattle.octets.specs.plain.Runs.{part, sameAs};
 
 // Whether the n bytes of s from a on are the n bytes of t from b on.
 pub fn same(s: &[u8], a: usize, t: &[u8], b: usize, n: usize) -> bool

@@ -3,9 +3,9 @@
 ghost use mathlib.Core.List.{[], _∷_};
 ghost use Prim.Native.Nat.{_≤_};
 ghost use lib.ListN.{length};
-ghost use Rattle.octets.specs.Numbers.{le};
-ghost use Rattle.octets.specs.Runs.{part};
-ghost use Rattle.octets.specs.Sink.{Laid};
+ghost use Rattle.octets.specs.plain.Numbers.{le};
+ghost use Rattle.octets.specs.plain.Runs.{part};
+ghost use Rattle.octets.specs.working.Sink.{Laid};
 
 pub fn put8(out: &mut [u8], lim: usize, to: usize, b: u8) -> usize
     requires { ⌜ lim ≤ length (now out) ⌝ }

@@ -6,15 +6,15 @@ use Prim.Native.Nat.{ℕ, _≤_}
 use borrow.Author.Tests.{le-leb}
 use lib.Dec.{leb}
 use lib.ListN.{length}
-use Rattle.octets.specs.Choice.{pick}
-use Rattle.octets.specs.Numbers.{Bytes}
-use Rattle.octets.specs.Runs.{Lies}
-use Rattle.parse_tree.specs.Tree.{Text}
-use Rattle.parse_tree.specs.Nodes.{nodeBytes, nodeAt, sizeOf}
-use Rattle.parse_tree.specs.Places.{classOf, allowedAt}
-use Rattle.parse_tree.specs.Questions.{defined, suits}
-use Rattle.parse_tree.specs.Reading.{Reading, got, refused, then}
-use Rattle.parse_tree.specs.Decode.{ask}
+use Rattle.octets.specs.working.Choice.{pick}
+use Rattle.octets.specs.plain.Numbers.{Bytes}
+use Rattle.octets.specs.plain.Runs.{Lies}
+use Rattle.parse_tree.specs.plain.Tree.{Text}
+use Rattle.parse_tree.specs.working.Nodes.{nodeBytes, nodeAt, sizeOf}
+use Rattle.parse_tree.specs.working.Places.{classOf, allowedAt}
+use Rattle.parse_tree.specs.working.Questions.{defined, suits}
+use Rattle.parse_tree.specs.plain.Reading.{Reading, got, refused, then}
+use Rattle.parse_tree.specs.working.Decode.{ask}
 use Rattle.parse_tree.specs.declared.syntax.Node.{Node}
 use Rattle.parse_tree.proofs.NodeFits.{NodeFits, TextFits, NodeSays, Stands}
 use Rattle.parse_tree.proofs.NodeSays.{node-says}

@@ -5,20 +5,21 @@ use mathlib.Core.List.{List, [], _∷_}
 use mathlib.Core.Option.{none, some}
 use Prim.Native.Nat.{ℕ}
 use lib.ListN.{length}
-use Rattle.octets.specs.Choice.{pick}
-use Rattle.octets.specs.Numbers.{le, leAt}
-use Rattle.octets.specs.Runs.{part, sameAs}
-use Rattle.parse_tree.specs.Tree.{Syms, Alternative, Item, plus, ambiguous, bare, quoted, regex, nonterminal, lookahead, lookbehind, error, repeat, choose, name, macro, group, leaf, around, over, nil, cons, user, item, terminal, extern, match, count, symsOf}
-use Rattle.parse_tree.specs.Texts.{every, startsName, inName, nameBytes, isName, isLiteral, isAscii, has, number, withNew}
-use Rattle.parse_tree.specs.Nodes.{spanBytes, leafCode, leafOperand, symbolBytes, nodeBytes, sizeOf, whole, spanAt, namedLeaf, bareLeaf, symbolAt, textNode, nonterminalAt, terminalAt, argumentAt, alternativeAt, attributeAt, conditionAt, nodeBy, nodeAt}
-use Rattle.parse_tree.specs.Places.{classOf, table, allowedAt}
-use Rattle.parse_tree.specs.Questions.{leafDefined, symbolDefined, alternativeDefined, attributeDefined, defined, leafSuits, symbolSuits, suits}
-use Rattle.parse_tree.specs.Reading.{got, then, times}
-use Rattle.parse_tree.specs.Expect.{expectItem, expectArgument, expectAlternative, expectAttribute, expectCondition, expectSymbol}
-use Rattle.parse_tree.specs.Operands.{opOf, insideOf, leafOf, aroundOf, overOf, actionOf, attributeOf, conditionOf, alternativeOf, nonterminalOf, terminalOf}
-use Rattle.parse_tree.specs.Decode.{ask, readSym, readArgument, readAttribute, readCondition, alternativeParts, readAlternative, nonterminalParts, readItem, readItems, readAtoms, decodeBy, decode}
-use Rattle.parse_tree.specs.Encode.{bytesOfEach, atomBytes, leafNode, aroundNode, overNode, actionText, alternativeNode, attributeNode, conditionNode, nonterminalNode, symBytes, argumentBytes, attributeBytes, conditionBytes, alternativeBytes, itemBytes, stageBytes}
-use Rattle.parse_tree.specs.References.{textsOfEach, leafTexts, aroundTexts, overTexts, symTexts, actionTexts, attributeTexts, conditionTexts, alternativeTexts, itemTexts, stageOf, encode}
+use Rattle.octets.specs.working.Choice.{pick}
+use Rattle.octets.specs.plain.Numbers.{le, leAt}
+use Rattle.octets.specs.plain.Runs.{part, sameAs}
+use Rattle.parse_tree.specs.plain.Tree.{Syms, Alternative, Item, plus, ambiguous, bare, quoted, regex, nonterminal, lookahead, lookbehind, error, repeat, choose, name, macro, group, leaf, around, over, nil, cons, user, item, terminal, extern, match, count, symsOf}
+use Rattle.parse_tree.specs.plain.Texts.{every, startsName, inName, nameBytes, isName, isLiteral, isAscii, has, number, withNew}
+use Rattle.parse_tree.specs.working.Nodes.{spanBytes, leafCode, leafOperand, symbolBytes, nodeBytes, sizeOf, ifWhole, spanIn, namedLeaf, bareLeaf, symbolNodeAt, textNode, nonterminalNodeAt, terminalNodeAt, argumentNodeAt, alternativeNodeAt, attributeNodeAt, conditionNodeAt, nodeBy, nodeAt}
+use Rattle.parse_tree.specs.working.Places.{classOf, table, allowedAt}
+use Rattle.parse_tree.specs.working.Questions.{leafDefined, symbolDefined, alternativeDefined, attributeDefined, defined, leafSuits, symbolSuits, suits}
+use Rattle.parse_tree.specs.plain.Reading.{got, then, times}
+use Rattle.parse_tree.specs.working.Expect.{expectItem, expectArgument, expectAlternative, expectAttribute, expectCondition, expectSymbol}
+use Rattle.parse_tree.specs.working.Operands.{opFrom, insideOf, leafOf, aroundOf, overOf, actionFrom, attributeOf, conditionOf, alternativeOf, nonterminalOf, terminalOf}
+use Rattle.parse_tree.specs.working.Decode.{ask, readSym, readArgument, readAttribute, readCondition, alternativeParts, readAlternative, nonterminalParts, readItem, readItems, readAtoms, decodeBy, decode}
+use Rattle.parse_tree.specs.working.Encode.{atomBytes, leafNode, aroundNode, overNode, actionText, alternativeNode, attributeNode, conditionNode, nonterminalNode, symBytes, argumentBytes, attributeBytes, conditionBytes, alternativeBytes, itemBytes, stageBytes, encode}
+use Rattle.parse_tree.specs.plain.WriteTape.{bytesOfEach}
+use Rattle.parse_tree.specs.plain.References.{textsOfEach, leafTexts, aroundTexts, overTexts, symTexts, actionTexts, attributeTexts, conditionTexts, alternativeTexts, itemTexts, stageOf}
 use Rattle.parse_tree.specs.declared.syntax.Span.{Span}
 
 abbrev at : ℕ → ℕ → Span
@@ -51,5 +52,5 @@ items =
     ∷ []
 
 back : decode (encode 2 [] items) ≡ got (stageOf [] items) (length (encode 2 [] items))
-unfolding pick le leAt part sameAs count symsOf every startsName inName nameBytes isName isLiteral isAscii has number withNew spanBytes leafCode leafOperand symbolBytes nodeBytes sizeOf whole spanAt namedLeaf bareLeaf symbolAt textNode nonterminalAt terminalAt argumentAt alternativeAt attributeAt conditionAt nodeBy nodeAt classOf table allowedAt leafDefined symbolDefined alternativeDefined attributeDefined defined leafSuits symbolSuits suits then times expectItem expectArgument expectAlternative expectAttribute expectCondition expectSymbol opOf insideOf leafOf aroundOf overOf actionOf attributeOf conditionOf alternativeOf nonterminalOf terminalOf ask readSym readArgument readAttribute readCondition alternativeParts readAlternative nonterminalParts readItem readItems readAtoms decodeBy decode bytesOfEach atomBytes leafNode aroundNode overNode actionText alternativeNode attributeNode conditionNode nonterminalNode symBytes argumentBytes attributeBytes conditionBytes alternativeBytes itemBytes stageBytes textsOfEach leafTexts aroundTexts overTexts symTexts actionTexts attributeTexts conditionTexts alternativeTexts itemTexts stageOf encode
+unfolding pick le leAt part sameAs count symsOf every startsName inName nameBytes isName isLiteral isAscii has number withNew spanBytes leafCode leafOperand symbolBytes nodeBytes sizeOf ifWhole spanIn namedLeaf bareLeaf symbolNodeAt textNode nonterminalNodeAt terminalNodeAt argumentNodeAt alternativeNodeAt attributeNodeAt conditionNodeAt nodeBy nodeAt classOf table allowedAt leafDefined symbolDefined alternativeDefined attributeDefined defined leafSuits symbolSuits suits then times expectItem expectArgument expectAlternative expectAttribute expectCondition expectSymbol opFrom insideOf leafOf aroundOf overOf actionFrom attributeOf conditionOf alternativeOf nonterminalOf terminalOf ask readSym readArgument readAttribute readCondition alternativeParts readAlternative nonterminalParts readItem readItems readAtoms decodeBy decode bytesOfEach atomBytes leafNode aroundNode overNode actionText alternativeNode attributeNode conditionNode nonterminalNode symBytes argumentBytes attributeBytes conditionBytes alternativeBytes itemBytes stageBytes textsOfEach leafTexts aroundTexts overTexts symTexts actionTexts attributeTexts conditionTexts alternativeTexts itemTexts stageOf encode
 back = refl

@@ -1,8 +1,8 @@
 -- A yes where one kind of command was wanted: it is of that kind, and what is known of it goes along. Assumes nothing.
 use mathlib.Core.Path.{_≡_}
 use Prim.Native.Nat.{ℕ}
-use Rattle.parse_tree.specs.Reading.{Reading, got}
-use Rattle.parse_tree.specs.Expect.{expectItem, expectArgument, expectAlternative, expectAttribute, expectCondition, expectSymbol}
+use Rattle.parse_tree.specs.plain.Reading.{Reading, got}
+use Rattle.parse_tree.specs.working.Expect.{expectItem, expectArgument, expectAlternative, expectAttribute, expectCondition, expectSymbol}
 use Rattle.parse_tree.specs.declared.syntax.Span.{Span}
 use Rattle.parse_tree.specs.declared.syntax.NonterminalString.{NonterminalString}
 use Rattle.parse_tree.specs.declared.syntax.SymbolKind.{SymbolKind}

@@ -9,14 +9,15 @@ use native.Mathlib.Omega.{arith}
 use borrow.Author.Tests.{ltb-true, leb-true, eqb-true}
 use lib.Dec.{leb, ltb, eqb}
 use lib.ListN.{length, getD}
-use Rattle.octets.specs.Choice.{pick}
-use Rattle.parse_tree.specs.Tree.{Text, Leaf, Around, Over, Syms, Attribute, Condition, Alternative, Source, count}
-use Rattle.parse_tree.specs.Texts.{isName, isLiteral, isAscii, number, distinct}
-use Rattle.parse_tree.specs.Nodes.{nodeBytes}
-use Rattle.parse_tree.specs.Questions.{hasText, ofClass, leafDefined, symbolDefined, alternativeDefined, attributeDefined, defined, leafSuits, symbolSuits, suits}
-use Rattle.parse_tree.specs.Operands.{opOf, insideOf, leafOf, aroundOf, overOf, actionOf, attributeOf, conditionOf, alternativeOf, nonterminalOf, terminalOf}
-use Rattle.parse_tree.specs.Encode.{opCode, bit, actionCode, sourceCode, conditions, leafNode, aroundNode, overNode, actionText, alternativeNode, attributeNode, conditionNode, nonterminalNode, itemBytes}
-use Rattle.parse_tree.specs.Within.{Uses, LeafWithin, AroundWithin, OverWithin, ActionWithin, AttributeWithin, ConditionWithin, AlternativeWithin, NonterminalWithin, ItemWithin, SymsWithin, Each}
+use Rattle.octets.specs.working.Choice.{pick}
+use Rattle.parse_tree.specs.plain.Tree.{Text, Leaf, Around, Over, Syms, Attribute, Condition, Alternative, Source, count, conditions}
+use Rattle.parse_tree.specs.plain.Texts.{isName, isLiteral, isAscii, number, distinct}
+use Rattle.parse_tree.specs.working.Nodes.{nodeBytes}
+use Rattle.parse_tree.specs.working.Questions.{hasText, ofClass, leafDefined, symbolDefined, alternativeDefined, attributeDefined, defined, leafSuits, symbolSuits, suits}
+use Rattle.parse_tree.specs.working.Operands.{opFrom, insideOf, leafOf, aroundOf, overOf, actionFrom, attributeOf, conditionOf, alternativeOf, nonterminalOf, terminalOf}
+use Rattle.parse_tree.specs.working.Encode.{actionCode, sourceCode, leafNode, aroundNode, overNode, actionText, alternativeNode, attributeNode, conditionNode, nonterminalNode, itemBytes}
+use Rattle.parse_tree.specs.plain.WriteTape.{bit, opCode}
+use Rattle.parse_tree.specs.working.Within.{Uses, LeafWithin, AroundWithin, OverWithin, ActionWithin, AttributeWithin, ConditionWithin, AlternativeWithin, NonterminalWithin, ItemWithin, SymsWithin, Each}
 use Rattle.parse_tree.specs.declared.syntax.Span.{Span}
 use Rattle.parse_tree.specs.declared.syntax.Leaf.{Leaf as LeafNode}
 use Rattle.parse_tree.specs.declared.syntax.Around.{Around as AroundNode}
@@ -39,8 +40,8 @@ apt-each true a b p = and-eq-true-iff a b .0 p
 apt-each false a b p = (refl, refl)
 
 -- ---- codes
-op-code : (k : ℕ) → leb k 2 ≡ true → opCode (opOf k) ≡ k
-unfolding opOf pick
+op-code : (k : ℕ) → leb k 2 ≡ true → opCode (opFrom k) ≡ k
+unfolding opFrom pick
 op-code zero p = refl
 op-code (suc zero) p = refl
 op-code (suc (suc zero)) p = refl
@@ -153,8 +154,8 @@ module _ (four : Bool) (w : ℕ) (ts : List Text) (d : distinct ts ≡ true) whe
   pub action-within : (c k : ℕ) → k < 256 ^ w
       → (leb c 4 && pick (hasText c) (ltb k (length ts)) (eqb k 0)) ≡ true
       → pick four (pick (hasText c) (ofClass isAscii ts k) true) true ≡ true
-      → ActionWithin four w ts (actionOf ts c k) × (actionCode (actionOf ts c k) ≡ c) × (actionText ts (actionOf ts c k) ≡ k)
-  unfolding actionOf actionText pick
+      → ActionWithin four w ts (actionFrom ts c k) × (actionCode (actionFrom ts c k) ≡ c) × (actionText ts (actionFrom ts c k) ≡ k)
+  unfolding actionFrom actionText pick
   action-within zero k f p q = (tt, refl, sym (eqb-true k 0 p))
   action-within (suc zero) k f p q = let u = text-uses isAscii k f p q in (u .0, refl, u .1)
   action-within (suc (suc zero)) k f p q = let u = text-uses isAscii k f p q in (u .0, refl, u .1)

@@ -6,17 +6,19 @@ use mathlib.Core.Option.{Option, none, some}
 use Prim.Native.Nat.{ℕ, zero, suc, _+_}
 use native.Mathlib.Omega.{arith}
 use lib.ListN.{length}
-use Rattle.octets.specs.Runs.{Lies}
+use Rattle.octets.specs.plain.Runs.{Lies}
 use Rattle.octets.proofs.Lying.{lies-split}
-use Rattle.parse_tree.specs.Tree.{Text, Sym, Syms, Attribute, Condition, leaf, around, over, nil, cons, item, terminal, count}
-use Rattle.parse_tree.specs.Texts.{isName}
-use Rattle.parse_tree.specs.Nodes.{nodeBytes}
-use Rattle.parse_tree.specs.Places.{classOf, table, allowedAt, itemsPlace, argumentsPlace, alternativesPlace, attributesPlace, conditionsPlace, symbolsPlace}
-use Rattle.parse_tree.specs.Reading.{got, then, times}
-use Rattle.parse_tree.specs.Expect.{expectItem, expectArgument, expectAlternative, expectAttribute, expectSymbol}
-use Rattle.parse_tree.specs.Decode.{firstOf, readSym, readArgument, readAttribute, readCondition, readAlternative, readItem, alternativeParts, nonterminalParts}
-use Rattle.parse_tree.specs.Encode.{conditions, bytesOfEach, aroundNode, overNode, alternativeNode, conditionNode, nonterminalNode, symBytes, symsBytes, argumentBytes, attributeBytes, conditionBytes, alternativeBytes, itemBytes}
-use Rattle.parse_tree.specs.Within.{Uses, SymWithin, SymsWithin, AttributeWithin, ConditionWithin, AlternativeWithin, ItemWithin}
+use Rattle.parse_tree.specs.plain.Tree.{Text, Sym, Syms, Attribute, Condition, leaf, around, over, nil, cons, item, terminal, count, conditions}
+use Rattle.parse_tree.specs.plain.Texts.{isName}
+use Rattle.parse_tree.specs.working.Nodes.{nodeBytes}
+use Rattle.parse_tree.specs.working.Places.{classOf, table, allowedAt, itemsPlace, argumentsPlace, alternativesPlace, attributesPlace, conditionsPlace, symbolsPlace}
+use Rattle.parse_tree.specs.plain.Reading.{got, then, times}
+use Rattle.parse_tree.specs.working.Expect.{expectItem, expectArgument, expectAlternative, expectAttribute, expectSymbol}
+use Rattle.parse_tree.specs.working.Decode.{readSym, readArgument, readAttribute, readCondition, readAlternative, readItem, alternativeParts, nonterminalParts}
+use Rattle.parse_tree.specs.plain.ReadTape.{firstOf}
+use Rattle.parse_tree.specs.working.Encode.{aroundNode, overNode, alternativeNode, conditionNode, nonterminalNode, symBytes, symsBytes, argumentBytes, attributeBytes, conditionBytes, alternativeBytes, itemBytes}
+use Rattle.parse_tree.specs.plain.WriteTape.{bytesOfEach}
+use Rattle.parse_tree.specs.working.Within.{Uses, SymWithin, SymsWithin, AttributeWithin, ConditionWithin, AlternativeWithin, ItemWithin}
 use Rattle.parse_tree.specs.declared.syntax.SymbolKind.{SymbolKind}
 use Rattle.parse_tree.specs.declared.syntax.Node.{Node}
 use Rattle.parse_tree.proofs.TextLaws.{text-number}

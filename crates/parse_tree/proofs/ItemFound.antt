@@ -5,17 +5,18 @@ use mathlib.Core.List.{List, [], _∷_}
 use Prim.Native.Nat.{ℕ, zero, suc, _≤_}
 use native.Mathlib.Omega.{arith}
 use lib.ListN.{length}
-use Rattle.octets.specs.Numbers.{Bytes}
+use Rattle.octets.specs.plain.Numbers.{Bytes}
 use Rattle.octets.proofs.Lying.{lies-append}
-use Rattle.parse_tree.specs.Tree.{Text, Sym, Attribute, Condition, Alternative, leaf, around, over, item, count, symsOf}
-use Rattle.parse_tree.specs.Texts.{isName, distinct}
-use Rattle.parse_tree.specs.Nodes.{nodeBytes}
-use Rattle.parse_tree.specs.Places.{itemsPlace, argumentsPlace, alternativesPlace, attributesPlace, conditionsPlace, symbolsPlace}
-use Rattle.parse_tree.specs.Reading.{got, then, times}
-use Rattle.parse_tree.specs.Operands.{leafOf, aroundOf, overOf, insideOf, alternativeOf, nonterminalOf}
-use Rattle.parse_tree.specs.Decode.{firstOf, readSym, readArgument, readAttribute, readCondition, readAlternative, readItem, alternativeParts, nonterminalParts}
-use Rattle.parse_tree.specs.Encode.{conditions, symBytes, argumentBytes, attributeBytes, conditionBytes, alternativeBytes, itemBytes}
-use Rattle.parse_tree.specs.Within.{Uses, SymWithin, AttributeWithin, ConditionWithin, AlternativeWithin, ItemWithin}
+use Rattle.parse_tree.specs.plain.Tree.{Text, Sym, Attribute, Condition, Alternative, leaf, around, over, item, count, symsOf, conditions}
+use Rattle.parse_tree.specs.plain.Texts.{isName, distinct}
+use Rattle.parse_tree.specs.working.Nodes.{nodeBytes}
+use Rattle.parse_tree.specs.working.Places.{itemsPlace, argumentsPlace, alternativesPlace, attributesPlace, conditionsPlace, symbolsPlace}
+use Rattle.parse_tree.specs.plain.Reading.{got, then, times}
+use Rattle.parse_tree.specs.working.Operands.{leafOf, aroundOf, overOf, insideOf, alternativeOf, nonterminalOf}
+use Rattle.parse_tree.specs.working.Decode.{readSym, readArgument, readAttribute, readCondition, readAlternative, readItem, alternativeParts, nonterminalParts}
+use Rattle.parse_tree.specs.plain.ReadTape.{firstOf}
+use Rattle.parse_tree.specs.working.Encode.{symBytes, argumentBytes, attributeBytes, conditionBytes, alternativeBytes, itemBytes}
+use Rattle.parse_tree.specs.working.Within.{Uses, SymWithin, AttributeWithin, ConditionWithin, AlternativeWithin, ItemWithin}
 use Rattle.parse_tree.specs.declared.syntax.Span.{Span}
 use Rattle.parse_tree.specs.declared.syntax.NonterminalData.{NonterminalData}
 use Rattle.parse_tree.specs.declared.syntax.Alternative.{Alternative as AlternativeNode}
@@ -64,7 +65,7 @@ module _ (four : Bool) (w : ℕ) (s : List ℕ) (ts : List Text) (b : Bytes s) (
         within = (c .within .fits .0, rw n u, within-syms four w ts left xs (i .within .0));
       }))
 
-  sym-finds : (left : ℕ) → Finds s (readSym four w s ts left) (symBytes w ts) (λ x. SymWithin four w ts x left)
+  pub sym-finds : (left : ℕ) → Finds s (readSym four w s ts left) (symBytes w ts) (λ x. SymWithin four w ts x left)
   unfolding readSym
   sym-finds zero a x e p = ask-then four w s ts symbolsPlace zero b _ a p (λ n m c q. absurd (never q))
   sym-finds (suc left) a x e p =

@@ -9,7 +9,9 @@ mod Noding
 mod Putting
 pub mod Sizing
 -- Trees and their tapes; RoundTrip has the theorems.
+pub mod Printing
 pub mod TextLaws
+pub mod Among
 pub mod ReadingLaws
 pub mod Asking
 pub mod Expecting
@@ -22,4 +24,8 @@ pub mod ItemFound
 pub mod Written
 pub mod NothingNew
 pub mod RoundTrip
+pub mod ReadCommandIs
+pub mod ReadSymbolIs
+pub mod ReadTapeIs
+pub mod WriteTapeIs
 mod Cases

@@ -6,12 +6,12 @@ use Prim.Native.Nat.{ℕ, _+_, _-_, _^_, _<_, _≤_}
 use native.Mathlib.Omega.{arith}
 use lib.ListN.{length}
 use borrow.Author.Tests.{le-ltb, lt-leb}
-use Rattle.octets.specs.Choice.{pick}
-use Rattle.octets.specs.Numbers.{leAt, le}
-use Rattle.octets.specs.Runs.{Lies}
+use Rattle.octets.specs.working.Choice.{pick}
+use Rattle.octets.specs.plain.Numbers.{leAt, le}
+use Rattle.octets.specs.plain.Runs.{Lies}
 use Rattle.octets.proofs.Lying.{lies-first, lies-inside}
-use Rattle.parse_tree.specs.Nodes.{leafCode, leafOperand, symbolBytes, nodeBytes, whole, spanBytes, spanAt, namedLeaf, bareLeaf, symbolAt, textNode, nonterminalAt, terminalAt, argumentAt, alternativeAt, attributeAt, conditionAt, nodeBy, nodeAt}
-use Rattle.parse_tree.specs.Within.{SpanWithin}
+use Rattle.parse_tree.specs.working.Nodes.{leafCode, leafOperand, symbolBytes, nodeBytes, ifWhole, spanBytes, spanIn, namedLeaf, bareLeaf, symbolNodeAt, textNode, nonterminalNodeAt, terminalNodeAt, argumentNodeAt, alternativeNodeAt, attributeNodeAt, conditionNodeAt, nodeBy, nodeAt}
+use Rattle.parse_tree.specs.working.Within.{SpanWithin}
 use Rattle.parse_tree.specs.declared.syntax.Span.{Span}
 use Rattle.parse_tree.specs.declared.syntax.NonterminalString.{NonterminalString}
 use Rattle.parse_tree.specs.declared.syntax.NonterminalData.{NonterminalData}
@@ -36,19 +36,19 @@ module _ (w : ℕ) (s : List ℕ) (a e : ℕ) where
       let f = lies-first s a c ys e l in
       (simp (lt-leb (length s) a (f .0), f .1), lies-inside s a e (c ∷ ys) (omega arith) l, f .2)
 
-  is-whole : (n : ℕ) (x : Node) → a + n ≤ length s → whole s a n x ≡ x
-  unfolding whole pick
+  is-whole : (n : ℕ) (x : Node) → a + n ≤ length s → ifWhole s a n x ≡ x
+  unfolding ifWhole pick
   is-whole n x h = simp (le-ltb (length s - a) n (omega arith))
 
   -- a code and a span, or a code, a span and a number: `g` makes the command of them
-  spanned : (c : ℕ) (sp : Span) (g : Span → Node) → nodeBy w c s a ≡ whole s a 9 (g (spanAt s (a + 1))) → SpanWithin sp → Lies s a (c ∷ spanBytes sp) e
+  spanned : (c : ℕ) (sp : Span) (g : Span → Node) → nodeBy w c s a ≡ ifWhole s a 9 (g (spanIn s (a + 1))) → SpanWithin sp → Lies s a (c ∷ spanBytes sp) e
       → nodeAt w s a ≡ g sp
   spanned c sp g q f l =
       let x0 = front c _ l in
       let x1 = span-back s (a + 1) e sp f (x0 .2) in
       x0 .0 ∙ q ∙ is-whole 9 _ (omega (arith, length-span sp, x0 .2 .end)) ∙ simp x1
 
-  numbered : (c : ℕ) (sp : Span) (v : ℕ) (g : Span → ℕ → Node) → nodeBy w c s a ≡ whole s a (9 + w) (g (spanAt s (a + 1)) (leAt w s (a + 9))) → SpanWithin sp → v < 256 ^ w
+  numbered : (c : ℕ) (sp : Span) (v : ℕ) (g : Span → ℕ → Node) → nodeBy w c s a ≡ ifWhole s a (9 + w) (g (spanIn s (a + 1)) (leAt w s (a + 9))) → SpanWithin sp → v < 256 ^ w
       → Lies s a (c ∷ (spanBytes sp ++ le w v)) e → nodeAt w s a ≡ g sp v
   numbered c sp v g q f h l =
       let x0 = front c _ l in
@@ -64,7 +64,7 @@ module _ (w : ℕ) (s : List ℕ) (a e : ℕ) where
       x0 .0 ∙ is-whole 3 _ (omega arith) ∙ rw (x1 .0) (is-whole (3 + k) _ (omega arith))
 
   nonterminal-back : (d : NonterminalData) → NodeFits w (Node.Nonterminal d) → Lies s a (nodeBytes w (Node.Nonterminal d)) e → nodeAt w s a ≡ Node.Nonterminal d
-  unfolding nodeBytes nodeBy pick nonterminalAt
+  unfolding nodeBytes nodeBy pick nonterminalNodeAt
   nonterminal-back d f l =
       let x0 = front 16 _ l in
       let x1 = span-read s e (a + 1) (a + 9) (omega arith) (f .0) (x0 .2) in
@@ -74,25 +74,25 @@ module _ (w : ℕ) (s : List ℕ) (a e : ℕ) where
       let x5 = le-read-last s e (a + 11 + w) 2 (f .4) (x4 .1) in
       x0 .0 ∙ is-whole (13 + w) _ (omega arith) ∙ simp (x1 .0, x2 .0, x3 .0, x4 .0, x5 .0)
 
-  terminal-by : (c : ℕ) → (c ≡ 48) ⊎ (c ≡ 49) → nodeBy w c s a ≡ terminalAt w c s a
+  terminal-by : (c : ℕ) → (c ≡ 48) ⊎ (c ≡ 49) → nodeBy w c s a ≡ terminalNodeAt w c s a
   unfolding nodeBy pick
   terminal-by c (inl q) = rw q
   terminal-by c (inr q) = rw q
 
   terminal-back : (t : TerminalData) → NodeFits w (Node.Terminal t) → Lies s a (nodeBytes w (Node.Terminal t)) e → nodeAt w s a ≡ Node.Terminal t
-  unfolding nodeBytes terminalAt
+  unfolding nodeBytes terminalNodeAt
   terminal-back t f l =
       numbered (t .source) (t .span) (t .name .0) (λ sp v. Node.Terminal (record { span = sp; name = record { 0 = v }; source = t .source })) (terminal-by (t .source) (f .2)) (f .0) (f .1) l
 
   argument-back : (n : NonterminalString) → NodeFits w (Node.Argument n) → Lies s a (nodeBytes w (Node.Argument n)) e → nodeAt w s a ≡ Node.Argument n
-  unfolding nodeBytes nodeBy pick argumentAt
+  unfolding nodeBytes nodeBy pick argumentNodeAt
   argument-back n f l =
       let x0 = front 17 _ l in
       let x1 = le-read-last s e (a + 1) w f (x0 .2) in
       x0 .0 ∙ is-whole (1 + w) _ (omega arith) ∙ simp (x1 .0)
 
   alternative-back : (d : Alternative) → NodeFits w (Node.Alternative d) → Lies s a (nodeBytes w (Node.Alternative d)) e → nodeAt w s a ≡ Node.Alternative d
-  unfolding nodeBytes nodeBy pick alternativeAt
+  unfolding nodeBytes nodeBy pick alternativeNodeAt
   alternative-back d f l =
       let x0 = front 18 _ l in
       let x1 = span-read s e (a + 1) (a + 9) (omega arith) (f .0) (x0 .2) in
@@ -104,7 +104,7 @@ module _ (w : ℕ) (s : List ℕ) (a e : ℕ) where
       x0 .0 ∙ is-whole (14 + w) _ (omega arith) ∙ simp (x1 .0, x2 .0, x3 .0, x4 .0, x5 .0, x6 .0)
 
   attribute-back : (d : Attribute) → NodeFits w (Node.Attribute d) → Lies s a (nodeBytes w (Node.Attribute d)) e → nodeAt w s a ≡ Node.Attribute d
-  unfolding nodeBytes nodeBy pick attributeAt
+  unfolding nodeBytes nodeBy pick attributeNodeAt
   attribute-back d f l =
       let x0 = front 19 _ l in
       let x1 = le-read-then s e (a + 1) (a + 1 + w) w refl (f .0) (x0 .2) in
@@ -114,7 +114,7 @@ module _ (w : ℕ) (s : List ℕ) (a e : ℕ) where
       x0 .0 ∙ is-whole (2 + w + w + w) _ (omega arith) ∙ simp (x1 .0, x2 .0, x3 .0, x4 .0)
 
   condition-back : (d : Condition) → NodeFits w (Node.Condition d) → Lies s a (nodeBytes w (Node.Condition d)) e → nodeAt w s a ≡ Node.Condition d
-  unfolding nodeBytes nodeBy pick conditionAt
+  unfolding nodeBytes nodeBy pick conditionNodeAt
   condition-back d f l =
       let x0 = front 20 _ l in
       let x1 = span-read s e (a + 1) (a + 9) (omega arith) (f .0) (x0 .2) in
@@ -124,7 +124,7 @@ module _ (w : ℕ) (s : List ℕ) (a e : ℕ) where
       x0 .0 ∙ is-whole (10 + w + w) _ (omega arith) ∙ simp (x1 .0, x2 .0, x3 .0, x4 .0)
 
   leaf-back : (sp : Span) (x : Leaf) → SpanWithin sp → LeafFits w x → Lies s a (symbolBytes w sp (SymbolKind.Leaf x)) e → nodeAt w s a ≡ Node.Symbol sp (SymbolKind.Leaf x)
-  unfolding symbolBytes leafCode leafOperand nodeBy pick symbolAt namedLeaf bareLeaf
+  unfolding symbolBytes leafCode leafOperand nodeBy pick symbolNodeAt namedLeaf bareLeaf
   leaf-back sp (Leaf.AmbiguousId n) f h l = numbered 32 sp (n .0) (λ sp v. Node.Symbol sp (SymbolKind.Leaf (Leaf.AmbiguousId (record { 0 = v })))) refl f h l
   leaf-back sp (Leaf.Bare n) f h l = numbered 33 sp (n .0) (λ sp v. Node.Symbol sp (SymbolKind.Leaf (Leaf.Bare (record { 0 = v })))) refl f h l
   leaf-back sp (Leaf.Quoted n) f h l = numbered 34 sp (n .0) (λ sp v. Node.Symbol sp (SymbolKind.Leaf (Leaf.Quoted (record { 0 = v })))) refl f h l
@@ -135,7 +135,7 @@ module _ (w : ℕ) (s : List ℕ) (a e : ℕ) where
   leaf-back sp Leaf.Error f h l = spanned 44 sp (λ sp. Node.Symbol sp (SymbolKind.Leaf Leaf.Error)) refl f (rw append-nil at l)
 
   symbol-back : (sp : Span) (k : SymbolKind) → SpanWithin sp → KindFits w k → Lies s a (symbolBytes w sp k) e → nodeAt w s a ≡ Node.Symbol sp k
-  unfolding symbolBytes nodeBy pick symbolAt
+  unfolding symbolBytes nodeBy pick symbolNodeAt
   symbol-back sp (SymbolKind.Leaf x) f h l = leaf-back sp x f h l
   symbol-back sp (SymbolKind.Around (Around.Repeat op)) f h l =
       let x0 = front 38 _ l in

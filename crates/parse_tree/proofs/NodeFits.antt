@@ -4,9 +4,9 @@ use mathlib.Core.Logic.{_⊎_}
 use Prim.Native.Nat.{ℕ, _+_, _^_, _<_, _≤_}
 use mathlib.Core.List.{List}
 use lib.ListN.{length}
-use Rattle.octets.specs.Runs.{Lies}
-use Rattle.parse_tree.specs.Nodes.{nodeBytes, sizeOf}
-use Rattle.parse_tree.specs.Within.{SpanWithin}
+use Rattle.octets.specs.plain.Runs.{Lies}
+use Rattle.parse_tree.specs.working.Nodes.{nodeBytes, sizeOf}
+use Rattle.parse_tree.specs.working.Within.{SpanWithin}
 use Rattle.parse_tree.specs.declared.syntax.Leaf.{Leaf}
 use Rattle.parse_tree.specs.declared.syntax.Around.{Around}
 use Rattle.parse_tree.specs.declared.syntax.Over.{Over}

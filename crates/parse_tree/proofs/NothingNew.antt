@@ -4,11 +4,11 @@ use mathlib.Core.Bool.{Bool, true}
 use mathlib.Core.List.{List, [], _∷_, _++_}
 use mathlib.Core.Option.{Option, none, some}
 use Prim.Native.Nat.{ℕ, zero, suc}
-use Rattle.parse_tree.specs.Tree.{Text, Leaf, Around, Over, Sym, Syms, Action, Condition, Alternative, Item, Stage, ambiguous, bare, quoted, regex, nonterminal, lookahead, lookbehind, error, repeat, choose, name, macro, group, leaf, around, over, nil, cons, noAction, user, fallible, lookaheadAction, lookbehindAction, item, terminal, count}
-use Rattle.parse_tree.specs.Texts.{isName, has, withNew}
-use Rattle.parse_tree.specs.Encode.{conditions, stageBytes}
-use Rattle.parse_tree.specs.References.{textsOfEach, leafTexts, aroundTexts, overTexts, symTexts, symsTexts, actionTexts, attributeTexts, conditionTexts, alternativeTexts, itemTexts, stageOf, encode}
-use Rattle.parse_tree.specs.Within.{Each, Uses, LeafWithin, AroundWithin, OverWithin, SymWithin, SymsWithin, ActionWithin, ArgumentWithin, AttributeWithin, ConditionWithin, AlternativeWithin, ItemWithin, StageWithin}
+use Rattle.parse_tree.specs.plain.Tree.{Text, Leaf, Around, Over, Sym, Syms, Action, Condition, Alternative, Item, Stage, ambiguous, bare, quoted, regex, nonterminal, lookahead, lookbehind, error, repeat, choose, name, macro, group, leaf, around, over, nil, cons, noAction, user, fallible, lookaheadAction, lookbehindAction, item, terminal, count, conditions}
+use Rattle.parse_tree.specs.plain.Texts.{isName, has, withNew}
+use Rattle.parse_tree.specs.working.Encode.{stageBytes, encode}
+use Rattle.parse_tree.specs.plain.References.{textsOfEach, leafTexts, aroundTexts, overTexts, symTexts, symsTexts, actionTexts, attributeTexts, conditionTexts, alternativeTexts, itemTexts, stageOf}
+use Rattle.parse_tree.specs.working.Within.{Each, Uses, LeafWithin, AroundWithin, OverWithin, SymWithin, SymsWithin, ActionWithin, ArgumentWithin, AttributeWithin, ConditionWithin, AlternativeWithin, ItemWithin, StageWithin}
 use Rattle.parse_tree.proofs.ReadingLaws.{each-append}
 
 -- each of xs is among ts

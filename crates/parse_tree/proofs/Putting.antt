@@ -3,10 +3,10 @@ use mathlib.Core.Path.{_≡_}
 use mathlib.Core.List.{List, [], _∷_, _++_, append-assoc, append-nil}
 use Prim.Native.Nat.{ℕ}
 use borrow.Author.Needs.{needs}
-use Rattle.octets.specs.Numbers.{le}
-use Rattle.octets.specs.Sink.{Laid}
+use Rattle.octets.specs.plain.Numbers.{le}
+use Rattle.octets.specs.working.Sink.{Laid}
 use Rattle.octets.proofs.Laying.{laid-append, laid-none}
-use Rattle.parse_tree.specs.Nodes.{spanBytes, leafCode, leafOperand, symbolBytes, nodeBytes}
+use Rattle.parse_tree.specs.working.Nodes.{spanBytes, leafCode, leafOperand, symbolBytes, nodeBytes}
 use Rattle.parse_tree.specs.declared.syntax.Span.{Span}
 use Rattle.parse_tree.specs.declared.syntax.Atom.{Atom}
 use Rattle.parse_tree.specs.declared.syntax.NonterminalString.{NonterminalString}

@@ -7,17 +7,18 @@ use native.Mathlib.Omega.{arith}
 use borrow.Author.Tests.{le-leb, lt-leb}
 use lib.ListN.{length, length-append}
 use lib.Seq.{drop-length, append-snoc}
-use Rattle.octets.specs.Choice.{pick}
-use Rattle.octets.specs.Runs.{Lies}
+use Rattle.octets.specs.working.Choice.{pick}
+use Rattle.octets.specs.plain.Runs.{Lies}
 use Rattle.octets.proofs.Lying.{lies-split, lies-from, lies-to, lies-inside, lies-part}
 use Rattle.octets.proofs.Numbering.{length-le}
-use Rattle.parse_tree.specs.Tree.{Text, Item, Stage, item, terminal}
-use Rattle.parse_tree.specs.Texts.{distinct}
-use Rattle.parse_tree.specs.Nodes.{nodeBytes, nodeAt}
-use Rattle.parse_tree.specs.Reading.{got, then}
-use Rattle.parse_tree.specs.Decode.{readItems, readAtoms, decodeBy}
-use Rattle.parse_tree.specs.Encode.{bytesOfEach, atomBytes, nonterminalNode, itemBytes, stageBytes}
-use Rattle.parse_tree.specs.Within.{Each, ItemWithin, StageWithin}
+use Rattle.parse_tree.specs.plain.Tree.{Text, Item, Stage, item, terminal}
+use Rattle.parse_tree.specs.plain.Texts.{distinct}
+use Rattle.parse_tree.specs.working.Nodes.{nodeBytes, nodeAt}
+use Rattle.parse_tree.specs.plain.Reading.{got, then}
+use Rattle.parse_tree.specs.working.Decode.{readItems, readAtoms, decodeBy}
+use Rattle.parse_tree.specs.working.Encode.{atomBytes, nonterminalNode, itemBytes, stageBytes}
+use Rattle.parse_tree.specs.plain.WriteTape.{bytesOfEach}
+use Rattle.parse_tree.specs.working.Within.{Each, ItemWithin, StageWithin}
 use Rattle.parse_tree.specs.declared.syntax.Node.{Node}
 use Rattle.parse_tree.proofs.NodeBack.{node-back}
 use Rattle.parse_tree.proofs.TextLaws.{distinct-apart}

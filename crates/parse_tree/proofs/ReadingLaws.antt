@@ -4,11 +4,11 @@ use mathlib.Core.List.{List, [], _∷_, _++_, append-nil, append-assoc}
 use Prim.Native.Nat.{ℕ, zero, suc, _+_, _≤_}
 use native.Mathlib.Omega.{arith}
 use lib.ListN.{length, length-append}
-use Rattle.octets.specs.Runs.{Lies}
+use Rattle.octets.specs.plain.Runs.{Lies}
 use Rattle.octets.proofs.Lying.{lies-none, lies-append, lies-split}
-use Rattle.parse_tree.specs.Reading.{Reading, got, refused, then, times}
-use Rattle.parse_tree.specs.Encode.{bytesOfEach}
-use Rattle.parse_tree.specs.Within.{Each}
+use Rattle.parse_tree.specs.plain.Reading.{Reading, got, refused, then, times}
+use Rattle.parse_tree.specs.plain.WriteTape.{bytesOfEach}
+use Rattle.parse_tree.specs.working.Within.{Each}
 
 -- no refusal is a yes
 pub never : {A : Type 0} {k p e : ℕ} {x : A} → refused k p ≡ got x e → ⊥

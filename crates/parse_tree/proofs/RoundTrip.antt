@@ -4,12 +4,13 @@ use mathlib.Core.Bool.{Bool, true, false}
 use mathlib.Core.List.{List}
 use Prim.Native.Nat.{ℕ}
 use lib.ListN.{length}
-use Rattle.octets.specs.Numbers.{Bytes}
-use Rattle.parse_tree.specs.Tree.{Text, Item, Stage}
-use Rattle.parse_tree.specs.Reading.{got}
-use Rattle.parse_tree.specs.Decode.{decodeBy, decode, decodeAny}
-use Rattle.parse_tree.specs.References.{stageOf, encode}
-use Rattle.parse_tree.specs.Within.{StageWithin}
+use Rattle.octets.specs.plain.Numbers.{Bytes}
+use Rattle.parse_tree.specs.plain.Tree.{Text, Item, Stage}
+use Rattle.parse_tree.specs.plain.Reading.{got}
+use Rattle.parse_tree.specs.working.Decode.{decodeBy, decode, decodeAny}
+use Rattle.parse_tree.specs.plain.References.{stageOf}
+use Rattle.parse_tree.specs.working.Encode.{encode}
+use Rattle.parse_tree.specs.working.Within.{StageWithin}
 -- at most 256 ^ w atoms have numbers of w bytes: a text's number is below theirs
 pub use Rattle.parse_tree.proofs.TextLaws.{number-below}
 use Rattle.parse_tree.proofs.ReadBack.{read-back}

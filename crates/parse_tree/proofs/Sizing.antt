@@ -1,11 +1,13 @@
 -- How many bytes each command has. Assumes nothing.
 use mathlib.Core.Path.{_≡_}
-use Prim.Native.Nat.{ℕ, _+_}
+use mathlib.Core.Bool.{true, false≢true}
+use Prim.Native.Nat.{ℕ, _+_, _<_}
 use native.Mathlib.Omega.{arith}
 use borrow.Author.Needs.{needs}
 use lib.ListN.{length, length-append}
 use Rattle.octets.proofs.Numbering.{length-le}
-use Rattle.parse_tree.specs.Nodes.{spanBytes, leafOperand, symbolBytes, nodeBytes, sizeOf}
+use Rattle.parse_tree.specs.working.Nodes.{spanBytes, leafOperand, symbolBytes, nodeBytes, sizeOf}
+use Rattle.parse_tree.specs.working.Questions.{defined}
 use Rattle.parse_tree.specs.declared.syntax.Span.{Span}
 use Rattle.parse_tree.specs.declared.syntax.Atom.{Atom}
 use Rattle.parse_tree.specs.declared.syntax.NonterminalString.{NonterminalString}
@@ -120,3 +122,25 @@ module _ (w : ℕ) (n : Node) (s : Span) (k : SymbolKind) (p : n ≡ Node.Symbol
   group-size o m q e = rw (p, q, e) (simp (length-append, length-le, length-span) (omega arith))
 
 pub ruleset sizing = (needs, ambiguous-size, bare-size, quoted-size, regex-size, nonterminal-leaf-size, lookahead-size, lookbehind-size, error-size, text-size, nonterminal-size, terminal-size, argument-size, alternative-size, attribute-size, condition-size, unknown-size, leaf-size, repeat-size, choose-size, name-size, macro-size, group-size)
+
+-- a command that is known has a byte
+symbol-positive : (w : ℕ) (sp : Span) (k : SymbolKind) → 0 < length (symbolBytes w sp k)
+unfolding symbolBytes
+symbol-positive w sp (SymbolKind.Leaf l) = omega arith
+symbol-positive w sp (SymbolKind.Around (Around.Repeat op)) = omega arith
+symbol-positive w sp (SymbolKind.Around Around.Choose) = omega arith
+symbol-positive w sp (SymbolKind.Around (Around.Name m n)) = omega arith
+symbol-positive w sp (SymbolKind.Over (Over.Macro n k)) = omega arith
+symbol-positive w sp (SymbolKind.Over (Over.Group k)) = omega arith
+
+pub node-positive : (w k : ℕ) (n : Node) → defined k n ≡ true → 0 < length (nodeBytes w n)
+unfolding defined nodeBytes
+node-positive w k (Node.Text n) d = omega arith
+node-positive w k (Node.Nonterminal n) d = omega arith
+node-positive w k (Node.Terminal t) d = omega arith
+node-positive w k (Node.Argument n) d = omega arith
+node-positive w k (Node.Alternative n) d = omega arith
+node-positive w k (Node.Attribute n) d = omega arith
+node-positive w k (Node.Condition c) d = omega arith
+node-positive w k (Node.Symbol sp n) d = symbol-positive w sp n
+node-positive w k Node.Unknown d = absurd (false≢true d)

@@ -4,9 +4,10 @@ use mathlib.Core.Bool.{Bool}
 use mathlib.Core.List.{List, [], _∷_, _++_}
 use Prim.Native.Nat.{ℕ, suc}
 use lib.ListN.{length}
-use Rattle.parse_tree.specs.Tree.{Text, Sym, Syms, nil, cons, count, symsOf}
-use Rattle.parse_tree.specs.Encode.{bytesOfEach, symBytes, symsBytes}
-use Rattle.parse_tree.specs.Within.{Each, SymWithin, SymsWithin}
+use Rattle.parse_tree.specs.plain.Tree.{Text, Sym, Syms, nil, cons, count, symsOf}
+use Rattle.parse_tree.specs.working.Encode.{symBytes, symsBytes}
+use Rattle.parse_tree.specs.plain.WriteTape.{bytesOfEach}
+use Rattle.parse_tree.specs.working.Within.{Each, SymWithin, SymsWithin}
 
 unfoldable pub listOf : Syms → List Sym
 listOf nil = []

@@ -7,10 +7,10 @@ use native.Mathlib.Omega.{arith}
 use borrow.Author.Tests.{lt-ltb, not-true}
 use lib.Dec.{ltb}
 use lib.ListN.{length, getD}
-use Rattle.octets.specs.Runs.{sameAs}
+use Rattle.octets.specs.plain.Runs.{sameAs}
 use Rattle.octets.proofs.Sameness.{sameAs-eq, sameAs-refl}
-use Rattle.parse_tree.specs.Tree.{Text}
-use Rattle.parse_tree.specs.Texts.{has, number, distinct}
+use Rattle.parse_tree.specs.plain.Tree.{Text}
+use Rattle.parse_tree.specs.plain.Texts.{has, number, distinct}
 
 -- ---- two tests at once
 pub both : (a b : Bool) → (a && b) ≡ true → (a ≡ true) × (b ≡ true)

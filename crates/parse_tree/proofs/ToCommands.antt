@@ -11,15 +11,16 @@ use native.Mathlib.Omega.{arith}
 use borrow.Author.Tests.{le-leb}
 use lib.Dec.{leb, ltb, eqb}
 use lib.ListN.{length, getD}
-use Rattle.octets.specs.Choice.{pick}
-use Rattle.parse_tree.specs.Tree.{Text, Leaf, Around, Over, Action, Attribute, Condition, Alternative, Nonterminal, Source, star, plus, question, ambiguous, bare, quoted, regex, nonterminal, lookahead, lookbehind, error, repeat, choose, name, macro, group, noAction, user, fallible, lookaheadAction, lookbehindAction, extern, match, terminal}
-use Rattle.parse_tree.specs.Texts.{isName, isLiteral, isAscii, number}
-use Rattle.parse_tree.specs.Questions.{hasText, ofClass, leafDefined, symbolDefined, alternativeDefined, attributeDefined, defined, leafSuits, symbolSuits, suits}
-use Rattle.parse_tree.specs.Reading.{got}
-use Rattle.parse_tree.specs.Expect.{expectCondition}
-use Rattle.parse_tree.specs.Operands.{opOf, insideOf, leafOf, aroundOf, overOf, actionOf, attributeOf, conditionOf, alternativeOf, nonterminalOf, terminalOf}
-use Rattle.parse_tree.specs.Encode.{bit, actionCode, sourceCode, conditions, leafNode, aroundNode, overNode, actionText, alternativeNode, attributeNode, conditionNode, nonterminalNode}
-use Rattle.parse_tree.specs.Within.{SpanWithin, Uses, LeafWithin, AroundWithin, OverWithin, ActionWithin, ArgumentWithin, ConditionWithin, AlternativeWithin, NonterminalWithin}
+use Rattle.octets.specs.working.Choice.{pick}
+use Rattle.parse_tree.specs.plain.Tree.{Text, Leaf, Around, Over, Action, Attribute, Condition, Alternative, Nonterminal, Source, star, plus, question, ambiguous, bare, quoted, regex, nonterminal, lookahead, lookbehind, error, repeat, choose, name, macro, group, noAction, user, fallible, lookaheadAction, lookbehindAction, extern, match, terminal, conditions}
+use Rattle.parse_tree.specs.plain.Texts.{isName, isLiteral, isAscii, number}
+use Rattle.parse_tree.specs.working.Questions.{hasText, ofClass, leafDefined, symbolDefined, alternativeDefined, attributeDefined, defined, leafSuits, symbolSuits, suits}
+use Rattle.parse_tree.specs.plain.Reading.{got}
+use Rattle.parse_tree.specs.working.Expect.{expectCondition}
+use Rattle.parse_tree.specs.working.Operands.{opFrom, insideOf, leafOf, aroundOf, overOf, actionFrom, attributeOf, conditionOf, alternativeOf, nonterminalOf, terminalOf}
+use Rattle.parse_tree.specs.working.Encode.{actionCode, sourceCode, leafNode, aroundNode, overNode, actionText, alternativeNode, attributeNode, conditionNode, nonterminalNode}
+use Rattle.parse_tree.specs.plain.WriteTape.{bit}
+use Rattle.parse_tree.specs.working.Within.{SpanWithin, Uses, LeafWithin, AroundWithin, OverWithin, ActionWithin, ArgumentWithin, ConditionWithin, AlternativeWithin, NonterminalWithin}
 use Rattle.parse_tree.specs.declared.syntax.Span.{Span}
 use Rattle.parse_tree.specs.declared.syntax.Attribute.{Attribute as AttributeNode}
 use Rattle.parse_tree.specs.declared.syntax.SymbolKind.{SymbolKind}
@@ -93,7 +94,7 @@ module _ (four : Bool) (w : ℕ) (ts : List Text) where
   around-passes s (name false x) h u = record { fits = (h, (omega arith, u .1)); known = number-ltb ts x (u .0); apt = apt-text isName x u }
 
   pub around-back : (a : Around) → AroundWithin four w ts a → aroundOf ts (aroundNode ts a) ≡ a
-  unfolding aroundNode aroundOf opOf pick
+  unfolding aroundNode aroundOf opFrom pick
   around-back (repeat star) u = refl
   around-back (repeat plus) u = refl
   around-back (repeat question) u = refl
@@ -176,8 +177,8 @@ module _ (four : Bool) (w : ℕ) (ts : List Text) where
   action-passes lookaheadAction u = (omega arith, one-le-pow w 256 (omega arith), refl, free four)
   action-passes lookbehindAction u = (omega arith, one-le-pow w 256 (omega arith), refl, free four)
 
-  action-back : (x : Action) → ActionWithin four w ts x → actionOf ts (actionCode x) (actionText ts x) ≡ x
-  unfolding actionText actionOf pick
+  action-back : (x : Action) → ActionWithin four w ts x → actionFrom ts (actionCode x) (actionText ts x) ≡ x
+  unfolding actionText actionFrom pick
   action-back noAction u = refl
   action-back (user t) u = ap user (text-number ts t (u .0))
   action-back (fallible t) u = ap fallible (text-number ts t (u .0))

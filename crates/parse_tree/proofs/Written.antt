@@ -8,18 +8,19 @@ use borrow.Author.Tests.{leb-true}
 use lib.Dec.{leb}
 use lib.ListN.{length}
 use lib.Seq.{drop-length}
-use Rattle.octets.specs.Numbers.{Bytes}
-use Rattle.octets.specs.Runs.{part, Lies}
+use Rattle.octets.specs.plain.Numbers.{Bytes}
+use Rattle.octets.specs.plain.Runs.{part, Lies}
 use Rattle.octets.proofs.Lying.{lies-none, lies-append, lies-to, lies-inside, part-lies}
 use Rattle.octets.proofs.Numbering.{length-le}
 use Rattle.octets.proofs.Parts.{part-length}
-use Rattle.parse_tree.specs.Tree.{Text, Item, Stage}
-use Rattle.parse_tree.specs.Texts.{has, distinct}
-use Rattle.parse_tree.specs.Nodes.{nodeBytes, sizeOf, nodeAt}
-use Rattle.parse_tree.specs.Reading.{got, refused, then}
-use Rattle.parse_tree.specs.Decode.{readItem, readItems, readAtoms, decodeBy}
-use Rattle.parse_tree.specs.Encode.{bytesOfEach, atomBytes, itemBytes, stageBytes}
-use Rattle.parse_tree.specs.Within.{Each, ItemWithin, StageWithin}
+use Rattle.parse_tree.specs.plain.Tree.{Text, Item, Stage}
+use Rattle.parse_tree.specs.plain.Texts.{has, distinct}
+use Rattle.parse_tree.specs.working.Nodes.{nodeBytes, sizeOf, nodeAt}
+use Rattle.parse_tree.specs.plain.Reading.{got, refused, then}
+use Rattle.parse_tree.specs.working.Decode.{readItem, readItems, readAtoms, decodeBy}
+use Rattle.parse_tree.specs.working.Encode.{atomBytes, itemBytes, stageBytes}
+use Rattle.parse_tree.specs.plain.WriteTape.{bytesOfEach}
+use Rattle.parse_tree.specs.working.Within.{Each, ItemWithin, StageWithin}
 use Rattle.parse_tree.specs.declared.syntax.Node.{Node}
 use Rattle.parse_tree.proofs.NodeFits.{NodeSays, Stands}
 use Rattle.parse_tree.proofs.NodeSays.{node-says}

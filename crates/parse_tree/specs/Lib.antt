@@ -1,14 +1,4 @@
--- What a tape says: the tree, its printed forms, its bytes, and how bytes are read.
-pub mod Tree
-pub mod Display
-pub mod Texts
-pub mod Nodes
-pub mod Places
-pub mod Questions
-pub mod Reading
-pub mod Expect
-pub mod Operands
-pub mod Decode
-pub mod Encode
-pub mod References
-pub mod Within
+-- What a tape says. plain has it in the words of document 01: the tree, its printed forms, its tape read and written. working has it command by command, as
+-- the code goes; that both are the same is proved (proofs/ReadTapeIs, WriteTapeIs).
+pub mod plain
+pub mod working

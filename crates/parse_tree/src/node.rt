@@ -20,18 +20,18 @@ use octets::wide::from16;
 ghost use mathlib.Core.Path.{_≡_};
 ghost use Prim.Native.Nat.{_+_, _≤_, _<_};
 ghost use lib.ListN.{length, getD};
-ghost use Rattle.octets.specs.Numbers.{leAt};
-ghost use Rattle.parse_tree.specs.Nodes.{nodeAt, textNode, nonterminalAt, terminalAt, argumentAt, alternativeAt, attributeAt, conditionAt};
-ghost use Rattle.parse_tree.specs.Nodes.{whole, spanAt, symbolAt, namedLeaf, bareLeaf};
+ghost use Rattle.octets.specs.plain.Numbers.{leAt};
+ghost use Rattle.parse_tree.specs.working.Nodes.{nodeAt, textNode, nonterminalNodeAt, terminalNodeAt, argumentNodeAt, alternativeNodeAt, attributeNodeAt, conditionNodeAt};
+ghost use Rattle.parse_tree.specs.working.Nodes.{ifWhole, spanIn, symbolNodeAt, namedLeaf, bareLeaf};
 
 fn span_at(tape: &[u8], at: usize) -> Span
     requires { ⌜ at + 8 ≤ length (now tape) ⌝ }
-    ensures { λ r. ⌜ r ≡ spanAt (now (tape .entry)) at ⌝ }
+    ensures { λ r. ⌜ r ≡ spanIn (now (tape .entry)) at ⌝ }
 {
     Span(u32_at(tape, at), u32_at(tape, at + 4))
 }
 
-// An atom: whole with its text.
+// An atom: ifWhole with its text.
 fn text_node(tape: &[u8], at: usize) -> Node
     requires { ⌜ at < length (now tape) ⌝ }
     ensures { λ r. ⌜ r ≡ textNode (now (tape .entry)) at ⌝ }
@@ -49,7 +49,7 @@ fn text_node(tape: &[u8], at: usize) -> Node
 
 fn nonterminal_at(tape: &[u8], at: usize, width: usize) -> Node
     requires { ⌜ (2 ≤ width) × (width ≤ 3) × (at < length (now tape)) ⌝ }
-    ensures { λ r. ⌜ r ≡ nonterminalAt width (now (tape .entry)) at ⌝ }
+    ensures { λ r. ⌜ r ≡ nonterminalNodeAt width (now (tape .entry)) at ⌝ }
 {
     if tape.len() - at < 13 + width {
         return Node::Unknown;
@@ -65,7 +65,7 @@ fn nonterminal_at(tape: &[u8], at: usize, width: usize) -> Node
 
 fn terminal_at(tape: &[u8], at: usize, width: usize, code: u8) -> Node
     requires { ⌜ (2 ≤ width) × (width ≤ 3) × (at < length (now tape)) ⌝ }
-    ensures { λ r. ⌜ r ≡ terminalAt width code (now (tape .entry)) at ⌝ }
+    ensures { λ r. ⌜ r ≡ terminalNodeAt width code (now (tape .entry)) at ⌝ }
 {
     if tape.len() - at < 9 + width {
         return Node::Unknown;
@@ -79,7 +79,7 @@ fn terminal_at(tape: &[u8], at: usize, width: usize, code: u8) -> Node
 
 fn argument_at(tape: &[u8], at: usize, width: usize) -> Node
     requires { ⌜ (2 ≤ width) × (width ≤ 3) × (at < length (now tape)) ⌝ }
-    ensures { λ r. ⌜ r ≡ argumentAt width (now (tape .entry)) at ⌝ }
+    ensures { λ r. ⌜ r ≡ argumentNodeAt width (now (tape .entry)) at ⌝ }
 {
     if tape.len() - at < 1 + width {
         return Node::Unknown;
@@ -89,7 +89,7 @@ fn argument_at(tape: &[u8], at: usize, width: usize) -> Node
 
 fn alternative_at(tape: &[u8], at: usize, width: usize) -> Node
     requires { ⌜ (2 ≤ width) × (width ≤ 3) × (at < length (now tape)) ⌝ }
-    ensures { λ r. ⌜ r ≡ alternativeAt width (now (tape .entry)) at ⌝ }
+    ensures { λ r. ⌜ r ≡ alternativeNodeAt width (now (tape .entry)) at ⌝ }
 {
     if tape.len() - at < 14 + width {
         return Node::Unknown;
@@ -106,7 +106,7 @@ fn alternative_at(tape: &[u8], at: usize, width: usize) -> Node
 
 fn attribute_at(tape: &[u8], at: usize, width: usize) -> Node
     requires { ⌜ (2 ≤ width) × (width ≤ 3) × (at < length (now tape)) ⌝ }
-    ensures { λ r. ⌜ r ≡ attributeAt width (now (tape .entry)) at ⌝ }
+    ensures { λ r. ⌜ r ≡ attributeNodeAt width (now (tape .entry)) at ⌝ }
 {
     if tape.len() - at < 2 + width + width + width {
         return Node::Unknown;
@@ -121,7 +121,7 @@ fn attribute_at(tape: &[u8], at: usize, width: usize) -> Node
 
 fn condition_at(tape: &[u8], at: usize, width: usize) -> Node
     requires { ⌜ (2 ≤ width) × (width ≤ 3) × (at < length (now tape)) ⌝ }
-    ensures { λ r. ⌜ r ≡ conditionAt width (now (tape .entry)) at ⌝ }
+    ensures { λ r. ⌜ r ≡ conditionNodeAt width (now (tape .entry)) at ⌝ }
 {
     if tape.len() - at < 10 + width + width {
         return Node::Unknown;
@@ -169,8 +169,8 @@ fn bare_leaf(code: u8) -> Leaf
 // 20 to 24.
 fn named_at(tape: &[u8], at: usize, width: usize, code: u8) -> Node
     requires { ⌜ (2 ≤ width) × (width ≤ 3) × (at < length (now tape)) ⌝ }
-    ensures { λ r. ⌜ r ≡ whole (now (tape .entry)) at (9 + width)
-        (Node.Symbol (spanAt (now (tape .entry)) (at + 1))
+    ensures { λ r. ⌜ r ≡ ifWhole (now (tape .entry)) at (9 + width)
+        (Node.Symbol (spanIn (now (tape .entry)) (at + 1))
         (SymbolKind.Leaf (namedLeaf code (leAt width (now (tape .entry)) (at + 9))))) ⌝ }
 {
     if tape.len() - at < 9 + width {
@@ -185,8 +185,8 @@ fn named_at(tape: &[u8], at: usize, width: usize, code: u8) -> Node
 // 25.
 fn macro_at(tape: &[u8], at: usize, width: usize) -> Node
     requires { ⌜ (2 ≤ width) × (width ≤ 3) × (at < length (now tape)) ⌝ }
-    ensures { λ r. ⌜ r ≡ whole (now (tape .entry)) at (10 + width)
-        (Node.Symbol (spanAt (now (tape .entry)) (at + 1))
+    ensures { λ r. ⌜ r ≡ ifWhole (now (tape .entry)) at (10 + width)
+        (Node.Symbol (spanIn (now (tape .entry)) (at + 1))
         (SymbolKind.Over (Over.Macro (record { 0 = leAt width (now (tape .entry)) (at + 9) }) (getD (now (tape .entry)) (at + 9 + width) 0)))) ⌝ }
 {
     if tape.len() - at < 10 + width {
@@ -204,8 +204,8 @@ fn macro_at(tape: &[u8], at: usize, width: usize) -> Node
 // 26.
 fn repeat_at(tape: &[u8], at: usize) -> Node
     requires { ⌜ at < length (now tape) ⌝ }
-    ensures { λ r. ⌜ r ≡ whole (now (tape .entry)) at 10
-        (Node.Symbol (spanAt (now (tape .entry)) (at + 1))
+    ensures { λ r. ⌜ r ≡ ifWhole (now (tape .entry)) at 10
+        (Node.Symbol (spanIn (now (tape .entry)) (at + 1))
         (SymbolKind.Around (Around.Repeat (getD (now (tape .entry)) (at + 9) 0)))) ⌝ }
 {
     if tape.len() - at < 10 {
@@ -220,8 +220,8 @@ fn repeat_at(tape: &[u8], at: usize) -> Node
 // 27.
 fn choose_at(tape: &[u8], at: usize) -> Node
     requires { ⌜ at < length (now tape) ⌝ }
-    ensures { λ r. ⌜ r ≡ whole (now (tape .entry)) at 9
-        (Node.Symbol (spanAt (now (tape .entry)) (at + 1))
+    ensures { λ r. ⌜ r ≡ ifWhole (now (tape .entry)) at 9
+        (Node.Symbol (spanIn (now (tape .entry)) (at + 1))
         (SymbolKind.Around Around.Choose)) ⌝ }
 {
     if tape.len() - at < 9 {
@@ -233,8 +233,8 @@ fn choose_at(tape: &[u8], at: usize) -> Node
 // 28.
 fn name_at(tape: &[u8], at: usize, width: usize) -> Node
     requires { ⌜ (2 ≤ width) × (width ≤ 3) × (at < length (now tape)) ⌝ }
-    ensures { λ r. ⌜ r ≡ whole (now (tape .entry)) at (10 + width)
-        (Node.Symbol (spanAt (now (tape .entry)) (at + 1))
+    ensures { λ r. ⌜ r ≡ ifWhole (now (tape .entry)) at (10 + width)
+        (Node.Symbol (spanIn (now (tape .entry)) (at + 1))
         (SymbolKind.Around (Around.Name (getD (now (tape .entry)) (at + 9) 0) (record { 0 = leAt width (now (tape .entry)) (at + 10) })))) ⌝ }
 {
     if tape.len() - at < 10 + width {
@@ -249,8 +249,8 @@ fn name_at(tape: &[u8], at: usize, width: usize) -> Node
 // 29.
 fn group_at(tape: &[u8], at: usize) -> Node
     requires { ⌜ at < length (now tape) ⌝ }
-    ensures { λ r. ⌜ r ≡ whole (now (tape .entry)) at 11
-        (Node.Symbol (spanAt (now (tape .entry)) (at + 1))
+    ensures { λ r. ⌜ r ≡ ifWhole (now (tape .entry)) at 11
+        (Node.Symbol (spanIn (now (tape .entry)) (at + 1))
         (SymbolKind.Over (Over.Group (leAt 2 (now (tape .entry)) (at + 9))))) ⌝ }
 {
     if tape.len() - at < 11 {
@@ -265,8 +265,8 @@ fn group_at(tape: &[u8], at: usize) -> Node
 // 2a, 2b, 2c.
 fn bare_at(tape: &[u8], at: usize, code: u8) -> Node
     requires { ⌜ at < length (now tape) ⌝ }
-    ensures { λ r. ⌜ r ≡ whole (now (tape .entry)) at 9
-        (Node.Symbol (spanAt (now (tape .entry)) (at + 1))
+    ensures { λ r. ⌜ r ≡ ifWhole (now (tape .entry)) at 9
+        (Node.Symbol (spanIn (now (tape .entry)) (at + 1))
         (SymbolKind.Leaf (bareLeaf code))) ⌝ }
 {
     if tape.len() - at < 9 {
@@ -278,7 +278,7 @@ fn bare_at(tape: &[u8], at: usize, code: u8) -> Node
 // The command of a symbol, 20 to 2c.
 fn symbol_at(tape: &[u8], at: usize, width: usize, code: u8) -> Node
     requires { ⌜ (2 ≤ width) × (width ≤ 3) × (at < length (now tape)) ⌝ }
-    ensures { λ r. ⌜ r ≡ symbolAt width code (now (tape .entry)) at ⌝ }
+    ensures { λ r. ⌜ r ≡ symbolNodeAt width code (now (tape .entry)) at ⌝ }
 {
     if code < 37 {
         return named_at(tape, at, width, code);

@@ -2,7 +2,7 @@
 use crate::syntax::Node;
 ghost use mathlib.Core.Path.{_≡_};
 ghost use Prim.Native.Nat.{_<_};
-ghost use Rattle.parse_tree.specs.Places.{classOf, allowedAt};
+ghost use Rattle.parse_tree.specs.working.Places.{classOf, allowedAt};
 
 // The places.
 pub const ATOMS: usize = 0;

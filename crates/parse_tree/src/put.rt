@@ -17,9 +17,9 @@ use octets::sink::put32;
 ghost use mathlib.Core.List.{[], _∷_, _++_};
 ghost use Prim.Native.Nat.{_≤_};
 ghost use lib.ListN.{length};
-ghost use Rattle.octets.specs.Numbers.{le};
-ghost use Rattle.octets.specs.Sink.{Laid};
-ghost use Rattle.parse_tree.specs.Nodes.{spanBytes, symbolBytes, nodeBytes};
+ghost use Rattle.octets.specs.plain.Numbers.{le};
+ghost use Rattle.octets.specs.working.Sink.{Laid};
+ghost use Rattle.parse_tree.specs.working.Nodes.{spanBytes, symbolBytes, nodeBytes};
 
 fn put_span(out: &mut [u8], lim: usize, to: usize, s: Span) -> usize
     requires { ⌜ lim ≤ length (now out) ⌝ }

@@ -7,7 +7,7 @@ use crate::syntax::SymbolKind;
 ghost use mathlib.Core.Path.{_≡_};
 ghost use Prim.Native.Nat.{_+_, _≤_};
 ghost use lib.ListN.{length};
-ghost use Rattle.parse_tree.specs.Nodes.{leafOperand, sizeOf};
+ghost use Rattle.parse_tree.specs.working.Nodes.{leafOperand, sizeOf};
 
 // What stands behind the span of a leaf.
 fn leaf_size(l: Leaf, width: usize) -> usize

@@ -12,10 +12,10 @@ use mir.Syntax.{w8}
 use mir.Val.{Fits}
 use lib.Dec.{eqb}
 use lib.ListN.{length, getD}
-use Rattle.octets.specs.Choice.{pick}
-use Rattle.octets.specs.Runs.{part}
-use Rattle.octets.specs.Sink.{Laid}
-use Rattle.parse_tree.specs.Nodes.{nodeAt, sizeOf}
+use Rattle.octets.specs.working.Choice.{pick}
+use Rattle.octets.specs.plain.Runs.{part}
+use Rattle.octets.specs.working.Sink.{Laid}
+use Rattle.parse_tree.specs.working.Nodes.{nodeAt, sizeOf}
 use Rattle.parse_tree.specs.declared.syntax.Span.{Span}
 use Rattle.parse_tree.specs.declared.syntax.Alternative.{Alternative}
 use Rattle.parse_tree.specs.declared.syntax.Condition.{Condition}

@@ -7,19 +7,21 @@ use Prim.Native.Nat.{ℕ, zero, suc, _+_, _≤_}
 use native.Mathlib.Omega.{arith}
 use lib.Dec.{leb}
 use lib.ListN.{length}
-use Rattle.octets.specs.Choice.{pick}
-use Rattle.octets.specs.Numbers.{Bytes}
-use Rattle.octets.specs.Runs.{part, Lies}
+use Rattle.octets.specs.working.Choice.{pick}
+use Rattle.octets.specs.plain.Numbers.{Bytes}
+use Rattle.octets.specs.plain.Runs.{part, Lies}
 use Rattle.octets.proofs.Lying.{lies-none, lies-append, lies-part}
-use Rattle.parse_tree.specs.Tree.{Text, Syms, Attribute, Condition, Alternative, count, symsOf}
-use Rattle.parse_tree.specs.Texts.{distinct}
-use Rattle.parse_tree.specs.Nodes.{nodeBytes, nodeAt, sizeOf}
-use Rattle.parse_tree.specs.Questions.{defined, alternativeDefined, suits}
-use Rattle.parse_tree.specs.Places.{alternativesPlace, attributesPlace, conditionsPlace}
-use Rattle.parse_tree.specs.Reading.{Reading, got, then, times}
-use Rattle.parse_tree.specs.Operands.{alternativeOf}
-use Rattle.parse_tree.specs.Decode.{firstOf, readSym, readAttribute, readCondition, readAlternative, alternativeParts}
-use Rattle.parse_tree.specs.Encode.{bytesOfEach, conditions, symsBytes, attributeBytes, conditionBytes, alternativeNode, alternativeBytes}
+use Rattle.parse_tree.specs.plain.Tree.{Text, Syms, Attribute, Condition, Alternative, count, symsOf, conditions}
+use Rattle.parse_tree.specs.plain.Texts.{distinct}
+use Rattle.parse_tree.specs.working.Nodes.{nodeBytes, nodeAt, sizeOf}
+use Rattle.parse_tree.specs.working.Questions.{defined, alternativeDefined, suits}
+use Rattle.parse_tree.specs.working.Places.{alternativesPlace, attributesPlace, conditionsPlace}
+use Rattle.parse_tree.specs.plain.Reading.{Reading, got, then, times}
+use Rattle.parse_tree.specs.working.Operands.{alternativeOf}
+use Rattle.parse_tree.specs.working.Decode.{readSym, readAttribute, readCondition, readAlternative, alternativeParts}
+use Rattle.parse_tree.specs.plain.ReadTape.{firstOf}
+use Rattle.parse_tree.specs.working.Encode.{symsBytes, attributeBytes, conditionBytes, alternativeNode, alternativeBytes}
+use Rattle.parse_tree.specs.plain.WriteTape.{bytesOfEach}
 use Rattle.parse_tree.specs.declared.syntax.Alternative.{Alternative as AlternativeNode}
 use Rattle.parse_tree.specs.declared.syntax.Node.{Node}
 use Rattle.parse_tree.proofs.TextLaws.{both}
@@ -28,8 +30,8 @@ use Rattle.parse_tree.proofs.Asking.{Passes}
 use Rattle.parse_tree.proofs.Expecting.{alternative-wanted, attribute-wanted, condition-wanted}
 use Rattle.parse_tree.proofs.SymLists.{count-syms}
 use Rattle.parse_tree.proofs.FromCommands.{attribute-within, condition-within, action-within, one-condition}
-use Rattle.grammar.specs.Outcome.{Tree, Outcome, yes, no, after, withSymbols}
-use Rattle.grammar.specs.Resolve.{checkCondition, validateSymbols, validateAlternatives}
+use Rattle.passes.specs.Outcome.{Tree, Outcome, yes, no, after, withSymbols}
+use Rattle.passes.specs.Resolve.{checkCondition, validateSymbols, validateAlternatives}
 use Rattle.resolve.specs.declared.Scope.{Scope}
 use Rattle.resolve.specs.declared.Passed.{Passed}
 use Rattle.resolve.specs.Names.{conditionSays}

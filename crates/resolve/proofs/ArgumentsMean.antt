@@ -8,19 +8,19 @@ use native.Mathlib.Omega.{arith}
 use borrow.Author.Tests.{eqb-true, eqb-false, eq-eqb, ne-eqb, lt-leb, ltb-true}
 use lib.Dec.{eqb}
 use lib.ListN.{length, getD}
-use Rattle.octets.specs.Choice.{pick}
-use Rattle.octets.specs.Numbers.{Bytes, le}
-use Rattle.octets.specs.Runs.{sameAs}
-use Rattle.octets.specs.Stores.{store}
+use Rattle.octets.specs.working.Choice.{pick}
+use Rattle.octets.specs.plain.Numbers.{Bytes, le}
+use Rattle.octets.specs.plain.Runs.{sameAs}
+use Rattle.octets.specs.working.Stores.{store}
 use Rattle.octets.proofs.Sameness.{sameAs-eq, sameAs-refl}
 use Rattle.octets.proofs.Storing.{length-store}
-use Rattle.parse_tree.specs.Tree.{Text, Item, item, extern, match}
-use Rattle.parse_tree.specs.Texts.{has, number, distinct}
-use Rattle.parse_tree.specs.Questions.{defined}
-use Rattle.parse_tree.specs.Places.{argumentsPlace}
-use Rattle.parse_tree.specs.Reading.{got, times}
-use Rattle.parse_tree.specs.Decode.{readArgument}
-use Rattle.parse_tree.specs.Within.{Each}
+use Rattle.parse_tree.specs.plain.Tree.{Text, Item, item, extern, match}
+use Rattle.parse_tree.specs.plain.Texts.{has, number, distinct}
+use Rattle.parse_tree.specs.working.Questions.{defined}
+use Rattle.parse_tree.specs.working.Places.{argumentsPlace}
+use Rattle.parse_tree.specs.plain.Reading.{got, times}
+use Rattle.parse_tree.specs.working.Decode.{readArgument}
+use Rattle.parse_tree.specs.working.Within.{Each}
 use Rattle.parse_tree.specs.declared.syntax.Span.{Span}
 use Rattle.parse_tree.specs.declared.syntax.NonterminalString.{NonterminalString}
 use Rattle.parse_tree.specs.declared.syntax.Node.{Node}
@@ -29,8 +29,8 @@ use Rattle.parse_tree.proofs.ReadingLaws.{then-got, got-as, each-append}
 use Rattle.parse_tree.proofs.Expecting.{argument-wanted}
 use Rattle.texts.specs.Table.{entry}
 use Rattle.texts.proofs.Tabling.{entry-same, entry-other}
-use Rattle.grammar.specs.Outcome.{Tree}
-use Rattle.grammar.specs.Resolve.{argumentDef, Global, nonterminals, externs, matches, globals, defIn}
+use Rattle.passes.specs.Outcome.{Tree}
+use Rattle.passes.specs.Resolve.{argumentDef, Global, nonterminals, externs, matches, globals, defIn}
 use Rattle.resolve.specs.declared.Def.{Def}
 use Rattle.resolve.specs.declared.Found.{Found}
 use Rattle.resolve.specs.declared.Scope.{Scope}

@@ -8,20 +8,20 @@ use native.Mathlib.Omega.{arith}
 use borrow.Author.Tests.{lt-leb, lt-ltb, ne-eqb, eqb-true, eqb-false}
 use lib.Dec.{eqb}
 use lib.ListN.{length, getD}
-use Rattle.octets.specs.Choice.{pick}
-use Rattle.octets.specs.Numbers.{le}
-use Rattle.octets.specs.Runs.{sameAs}
-use Rattle.octets.specs.Stores.{store}
+use Rattle.octets.specs.working.Choice.{pick}
+use Rattle.octets.specs.plain.Numbers.{le}
+use Rattle.octets.specs.plain.Runs.{sameAs}
+use Rattle.octets.specs.working.Stores.{store}
 use Rattle.octets.proofs.Sameness.{sameAs-eq, eq-sameAs}
 use Rattle.octets.proofs.Storing.{length-store}
-use Rattle.parse_tree.specs.Tree.{Text}
-use Rattle.parse_tree.specs.Texts.{has, number, distinct}
-use Rattle.parse_tree.specs.Within.{Each}
+use Rattle.parse_tree.specs.plain.Tree.{Text}
+use Rattle.parse_tree.specs.plain.Texts.{has, number, distinct}
+use Rattle.parse_tree.specs.working.Within.{Each}
 use Rattle.parse_tree.proofs.TextLaws.{number-below, text-number, number-text}
 use Rattle.texts.specs.Table.{entry}
 use Rattle.texts.proofs.Tabling.{entry-same, entry-other}
-use Rattle.grammar.specs.Outcome.{Outcome, yes, no}
-use Rattle.grammar.specs.Resolve.{Def as Definition, terminalDef, nonterminalDef, argumentDef, Global as Met, defIn, kind, metAgain, checkGlobals}
+use Rattle.passes.specs.Outcome.{Outcome, yes, no}
+use Rattle.passes.specs.Resolve.{Def as Definition, terminalDef, nonterminalDef, argumentDef, Global as Met, defIn, kind, metAgain, checkGlobals}
 use Rattle.resolve.specs.Scopes.{base, codeOf, foundBy}
 use Rattle.resolve.specs.Globals.{Tabled, tabled, refused, thenTabled, describe, declareBy, declareOut}
 use Rattle.resolve.specs.declared.Def.{Def}

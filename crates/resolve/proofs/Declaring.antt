@@ -13,12 +13,12 @@ use lib.ListN.{length, take, drop, getD, replicate, length-drop, length-append, 
 use lib.Seq.{take-at, take-take, drop-at, drop-drop, length-take-le}
 use mir.Syntax.{w8}
 use mir.Val.{Fits}
-use Rattle.octets.specs.Choice.{pick}
-use Rattle.octets.specs.Numbers.{le}
-use Rattle.octets.specs.Stores.{store}
+use Rattle.octets.specs.working.Choice.{pick}
+use Rattle.octets.specs.plain.Numbers.{le}
+use Rattle.octets.specs.working.Stores.{store}
 use Rattle.octets.proofs.Choices.{by-pick}
 use Rattle.parse_tree.proofs.syntax.Node.{the-type as node-type}
-use Rattle.parse_tree.specs.Nodes.{nodeAt, sizeOf}
+use Rattle.parse_tree.specs.working.Nodes.{nodeAt, sizeOf}
 use Rattle.parse_tree.specs.declared.syntax.Span.{Span}
 use Rattle.parse_tree.specs.declared.syntax.NonterminalData.{NonterminalData}
 use Rattle.parse_tree.specs.declared.syntax.TerminalData.{TerminalData}

@@ -9,16 +9,16 @@ use borrow.Author.Tests.{lt-leb, ltb-true}
 use lib.Dec.{eqb, ltb, leb}
 use lib.ListN.{length, take, getD, replicate, length-append, length-replicate, getD-replicate}
 use lib.Seq.{getD-append-add, length-take-le}
-use Rattle.octets.specs.Choice.{pick}
-use Rattle.octets.specs.Numbers.{leAt, Bytes}
-use Rattle.parse_tree.specs.Tree.{Text, Nonterminal, Item, item, extern, match}
-use Rattle.parse_tree.specs.Texts.{number, distinct}
-use Rattle.parse_tree.specs.Within.{Each}
-use Rattle.parse_tree.specs.Nodes.{nodeAt, sizeOf}
-use Rattle.parse_tree.specs.Questions.{defined}
-use Rattle.parse_tree.specs.Reading.{got}
-use Rattle.parse_tree.specs.Operands.{nonterminalOf, terminalOf}
-use Rattle.parse_tree.specs.Decode.{readItems}
+use Rattle.octets.specs.working.Choice.{pick}
+use Rattle.octets.specs.plain.Numbers.{leAt, Bytes}
+use Rattle.parse_tree.specs.plain.Tree.{Text, Nonterminal, Item, item, extern, match}
+use Rattle.parse_tree.specs.plain.Texts.{number, distinct}
+use Rattle.parse_tree.specs.working.Within.{Each}
+use Rattle.parse_tree.specs.working.Nodes.{nodeAt, sizeOf}
+use Rattle.parse_tree.specs.working.Questions.{defined}
+use Rattle.parse_tree.specs.plain.Reading.{got}
+use Rattle.parse_tree.specs.working.Operands.{nonterminalOf, terminalOf}
+use Rattle.parse_tree.specs.working.Decode.{readItems}
 use Rattle.parse_tree.specs.declared.syntax.Span.{Span}
 use Rattle.parse_tree.specs.declared.syntax.NonterminalData.{NonterminalData}
 use Rattle.parse_tree.specs.declared.syntax.TerminalData.{TerminalData}
@@ -27,8 +27,8 @@ use Rattle.parse_tree.proofs.TextLaws.{both, has-text, number-text}
 use Rattle.parse_tree.proofs.ReadingLaws.{got-as, each-append}
 use Rattle.texts.specs.Table.{entry}
 use Rattle.validate.proofs.Onward.{item-inside}
-use Rattle.grammar.specs.Outcome.{Outcome}
-use Rattle.grammar.specs.Resolve.{terminalDef, nonterminalDef, Global as Met, nonterminals, externs, matches, globals, checkGlobals}
+use Rattle.passes.specs.Outcome.{Outcome}
+use Rattle.passes.specs.Resolve.{terminalDef, nonterminalDef, Global as Met, nonterminals, externs, matches, globals, checkGlobals}
 use Rattle.resolve.specs.Scopes.{base, codeOf}
 use Rattle.resolve.specs.Globals.{Tabled, thenTabled, globalOf, globalOut, commandOut, scanOut, blank, globalsOut}
 use Rattle.resolve.specs.declared.Def.{Def}

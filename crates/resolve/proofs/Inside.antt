@@ -7,9 +7,9 @@ use native.Mathlib.Omega.{arith}
 use mir.Syntax.{w8, w64}
 use mir.Val.{Fits}
 use lib.ListN.{length, getD}
-use Rattle.octets.specs.Numbers.{Bytes}
+use Rattle.octets.specs.plain.Numbers.{Bytes}
 use Rattle.octets.proofs.Lying.{lies-inside}
-use Rattle.parse_tree.specs.Nodes.{nodeAt, nodeBytes, sizeOf}
+use Rattle.parse_tree.specs.working.Nodes.{nodeAt, nodeBytes, sizeOf}
 use Rattle.parse_tree.specs.declared.syntax.Alternative.{Alternative}
 use Rattle.parse_tree.specs.declared.syntax.Node.{Node}
 use Rattle.parse_tree.proofs.NodeFits.{Stands, NodeSays}

@@ -7,19 +7,20 @@ use native.Mathlib.Omega.{arith}
 use borrow.Author.Tests.{ltb-true, leb-true, lt-leb}
 use lib.Dec.{leb, ltb, eqb}
 use lib.ListN.{length, length-append}
-use Rattle.octets.specs.Choice.{pick}
-use Rattle.octets.specs.Numbers.{Bytes}
-use Rattle.octets.specs.Runs.{part, Lies}
+use Rattle.octets.specs.working.Choice.{pick}
+use Rattle.octets.specs.plain.Numbers.{Bytes}
+use Rattle.octets.specs.plain.Runs.{part, Lies}
 use Rattle.octets.proofs.Lying.{lies-append, lies-part}
-use Rattle.parse_tree.specs.Tree.{Text, Alternative, Nonterminal, Item, item}
-use Rattle.parse_tree.specs.Texts.{has, distinct}
-use Rattle.parse_tree.specs.Nodes.{nodeBytes, nodeAt, sizeOf}
-use Rattle.parse_tree.specs.Questions.{defined}
-use Rattle.parse_tree.specs.Places.{itemsPlace, argumentsPlace}
-use Rattle.parse_tree.specs.Reading.{got, times}
-use Rattle.parse_tree.specs.Operands.{nonterminalOf, terminalOf}
-use Rattle.parse_tree.specs.Decode.{readArgument, readAlternative, nonterminalParts, readItem, readItems}
-use Rattle.parse_tree.specs.Encode.{bit, bytesOfEach, argumentBytes, alternativeBytes, nonterminalNode, itemBytes}
+use Rattle.parse_tree.specs.plain.Tree.{Text, Alternative, Nonterminal, Item, item}
+use Rattle.parse_tree.specs.plain.Texts.{has, distinct}
+use Rattle.parse_tree.specs.working.Nodes.{nodeBytes, nodeAt, sizeOf}
+use Rattle.parse_tree.specs.working.Questions.{defined}
+use Rattle.parse_tree.specs.working.Places.{itemsPlace, argumentsPlace}
+use Rattle.parse_tree.specs.plain.Reading.{got, times}
+use Rattle.parse_tree.specs.working.Operands.{nonterminalOf, terminalOf}
+use Rattle.parse_tree.specs.working.Decode.{readArgument, readAlternative, nonterminalParts, readItem, readItems}
+use Rattle.parse_tree.specs.working.Encode.{argumentBytes, alternativeBytes, nonterminalNode, itemBytes}
+use Rattle.parse_tree.specs.plain.WriteTape.{bytesOfEach, bit}
 use Rattle.parse_tree.specs.declared.syntax.Span.{Span}
 use Rattle.parse_tree.specs.declared.syntax.NonterminalData.{NonterminalData}
 use Rattle.parse_tree.specs.declared.syntax.TerminalData.{TerminalData}
@@ -32,8 +33,8 @@ use Rattle.parse_tree.proofs.Expecting.{item-wanted, argument-wanted}
 use Rattle.parse_tree.proofs.FromCommands.{argument-within, terminal-within}
 use Rattle.parse_tree.proofs.ItemFound.{item-finds}
 use Rattle.validate.proofs.Onward.{item-inside}
-use Rattle.grammar.specs.Outcome.{Tree, Outcome, yes, no, after, withAlternatives}
-use Rattle.grammar.specs.Resolve.{checkCondition, validateSymbols, validateAlternatives, validateMacroArgs, validateItems}
+use Rattle.passes.specs.Outcome.{Tree, Outcome, yes, no, after, withAlternatives}
+use Rattle.passes.specs.Resolve.{checkCondition, validateSymbols, validateAlternatives, validateMacroArgs, validateItems}
 use Rattle.resolve.specs.declared.Scope.{Scope}
 use Rattle.resolve.specs.Scopes.{base}
 use Rattle.resolve.specs.Walks.{prefix}

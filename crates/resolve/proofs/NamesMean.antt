@@ -8,12 +8,12 @@ use native.Mathlib.Omega.{arith}
 use borrow.Author.Tests.{ltb-true, lt-ltb, ne-eqb}
 use lib.Dec.{ltb, leb, eqb}
 use lib.ListN.{length, getD}
-use Rattle.octets.specs.Choice.{pick}
-use Rattle.parse_tree.specs.Tree.{Text, Leaf}
-use Rattle.parse_tree.specs.Texts.{number, distinct}
-use Rattle.parse_tree.specs.Questions.{defined, symbolDefined, leafDefined}
-use Rattle.parse_tree.specs.Operands.{leafOf, overOf, insideOf, conditionOf}
-use Rattle.parse_tree.specs.Encode.{leafNode, symBytes}
+use Rattle.octets.specs.working.Choice.{pick}
+use Rattle.parse_tree.specs.plain.Tree.{Text, Leaf}
+use Rattle.parse_tree.specs.plain.Texts.{number, distinct}
+use Rattle.parse_tree.specs.working.Questions.{defined, symbolDefined, leafDefined}
+use Rattle.parse_tree.specs.working.Operands.{leafOf, overOf, insideOf, conditionOf}
+use Rattle.parse_tree.specs.working.Encode.{leafNode, symBytes}
 use Rattle.parse_tree.specs.declared.syntax.Span.{Span}
 use Rattle.parse_tree.specs.declared.syntax.Atom.{Atom}
 use Rattle.parse_tree.specs.declared.syntax.NonterminalString.{NonterminalString}
@@ -25,8 +25,8 @@ use Rattle.parse_tree.specs.declared.syntax.Node.{Node}
 use Rattle.parse_tree.proofs.TextLaws.{both, number-text}
 use Rattle.parse_tree.proofs.Asking.{Passes}
 use Rattle.parse_tree.proofs.FromCommands.{leaf-within}
-use Rattle.grammar.specs.Outcome.{Tree, Outcome, yes, no}
-use Rattle.grammar.specs.Resolve.{Def as Meant, terminalDef, nonterminalDef, argumentDef, kind, lookup, checkCondition, validateNonterminal, rewriteAmbiguousId, validateMacro, validateLeaf, validateOver}
+use Rattle.passes.specs.Outcome.{Tree, Outcome, yes, no}
+use Rattle.passes.specs.Resolve.{Def as Meant, terminalDef, nonterminalDef, argumentDef, kind, lookup, checkCondition, validateNonterminal, rewriteAmbiguousId, validateMacro, validateLeaf, validateOver}
 use Rattle.resolve.specs.declared.Scope.{Scope}
 use Rattle.resolve.specs.declared.Verdict.{Verdict}
 use Rattle.resolve.specs.Scopes.{found}

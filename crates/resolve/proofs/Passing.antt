@@ -5,13 +5,13 @@ use mathlib.Core.List.{List}
 use Prim.Native.Nat.{ℕ, zero, suc, _+_, _≤_, _<_}
 use native.Mathlib.Omega.{arith}
 use lib.ListN.{length}
-use Rattle.octets.specs.Numbers.{Bytes}
-use Rattle.parse_tree.specs.Tree.{Text, Sym, Attribute, Condition, Alternative, Item, symsOf}
-use Rattle.parse_tree.specs.Nodes.{nodeAt, sizeOf}
-use Rattle.parse_tree.specs.Places.{itemsPlace, argumentsPlace, alternativesPlace, attributesPlace, conditionsPlace, symbolsPlace}
-use Rattle.parse_tree.specs.Reading.{Reading, got, then, times}
-use Rattle.parse_tree.specs.Operands.{leafOf, aroundOf, overOf, insideOf, nonterminalOf, terminalOf}
-use Rattle.parse_tree.specs.Decode.{readSym, readArgument, readAttribute, readCondition, readAlternative, readItem, alternativeParts, nonterminalParts}
+use Rattle.octets.specs.plain.Numbers.{Bytes}
+use Rattle.parse_tree.specs.plain.Tree.{Text, Sym, Attribute, Condition, Alternative, Item, symsOf}
+use Rattle.parse_tree.specs.working.Nodes.{nodeAt, sizeOf}
+use Rattle.parse_tree.specs.working.Places.{itemsPlace, argumentsPlace, alternativesPlace, attributesPlace, conditionsPlace, symbolsPlace}
+use Rattle.parse_tree.specs.plain.Reading.{Reading, got, then, times}
+use Rattle.parse_tree.specs.working.Operands.{leafOf, aroundOf, overOf, insideOf, nonterminalOf, terminalOf}
+use Rattle.parse_tree.specs.working.Decode.{readSym, readArgument, readAttribute, readCondition, readAlternative, readItem, alternativeParts, nonterminalParts}
 use Rattle.parse_tree.specs.declared.syntax.Span.{Span}
 use Rattle.parse_tree.specs.declared.syntax.NonterminalData.{NonterminalData}
 use Rattle.parse_tree.specs.declared.syntax.TerminalData.{TerminalData}

@@ -8,10 +8,10 @@ use borrow.Author.Tests.{lt-ltb, le-ltb, ltb-true, ltb-false}
 use lib.Dec.{ltb}
 use lib.ListN.{length, take, drop, set}
 use lib.Seq.{sets, getD-take, take-set-lt, take-set-le, drop-set-lt, drop-set-add}
-use Rattle.octets.specs.Choice.{pick}
-use Rattle.octets.specs.Numbers.{leAt, le}
-use Rattle.octets.specs.Stores.{store}
-use Rattle.octets.specs.Sink.{step, lay1, lay}
+use Rattle.octets.specs.working.Choice.{pick}
+use Rattle.octets.specs.plain.Numbers.{leAt, le}
+use Rattle.octets.specs.working.Stores.{store}
+use Rattle.octets.specs.working.Sink.{step, lay1, lay}
 use Rattle.octets.proofs.Numbering.{length-le}
 use Rattle.octets.proofs.Fitting.{lay-over}
 use Rattle.texts.specs.Table.{entry}

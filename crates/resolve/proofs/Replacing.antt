@@ -12,12 +12,12 @@ use mir.Syntax.{w8}
 use mir.Val.{Fits}
 use lib.Dec.{leb}
 use lib.ListN.{length, getD, length-append}
-use Rattle.octets.specs.Choice.{pick}
-use Rattle.octets.specs.Runs.{part}
-use Rattle.octets.specs.Sink.{Laid, adv, lay}
+use Rattle.octets.specs.working.Choice.{pick}
+use Rattle.octets.specs.plain.Runs.{part}
+use Rattle.octets.specs.working.Sink.{Laid, adv, lay}
 use Rattle.octets.proofs.Laying.{adv-append, lay-append}
 use Rattle.octets.proofs.Fitting.{adv-le}
-use Rattle.parse_tree.specs.Nodes.{nodeAt, sizeOf}
+use Rattle.parse_tree.specs.working.Nodes.{nodeAt, sizeOf}
 use Rattle.parse_tree.specs.declared.syntax.Span.{Span}
 use Rattle.parse_tree.specs.declared.syntax.NonterminalData.{NonterminalData}
 use Rattle.parse_tree.specs.declared.syntax.TerminalData.{TerminalData}

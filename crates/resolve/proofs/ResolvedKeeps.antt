@@ -7,13 +7,13 @@ use Prim.Native.Nat.{ℕ, zero, suc, _^_, _<_, _≤_}
 use borrow.Author.Tests.{lt-ltb, le-leb}
 use lib.Dec.{leb, ltb}
 use lib.ListN.{length}
-use Rattle.parse_tree.specs.Tree.{Text, Leaf, Around, Over, Sym, Syms, leaf, around, over, nil, cons, ambiguous, bare, quoted, regex, nonterminal, lookahead, lookbehind, error, macro, group, count, Alternative, Item, item, Stage}
-use Rattle.parse_tree.specs.References.{textsOfEach, leafTexts, symTexts, symsTexts, alternativeTexts, itemTexts}
-use Rattle.parse_tree.specs.Within.{Each, SymWithin, SymsWithin, OverWithin, AlternativeWithin, ItemWithin, StageWithin}
+use Rattle.parse_tree.specs.plain.Tree.{Text, Leaf, Around, Over, Sym, Syms, leaf, around, over, nil, cons, ambiguous, bare, quoted, regex, nonterminal, lookahead, lookbehind, error, macro, group, count, Alternative, Item, item, Stage}
+use Rattle.parse_tree.specs.plain.References.{textsOfEach, leafTexts, symTexts, symsTexts, alternativeTexts, itemTexts}
+use Rattle.parse_tree.specs.working.Within.{Each, SymWithin, SymsWithin, OverWithin, AlternativeWithin, ItemWithin, StageWithin}
 use Rattle.parse_tree.specs.declared.syntax.Span.{Span}
-use Rattle.grammar.specs.Outcome.{Tree, Outcome, yes}
-use Rattle.grammar.specs.Resolve.{Def, terminalDef, nonterminalDef, argumentDef, lookup, checkCondition, validateNonterminal, rewriteAmbiguousId, validateLeaf, validateOver, validateSymbol, validateSymbols, validateAlternatives, validateMacroArgs, validateItems}
-use Rattle.grammar.specs.Sizes.{each, overFits, symFits, symsFit, alternativeFits, itemFits, stageFits}
+use Rattle.passes.specs.Outcome.{Tree, Outcome, yes}
+use Rattle.passes.specs.Resolve.{Def, terminalDef, nonterminalDef, argumentDef, lookup, checkCondition, validateNonterminal, rewriteAmbiguousId, validateLeaf, validateOver, validateSymbol, validateSymbols, validateAlternatives, validateMacroArgs, validateItems}
+use Rattle.passes.specs.Sizes.{each, overFits, symFits, symsFit, alternativeFits, itemFits, stageFits}
 use Rattle.parse_tree.proofs.TextLaws.{and-both}
 use Rattle.resolve.proofs.SymbolsMean.{no-yes, yes-as, after-yes, count-kept}
 use Rattle.resolve.proofs.ItemsMean.{length-kept}

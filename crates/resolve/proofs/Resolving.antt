@@ -9,22 +9,23 @@ use mir.Syntax.{w8}
 use mir.Val.{Fits}
 use lib.ListN.{length, getD, drop, take, length-append}
 use lib.Seq.{length-take-le, take-append-seam}
-use Rattle.octets.specs.Numbers.{Bytes}
-use Rattle.octets.specs.Runs.{part}
-use Rattle.octets.specs.Sink.{Laid, lay}
-use Rattle.parse_tree.specs.Tree.{Text, Item}
-use Rattle.parse_tree.specs.Texts.{distinct}
-use Rattle.parse_tree.specs.Reading.{got}
-use Rattle.parse_tree.specs.Decode.{decode, readItems}
-use Rattle.parse_tree.specs.Encode.{stageBytes, bytesOfEach, atomBytes, itemBytes}
+use Rattle.octets.specs.plain.Numbers.{Bytes}
+use Rattle.octets.specs.plain.Runs.{part}
+use Rattle.octets.specs.working.Sink.{Laid, lay}
+use Rattle.parse_tree.specs.plain.Tree.{Text, Item}
+use Rattle.parse_tree.specs.plain.Texts.{distinct}
+use Rattle.parse_tree.specs.plain.Reading.{got}
+use Rattle.parse_tree.specs.working.Decode.{decode, readItems}
+use Rattle.parse_tree.specs.working.Encode.{stageBytes, atomBytes, itemBytes}
+use Rattle.parse_tree.specs.plain.WriteTape.{bytesOfEach}
 use Rattle.parse_tree.specs.declared.syntax.Span.{Span}
 use Rattle.parse_tree.proofs.Written.{written}
 use Rattle.parse_tree.proofs.ItemFound.{item-finds}
 use Rattle.parse_tree.proofs.ReadingLaws.{got-as}
 use Rattle.texts.specs.Atoms.{atomsOf}
 use Rattle.texts.proofs.Tabling.{length-atoms}
-use Rattle.grammar.specs.Outcome.{Outcome, yes, no, after}
-use Rattle.grammar.specs.Resolve.{globals, checkGlobals, validateItems, resolve}
+use Rattle.passes.specs.Outcome.{Outcome, yes, no, after}
+use Rattle.passes.specs.Resolve.{globals, checkGlobals, validateItems, resolve}
 use Rattle.resolve.specs.declared.Scope.{Scope}
 use Rattle.resolve.specs.declared.Verdict.{Verdict}
 use Rattle.resolve.specs.declared.Walked.{Walked}

@@ -8,7 +8,7 @@ use borrow.Author.Tests.{le-leb, lt-leb, eq-eqb, ne-eqb}
 use lib.ListN.{length}
 use mir.Syntax.{w64}
 use mir.Val.{Fits}
-use Rattle.octets.specs.Choice.{pick}
+use Rattle.octets.specs.working.Choice.{pick}
 use Rattle.texts.specs.Table.{entry}
 use Rattle.resolve.specs.Scopes.{Tables, tables, codeOf, foundBy, found}
 use Rattle.resolve.specs.declared.Def.{Def}

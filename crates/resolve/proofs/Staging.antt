@@ -7,11 +7,11 @@ use borrow.Author.Needs.{needs}
 use denote.Enum.Declared.{tagOf}
 use types.Run.{OneOf, miss}
 use lib.ListN.{length}
-use Rattle.octets.specs.Sink.{Laid, adv, lay}
+use Rattle.octets.specs.working.Sink.{Laid, adv, lay}
 use Rattle.octets.proofs.Laying.{laid-append}
 use Rattle.octets.proofs.Fitting.{adv-le, length-lay}
-use Rattle.parse_tree.specs.Nodes.{nodeAt, nodeBytes, sizeOf}
-use Rattle.parse_tree.specs.Operands.{insideOf}
+use Rattle.parse_tree.specs.working.Nodes.{nodeAt, nodeBytes, sizeOf}
+use Rattle.parse_tree.specs.working.Operands.{insideOf}
 use Rattle.parse_tree.specs.declared.syntax.Span.{Span}
 use Rattle.parse_tree.specs.declared.syntax.Leaf.{Leaf}
 use Rattle.parse_tree.specs.declared.syntax.Around.{Around}

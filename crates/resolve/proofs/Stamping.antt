@@ -12,12 +12,12 @@ use lib.Dec.{leb, eqb}
 use lib.ListN.{length, drop, getD}
 use mir.Syntax.{w8}
 use mir.Val.{Fits}
-use Rattle.octets.specs.Choice.{pick}
-use Rattle.octets.specs.Numbers.{Bytes, le}
-use Rattle.octets.specs.Stores.{store}
+use Rattle.octets.specs.working.Choice.{pick}
+use Rattle.octets.specs.plain.Numbers.{Bytes, le}
+use Rattle.octets.specs.working.Stores.{store}
 use Rattle.octets.proofs.Choices.{by-pick}
 use Rattle.octets.proofs.Storing.{length-store}
-use Rattle.parse_tree.specs.Nodes.{nodeAt, sizeOf}
+use Rattle.parse_tree.specs.working.Nodes.{nodeAt, sizeOf}
 use Rattle.parse_tree.specs.declared.syntax.Span.{Span}
 use Rattle.parse_tree.specs.declared.syntax.NonterminalString.{NonterminalString}
 use Rattle.parse_tree.specs.declared.syntax.Node.{Node}

@@ -4,15 +4,15 @@ use mathlib.Core.Bool.{true}
 use mathlib.Core.List.{List, [], _++_}
 use Prim.Native.Nat.{ℕ, zero, suc, _+_}
 use native.Mathlib.Omega.{arith}
-use Rattle.octets.specs.Numbers.{Bytes}
-use Rattle.parse_tree.specs.Tree.{Text, Around, Over, Sym, Syms, leaf, around, over, nil, cons, count, symsOf}
-use Rattle.parse_tree.specs.Texts.{distinct}
-use Rattle.parse_tree.specs.Nodes.{nodeBytes, nodeAt, sizeOf}
-use Rattle.parse_tree.specs.Places.{symbolsPlace}
-use Rattle.parse_tree.specs.Reading.{got, then, times}
-use Rattle.parse_tree.specs.Operands.{leafOf, aroundOf, overOf, insideOf}
-use Rattle.parse_tree.specs.Decode.{readSym}
-use Rattle.parse_tree.specs.Encode.{aroundNode, overNode, symBytes, symsBytes}
+use Rattle.octets.specs.plain.Numbers.{Bytes}
+use Rattle.parse_tree.specs.plain.Tree.{Text, Around, Over, Sym, Syms, leaf, around, over, nil, cons, count, symsOf}
+use Rattle.parse_tree.specs.plain.Texts.{distinct}
+use Rattle.parse_tree.specs.working.Nodes.{nodeBytes, nodeAt, sizeOf}
+use Rattle.parse_tree.specs.working.Places.{symbolsPlace}
+use Rattle.parse_tree.specs.plain.Reading.{got, then, times}
+use Rattle.parse_tree.specs.working.Operands.{leafOf, aroundOf, overOf, insideOf}
+use Rattle.parse_tree.specs.working.Decode.{readSym}
+use Rattle.parse_tree.specs.working.Encode.{aroundNode, overNode, symBytes, symsBytes}
 use Rattle.parse_tree.specs.declared.syntax.Span.{Span}
 use Rattle.parse_tree.specs.declared.syntax.Around.{Around as AroundNode}
 use Rattle.parse_tree.specs.declared.syntax.Over.{Over as OverNode}
@@ -22,8 +22,8 @@ use Rattle.parse_tree.proofs.ReadingLaws.{never, then-got, got-as}
 use Rattle.parse_tree.proofs.Expecting.{symbol-wanted}
 use Rattle.parse_tree.proofs.SymLists.{count-syms}
 use Rattle.parse_tree.proofs.FromCommands.{around-within, over-within}
-use Rattle.grammar.specs.Outcome.{Tree, Outcome, yes, no, after}
-use Rattle.grammar.specs.Resolve.{validateOver, validateSymbol, validateSymbols}
+use Rattle.passes.specs.Outcome.{Tree, Outcome, yes, no, after}
+use Rattle.passes.specs.Resolve.{validateOver, validateSymbol, validateSymbols}
 use Rattle.resolve.specs.declared.Scope.{Scope}
 use Rattle.resolve.specs.Names.{overSays}
 use Rattle.resolve.specs.Walks.{Out, wrote, prefix, andThen, many, verdictBy, symbolOut, leafOut, symOut}

@@ -4,10 +4,10 @@ use mathlib.Core.List.{List, _++_}
 use Prim.Native.Nat.{ℕ, zero, suc, _+_, _*_}
 use lib.Dec.{leb, eqb, ltb}
 use lib.ListN.{length, take, drop, replicate}
-use Rattle.octets.specs.Choice.{pick}
-use Rattle.octets.specs.Numbers.{le}
-use Rattle.octets.specs.Stores.{store}
-use Rattle.parse_tree.specs.Nodes.{nodeAt, sizeOf}
+use Rattle.octets.specs.working.Choice.{pick}
+use Rattle.octets.specs.plain.Numbers.{le}
+use Rattle.octets.specs.working.Stores.{store}
+use Rattle.parse_tree.specs.working.Nodes.{nodeAt, sizeOf}
 use Rattle.parse_tree.specs.declared.syntax.Span.{Span}
 use Rattle.parse_tree.specs.declared.syntax.Node.{Node}
 use Rattle.texts.specs.Table.{entry}

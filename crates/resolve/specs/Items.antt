@@ -4,12 +4,12 @@ use mathlib.Core.List.{List, [], _++_}
 use Prim.Native.Nat.{ℕ, zero, suc, _+_, _-_, _*_}
 use lib.Dec.{leb, eqb}
 use lib.ListN.{length, drop}
-use Rattle.octets.specs.Choice.{pick}
-use Rattle.octets.specs.Numbers.{le}
-use Rattle.octets.specs.Runs.{part}
-use Rattle.octets.specs.Stores.{store}
-use Rattle.octets.specs.Sink.{adv, lay}
-use Rattle.parse_tree.specs.Nodes.{nodeAt, sizeOf}
+use Rattle.octets.specs.working.Choice.{pick}
+use Rattle.octets.specs.plain.Numbers.{le}
+use Rattle.octets.specs.plain.Runs.{part}
+use Rattle.octets.specs.working.Stores.{store}
+use Rattle.octets.specs.working.Sink.{adv, lay}
+use Rattle.parse_tree.specs.working.Nodes.{nodeAt, sizeOf}
 use Rattle.parse_tree.specs.declared.syntax.Span.{Span}
 use Rattle.parse_tree.specs.declared.syntax.NonterminalString.{NonterminalString}
 use Rattle.parse_tree.specs.declared.syntax.NonterminalData.{NonterminalData}

@@ -1,10 +1,9 @@
 -- The tables of a scope in the work buffer: behind the marks of the atoms a column of definitions and one of arguments. Assumes nothing: these are definitions.
-use mathlib.Core.Path.{_≡_}
 use mathlib.Core.List.{List}
 use Prim.Native.Nat.{ℕ, _+_, _-_, _*_, _≤_}
 use lib.Dec.{leb, eqb}
-use lib.ListN.{length, take}
-use Rattle.octets.specs.Choice.{pick}
+use lib.ListN.{take}
+use Rattle.octets.specs.working.Choice.{pick}
 use Rattle.texts.specs.Table.{entry}
 use Rattle.resolve.specs.declared.Def.{Def}
 use Rattle.resolve.specs.declared.Found.{Found}

@@ -1,11 +1,11 @@
 -- What the walks write, by the tables t, or the refusal on the way. Assumes nothing: these are definitions.
 use mathlib.Core.Path.{_≡_}
-use mathlib.Core.List.{List, [], _∷_, _++_}
+use mathlib.Core.List.{List, [], _++_}
 use Prim.Native.Nat.{ℕ, zero, suc, _+_}
 use lib.ListN.{length}
-use Rattle.octets.specs.Sink.{adv, lay}
-use Rattle.parse_tree.specs.Nodes.{nodeAt, nodeBytes, sizeOf}
-use Rattle.parse_tree.specs.Operands.{insideOf}
+use Rattle.octets.specs.working.Sink.{adv, lay}
+use Rattle.parse_tree.specs.working.Nodes.{nodeAt, nodeBytes, sizeOf}
+use Rattle.parse_tree.specs.working.Operands.{insideOf}
 use Rattle.parse_tree.specs.declared.syntax.Span.{Span}
 use Rattle.parse_tree.specs.declared.syntax.Leaf.{Leaf}
 use Rattle.parse_tree.specs.declared.syntax.Over.{Over}

@@ -4,17 +4,16 @@ use mathlib.Core.Bool.{true}
 use mathlib.Core.List.{List}
 use Prim.Native.Nat.{ℕ, _-_, _≤_}
 use lib.ListN.{length}
-use Rattle.octets.specs.Runs.{part}
-use Rattle.octets.specs.Sink.{adv, lay}
-use Rattle.parse_tree.specs.Tree.{Text, Item, Stage}
-use Rattle.parse_tree.specs.Texts.{distinct}
-use Rattle.parse_tree.specs.Reading.{Reading, got, refused}
-use Rattle.parse_tree.specs.Decode.{decode, readItems}
-use Rattle.parse_tree.specs.Encode.{stageBytes}
-use Rattle.parse_tree.specs.declared.syntax.Span.{Span}
+use Rattle.octets.specs.plain.Runs.{part}
+use Rattle.octets.specs.working.Sink.{adv, lay}
+use Rattle.parse_tree.specs.plain.Tree.{Text, Item, Stage}
+use Rattle.parse_tree.specs.plain.Texts.{distinct}
+use Rattle.parse_tree.specs.plain.Reading.{Reading, got, refused}
+use Rattle.parse_tree.specs.working.Decode.{decode, readItems}
+use Rattle.parse_tree.specs.working.Encode.{stageBytes}
 use Rattle.texts.specs.Atoms.{atomsOf}
-use Rattle.grammar.specs.Outcome.{Outcome, yes, no}
-use Rattle.grammar.specs.Resolve.{resolve}
+use Rattle.passes.specs.Outcome.{Outcome, yes, no}
+use Rattle.passes.specs.Resolve.{resolve}
 use Rattle.resolve.specs.declared.Scope.{Scope}
 use Rattle.resolve.specs.declared.Walked.{Walked}
 use Rattle.resolve.specs.Scopes.{Area, base}

@@ -18,7 +18,7 @@ use validate::symbols::inside;
 ghost use mathlib.Core.Path.{_≡_};
 ghost use Prim.Native.Nat.{_≤_};
 ghost use lib.ListN.{length};
-ghost use Rattle.parse_tree.specs.Nodes.{nodeAt};
+ghost use Rattle.parse_tree.specs.working.Nodes.{nodeAt};
 ghost use Rattle.resolve.specs.Scopes.{Area, tables};
 ghost use Rattle.resolve.specs.Walks.{Staged, standing, listOut, many, leafOut, symOut};
 

@@ -11,11 +11,11 @@ use lib.Dec.{eqb}
 use lib.ListN.{length, getD, take, drop}
 use mir.Syntax.{w64}
 use mir.Val.{Fits}
-use Rattle.octets.specs.Choice.{pick}
-use Rattle.octets.specs.Runs.{part, sameAs}
+use Rattle.octets.specs.working.Choice.{pick}
+use Rattle.octets.specs.plain.Runs.{part, sameAs}
 use Rattle.octets.proofs.Sameness.{sameAs-eq}
-use Rattle.parse_tree.specs.Tree.{Text}
-use Rattle.parse_tree.specs.Texts.{has}
+use Rattle.parse_tree.specs.plain.Tree.{Text}
+use Rattle.parse_tree.specs.plain.Texts.{has}
 use Rattle.texts.specs.Atoms.{atomText, placeOf, atomsOf}
 use Rattle.texts.specs.Table.{entry, bucket, last, Table}
 use Rattle.texts.proofs.Tabling.{atoms-at}

@@ -2,16 +2,16 @@
 use mathlib.Core.Path.{_≡_, refl, sym, _∙_}
 use mathlib.Core.Bool.{Bool, true, false, or-false}
 use mathlib.Core.List.{List}
-use Prim.Native.Nat.{ℕ, _+_, _-_, _<_, _≤_}
+use Prim.Native.Nat.{ℕ, _+_, _<_, _≤_}
 use native.Mathlib.Omega.{arith}
 use borrow.Author.Needs.{needs}
 use borrow.Author.Tests.{lt-ltb, le-ltb, le-leb, lt-leb, eq-eqb, ne-eqb}
 use lib.Dec.{leb}
 use lib.ListN.{length, getD}
-use Rattle.octets.specs.Choice.{pick}
-use Rattle.octets.specs.Runs.{part}
+use Rattle.octets.specs.working.Choice.{pick}
+use Rattle.octets.specs.plain.Runs.{part}
 use Rattle.octets.proofs.Parts.{part-none, part-one}
-use Rattle.parse_tree.specs.Texts.{startsName, inName}
+use Rattle.parse_tree.specs.plain.Texts.{startsName, inName}
 use Rattle.texts.specs.Classes.{byteClass, least, lesser}
 
 -- ---- `starts_name`, `in_name`

@@ -1,12 +1,12 @@
 -- The loop of `hash`. Assumes nothing.
 use mathlib.Core.Path.{_≡_, refl}
 use mathlib.Core.List.{List}
-use Prim.Native.Nat.{ℕ, _+_, _*_, _-_, _%_, _<_, _≤_}
+use Prim.Native.Nat.{ℕ, _+_, _*_, _%_, _<_, _≤_}
 use native.Mathlib.Omega.{arith}
 use native.Mathlib.Nat.{mod-lt}
 use borrow.Author.Needs.{needs}
 use lib.ListN.{length, getD}
-use Rattle.octets.specs.Runs.{part}
+use Rattle.octets.specs.plain.Runs.{part}
 use Rattle.octets.proofs.Parts.{part-none, part-one}
 use Rattle.texts.specs.Table.{hashOf, bucket}
 

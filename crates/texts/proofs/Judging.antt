@@ -9,11 +9,11 @@ use borrow.Author.Needs.{needs}
 use borrow.Author.Tests.{le-leb, lt-leb, ne-eqb, ltb-true, ltb-false, leb-true, leb-false, not-true, not-false}
 use lib.Dec.{eqb, leb, ltb}
 use lib.ListN.{length, getD, take, drop}
-use Rattle.octets.specs.Choice.{pick}
-use Rattle.octets.specs.Runs.{part, sameAs}
+use Rattle.octets.specs.working.Choice.{pick}
+use Rattle.octets.specs.plain.Runs.{part, sameAs}
 use Rattle.octets.proofs.Parts.{part-none, part-one}
-use Rattle.parse_tree.specs.Tree.{Text}
-use Rattle.parse_tree.specs.Texts.{every, between, startsName, inName, nameBytes, isName, isLiteral, isAscii, mutText, errorText}
+use Rattle.parse_tree.specs.plain.Tree.{Text}
+use Rattle.parse_tree.specs.plain.Texts.{every, between, startsName, inName, nameBytes, isName, isLiteral, isAscii, mutText, errorText}
 use Rattle.texts.specs.Classes.{textClass, byteClass, least, lesser}
 
 every-same : (f g : ℕ → Bool) → ((b : ℕ) → f b ≡ g b) → (t : Text) → every f t ≡ every g t

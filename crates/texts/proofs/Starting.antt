@@ -8,8 +8,8 @@ use borrow.Author.Needs.{needs}
 use borrow.Author.Tests.{ltb-true, ltb-false}
 use lib.Dec.{ltb}
 use lib.ListN.{length}
-use Rattle.octets.specs.Numbers.{le}
-use Rattle.octets.specs.Stores.{store}
+use Rattle.octets.specs.plain.Numbers.{le}
+use Rattle.octets.specs.working.Stores.{store}
 use Rattle.texts.specs.Table.{entry, last, Table}
 use Rattle.texts.proofs.Tabling.{entry-same, entry-other}
 

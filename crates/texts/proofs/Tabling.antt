@@ -10,15 +10,15 @@ use borrow.Author.Tests.{ltb-true, ltb-false}
 use lib.Dec.{ltb}
 use lib.ListN.{length, getD, take, drop, length-append, List·getD-append, List·getD-eq-default}
 use lib.Seq.{getD-append-seam}
-use Rattle.octets.specs.Numbers.{leAt, le}
-use Rattle.octets.specs.Runs.{part}
-use Rattle.octets.specs.Stores.{store}
-use Rattle.octets.specs.Choice.{pick}
+use Rattle.octets.specs.plain.Numbers.{leAt, le}
+use Rattle.octets.specs.plain.Runs.{part}
+use Rattle.octets.specs.working.Stores.{store}
+use Rattle.octets.specs.working.Choice.{pick}
 use Rattle.octets.proofs.Choices.{by-pick}
 use Rattle.octets.proofs.Numbering.{length-le}
 use Rattle.octets.proofs.Storing.{leAt-other, leAt-same}
-use Rattle.parse_tree.specs.Tree.{Text}
-use Rattle.parse_tree.specs.Texts.{every, nameBytes, isName, isLiteral}
+use Rattle.parse_tree.specs.plain.Tree.{Text}
+use Rattle.parse_tree.specs.plain.Texts.{every, nameBytes, isName, isLiteral}
 use Rattle.texts.specs.Atoms.{atomEnd, atomText, placeOf, atomsOf}
 use Rattle.texts.specs.Classes.{textClass}
 use Rattle.texts.specs.Table.{entry, Table}

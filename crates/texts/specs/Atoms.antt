@@ -1,9 +1,9 @@
 -- The atoms at the front of a tape, by number. Assumes nothing: these are definitions.
 use Prim.Native.Nat.{ℕ, zero, suc, _+_}
 use mathlib.Core.List.{List, [], _∷_, _++_}
-use Rattle.octets.specs.Numbers.{leAt}
-use Rattle.octets.specs.Runs.{part}
-use Rattle.parse_tree.specs.Tree.{Text}
+use Rattle.octets.specs.plain.Numbers.{leAt}
+use Rattle.octets.specs.plain.Runs.{part}
+use Rattle.parse_tree.specs.plain.Tree.{Text}
 
 -- behind the atom whose command stands at a place
 unfoldable pub atomEnd : List ℕ → ℕ → ℕ

@@ -2,9 +2,9 @@
 use Prim.Native.Nat.{ℕ}
 use mathlib.Core.List.{[], _∷_}
 use lib.Dec.{ltb}
-use Rattle.octets.specs.Choice.{pick}
-use Rattle.parse_tree.specs.Tree.{Text}
-use Rattle.parse_tree.specs.Texts.{isName, isLiteral, isAscii, inName}
+use Rattle.octets.specs.working.Choice.{pick}
+use Rattle.parse_tree.specs.plain.Tree.{Text}
+use Rattle.parse_tree.specs.plain.Texts.{isName, isLiteral, isAscii, inName}
 
 -- 3 a name, 2 another text of bytes 20 to 7e, 1 another of bytes 00 to 7f, 0 any other
 unfoldable pub textClass : Text → ℕ

@@ -4,9 +4,9 @@ use Prim.Native.Nat.{ℕ, zero, suc, _+_, _*_, _%_, _≤_, _<_}
 use mathlib.Core.List.{List, [], _∷_}
 use lib.Dec.{eqb}
 use lib.ListN.{length}
-use Rattle.octets.specs.Choice.{pick}
-use Rattle.octets.specs.Numbers.{leAt}
-use Rattle.parse_tree.specs.Tree.{Text}
+use Rattle.octets.specs.working.Choice.{pick}
+use Rattle.octets.specs.plain.Numbers.{leAt}
+use Rattle.parse_tree.specs.plain.Tree.{Text}
 use Rattle.texts.specs.Atoms.{atomEnd, atomText, placeOf}
 use Rattle.texts.specs.Classes.{textClass}
 

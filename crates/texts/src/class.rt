@@ -3,8 +3,8 @@ use octets::runs::equal;
 ghost use mathlib.Core.Path.{_≡_};
 ghost use Prim.Native.Nat.{_≤_, _<_};
 ghost use lib.ListN.{length};
-ghost use Rattle.octets.specs.Runs.{part};
-ghost use Rattle.parse_tree.specs.Texts.{startsName, inName};
+ghost use Rattle.octets.specs.plain.Runs.{part};
+ghost use Rattle.parse_tree.specs.plain.Texts.{startsName, inName};
 ghost use Rattle.texts.specs.Classes.{textClass, byteClass, least, lesser};
 
 fn starts_name(b: u8) -> bool

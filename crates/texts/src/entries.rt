@@ -4,8 +4,8 @@ use octets::numbers::u64_at;
 ghost use mathlib.Core.Path.{_≡_};
 ghost use Prim.Native.Nat.{_+_, _*_, _≤_};
 ghost use lib.ListN.{length};
-ghost use Rattle.octets.specs.Numbers.{le};
-ghost use Rattle.octets.specs.Stores.{store};
+ghost use Rattle.octets.specs.plain.Numbers.{le};
+ghost use Rattle.octets.specs.working.Stores.{store};
 ghost use Rattle.texts.specs.Table.{entry};
 
 pub fn get(work: &[u8], i: usize) -> usize

@@ -3,7 +3,7 @@ use octets::wide::from8;
 ghost use mathlib.Core.Path.{_≡_};
 ghost use Prim.Native.Nat.{_≤_, _<_};
 ghost use lib.ListN.{length};
-ghost use Rattle.octets.specs.Runs.{part};
+ghost use Rattle.octets.specs.plain.Runs.{part};
 ghost use Rattle.texts.specs.Table.{hashOf, bucket};
 
 // The hash of the bytes from a up to e.

@@ -6,15 +6,15 @@ use Prim.Native.Nat.{ℕ, zero, suc, _+_}
 use native.Mathlib.Omega.{arith}
 use lib.Dec.{leb}
 use lib.ListN.{length}
-use Rattle.octets.specs.Choice.{pick}
-use Rattle.parse_tree.specs.Tree.{Text}
-use Rattle.parse_tree.specs.Nodes.{nodeAt, sizeOf}
-use Rattle.parse_tree.specs.Places.{table, classOf, allowedAt, argumentsPlace, attributesPlace, conditionsPlace}
-use Rattle.parse_tree.specs.Questions.{defined, suits}
-use Rattle.parse_tree.specs.Reading.{Reading, got, refused, then, times}
-use Rattle.parse_tree.specs.Expect.{expectArgument, expectAttribute, expectCondition}
-use Rattle.parse_tree.specs.Operands.{textOf, attributeOf, conditionOf}
-use Rattle.parse_tree.specs.Decode.{ask, readArgument, readAttribute, readCondition}
+use Rattle.octets.specs.working.Choice.{pick}
+use Rattle.parse_tree.specs.plain.Tree.{Text}
+use Rattle.parse_tree.specs.working.Nodes.{nodeAt, sizeOf}
+use Rattle.parse_tree.specs.working.Places.{table, classOf, allowedAt, argumentsPlace, attributesPlace, conditionsPlace}
+use Rattle.parse_tree.specs.working.Questions.{defined, suits}
+use Rattle.parse_tree.specs.plain.Reading.{Reading, got, refused, then, times}
+use Rattle.parse_tree.specs.working.Expect.{expectArgument, expectAttribute, expectCondition}
+use Rattle.parse_tree.specs.working.Operands.{textOf, attributeOf, conditionOf}
+use Rattle.parse_tree.specs.working.Decode.{ask, readArgument, readAttribute, readCondition}
 use Rattle.parse_tree.specs.declared.syntax.Node.{Node}
 use Rattle.validate.specs.Steps.{stepOf}
 use Rattle.validate.specs.declared.Step.{Step}

@@ -9,12 +9,12 @@ use borrow.Author.Tests.{le-leb, lt-leb, not-true, not-false}
 use lib.ListN.{length, getD}
 use mir.Syntax.{w8, w64}
 use mir.Val.{Fits}
-use Rattle.octets.specs.Choice.{pick}
-use Rattle.parse_tree.specs.Nodes.{nodeAt, sizeOf}
-use Rattle.parse_tree.specs.Places.{classOf, allowedAt}
-use Rattle.parse_tree.specs.Questions.{defined, suits}
-use Rattle.parse_tree.specs.Reading.{Reading, got, refused}
-use Rattle.parse_tree.specs.Decode.{ask}
+use Rattle.octets.specs.working.Choice.{pick}
+use Rattle.parse_tree.specs.working.Nodes.{nodeAt, sizeOf}
+use Rattle.parse_tree.specs.working.Places.{classOf, allowedAt}
+use Rattle.parse_tree.specs.working.Questions.{defined, suits}
+use Rattle.parse_tree.specs.plain.Reading.{Reading, got, refused}
+use Rattle.parse_tree.specs.working.Decode.{ask}
 use Rattle.parse_tree.specs.declared.syntax.Node.{Node}
 use Rattle.texts.specs.Atoms.{atomsOf}
 use Rattle.texts.proofs.Tabling.{length-atoms}

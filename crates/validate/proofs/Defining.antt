@@ -5,8 +5,8 @@ use Prim.Native.Nat.{ℕ, _<_, _≤_}
 use borrow.Author.Needs.{needs}
 use borrow.Author.Tests.{lt-ltb, le-ltb, le-leb, lt-leb, ne-eqb}
 use lib.Dec.{leb, ltb, eqb}
-use Rattle.octets.specs.Choice.{pick}
-use Rattle.parse_tree.specs.Questions.{leafDefined, symbolDefined, alternativeDefined, attributeDefined, defined}
+use Rattle.octets.specs.working.Choice.{pick}
+use Rattle.parse_tree.specs.working.Questions.{leafDefined, symbolDefined, alternativeDefined, attributeDefined, defined}
 use Rattle.parse_tree.specs.declared.syntax.Atom.{Atom}
 use Rattle.parse_tree.specs.declared.syntax.Span.{Span}
 use Rattle.parse_tree.specs.declared.syntax.NonterminalString.{NonterminalString}

@@ -12,15 +12,15 @@ use types.Run.{OneOf, miss}
 use lib.ListN.{length, getD}
 use mir.Syntax.{w8}
 use mir.Val.{Fits}
-use Rattle.octets.specs.Numbers.{leAt, le, Bytes}
-use Rattle.octets.specs.Runs.{part}
+use Rattle.octets.specs.plain.Numbers.{leAt, le, Bytes}
+use Rattle.octets.specs.plain.Runs.{part}
 use Rattle.octets.proofs.Lying.{lies-first, le-read}
-use Rattle.parse_tree.specs.Tree.{Text}
-use Rattle.parse_tree.specs.Texts.{has, distinct}
-use Rattle.parse_tree.specs.Nodes.{nodeAt, nodeBytes, sizeOf}
-use Rattle.parse_tree.specs.Places.{classOf, table, allowedAt}
-use Rattle.parse_tree.specs.Reading.{got, refused}
-use Rattle.parse_tree.specs.Decode.{readAtoms}
+use Rattle.parse_tree.specs.plain.Tree.{Text}
+use Rattle.parse_tree.specs.plain.Texts.{has, distinct}
+use Rattle.parse_tree.specs.working.Nodes.{nodeAt, nodeBytes, sizeOf}
+use Rattle.parse_tree.specs.working.Places.{classOf, table, allowedAt}
+use Rattle.parse_tree.specs.plain.Reading.{got, refused}
+use Rattle.parse_tree.specs.working.Decode.{readAtoms}
 use Rattle.parse_tree.specs.declared.syntax.Node.{Node}
 use Rattle.parse_tree.proofs.syntax.Node.{the-type}
 use Rattle.parse_tree.proofs.NodeFits.{Stands}

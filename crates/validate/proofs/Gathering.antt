@@ -6,11 +6,11 @@ use Prim.Native.Nat.{ℕ, zero, suc, _+_, _*_, _-_, _<_, _≤_}
 use native.Mathlib.Omega.{arith}
 use borrow.Author.Needs.{needs}
 use lib.ListN.{length}
-use Rattle.octets.specs.Choice.{pick}
-use Rattle.parse_tree.specs.Texts.{distinct}
-use Rattle.parse_tree.specs.Nodes.{nodeAt}
-use Rattle.parse_tree.specs.Reading.{got, refused}
-use Rattle.parse_tree.specs.Decode.{readAtoms}
+use Rattle.octets.specs.working.Choice.{pick}
+use Rattle.parse_tree.specs.plain.Texts.{distinct}
+use Rattle.parse_tree.specs.working.Nodes.{nodeAt}
+use Rattle.parse_tree.specs.plain.Reading.{got, refused}
+use Rattle.parse_tree.specs.working.Decode.{readAtoms}
 use Rattle.texts.specs.Atoms.{atomsOf, placeOf}
 use Rattle.texts.specs.Table.{Table}
 use Rattle.validate.specs.Front.{Starts, Front, More, Ends, Nexts, All, Fronted}

@@ -12,13 +12,13 @@ use mir.Syntax.{w8}
 use mir.Val.{Fits}
 use types.Run.{OneOf}
 use Rattle.parse_tree.proofs.syntax.Node.{the-type}
-use Rattle.parse_tree.specs.Tree.{Item}
-use Rattle.parse_tree.specs.Texts.{distinct}
-use Rattle.parse_tree.specs.Places.{itemsPlace, argumentsPlace}
-use Rattle.parse_tree.specs.Reading.{got, then, times}
-use Rattle.parse_tree.specs.Expect.{expectItem}
-use Rattle.parse_tree.specs.Operands.{nonterminalOf, terminalOf}
-use Rattle.parse_tree.specs.Decode.{ask, readArgument, readAlternative, readItem, readItems, nonterminalParts}
+use Rattle.parse_tree.specs.plain.Tree.{Item}
+use Rattle.parse_tree.specs.plain.Texts.{distinct}
+use Rattle.parse_tree.specs.working.Places.{itemsPlace, argumentsPlace}
+use Rattle.parse_tree.specs.plain.Reading.{got, then, times}
+use Rattle.parse_tree.specs.working.Expect.{expectItem}
+use Rattle.parse_tree.specs.working.Operands.{nonterminalOf, terminalOf}
+use Rattle.parse_tree.specs.working.Decode.{ask, readArgument, readAlternative, readItem, readItems, nonterminalParts}
 use Rattle.parse_tree.specs.declared.syntax.NonterminalData.{NonterminalData}
 use Rattle.parse_tree.specs.declared.syntax.TerminalData.{TerminalData}
 use Rattle.parse_tree.specs.declared.syntax.Node.{Node}

@@ -5,8 +5,8 @@ use Prim.Native.Nat.{ℕ}
 use denote.Enum.Declared.{tagOf}
 use types.Run.{OneOf, miss}
 use Rattle.parse_tree.proofs.syntax.Node.{the-type}
-use Rattle.parse_tree.specs.Reading.{Reading, refused}
-use Rattle.parse_tree.specs.Expect.{expectItem, expectAlternative, expectSymbol}
+use Rattle.parse_tree.specs.plain.Reading.{Reading, refused}
+use Rattle.parse_tree.specs.working.Expect.{expectItem, expectAlternative, expectSymbol}
 use Rattle.parse_tree.specs.declared.syntax.Span.{Span}
 use Rattle.parse_tree.specs.declared.syntax.SymbolKind.{SymbolKind}
 use Rattle.parse_tree.specs.declared.syntax.NonterminalData.{NonterminalData}

@@ -7,12 +7,13 @@ use borrow.Author.Needs.{needs}
 use denote.Enum.Declared.{tagOf}
 use types.Run.{OneOf}
 use Rattle.parse_tree.proofs.syntax.Node.{the-type}
-use Rattle.parse_tree.specs.Tree.{symsOf}
-use Rattle.parse_tree.specs.Places.{alternativesPlace, attributesPlace, conditionsPlace}
-use Rattle.parse_tree.specs.Reading.{Reading, then, times}
-use Rattle.parse_tree.specs.Expect.{expectAlternative}
-use Rattle.parse_tree.specs.Operands.{alternativeOf}
-use Rattle.parse_tree.specs.Decode.{ask, firstOf, readSym, readAttribute, readCondition, readAlternative, alternativeParts}
+use Rattle.parse_tree.specs.plain.Tree.{symsOf}
+use Rattle.parse_tree.specs.working.Places.{alternativesPlace, attributesPlace, conditionsPlace}
+use Rattle.parse_tree.specs.plain.Reading.{Reading, then, times}
+use Rattle.parse_tree.specs.working.Expect.{expectAlternative}
+use Rattle.parse_tree.specs.working.Operands.{alternativeOf}
+use Rattle.parse_tree.specs.working.Decode.{ask, readSym, readAttribute, readCondition, readAlternative, alternativeParts}
+use Rattle.parse_tree.specs.plain.ReadTape.{firstOf}
 use Rattle.parse_tree.specs.declared.syntax.Alternative.{Alternative as AlternativeNode}
 use Rattle.parse_tree.specs.declared.syntax.Node.{Node}
 use Rattle.texts.specs.Atoms.{atomsOf}

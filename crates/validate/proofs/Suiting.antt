@@ -7,10 +7,10 @@ use borrow.Author.Needs.{needs}
 use borrow.Author.Tests.{ne-eqb, not-true, not-false}
 use lib.Dec.{leb, eqb}
 use lib.ListN.{getD}
-use Rattle.octets.specs.Choice.{pick}
-use Rattle.parse_tree.specs.Tree.{Text}
-use Rattle.parse_tree.specs.Texts.{isName, isLiteral, isAscii}
-use Rattle.parse_tree.specs.Questions.{leafSuits, symbolSuits, suits}
+use Rattle.octets.specs.working.Choice.{pick}
+use Rattle.parse_tree.specs.plain.Tree.{Text}
+use Rattle.parse_tree.specs.plain.Texts.{isName, isLiteral, isAscii}
+use Rattle.parse_tree.specs.working.Questions.{leafSuits, symbolSuits, suits}
 use Rattle.parse_tree.specs.declared.syntax.Atom.{Atom}
 use Rattle.parse_tree.specs.declared.syntax.Span.{Span}
 use Rattle.parse_tree.specs.declared.syntax.NonterminalString.{NonterminalString}

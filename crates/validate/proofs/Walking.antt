@@ -8,12 +8,12 @@ use borrow.Author.Needs.{needs}
 use denote.Enum.Declared.{tagOf}
 use types.Run.{OneOf}
 use Rattle.parse_tree.proofs.syntax.Node.{the-type}
-use Rattle.parse_tree.specs.Tree.{Text, Sym, symsOf}
-use Rattle.parse_tree.specs.Places.{symbolsPlace}
-use Rattle.parse_tree.specs.Reading.{Reading, got, refused, then, times}
-use Rattle.parse_tree.specs.Expect.{expectSymbol}
-use Rattle.parse_tree.specs.Operands.{leafOf, aroundOf, overOf, insideOf}
-use Rattle.parse_tree.specs.Decode.{ask, readSym}
+use Rattle.parse_tree.specs.plain.Tree.{Text, Sym, symsOf}
+use Rattle.parse_tree.specs.working.Places.{symbolsPlace}
+use Rattle.parse_tree.specs.plain.Reading.{Reading, got, refused, then, times}
+use Rattle.parse_tree.specs.working.Expect.{expectSymbol}
+use Rattle.parse_tree.specs.working.Operands.{leafOf, aroundOf, overOf, insideOf}
+use Rattle.parse_tree.specs.working.Decode.{ask, readSym}
 use Rattle.parse_tree.specs.declared.syntax.Span.{Span}
 use Rattle.parse_tree.specs.declared.syntax.NonterminalString.{NonterminalString}
 use Rattle.parse_tree.specs.declared.syntax.Leaf.{Leaf}

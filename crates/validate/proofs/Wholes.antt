@@ -10,9 +10,9 @@ use lib.Dec.{leb}
 use lib.ListN.{length, getD, replicate}
 use mir.Syntax.{w8}
 use mir.Val.{Fits}
-use Rattle.octets.specs.Choice.{pick}
-use Rattle.parse_tree.specs.Reading.{got, refused, then}
-use Rattle.parse_tree.specs.Decode.{readAtoms, readItems, decodeBy, decode}
+use Rattle.octets.specs.working.Choice.{pick}
+use Rattle.parse_tree.specs.plain.Reading.{got, refused, then}
+use Rattle.parse_tree.specs.working.Decode.{readAtoms, readItems, decodeBy, decode}
 use Rattle.parse_tree.proofs.Written.{written}
 use Rattle.texts.specs.Atoms.{atomsOf}
 use Rattle.validate.specs.Steps.{Itemed, stepOf}

@@ -4,9 +4,9 @@ use mathlib.Core.Bool.{true}
 use mathlib.Core.List.{List, []}
 use Prim.Native.Nat.{ℕ, suc, _+_, _*_, _/_, _≤_, _<_}
 use lib.ListN.{length}
-use Rattle.parse_tree.specs.Texts.{distinct}
-use Rattle.parse_tree.specs.Reading.{got, refused}
-use Rattle.parse_tree.specs.Decode.{readAtoms}
+use Rattle.parse_tree.specs.plain.Texts.{distinct}
+use Rattle.parse_tree.specs.plain.Reading.{got, refused}
+use Rattle.parse_tree.specs.working.Decode.{readAtoms}
 use Rattle.texts.specs.Atoms.{atomsOf, placeOf}
 use Rattle.texts.specs.Table.{Table}
 use Rattle.validate.specs.declared.Next.{Next}

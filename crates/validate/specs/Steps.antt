@@ -4,8 +4,8 @@ use mathlib.Core.Bool.{true}
 use mathlib.Core.List.{List}
 use Prim.Native.Nat.{ℕ, _≤_}
 use lib.ListN.{length}
-use Rattle.parse_tree.specs.Texts.{distinct}
-use Rattle.parse_tree.specs.Reading.{Reading, got, refused}
+use Rattle.parse_tree.specs.plain.Texts.{distinct}
+use Rattle.parse_tree.specs.plain.Reading.{Reading, got, refused}
 use Rattle.parse_tree.specs.declared.syntax.Node.{Node}
 use Rattle.texts.specs.Atoms.{atomsOf}
 use Rattle.texts.specs.Table.{Table}

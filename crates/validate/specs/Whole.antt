@@ -5,10 +5,10 @@ use mathlib.Core.List.{List, [], _∷_}
 use Prim.Native.Nat.{ℕ, _*_, _/_}
 use lib.Dec.{leb}
 use lib.ListN.{length, replicate}
-use Rattle.octets.specs.Choice.{pick}
-use Rattle.parse_tree.specs.Tree.{Item, Stage}
-use Rattle.parse_tree.specs.Reading.{Reading, got, refused}
-use Rattle.parse_tree.specs.Decode.{decode, readItems}
+use Rattle.octets.specs.working.Choice.{pick}
+use Rattle.parse_tree.specs.plain.Tree.{Item, Stage}
+use Rattle.parse_tree.specs.plain.Reading.{Reading, got, refused}
+use Rattle.parse_tree.specs.working.Decode.{decode, readItems}
 use Rattle.texts.specs.Atoms.{atomsOf}
 use Rattle.validate.specs.Steps.{Itemed}
 use Rattle.validate.specs.declared.Atoms.{Atoms}

@@ -11,8 +11,8 @@ use parse_tree::size::size;
 ghost use mathlib.Core.Path.{_≡_};
 ghost use mathlib.Core.Bool.{true};
 ghost use Prim.Native.Nat.{_<_};
-ghost use Rattle.parse_tree.specs.Decode.{ask};
-ghost use Rattle.parse_tree.specs.Reading.{times};
+ghost use Rattle.parse_tree.specs.working.Decode.{ask};
+ghost use Rattle.parse_tree.specs.plain.Reading.{times};
 ghost use Rattle.texts.specs.Atoms.{atomsOf};
 ghost use Rattle.validate.specs.Steps.{Ready, askedOf, stepOf};
 

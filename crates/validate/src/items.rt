@@ -18,8 +18,8 @@ use parse_tree::syntax::NonterminalData;
 ghost use mathlib.Core.Path.{_≡_};
 ghost use mathlib.Core.Bool.{true};
 ghost use lib.ListN.{length};
-ghost use Rattle.parse_tree.specs.Decode.{alternativeParts, nonterminalParts, readAlternative, readItem, readItems};
-ghost use Rattle.parse_tree.specs.Reading.{times};
+ghost use Rattle.parse_tree.specs.working.Decode.{alternativeParts, nonterminalParts, readAlternative, readItem, readItems};
+ghost use Rattle.parse_tree.specs.plain.Reading.{times};
 ghost use Rattle.texts.specs.Atoms.{atomsOf};
 ghost use Rattle.validate.specs.Steps.{Itemed, Ready, stepOf};
 

@@ -9,7 +9,7 @@ use parse_tree::syntax::Node;
 use parse_tree::syntax::Over;
 use parse_tree::syntax::SymbolKind;
 ghost use mathlib.Core.Path.{_≡_};
-ghost use Rattle.parse_tree.specs.Questions.{defined, leafDefined, symbolDefined, alternativeDefined, attributeDefined};
+ghost use Rattle.parse_tree.specs.working.Questions.{defined, leafDefined, symbolDefined, alternativeDefined, attributeDefined};
 
 fn leaf_defined(l: Leaf, atoms: usize) -> bool
     ensures { λ r. ⌜ r ≡ leafDefined atoms l ⌝ }

@@ -13,8 +13,8 @@ use texts::table::class;
 ghost use mathlib.Core.Path.{_≡_};
 ghost use mathlib.Core.List.{[]};
 ghost use lib.ListN.{getD};
-ghost use Rattle.parse_tree.specs.Texts.{isName, isLiteral, isAscii};
-ghost use Rattle.parse_tree.specs.Questions.{suits, leafSuits, symbolSuits};
+ghost use Rattle.parse_tree.specs.plain.Texts.{isName, isLiteral, isAscii};
+ghost use Rattle.parse_tree.specs.working.Questions.{suits, leafSuits, symbolSuits};
 ghost use Rattle.texts.specs.Atoms.{atomsOf};
 ghost use Rattle.validate.specs.Steps.{Ready};
 

@@ -11,9 +11,9 @@ use parse_tree::syntax::Over;
 use parse_tree::syntax::SymbolKind;
 ghost use mathlib.Core.Path.{_≡_};
 ghost use mathlib.Core.Bool.{true};
-ghost use Rattle.parse_tree.specs.Decode.{readSym};
-ghost use Rattle.parse_tree.specs.Operands.{insideOf};
-ghost use Rattle.parse_tree.specs.Reading.{times};
+ghost use Rattle.parse_tree.specs.working.Decode.{readSym};
+ghost use Rattle.parse_tree.specs.working.Operands.{insideOf};
+ghost use Rattle.parse_tree.specs.plain.Reading.{times};
 ghost use Rattle.texts.specs.Atoms.{atomsOf};
 ghost use Rattle.validate.specs.Steps.{Ready, stepOf};
 

@@ -1,11 +1,12 @@
 //! One call of ours beside the expected outcome: answer, tree, bytes behind, work.
 use crate::case::Case;
 use crate::commands::hex;
+use normalize::Words;
 use oracle::chance::Chance;
 use reading::Outcome;
 
-/// Our call: tape, output, work, and the four words of the answer.
-pub type Ours<'a> = &'a dyn Fn(&[u8], &mut [u8], &mut [u8], &mut [u64; 4]);
+/// Our call: tape, output, work, and the words of the answer.
+pub type Ours<'a> = &'a dyn Fn(&[u8], &mut [u8], &mut [u8], &mut Words);
 
 #[derive(Clone, Debug, PartialEq, Eq)]
 pub enum Verdict {
@@ -62,7 +63,7 @@ fn against(case: &Case, dirt: u64, outcome: &Outcome, ours: Ours) -> Verdict {
     let mut chance = Chance(dirt);
     let mut output = Fenced::dirty(&mut chance, case.output_len());
     let mut work = Fenced::dirty(&mut chance, case.work_len());
-    let mut answer = [chance.word(), chance.word(), chance.word(), chance.word()];
+    let mut answer: Words = std::array::from_fn(|_| chance.word());
     let (mut right_output, mut right_work) = (output.clone(), work.clone());
     if let Ok(tree) = outcome {
         right_output.inside()[..tree.len()].copy_from_slice(tree);
@@ -80,10 +81,12 @@ fn against(case: &Case, dirt: u64, outcome: &Outcome, ours: Ours) -> Verdict {
     output.or_else(|| work.differing("work", &right_work)).unwrap_or(agreed)
 }
 
-/// The four words of an answer.
-pub fn words(outcome: &Outcome) -> [u64; 4] {
+/// The words of an answer; those behind the ones that say something are 0.
+pub fn words(outcome: &Outcome) -> Words {
+    let mut words = Words::default();
     match outcome {
-        Ok(tree) => [1, tree.len() as u64, 0, 0],
-        Err(refusal) => [0, u64::from(refusal.number), refusal.place.0, refusal.place.1],
+        Ok(tree) => words[..2].copy_from_slice(&[1, tree.len() as u64]),
+        Err(refusal) => words[1..4].copy_from_slice(&[u64::from(refusal.number), refusal.place.0, refusal.place.1]),
     }
+    words
 }

@@ -20,7 +20,7 @@ pub mod tally;
 pub fn the_rust_is_there(checks: usize) -> bool {
     if !oracle::is_there() {
         // where standard error is closed, nobody can be told
-        let _ = writeln!(std::io::stderr(), "skipped: {checks} (LALRPOP's files are not there)");
+        let _ = writeln!(std::io::stderr(), "skipped: {checks} ({})", oracle::NOT_THERE);
     }
     oracle::is_there()
 }

@@ -40,7 +40,7 @@ impl fmt::Display for Tally {
     fn fmt(&self, f: &mut fmt::Formatter<'_>) -> fmt::Result {
         write!(f, "agreed {}, different {}", self.agreed(), self.differences)?;
         if self.skipped > 0 {
-            write!(f, ", skipped: {} (LALRPOP's files are not there)", self.skipped)?;
+            write!(f, ", skipped: {} ({})", self.skipped, oracle::NOT_THERE)?;
         }
         for (number, count) in &self.answers {
             match number {

@@ -5,6 +5,7 @@ use compare::mix;
 use compare::run::run;
 use compare::shrink::shrink;
 use compare::the_rust_is_there;
+use normalize::Words;
 use oracle::chance::Chance;
 use reading::Outcome;
 
@@ -12,13 +13,13 @@ use reading::Outcome;
 struct Left<'a> {
     output: &'a mut [u8],
     work: &'a mut [u8],
-    answer: &'a mut [u64; 4],
+    answer: &'a mut Words,
 }
 
 type Fault = fn(&Outcome, &mut Left);
 
 /// The stand-in, then the fault.
-fn stand_in(fault: Fault) -> impl Fn(&[u8], &mut [u8], &mut [u8], &mut [u64; 4]) {
+fn stand_in(fault: Fault) -> impl Fn(&[u8], &mut [u8], &mut [u8], &mut Words) {
     move |tape, output, work, answer| {
         let outcome = reading::call(tape, output.len(), work.len(), oracle::resolve).expect("the Rust was there to be asked");
         if work.len() >= reading::work_needed(tape.len(), output.len()) {

@@ -3,6 +3,7 @@ use compare::case::Case;
 use compare::grow::Size;
 use compare::judge::{judge, words, Verdict};
 use compare::mix;
+use normalize::Words;
 use oracle::chance::Chance;
 use reading::tree::*;
 use reading::Refusal;
@@ -224,7 +225,7 @@ impl Model {
 
 /// How many cases differ from the Rust under this misreading.
 fn differing(cases: &[Case], misreading: Misreading) -> usize {
-    let ours = |tape: &[u8], output: &mut [u8], work: &mut [u8], answer: &mut [u64; 4]| {
+    let ours = |tape: &[u8], output: &mut [u8], work: &mut [u8], answer: &mut Words| {
         let model = |stage: &Stage| Some(resolve(stage, misreading));
         let outcome = reading::call(tape, output.len(), work.len(), model).unwrap();
         if let Ok(tree) = &outcome {

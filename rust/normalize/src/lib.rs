@@ -1,46 +1,41 @@
-//! Safe functions over `libnormalize.a`: a tape, an output and a work buffer in, an answer out.
+//! Safe functions over `libnormalize.a`: a tape, an output and a work buffer in; the tree's length, or a refusal, out.
+mod archive;
+mod refusal;
 
-extern "C" {
-    fn normalize_resolve(
-        tape: *const u8,
-        tape_len: usize,
-        output: *mut u8,
-        output_len: usize,
-        work: *mut u8,
-        work_len: usize,
-        answer: *mut [u64; 4],
-    );
-}
+pub use archive::{Words, WORDS};
+pub use refusal::Refusal;
 
-/// What a call answers to a tape.
-#[derive(Clone, Copy, Debug, PartialEq, Eq)]
-pub enum Answer {
-    /// The length of the tree that the output now begins with.
-    Yes(usize),
-    /// The number of document 01's question, and the place.
-    No { number: u8, place: (u64, u64) },
-}
+/// README's examples are compiled and run.
+#[cfg(doctest)]
+#[doc = include_str!("../../../README.md")]
+struct Readme;
 
-/// The length of work that a call asks for, a tape and an output being so long.
+/// The length of work that a call asks for, a tape and an output being so long. Where that is no `usize`, no buffer is long enough, and
+/// the most that there is stands for it.
 pub fn work_len(tape: usize, output: usize) -> usize {
-    8 * (tape + output)
+    tape.saturating_add(output).saturating_mul(8)
 }
 
-/// Name resolution alone: questions 1 to 13, 20 and 21.
-pub fn resolve(tape: &[u8], output: &mut [u8], work: &mut [u8]) -> Answer {
-    let mut answer = [0; 4];
+/// Name resolution alone: questions 1 to 13, 20 and 21. At `Ok` the output begins with the tree, which has that length.
+pub fn resolve(tape: &[u8], output: &mut [u8], work: &mut [u8]) -> Result<usize, Refusal> {
+    let mut answer = Words::default();
     resolve_words(tape, output, work, &mut answer);
-    match answer {
-        [1, length, _, _] => Answer::Yes(length as usize),
-        [_, number, from, to] => Answer::No { number: number as u8, place: (from, to) },
+    answered(&answer)
+}
+
+/// The same, with the words as the archive writes them.
+pub fn resolve_words(tape: &[u8], output: &mut [u8], work: &mut [u8], answer: &mut Words) {
+    // SAFETY: the export takes three slices, each by pointer and length, and an array, and asks nothing else of them.
+    unsafe {
+        archive::normalize_resolve(tape.as_ptr(), tape.len(), output.as_mut_ptr(), output.len(), work.as_mut_ptr(), work.len(), answer);
     }
 }
 
-/// The same, with the four words as the archive writes them: 1, length, 0, 0 or 0, number, place, place.
-pub fn resolve_words(tape: &[u8], output: &mut [u8], work: &mut [u8], answer: &mut [u64; 4]) {
-    // SAFETY: the export takes three slices, each by pointer and length, and an array, and asks nothing else of them.
-    unsafe {
-        normalize_resolve(tape.as_ptr(), tape.len(), output.as_mut_ptr(), output.len(), work.as_mut_ptr(), work.len(), answer);
+/// The answer that the words say.
+fn answered(words: &Words) -> Result<usize, Refusal> {
+    match *words {
+        [1, length, ..] => Ok(length as usize),
+        [_, number, from, to, ..] => Err(Refusal { number: number as u8, place: (from, to) }),
     }
 }
 
@@ -60,7 +55,7 @@ mod tests {
     }
 
     /// The answer, and both buffers, which held 0xaa before.
-    fn run(tape: &[u8], output: usize, work: usize) -> (Answer, Vec<u8>, Vec<u8>) {
+    fn run(tape: &[u8], output: usize, work: usize) -> (Result<usize, Refusal>, Vec<u8>, Vec<u8>) {
         let (mut output, mut work) = (vec![0xaa; output], vec![0xaa; work]);
         let answer = resolve(tape, &mut output, &mut work);
         (answer, output, work)
@@ -68,8 +63,8 @@ mod tests {
 
     #[test]
     fn the_empty_tape_is_an_empty_tree() {
-        assert_eq!(run(&[], 0, 0), (Answer::Yes(0), vec![], vec![]));
-        assert_eq!(run(&[], 3, 24), (Answer::Yes(0), vec![0xaa; 3], vec![0; 24]));
+        assert_eq!(run(&[], 0, 0), (Ok(0), vec![], vec![]));
+        assert_eq!(run(&[], 3, 24), (Ok(0), vec![0xaa; 3], vec![0; 24]));
     }
 
     #[test]
@@ -77,14 +72,14 @@ mod tests {
         let tape = [&ATOM_A[..], &nonterminal_a(0x20)].concat();
         let tree = [&ATOM_A[..], &nonterminal_a(0x24), &[0xaa; 2]].concat();
         let need = work_len(tape.len(), tape.len() + 2);
-        assert_eq!(run(&tape, tape.len() + 2, need), (Answer::Yes(tape.len()), tree, vec![0; need]));
+        assert_eq!(run(&tape, tape.len() + 2, need), (Ok(tape.len()), tree, vec![0; need]));
     }
 
     #[test]
     fn a_nonterminal_and_a_terminal_of_one_name_are_refused() {
         let tape = [&ATOM_A[..], &nonterminal_a(0x20), &EXTERN_A].concat();
         let need = work_len(tape.len(), 100);
-        let no = Answer::No { number: 6, place: (7, 8) };
+        let no = Err(Refusal { number: 6, place: (7, 8) });
         assert_eq!(run(&tape, 100, need), (no, vec![0xaa; 100], vec![0; need]));
     }
 
@@ -92,15 +87,34 @@ mod tests {
     fn an_output_too_short_is_refused() {
         let tape = [&ATOM_A[..], &nonterminal_a(0x20)].concat();
         let (output, need) = (tape.len() - 1, work_len(tape.len(), tape.len() - 1));
-        let no = Answer::No { number: 21, place: (0, 0) };
+        let no = Err(Refusal { number: 21, place: (0, 0) });
         assert_eq!(run(&tape, output, need), (no, vec![0xaa; output], vec![0; need]));
     }
 
     #[test]
     fn work_too_short_stays_as_it_is() {
         let need = work_len(ATOM_A.len(), 5);
-        let no = Answer::No { number: 1, place: (0, 0) };
+        let no = Err(Refusal { number: 1, place: (0, 0) });
         assert_eq!(run(&ATOM_A, 5, need - 1), (no, vec![0xaa; 5], vec![0xaa; need - 1]));
-        assert_eq!(run(&ATOM_A, 5, need).0, Answer::Yes(4));
+        assert_eq!(run(&ATOM_A, 5, need).0, Ok(4));
+    }
+
+    /// As docs/TAPE.md says of it.
+    #[test]
+    fn the_example_is_resolved() {
+        let tape = include_bytes!("../../../docs/examples/listing.tape");
+        let mut tree = tape.to_vec();
+        tree[49] = 0x21;
+        let need = work_len(71, 71);
+        assert_eq!(run(tape, 71, need), (Ok(71), tree, vec![0; need]));
+    }
+
+    #[test]
+    fn no_length_of_work_wraps() {
+        assert_eq!(work_len(3, 4), 56);
+        assert_eq!(work_len(0, usize::MAX / 8), usize::MAX - 7);
+        assert_eq!(work_len(1, usize::MAX / 8), usize::MAX);
+        assert_eq!(work_len(usize::MAX, 0), usize::MAX);
+        assert_eq!(work_len(usize::MAX, usize::MAX), usize::MAX);
     }
 }

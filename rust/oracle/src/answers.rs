@@ -2,6 +2,9 @@
 use reading::tree::Stage;
 use reading::Refusal;
 
+/// Why something is skipped where they weren't.
+pub const NOT_THERE: &str = "LALRPOP's files are not there; LALRPOP_SRC names their folder";
+
 /// Whether LALRPOP's files were there to be compiled.
 pub fn is_there() -> bool {
     cfg!(lalrpop)

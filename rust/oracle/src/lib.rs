@@ -1,5 +1,5 @@
-//! LALRPOP's passes, compiled from its own files (build.rs), for comparing ours with them: `resolve` asks them about a tree of `reading`.
-//! Where those files aren't there, cfg `lalrpop` is off and `resolve` answers nothing.
+//! LALRPOP's passes, compiled from its own files (build.rs), for comparing ours with them: `resolve` and `expand` ask them about a tree of `reading`.
+//! Where those files aren't there, cfg `lalrpop` is off and both answer nothing.
 //! What stands here beside them are only the few names that those files use and that aren't there.
 #![allow(dead_code, unused)]
 
@@ -13,10 +13,12 @@ pub mod answers;
 pub mod chance;
 #[cfg(lalrpop)]
 pub mod convert;
+pub mod expanding;
 #[cfg(lalrpop)]
 mod stand_ins;
 
-pub use answers::{is_there, resolve, there_and_back};
+pub use answers::{is_there, resolve, there_and_back, NOT_THERE};
+pub use expanding::{expand, Expanded};
 #[cfg(lalrpop)]
 pub use stand_ins::{lexer, message, session, tls, DefaultAtom, Regex};
 

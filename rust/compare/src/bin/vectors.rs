@@ -6,7 +6,7 @@ fn main() {
     if word != "input" && word != "expected" {
         fail("usage: vectors input|expected");
     }
-    let Some(vectors) = vectors() else { fail("vectors: LALRPOP's files are not there (LALRPOP_SRC names their folder)") };
+    let Some(vectors) = vectors() else { fail(oracle::NOT_THERE) };
     for (case, outcome) in &vectors {
         println!("{}", if word == "input" { case_line(case) } else { answer_line(outcome) });
     }

@@ -8,51 +8,39 @@ use Rattle.octets.proofs.numbers.u16_at.Reads as u16-at-reads
 use Rattle.octets.proofs.numbers.wide16.Reads as wide16-reads
 use Rattle.octets.proofs.numbers.wide32.Reads as wide32-reads
 
--- src/numbers.rt:53:23
 u16-at-requires : tie.Need-u16-at-requires
 u16-at-requires c κs = search needs
 
--- src/numbers.rt:53:9
 wide32-requires : tie.Need-wide32-requires
 wide32-requires c κs = search needs
 
--- src/numbers.rt:53:9
 returns : tie.Need-returns
 returns c = search reading
 
--- src/numbers.rt:55:12
 u16-at-requires-2 : tie.Need-u16-at-requires-2
 u16-at-requires-2 c κs = search needs
 
--- src/numbers.rt:55:5
 wide32-requires-2 : tie.Need-wide32-requires-2
 wide32-requires-2 c κs = search needs
 
--- src/numbers.rt:55:45
 add-wide16 : tie.Need-add-wide16
 add-wide16 c = search needs
 
--- src/numbers.rt:55:43
 shared-slice-read-wide16 : tie.Need-shared-slice-read-wide16
 shared-slice-read-wide16 c = search needs
 
--- src/numbers.rt:55:36
 wide16-requires : tie.Need-wide16-requires
 wide16-requires c κs = search needs
 
--- src/numbers.rt:55:29
 wide32-requires-3 : tie.Need-wide32-requires-3
 wide32-requires-3 c κs = search needs
 
--- src/numbers.rt:55:29
 mul-result : tie.Need-mul-result
 mul-result c = search needs
 
--- src/numbers.rt:55:5
 add-result : tie.Need-add-result
 add-result c = search needs
 
--- src/numbers.rt:48:1
 returns-2 : tie.Need-returns-2
 returns-2 c = search reading
 

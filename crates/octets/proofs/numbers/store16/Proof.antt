@@ -7,31 +7,24 @@ use Rattle.octets.proofs.numbers.store16.Tie as tie
 use Rattle.octets.proofs.numbers.store16.Reads as reads
 use Rattle.octets.proofs.numbers.store16.Lts as lts
 
--- src/numbers.rt:62:15
 cast-out : tie.Need-cast-out
 cast-out c = search needs
 
--- src/numbers.rt:62:5
 slice-write-out : tie.Need-slice-write-out
 slice-write-out c = search needs
 
--- src/numbers.rt:63:19
 cast-out-2 : tie.Need-cast-out-2
 cast-out-2 c = search needs
 
--- src/numbers.rt:63:9
 add-out : tie.Need-add-out
 add-out c = search needs
 
--- src/numbers.rt:63:5
 slice-write-out-2 : tie.Need-slice-write-out-2
 slice-write-out-2 c = simp length-set (omega arith)
 
--- src/numbers.rt:58:1
 same-length : tie.Need-same-length
 same-length c = search needs
 
--- src/numbers.rt:58:1
 returns : tie.Need-returns
 returns c = search storing
 

@@ -6,31 +6,24 @@ use Rattle.octets.proofs.numbers.store32.Reads as reads
 use Rattle.octets.proofs.numbers.store32.Lts as lts
 use Rattle.octets.proofs.numbers.store16.Reads as store16-reads
 
--- src/numbers.rt:70:22
 cast-store16 : tie.Need-cast-store16
 cast-store16 c = search needs
 
--- src/numbers.rt:70:5
 store16-requires : tie.Need-store16-requires
 store16-requires c κs = search needs
 
--- src/numbers.rt:71:18
 add-store16 : tie.Need-add-store16
 add-store16 c = search needs
 
--- src/numbers.rt:71:26
 cast-store16-2 : tie.Need-cast-store16-2
 cast-store16-2 c = search needs
 
--- src/numbers.rt:71:5
 store16-requires-2 : tie.Need-store16-requires-2
 store16-requires-2 c κs = search needs
 
--- src/numbers.rt:66:1
 same-length : tie.Need-same-length
 same-length c = search needs
 
--- src/numbers.rt:66:1
 returns : tie.Need-returns
 returns c = search storing
 

@@ -6,31 +6,24 @@ use Rattle.octets.proofs.numbers.store64.Reads as reads
 use Rattle.octets.proofs.numbers.store64.Lts as lts
 use Rattle.octets.proofs.numbers.store32.Reads as store32-reads
 
--- src/numbers.rt:78:22
 cast-store32 : tie.Need-cast-store32
 cast-store32 c = search needs
 
--- src/numbers.rt:78:5
 store32-requires : tie.Need-store32-requires
 store32-requires c κs = search needs
 
--- src/numbers.rt:79:18
 add-store32 : tie.Need-add-store32
 add-store32 c = search needs
 
--- src/numbers.rt:79:26
 cast-store32-2 : tie.Need-cast-store32-2
 cast-store32-2 c = search needs
 
--- src/numbers.rt:79:5
 store32-requires-2 : tie.Need-store32-requires-2
 store32-requires-2 c κs = search needs
 
--- src/numbers.rt:74:1
 same-length : tie.Need-same-length
 same-length c = search needs
 
--- src/numbers.rt:74:1
 returns : tie.Need-returns
 returns c = search storing
 

@@ -7,35 +7,27 @@ use Rattle.octets.proofs.numbers.u32_at.Lts as lts
 use Rattle.octets.proofs.numbers.u16_at.Reads as u16-at-reads
 use Rattle.octets.proofs.numbers.wide32.Reads as wide32-reads
 
--- src/numbers.rt:37:12
 u16-at-requires : tie.Need-u16-at-requires
 u16-at-requires c κs = search needs
 
--- src/numbers.rt:37:5
 wide32-requires : tie.Need-wide32-requires
 wide32-requires c κs = search needs
 
--- src/numbers.rt:37:46
 add-u16-at : tie.Need-add-u16-at
 add-u16-at c = search needs
 
--- src/numbers.rt:37:36
 u16-at-requires-2 : tie.Need-u16-at-requires-2
 u16-at-requires-2 c κs = search needs
 
--- src/numbers.rt:37:29
 wide32-requires-2 : tie.Need-wide32-requires-2
 wide32-requires-2 c κs = search needs
 
--- src/numbers.rt:37:29
 mul-result : tie.Need-mul-result
 mul-result c = search needs
 
--- src/numbers.rt:37:5
 add-result : tie.Need-add-result
 add-result c = search needs
 
--- src/numbers.rt:33:1
 returns : tie.Need-returns
 returns c = search reading
 

@@ -7,35 +7,27 @@ use Rattle.octets.proofs.numbers.u64_at.Lts as lts
 use Rattle.octets.proofs.numbers.u32_at.Reads as u32-at-reads
 use Rattle.octets.proofs.numbers.wide64.Reads as wide64-reads
 
--- src/numbers.rt:44:12
 u32-at-requires : tie.Need-u32-at-requires
 u32-at-requires c κs = search needs
 
--- src/numbers.rt:44:5
 wide64-requires : tie.Need-wide64-requires
 wide64-requires c κs = search needs
 
--- src/numbers.rt:44:46
 add-u32-at : tie.Need-add-u32-at
 add-u32-at c = search needs
 
--- src/numbers.rt:44:36
 u32-at-requires-2 : tie.Need-u32-at-requires-2
 u32-at-requires-2 c κs = search needs
 
--- src/numbers.rt:44:29
 wide64-requires-2 : tie.Need-wide64-requires-2
 wide64-requires-2 c κs = search needs
 
--- src/numbers.rt:44:29
 mul-result : tie.Need-mul-result
 mul-result c = search needs
 
--- src/numbers.rt:44:5
 add-result : tie.Need-add-result
 add-result c = search needs
 
--- src/numbers.rt:40:1
 returns : tie.Need-returns
 returns c = search reading
 

@@ -12,31 +12,24 @@ Inv-loop w₀ i₀ w i = Clearing w₀ w i
 abbrev μ-loop : tie.MeasureT-loop
 μ-loop w₀ i₀ w i = length w₀ - i
 
--- src/runs.rt:31:5
 loop-holds : tie.Need-loop-holds Inv-loop μ-loop
 loop-holds c = search clearing
 
--- src/runs.rt:32:9
 slice-write-w : tie.Need-slice-write-w Inv-loop μ-loop
 slice-write-w c = search clearing
 
--- src/runs.rt:33:9
 add-i : tie.Need-add-i Inv-loop μ-loop
 add-i c = search clearing
 
--- src/runs.rt:31:5
 loop-less : tie.Need-loop-less Inv-loop μ-loop
 loop-less c = search clearing
 
--- src/runs.rt:31:5
 loop-again : tie.Need-loop-again Inv-loop μ-loop
 loop-again c = search clearing
 
--- src/runs.rt:27:1
 same-length : tie.Need-same-length Inv-loop μ-loop
 same-length c = search clearing
 
--- src/runs.rt:27:1
 returns : tie.Need-returns Inv-loop μ-loop
 returns c = search clearing
 

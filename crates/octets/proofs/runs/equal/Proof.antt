@@ -6,15 +6,12 @@ use Rattle.octets.proofs.runs.equal.Reads as reads
 use Rattle.octets.proofs.runs.equal.Lts as lts
 use Rattle.octets.proofs.runs.same.Reads as same-reads
 
--- src/runs.rt:32:9
 returns : tie.Need-returns
 returns c = search equating
 
--- src/runs.rt:34:5
 same-requires : tie.Need-same-requires
 same-requires c κs = search needs
 
--- src/runs.rt:27:1
 returns-2 : tie.Need-returns-2
 returns-2 c = search equating
 

@@ -1,5 +1,5 @@
 use Prim.Native.Nat.{_+_}
-use Rattle.octets.specs.Runs.{part, sameAs}
+use Rattle.octets.specs.plain.Runs.{part, sameAs}
 use Rattle.octets.proofs.Comparing.{Comparing, comparing}
 use Rattle.octets.proofs.runs.same.Statement.{statement}
 use Rattle.octets.proofs.runs.same.Tie as tie
@@ -12,43 +12,33 @@ Inv-loop s a t b n i₀ j₀ k₀ i j k = Comparing s t (sameAs (part a (a + n) 
 abbrev μ-loop : tie.MeasureT-loop
 μ-loop s a t b n i₀ j₀ k₀ i j k = k
 
--- src/runs.rt:15:5
 loop-holds : tie.Need-loop-holds Inv-loop μ-loop
 loop-holds c = search comparing
 
--- src/runs.rt:16:12
 shared-slice-read-if1 : tie.Need-shared-slice-read-if1 Inv-loop μ-loop
 shared-slice-read-if1 c = search comparing
 
--- src/runs.rt:16:20
 shared-slice-read-if1-2 : tie.Need-shared-slice-read-if1-2 Inv-loop μ-loop
 shared-slice-read-if1-2 c = search comparing
 
--- src/runs.rt:17:13
 returns : tie.Need-returns Inv-loop μ-loop
 returns c = search comparing
 
--- src/runs.rt:19:9
 add-i : tie.Need-add-i Inv-loop μ-loop
 add-i c = search comparing
 
--- src/runs.rt:20:9
 add-j : tie.Need-add-j Inv-loop μ-loop
 add-j c = search comparing
 
--- src/runs.rt:21:9
 sub-k : tie.Need-sub-k Inv-loop μ-loop
 sub-k c = search comparing
 
--- src/runs.rt:15:5
 loop-less : tie.Need-loop-less Inv-loop μ-loop
 loop-less c = search comparing
 
--- src/runs.rt:15:5
 loop-again : tie.Need-loop-again Inv-loop μ-loop
 loop-again c = search comparing
 
--- src/runs.rt:8:1
 returns-2 : tie.Need-returns-2 Inv-loop μ-loop
 returns-2 c = search comparing
 

@@ -6,27 +6,21 @@ use Rattle.octets.proofs.sink.put16.Reads as reads
 use Rattle.octets.proofs.sink.put16.Lts as lts
 use Rattle.octets.proofs.sink.put8.Reads as put8-reads
 
--- src/sink.rt:28:32
 cast-put8 : tie.Need-cast-put8
 cast-put8 c = search needs
 
--- src/sink.rt:28:9
 put8-requires : tie.Need-put8-requires
 put8-requires c κs = search needs
 
--- src/sink.rt:29:23
 cast-put8-2 : tie.Need-cast-put8-2
 cast-put8-2 c = search needs
 
--- src/sink.rt:29:5
 put8-requires-2 : tie.Need-put8-requires-2
 put8-requires-2 c κs = search needs
 
--- src/sink.rt:24:1
 same-length : tie.Need-same-length
 same-length c = search needs
 
--- src/sink.rt:24:1
 returns : tie.Need-returns
 returns c = search laying
 

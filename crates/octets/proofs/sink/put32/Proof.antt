@@ -6,27 +6,21 @@ use Rattle.octets.proofs.sink.put32.Reads as reads
 use Rattle.octets.proofs.sink.put32.Lts as lts
 use Rattle.octets.proofs.sink.put16.Reads as put16-reads
 
--- src/sink.rt:36:33
 cast-put16 : tie.Need-cast-put16
 cast-put16 c = search needs
 
--- src/sink.rt:36:9
 put16-requires : tie.Need-put16-requires
 put16-requires c κs = search needs
 
--- src/sink.rt:37:24
 cast-put16-2 : tie.Need-cast-put16-2
 cast-put16-2 c = search needs
 
--- src/sink.rt:37:5
 put16-requires-2 : tie.Need-put16-requires-2
 put16-requires-2 c κs = search needs
 
--- src/sink.rt:32:1
 same-length : tie.Need-same-length
 same-length c = search needs
 
--- src/sink.rt:32:1
 returns : tie.Need-returns
 returns c = search laying
 

@@ -7,35 +7,27 @@ use Rattle.octets.proofs.sink.put_atom.Lts as lts
 use Rattle.octets.proofs.sink.put16.Reads as put16-reads
 use Rattle.octets.proofs.sink.put8.Reads as put8-reads
 
--- src/sink.rt:45:33
 cast-put16 : tie.Need-cast-put16
 cast-put16 c = search needs
 
--- src/sink.rt:45:9
 put16-requires : tie.Need-put16-requires
 put16-requires c κs = search needs
 
--- src/sink.rt:47:9
 same-length : tie.Need-same-length
 same-length c = search needs
 
--- src/sink.rt:47:9
 returns : tie.Need-returns
 returns c = search laying
 
--- src/sink.rt:49:23
 cast-put8 : tie.Need-cast-put8
 cast-put8 c = search needs
 
--- src/sink.rt:49:5
 put8-requires : tie.Need-put8-requires
 put8-requires c κs = search needs
 
--- src/sink.rt:41:1
 same-length-2 : tie.Need-same-length-2
 same-length-2 c = search needs
 
--- src/sink.rt:41:1
 returns-2 : tie.Need-returns-2
 returns-2 c = search laying
 

@@ -12,35 +12,27 @@ Inv-loop src a e out₀ lim to i₀ q₀ out i q = Running src out₀ lim to a e
 abbrev μ-loop : tie.MeasureT-loop
 μ-loop src a e out₀ lim to i₀ q₀ out i q = e - i
 
--- src/sink.rt:59:5
 loop-holds : tie.Need-loop-holds Inv-loop μ-loop
 loop-holds c = search running
 
--- src/sink.rt:60:31
 shared-slice-read-put8 : tie.Need-shared-slice-read-put8 Inv-loop μ-loop
 shared-slice-read-put8 c = search running
 
--- src/sink.rt:60:9
 put8-requires : tie.Need-put8-requires Inv-loop μ-loop
 put8-requires c κs = search running
 
--- src/sink.rt:61:9
 add-i : tie.Need-add-i Inv-loop μ-loop
 add-i c = search running
 
--- src/sink.rt:59:5
 loop-less : tie.Need-loop-less Inv-loop μ-loop
 loop-less c = search running
 
--- src/sink.rt:59:5
 loop-again : tie.Need-loop-again Inv-loop μ-loop
 loop-again c = search running
 
--- src/sink.rt:53:1
 same-length : tie.Need-same-length Inv-loop μ-loop
 same-length c = search running
 
--- src/sink.rt:53:1
 returns : tie.Need-returns Inv-loop μ-loop
 returns c = search running
 

@@ -1,4 +1,4 @@
-use Rattle.parse_tree.specs.Nodes.{alternativeAt}
+use Rattle.parse_tree.specs.working.Nodes.{alternativeNodeAt}
 use Rattle.parse_tree.proofs.Noding.{noding}
 use borrow.Author.Needs.{needs}
 use Rattle.parse_tree.proofs.node.alternative_at.Statement.{statement}
@@ -9,72 +9,55 @@ use Rattle.octets.proofs.numbers.atom_at.Reads as atom-at-reads
 use Rattle.octets.proofs.numbers.u16_at.Reads as u16-at-reads
 use Rattle.parse_tree.proofs.node.span_at.Reads as span-at-reads
 
--- src/node.rt:83:8
 sub-if1 : tie.Need-sub-if1
 sub-if1 c = search needs
 
--- src/node.rt:83:26
 add-if1 : tie.Need-add-if1
 add-if1 c = search needs
 
--- src/node.rt:84:9
 returns : tie.Need-returns
-unfolding alternativeAt
+unfolding alternativeNodeAt
 returns c = search noding
 
--- src/node.rt:87:29
 add-span-at : tie.Need-add-span-at
 add-span-at c = search needs
 
--- src/node.rt:87:15
 span-at-requires : tie.Need-span-at-requires
 span-at-requires c κs = search needs
 
--- src/node.rt:88:26
 add-t5 : tie.Need-add-t5
 add-t5 c = search needs
 
--- src/node.rt:88:21
 shared-slice-read-t10 : tie.Need-shared-slice-read-t10
 shared-slice-read-t10 c = search needs
 
--- src/node.rt:89:26
 add-t6 : tie.Need-add-t6
 add-t6 c = search needs
 
--- src/node.rt:89:21
 shared-slice-read-t12 : tie.Need-shared-slice-read-t12
 shared-slice-read-t12 c = search needs
 
--- src/node.rt:90:22
 add-t13 : tie.Need-add-t13
 add-t13 c = search needs
 
--- src/node.rt:90:17
 shared-slice-read-t15 : tie.Need-shared-slice-read-t15
 shared-slice-read-t15 c = search needs
 
--- src/node.rt:91:34
 add-atom-at : tie.Need-add-atom-at
 add-atom-at c = search needs
 
--- src/node.rt:91:20
 atom-at-requires : tie.Need-atom-at-requires
 atom-at-requires c κs = search needs
 
--- src/node.rt:92:31
 add-u16-at : tie.Need-add-u16-at
 add-u16-at c = search needs
 
--- src/node.rt:92:31
 add-u16-at-2 : tie.Need-add-u16-at-2
 add-u16-at-2 c = search needs
 
--- src/node.rt:92:18
 u16-at-requires : tie.Need-u16-at-requires
 u16-at-requires c κs = search needs
 
--- src/node.rt:79:1
 returns-2 : tie.Need-returns-2
 returns-2 c = search noding
 

@@ -7,27 +7,21 @@ use Rattle.parse_tree.proofs.node.bare_at.Lts as lts
 use Rattle.parse_tree.proofs.node.bare_leaf.Reads as bare-leaf-reads
 use Rattle.parse_tree.proofs.node.span_at.Reads as span-at-reads
 
--- src/node.rt:230:8
 sub-if1 : tie.Need-sub-if1
 sub-if1 c = search needs
 
--- src/node.rt:231:9
 returns : tie.Need-returns
 returns c = search noding
 
--- src/node.rt:233:32
 add-span-at : tie.Need-add-span-at
 add-span-at c = search needs
 
--- src/node.rt:233:18
 span-at-requires : tie.Need-span-at-requires
 span-at-requires c κs = search needs
 
--- src/node.rt:233:58
 bare-leaf-requires : tie.Need-bare-leaf-requires
 bare-leaf-requires c κs = search needs
 
--- src/node.rt:226:1
 returns-2 : tie.Need-returns-2
 returns-2 c = search noding
 

@@ -1,22 +1,19 @@
-use Rattle.parse_tree.specs.Nodes.{bareLeaf}
-use Rattle.octets.specs.Choice.{pick}
+use Rattle.parse_tree.specs.working.Nodes.{bareLeaf}
+use Rattle.octets.specs.working.Choice.{pick}
 use Rattle.octets.proofs.Choices.{tests}
 use Rattle.parse_tree.proofs.node.bare_leaf.Statement.{statement}
 use Rattle.parse_tree.proofs.node.bare_leaf.Tie as tie
 use Rattle.parse_tree.proofs.node.bare_leaf.Reads as reads
 use Rattle.parse_tree.proofs.node.bare_leaf.Lts as lts
 
--- src/node.rt:150:9
 returns : tie.Need-returns
 unfolding bareLeaf pick
 returns c = search tests
 
--- src/node.rt:153:9
 returns-2 : tie.Need-returns-2
 unfolding bareLeaf pick
 returns-2 c = search tests
 
--- src/node.rt:146:1
 returns-3 : tie.Need-returns-3
 unfolding bareLeaf pick
 returns-3 c = search tests

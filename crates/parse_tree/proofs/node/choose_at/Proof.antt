@@ -6,23 +6,18 @@ use Rattle.parse_tree.proofs.node.choose_at.Reads as reads
 use Rattle.parse_tree.proofs.node.choose_at.Lts as lts
 use Rattle.parse_tree.proofs.node.span_at.Reads as span-at-reads
 
--- src/node.rt:197:8
 sub-if1 : tie.Need-sub-if1
 sub-if1 c = search needs
 
--- src/node.rt:198:9
 returns : tie.Need-returns
 returns c = search noding
 
--- src/node.rt:200:32
 add-span-at : tie.Need-add-span-at
 add-span-at c = search needs
 
--- src/node.rt:200:18
 span-at-requires : tie.Need-span-at-requires
 span-at-requires c κs = search needs
 
--- src/node.rt:193:1
 returns-2 : tie.Need-returns-2
 returns-2 c = search noding
 

@@ -1,4 +1,4 @@
-use Rattle.parse_tree.specs.Nodes.{conditionAt}
+use Rattle.parse_tree.specs.working.Nodes.{conditionNodeAt}
 use Rattle.parse_tree.proofs.Noding.{noding}
 use borrow.Author.Needs.{needs}
 use Rattle.parse_tree.proofs.node.condition_at.Statement.{statement}
@@ -8,64 +8,49 @@ use Rattle.parse_tree.proofs.node.condition_at.Lts as lts
 use Rattle.octets.proofs.numbers.atom_at.Reads as atom-at-reads
 use Rattle.parse_tree.proofs.node.span_at.Reads as span-at-reads
 
--- src/node.rt:115:8
 sub-if1 : tie.Need-sub-if1
 sub-if1 c = search needs
 
--- src/node.rt:115:26
 add-if1 : tie.Need-add-if1
 add-if1 c = search needs
 
--- src/node.rt:115:26
 add-if1-2 : tie.Need-add-if1-2
 add-if1-2 c = search needs
 
--- src/node.rt:116:9
 returns : tie.Need-returns
-unfolding conditionAt
+unfolding conditionNodeAt
 returns c = search noding
 
--- src/node.rt:119:29
 add-span-at : tie.Need-add-span-at
 add-span-at c = search needs
 
--- src/node.rt:119:15
 span-at-requires : tie.Need-span-at-requires
 span-at-requires c κs = search needs
 
--- src/node.rt:120:46
 add-atom-at : tie.Need-add-atom-at
 add-atom-at c = search needs
 
--- src/node.rt:120:32
 atom-at-requires : tie.Need-atom-at-requires
 atom-at-requires c κs = search needs
 
--- src/node.rt:121:18
 add-t7 : tie.Need-add-t7
 add-t7 c = search needs
 
--- src/node.rt:121:18
 add-t6 : tie.Need-add-t6
 add-t6 c = search needs
 
--- src/node.rt:121:13
 shared-slice-read-t13 : tie.Need-shared-slice-read-t13
 shared-slice-read-t13 c = search needs
 
--- src/node.rt:122:33
 add-atom-at-2 : tie.Need-add-atom-at-2
 add-atom-at-2 c = search needs
 
--- src/node.rt:122:33
 add-atom-at-3 : tie.Need-add-atom-at-3
 add-atom-at-3 c = search needs
 
--- src/node.rt:122:19
 atom-at-requires-2 : tie.Need-atom-at-requires-2
 atom-at-requires-2 c κs = search needs
 
--- src/node.rt:111:1
 returns-2 : tie.Need-returns-2
 returns-2 c = search noding
 

@@ -7,31 +7,24 @@ use Rattle.parse_tree.proofs.node.group_at.Lts as lts
 use Rattle.octets.proofs.numbers.u16_at.Reads as u16-at-reads
 use Rattle.parse_tree.proofs.node.span_at.Reads as span-at-reads
 
--- src/node.rt:219:8
 sub-if1 : tie.Need-sub-if1
 sub-if1 c = search needs
 
--- src/node.rt:220:9
 returns : tie.Need-returns
 returns c = search noding
 
--- src/node.rt:222:32
 add-span-at : tie.Need-add-span-at
 add-span-at c = search needs
 
--- src/node.rt:222:18
 span-at-requires : tie.Need-span-at-requires
 span-at-requires c κs = search needs
 
--- src/node.rt:222:83
 add-u16-at : tie.Need-add-u16-at
 add-u16-at c = search needs
 
--- src/node.rt:222:70
 u16-at-requires : tie.Need-u16-at-requires
 u16-at-requires c κs = search needs
 
--- src/node.rt:215:1
 returns-2 : tie.Need-returns-2
 returns-2 c = search noding
 

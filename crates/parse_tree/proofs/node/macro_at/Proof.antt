@@ -7,47 +7,36 @@ use Rattle.parse_tree.proofs.node.macro_at.Lts as lts
 use Rattle.octets.proofs.numbers.atom_at.Reads as atom-at-reads
 use Rattle.parse_tree.proofs.node.span_at.Reads as span-at-reads
 
--- src/node.rt:175:8
 sub-if1 : tie.Need-sub-if1
 sub-if1 c = search needs
 
--- src/node.rt:175:26
 add-if1 : tie.Need-add-if1
 add-if1 c = search needs
 
--- src/node.rt:176:9
 returns : tie.Need-returns
 returns c = search noding
 
--- src/node.rt:178:32
 add-span-at : tie.Need-add-span-at
 add-span-at c = search needs
 
--- src/node.rt:178:18
 span-at-requires : tie.Need-span-at-requires
 span-at-requires c κs = search needs
 
--- src/node.rt:178:102
 add-atom-at : tie.Need-add-atom-at
 add-atom-at c = search needs
 
--- src/node.rt:178:88
 atom-at-requires : tie.Need-atom-at-requires
 atom-at-requires c κs = search needs
 
--- src/node.rt:178:124
 add-t6 : tie.Need-add-t6
 add-t6 c = search needs
 
--- src/node.rt:178:124
 add-t11 : tie.Need-add-t11
 add-t11 c = search needs
 
--- src/node.rt:178:119
 shared-slice-read-t13 : tie.Need-shared-slice-read-t13
 shared-slice-read-t13 c = search needs
 
--- src/node.rt:171:1
 returns-2 : tie.Need-returns-2
 returns-2 c = search noding
 

@@ -7,43 +7,33 @@ use Rattle.parse_tree.proofs.node.name_at.Lts as lts
 use Rattle.octets.proofs.numbers.atom_at.Reads as atom-at-reads
 use Rattle.parse_tree.proofs.node.span_at.Reads as span-at-reads
 
--- src/node.rt:208:8
 sub-if1 : tie.Need-sub-if1
 sub-if1 c = search needs
 
--- src/node.rt:208:26
 add-if1 : tie.Need-add-if1
 add-if1 c = search needs
 
--- src/node.rt:209:9
 returns : tie.Need-returns
 returns c = search noding
 
--- src/node.rt:211:32
 add-span-at : tie.Need-add-span-at
 add-span-at c = search needs
 
--- src/node.rt:211:18
 span-at-requires : tie.Need-span-at-requires
 span-at-requires c κs = search needs
 
--- src/node.rt:211:78
 add-t5 : tie.Need-add-t5
 add-t5 c = search needs
 
--- src/node.rt:211:73
 shared-slice-read-t10 : tie.Need-shared-slice-read-t10
 shared-slice-read-t10 c = search needs
 
--- src/node.rt:211:106
 add-atom-at : tie.Need-add-atom-at
 add-atom-at c = search needs
 
--- src/node.rt:211:92
 atom-at-requires : tie.Need-atom-at-requires
 atom-at-requires c κs = search needs
 
--- src/node.rt:204:1
 returns-2 : tie.Need-returns-2
 returns-2 c = search noding
 

@@ -8,39 +8,30 @@ use Rattle.octets.proofs.numbers.atom_at.Reads as atom-at-reads
 use Rattle.parse_tree.proofs.node.named_leaf.Reads as named-leaf-reads
 use Rattle.parse_tree.proofs.node.span_at.Reads as span-at-reads
 
--- src/node.rt:164:8
 sub-if1 : tie.Need-sub-if1
 sub-if1 c = search needs
 
--- src/node.rt:164:26
 add-if1 : tie.Need-add-if1
 add-if1 c = search needs
 
--- src/node.rt:165:9
 returns : tie.Need-returns
 returns c = search noding
 
--- src/node.rt:167:32
 add-span-at : tie.Need-add-span-at
 add-span-at c = search needs
 
--- src/node.rt:167:18
 span-at-requires : tie.Need-span-at-requires
 span-at-requires c κs = search needs
 
--- src/node.rt:167:89
 add-atom-at : tie.Need-add-atom-at
 add-atom-at c = search needs
 
--- src/node.rt:167:75
 atom-at-requires : tie.Need-atom-at-requires
 atom-at-requires c κs = search needs
 
--- src/node.rt:167:58
 named-leaf-requires : tie.Need-named-leaf-requires
 named-leaf-requires c κs = search needs
 
--- src/node.rt:160:1
 returns-2 : tie.Need-returns-2
 returns-2 c = search noding
 

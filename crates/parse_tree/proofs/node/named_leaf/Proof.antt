@@ -1,32 +1,27 @@
-use Rattle.parse_tree.specs.Nodes.{namedLeaf}
-use Rattle.octets.specs.Choice.{pick}
+use Rattle.parse_tree.specs.working.Nodes.{namedLeaf}
+use Rattle.octets.specs.working.Choice.{pick}
 use Rattle.octets.proofs.Choices.{tests}
 use Rattle.parse_tree.proofs.node.named_leaf.Statement.{statement}
 use Rattle.parse_tree.proofs.node.named_leaf.Tie as tie
 use Rattle.parse_tree.proofs.node.named_leaf.Reads as reads
 use Rattle.parse_tree.proofs.node.named_leaf.Lts as lts
 
--- src/node.rt:131:9
 returns : tie.Need-returns
 unfolding namedLeaf pick
 returns c = search tests
 
--- src/node.rt:134:9
 returns-2 : tie.Need-returns-2
 unfolding namedLeaf pick
 returns-2 c = search tests
 
--- src/node.rt:137:9
 returns-3 : tie.Need-returns-3
 unfolding namedLeaf pick
 returns-3 c = search tests
 
--- src/node.rt:140:9
 returns-4 : tie.Need-returns-4
 unfolding namedLeaf pick
 returns-4 c = search tests
 
--- src/node.rt:127:1
 returns-5 : tie.Need-returns-5
 unfolding namedLeaf pick
 returns-5 c = search tests

@@ -1,6 +1,6 @@
-use Rattle.octets.specs.Choice.{pick}
+use Rattle.octets.specs.working.Choice.{pick}
 use Rattle.octets.proofs.Choices.{tests}
-use Rattle.parse_tree.specs.Nodes.{nodeBy, nodeAt}
+use Rattle.parse_tree.specs.working.Nodes.{nodeBy, nodeAt}
 use Rattle.parse_tree.proofs.Noding.{noding}
 use borrow.Author.Needs.{needs}
 use Rattle.parse_tree.proofs.node.node.Statement.{statement}
@@ -16,96 +16,74 @@ use Rattle.parse_tree.proofs.node.symbol_at.Reads as symbol-at-reads
 use Rattle.parse_tree.proofs.node.terminal_at.Reads as terminal-at-reads
 use Rattle.parse_tree.proofs.node.text_node.Reads as text-node-reads
 
--- src/node.rt:268:9
 returns : tie.Need-returns
 unfolding nodeAt nodeBy pick
 returns c = search tests
 
--- src/node.rt:270:16
 shared-slice-read-code : tie.Need-shared-slice-read-code
 shared-slice-read-code c = search needs
 
--- src/node.rt:273:18
 text-node-requires : tie.Need-text-node-requires
 text-node-requires c κs = search needs
 
--- src/node.rt:274:19
 nonterminal-at-requires : tie.Need-nonterminal-at-requires
 nonterminal-at-requires c κs = search needs
 
--- src/node.rt:275:19
 argument-at-requires : tie.Need-argument-at-requires
 argument-at-requires c κs = search needs
 
--- src/node.rt:276:19
 alternative-at-requires : tie.Need-alternative-at-requires
 alternative-at-requires c κs = search needs
 
--- src/node.rt:277:19
 attribute-at-requires : tie.Need-attribute-at-requires
 attribute-at-requires c κs = search needs
 
--- src/node.rt:278:19
 condition-at-requires : tie.Need-condition-at-requires
 condition-at-requires c κs = search needs
 
--- src/node.rt:272:9
 returns-2 : tie.Need-returns-2
 returns-2 c = search noding
 
--- src/node.rt:272:9
 returns-3 : tie.Need-returns-3
 returns-3 c = search noding
 
--- src/node.rt:272:9
 returns-4 : tie.Need-returns-4
 returns-4 c = search noding
 
--- src/node.rt:272:9
 returns-5 : tie.Need-returns-5
 returns-5 c = search noding
 
--- src/node.rt:272:9
 returns-6 : tie.Need-returns-6
 returns-6 c = search noding
 
--- src/node.rt:272:9
 returns-7 : tie.Need-returns-7
 returns-7 c = search noding
 
--- src/node.rt:272:9
 returns-8 : tie.Need-returns-8
 unfolding nodeAt nodeBy pick
 returns-8 c = search tests
 
--- src/node.rt:283:9
 symbol-at-requires : tie.Need-symbol-at-requires
 symbol-at-requires c κs = search needs
 
--- src/node.rt:283:9
 returns-9 : tie.Need-returns-9
 unfolding nodeAt nodeBy pick
 returns-9 c = search tests
 
--- src/node.rt:286:9
 terminal-at-requires : tie.Need-terminal-at-requires
 terminal-at-requires c κs = search needs
 
--- src/node.rt:286:9
 returns-10 : tie.Need-returns-10
 unfolding nodeAt nodeBy pick
 returns-10 c = search tests
 
--- src/node.rt:289:9
 terminal-at-requires-2 : tie.Need-terminal-at-requires-2
 terminal-at-requires-2 c κs = search needs
 
--- src/node.rt:289:9
 returns-11 : tie.Need-returns-11
 unfolding nodeAt nodeBy pick
 returns-11 c = search tests
 
--- src/node.rt:263:1
 returns-12 : tie.Need-returns-12
 unfolding nodeAt nodeBy pick
 returns-12 c = search tests

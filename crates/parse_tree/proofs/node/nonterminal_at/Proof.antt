@@ -1,4 +1,4 @@
-use Rattle.parse_tree.specs.Nodes.{nonterminalAt}
+use Rattle.parse_tree.specs.working.Nodes.{nonterminalNodeAt}
 use Rattle.parse_tree.proofs.Noding.{noding}
 use borrow.Author.Needs.{needs}
 use Rattle.parse_tree.proofs.node.nonterminal_at.Statement.{statement}
@@ -9,72 +9,55 @@ use Rattle.octets.proofs.numbers.atom_at.Reads as atom-at-reads
 use Rattle.octets.proofs.numbers.u16_at.Reads as u16-at-reads
 use Rattle.parse_tree.proofs.node.span_at.Reads as span-at-reads
 
--- src/node.rt:43:8
 sub-if1 : tie.Need-sub-if1
 sub-if1 c = search needs
 
--- src/node.rt:43:26
 add-if1 : tie.Need-add-if1
 add-if1 c = search needs
 
--- src/node.rt:44:9
 returns : tie.Need-returns
-unfolding nonterminalAt
+unfolding nonterminalNodeAt
 returns c = search noding
 
--- src/node.rt:47:29
 add-span-at : tie.Need-add-span-at
 add-span-at c = search needs
 
--- src/node.rt:47:15
 span-at-requires : tie.Need-span-at-requires
 span-at-requires c κs = search needs
 
--- src/node.rt:48:47
 add-atom-at : tie.Need-add-atom-at
 add-atom-at c = search needs
 
--- src/node.rt:48:33
 atom-at-requires : tie.Need-atom-at-requires
 atom-at-requires c κs = search needs
 
--- src/node.rt:49:21
 add-t6 : tie.Need-add-t6
 add-t6 c = search needs
 
--- src/node.rt:49:21
 add-t11 : tie.Need-add-t11
 add-t11 c = search needs
 
--- src/node.rt:49:16
 shared-slice-read-t13 : tie.Need-shared-slice-read-t13
 shared-slice-read-t13 c = search needs
 
--- src/node.rt:50:20
 add-t14 : tie.Need-add-t14
 add-t14 c = search needs
 
--- src/node.rt:50:20
 add-t15 : tie.Need-add-t15
 add-t15 c = search needs
 
--- src/node.rt:50:15
 shared-slice-read-t17 : tie.Need-shared-slice-read-t17
 shared-slice-read-t17 c = search needs
 
--- src/node.rt:51:36
 add-u16-at : tie.Need-add-u16-at
 add-u16-at c = search needs
 
--- src/node.rt:51:36
 add-u16-at-2 : tie.Need-add-u16-at-2
 add-u16-at-2 c = search needs
 
--- src/node.rt:51:23
 u16-at-requires : tie.Need-u16-at-requires
 u16-at-requires c κs = search needs
 
--- src/node.rt:39:1
 returns-2 : tie.Need-returns-2
 returns-2 c = search noding
 

@@ -6,31 +6,24 @@ use Rattle.parse_tree.proofs.node.repeat_at.Reads as reads
 use Rattle.parse_tree.proofs.node.repeat_at.Lts as lts
 use Rattle.parse_tree.proofs.node.span_at.Reads as span-at-reads
 
--- src/node.rt:186:8
 sub-if1 : tie.Need-sub-if1
 sub-if1 c = search needs
 
--- src/node.rt:187:9
 returns : tie.Need-returns
 returns c = search noding
 
--- src/node.rt:189:32
 add-span-at : tie.Need-add-span-at
 add-span-at c = search needs
 
--- src/node.rt:189:18
 span-at-requires : tie.Need-span-at-requires
 span-at-requires c κs = search needs
 
--- src/node.rt:189:80
 add-t4 : tie.Need-add-t4
 add-t4 c = search needs
 
--- src/node.rt:189:75
 shared-slice-read-t8 : tie.Need-shared-slice-read-t8
 shared-slice-read-t8 c = search needs
 
--- src/node.rt:182:1
 returns-2 : tie.Need-returns-2
 returns-2 c = search noding
 

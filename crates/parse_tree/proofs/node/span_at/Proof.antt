@@ -6,19 +6,15 @@ use Rattle.parse_tree.proofs.node.span_at.Reads as reads
 use Rattle.parse_tree.proofs.node.span_at.Lts as lts
 use Rattle.octets.proofs.numbers.u32_at.Reads as u32-at-reads
 
--- src/node.rt:20:10
 u32-at-requires : tie.Need-u32-at-requires
 u32-at-requires c κs = search needs
 
--- src/node.rt:20:41
 add-u32-at : tie.Need-add-u32-at
 add-u32-at c = search needs
 
--- src/node.rt:20:28
 u32-at-requires-2 : tie.Need-u32-at-requires-2
 u32-at-requires-2 c κs = search needs
 
--- src/node.rt:16:1
 returns : tie.Need-returns
 returns c = search noding
 

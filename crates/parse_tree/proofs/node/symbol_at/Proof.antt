@@ -1,5 +1,5 @@
-use Rattle.parse_tree.specs.Nodes.{symbolAt}
-use Rattle.octets.specs.Choice.{pick}
+use Rattle.parse_tree.specs.working.Nodes.{symbolNodeAt}
+use Rattle.octets.specs.working.Choice.{pick}
 use Rattle.octets.proofs.Choices.{tests}
 use borrow.Author.Needs.{needs}
 use Rattle.parse_tree.proofs.node.symbol_at.Statement.{statement}
@@ -14,67 +14,53 @@ use Rattle.parse_tree.proofs.node.name_at.Reads as name-at-reads
 use Rattle.parse_tree.proofs.node.named_at.Reads as named-at-reads
 use Rattle.parse_tree.proofs.node.repeat_at.Reads as repeat-at-reads
 
--- src/node.rt:242:9
 named-at-requires : tie.Need-named-at-requires
 named-at-requires c κs = search needs
 
--- src/node.rt:242:9
 returns : tie.Need-returns
-unfolding symbolAt pick
+unfolding symbolNodeAt pick
 returns c = search tests
 
--- src/node.rt:245:9
 macro-at-requires : tie.Need-macro-at-requires
 macro-at-requires c κs = search needs
 
--- src/node.rt:245:9
 returns-2 : tie.Need-returns-2
-unfolding symbolAt pick
+unfolding symbolNodeAt pick
 returns-2 c = search tests
 
--- src/node.rt:248:9
 repeat-at-requires : tie.Need-repeat-at-requires
 repeat-at-requires c κs = search needs
 
--- src/node.rt:248:9
 returns-3 : tie.Need-returns-3
-unfolding symbolAt pick
+unfolding symbolNodeAt pick
 returns-3 c = search tests
 
--- src/node.rt:251:9
 choose-at-requires : tie.Need-choose-at-requires
 choose-at-requires c κs = search needs
 
--- src/node.rt:251:9
 returns-4 : tie.Need-returns-4
-unfolding symbolAt pick
+unfolding symbolNodeAt pick
 returns-4 c = search tests
 
--- src/node.rt:254:9
 name-at-requires : tie.Need-name-at-requires
 name-at-requires c κs = search needs
 
--- src/node.rt:254:9
 returns-5 : tie.Need-returns-5
-unfolding symbolAt pick
+unfolding symbolNodeAt pick
 returns-5 c = search tests
 
--- src/node.rt:257:9
 group-at-requires : tie.Need-group-at-requires
 group-at-requires c κs = search needs
 
--- src/node.rt:257:9
 returns-6 : tie.Need-returns-6
-unfolding symbolAt pick
+unfolding symbolNodeAt pick
 returns-6 c = search tests
 
--- src/node.rt:259:5
 bare-at-requires : tie.Need-bare-at-requires
 bare-at-requires c κs = search needs
 
--- src/node.rt:237:1
 returns-7 : tie.Need-returns-7
-unfolding symbolAt pick
+unfolding symbolNodeAt pick
 returns-7 c = search tests
 
 pub symbol-at-spec : {M : Type 1} → statement M

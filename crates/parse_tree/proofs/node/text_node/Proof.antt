@@ -1,4 +1,4 @@
-use Rattle.parse_tree.specs.Nodes.{textNode}
+use Rattle.parse_tree.specs.working.Nodes.{textNode}
 use Rattle.parse_tree.proofs.Noding.{noding}
 use borrow.Author.Needs.{needs}
 use Rattle.parse_tree.proofs.node.text_node.Statement.{statement}
@@ -8,36 +8,28 @@ use Rattle.parse_tree.proofs.node.text_node.Lts as lts
 use Rattle.octets.proofs.numbers.u16_at.Reads as u16-at-reads
 use Rattle.octets.proofs.wide.from16.Reads as from16-reads
 
--- src/node.rt:28:16
 sub-room : tie.Need-sub-room
 sub-room c = search needs
 
--- src/node.rt:30:9
 returns : tie.Need-returns
 unfolding textNode
 returns c = search noding
 
--- src/node.rt:32:26
 add-u16-at : tie.Need-add-u16-at
 add-u16-at c = search needs
 
--- src/node.rt:32:9
 u16-at-requires : tie.Need-u16-at-requires
 u16-at-requires c κs = search needs
 
--- src/node.rt:33:19
 from16-requires : tie.Need-from16-requires
 from16-requires c κs = search needs
 
--- src/node.rt:33:15
 add-if2 : tie.Need-add-if2
 add-if2 c = search needs
 
--- src/node.rt:34:9
 returns-2 : tie.Need-returns-2
 returns-2 c = search noding
 
--- src/node.rt:24:1
 returns-3 : tie.Need-returns-3
 returns-3 c = search noding
 

@@ -1,23 +1,19 @@
-use Rattle.parse_tree.specs.Places.{table, allowedAt}
+use Rattle.parse_tree.specs.working.Places.{table, allowedAt}
 use borrow.Author.Needs.{needs}
 use Rattle.parse_tree.proofs.places.allowed.Statement.{statement}
 use Rattle.parse_tree.proofs.places.allowed.Tie as tie
 use Rattle.parse_tree.proofs.places.allowed.Reads as reads
 use Rattle.parse_tree.proofs.places.allowed.Lts as lts
 
--- src/places.rt:56:5
 mul-result : tie.Need-mul-result
 mul-result c = search needs
 
--- src/places.rt:56:5
 index-1-result : tie.Need-index-1-result
 index-1-result c = search needs
 
--- src/places.rt:56:5
 index-2-result : tie.Need-index-2-result
 index-2-result c = search needs
 
--- src/places.rt:52:1
 returns : tie.Need-returns
 unfolding allowedAt table
 returns c = search needs

@@ -1,87 +1,69 @@
-use Rattle.parse_tree.specs.Places.{classOf}
+use Rattle.parse_tree.specs.working.Places.{classOf}
 use borrow.Author.Needs.{needs}
 use Rattle.parse_tree.proofs.places.class.Statement.{statement}
 use Rattle.parse_tree.proofs.places.class.Tie as tie
 use Rattle.parse_tree.proofs.places.class.Reads as reads
 use Rattle.parse_tree.proofs.places.class.Lts as lts
 
--- src/places.rt:21:26
 enum-told : tie.Need-enum-told
 enum-told c = search needs
 
--- src/places.rt:22:33
 enum-told-2 : tie.Need-enum-told-2
 enum-told-2 c = search needs
 
--- src/places.rt:23:30
 enum-told-3 : tie.Need-enum-told-3
 enum-told-3 c = search needs
 
--- src/places.rt:24:30
 enum-told-4 : tie.Need-enum-told-4
 enum-told-4 c = search needs
 
--- src/places.rt:25:33
 enum-told-5 : tie.Need-enum-told-5
 enum-told-5 c = search needs
 
--- src/places.rt:26:31
 enum-told-6 : tie.Need-enum-told-6
 enum-told-6 c = search needs
 
--- src/places.rt:27:31
 enum-told-7 : tie.Need-enum-told-7
 enum-told-7 c = search needs
 
--- src/places.rt:28:31
 enum-told-8 : tie.Need-enum-told-8
 enum-told-8 c = search needs
 
--- src/places.rt:29:26
 enum-told-9 : tie.Need-enum-told-9
 enum-told-9 c = search needs
 
--- src/places.rt:17:1
 returns : tie.Need-returns
 unfolding classOf
 returns c = search needs
 
--- src/places.rt:17:1
 returns-2 : tie.Need-returns-2
 unfolding classOf
 returns-2 c = search needs
 
--- src/places.rt:17:1
 returns-3 : tie.Need-returns-3
 unfolding classOf
 returns-3 c = search needs
 
--- src/places.rt:17:1
 returns-4 : tie.Need-returns-4
 unfolding classOf
 returns-4 c = search needs
 
--- src/places.rt:17:1
 returns-5 : tie.Need-returns-5
 unfolding classOf
 returns-5 c = search needs
 
--- src/places.rt:17:1
 returns-6 : tie.Need-returns-6
 unfolding classOf
 returns-6 c = search needs
 
--- src/places.rt:17:1
 returns-7 : tie.Need-returns-7
 unfolding classOf
 returns-7 c = search needs
 
--- src/places.rt:17:1
 returns-8 : tie.Need-returns-8
 unfolding classOf
 returns-8 c = search needs
 
--- src/places.rt:17:1
 returns-9 : tie.Need-returns-9
 unfolding classOf
 returns-9 c = search needs

@@ -9,27 +9,21 @@ use Rattle.octets.proofs.sink.put_atom.Reads as put-atom-reads
 use Rattle.parse_tree.proofs.put.put_code.Reads as put-code-reads
 use Rattle.parse_tree.proofs.put.put_three.Reads as put-three-reads
 
--- src/put.rt:78:9
 put-code-requires : tie.Need-put-code-requires
 put-code-requires c κs = search needs
 
--- src/put.rt:79:9
 put-three-requires : tie.Need-put-three-requires
 put-three-requires c κs = search needs
 
--- src/put.rt:80:9
 put-atom-requires : tie.Need-put-atom-requires
 put-atom-requires c κs = search needs
 
--- src/put.rt:81:5
 put16-requires : tie.Need-put16-requires
 put16-requires c κs = search needs
 
--- src/put.rt:74:1
 same-length : tie.Need-same-length
 same-length c = search needs
 
--- src/put.rt:74:1
 returns : tie.Need-returns
 returns c = search putting
 

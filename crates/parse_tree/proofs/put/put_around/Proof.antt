@@ -8,63 +8,48 @@ use Rattle.octets.proofs.sink.put8.Reads as put8-reads
 use Rattle.octets.proofs.sink.put_atom.Reads as put-atom-reads
 use Rattle.parse_tree.proofs.put.put_code.Reads as put-code-reads
 
--- src/put.rt:118:24
 enum-known-a : tie.Need-enum-known-a
 enum-known-a c = search needs
 
--- src/put.rt:119:17
 put-code-requires : tie.Need-put-code-requires
 put-code-requires c κs = search needs
 
--- src/put.rt:120:13
 put8-requires : tie.Need-put8-requires
 put8-requires c κs = search needs
 
--- src/put.rt:122:36
 enum-told : tie.Need-enum-told
 enum-told c = search needs
 
--- src/put.rt:122:27
 put-code-requires-2 : tie.Need-put-code-requires-2
 put-code-requires-2 c κs = search needs
 
--- src/put.rt:123:22
 enum-known-a-2 : tie.Need-enum-known-a-2
 enum-known-a-2 c = search needs
 
--- src/put.rt:124:17
 put-code-requires-3 : tie.Need-put-code-requires-3
 put-code-requires-3 c κs = search needs
 
--- src/put.rt:125:17
 put8-requires-2 : tie.Need-put8-requires-2
 put8-requires-2 c κs = search needs
 
--- src/put.rt:126:13
 put-atom-requires : tie.Need-put-atom-requires
 put-atom-requires c κs = search needs
 
--- src/put.rt:113:1
 same-length : tie.Need-same-length
 same-length c = search needs
 
--- src/put.rt:113:1
 returns : tie.Need-returns
 returns c = search putting
 
--- src/put.rt:113:1
 same-length-2 : tie.Need-same-length-2
 same-length-2 c = search needs
 
--- src/put.rt:113:1
 returns-2 : tie.Need-returns-2
 returns-2 c = search putting
 
--- src/put.rt:113:1
 same-length-3 : tie.Need-same-length-3
 same-length-3 c = search needs
 
--- src/put.rt:113:1
 returns-3 : tie.Need-returns-3
 returns-3 c = search putting
 

@@ -7,19 +7,15 @@ use Rattle.parse_tree.proofs.put.put_code.Lts as lts
 use Rattle.octets.proofs.sink.put8.Reads as put8-reads
 use Rattle.parse_tree.proofs.put.put_span.Reads as put-span-reads
 
--- src/put.rt:24:9
 put8-requires : tie.Need-put8-requires
 put8-requires c κs = search needs
 
--- src/put.rt:25:5
 put-span-requires : tie.Need-put-span-requires
 put-span-requires c κs = search needs
 
--- src/put.rt:20:1
 same-length : tie.Need-same-length
 same-length c = search needs
 
--- src/put.rt:20:1
 returns : tie.Need-returns
 returns c = search putting
 

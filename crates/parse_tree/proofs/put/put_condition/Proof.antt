@@ -8,27 +8,21 @@ use Rattle.octets.proofs.sink.put8.Reads as put8-reads
 use Rattle.octets.proofs.sink.put_atom.Reads as put-atom-reads
 use Rattle.parse_tree.proofs.put.put_code.Reads as put-code-reads
 
--- src/put.rt:91:9
 put-code-requires : tie.Need-put-code-requires
 put-code-requires c κs = search needs
 
--- src/put.rt:92:9
 put-atom-requires : tie.Need-put-atom-requires
 put-atom-requires c κs = search needs
 
--- src/put.rt:93:9
 put8-requires : tie.Need-put8-requires
 put8-requires c κs = search needs
 
--- src/put.rt:94:5
 put-atom-requires-2 : tie.Need-put-atom-requires-2
 put-atom-requires-2 c κs = search needs
 
--- src/put.rt:87:1
 same-length : tie.Need-same-length
 same-length c = search needs
 
--- src/put.rt:87:1
 returns : tie.Need-returns
 returns c = search putting
 

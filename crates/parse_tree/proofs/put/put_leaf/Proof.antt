@@ -7,131 +7,99 @@ use Rattle.parse_tree.proofs.put.put_leaf.Lts as lts
 use Rattle.parse_tree.proofs.put.put_code.Reads as put-code-reads
 use Rattle.parse_tree.proofs.put.put_named.Reads as put-named-reads
 
--- src/put.rt:102:27
 enum-known-l : tie.Need-enum-known-l
 enum-known-l c = search needs
 
--- src/put.rt:102:33
 put-named-requires : tie.Need-put-named-requires
 put-named-requires c κs = search needs
 
--- src/put.rt:103:20
 enum-known-l-2 : tie.Need-enum-known-l-2
 enum-known-l-2 c = search needs
 
--- src/put.rt:103:26
 put-named-requires-2 : tie.Need-put-named-requires-2
 put-named-requires-2 c κs = search needs
 
--- src/put.rt:104:22
 enum-known-l-3 : tie.Need-enum-known-l-3
 enum-known-l-3 c = search needs
 
--- src/put.rt:104:28
 put-named-requires-3 : tie.Need-put-named-requires-3
 put-named-requires-3 c κs = search needs
 
--- src/put.rt:105:21
 enum-known-l-4 : tie.Need-enum-known-l-4
 enum-known-l-4 c = search needs
 
--- src/put.rt:105:27
 put-named-requires-4 : tie.Need-put-named-requires-4
 put-named-requires-4 c κs = search needs
 
--- src/put.rt:106:27
 enum-known-l-5 : tie.Need-enum-known-l-5
 enum-known-l-5 c = search needs
 
--- src/put.rt:106:33
 put-named-requires-5 : tie.Need-put-named-requires-5
 put-named-requires-5 c κs = search needs
 
--- src/put.rt:107:37
 enum-told : tie.Need-enum-told
 enum-told c = search needs
 
--- src/put.rt:107:28
 put-code-requires : tie.Need-put-code-requires
 put-code-requires c κs = search needs
 
--- src/put.rt:108:38
 enum-told-2 : tie.Need-enum-told-2
 enum-told-2 c = search needs
 
--- src/put.rt:108:29
 put-code-requires-2 : tie.Need-put-code-requires-2
 put-code-requires-2 c κs = search needs
 
--- src/put.rt:109:33
 enum-told-3 : tie.Need-enum-told-3
 enum-told-3 c = search needs
 
--- src/put.rt:109:24
 put-code-requires-3 : tie.Need-put-code-requires-3
 put-code-requires-3 c κs = search needs
 
--- src/put.rt:97:1
 same-length : tie.Need-same-length
 same-length c = search needs
 
--- src/put.rt:97:1
 returns : tie.Need-returns
 returns c = search putting
 
--- src/put.rt:97:1
 same-length-2 : tie.Need-same-length-2
 same-length-2 c = search needs
 
--- src/put.rt:97:1
 returns-2 : tie.Need-returns-2
 returns-2 c = search putting
 
--- src/put.rt:97:1
 same-length-3 : tie.Need-same-length-3
 same-length-3 c = search needs
 
--- src/put.rt:97:1
 returns-3 : tie.Need-returns-3
 returns-3 c = search putting
 
--- src/put.rt:97:1
 same-length-4 : tie.Need-same-length-4
 same-length-4 c = search needs
 
--- src/put.rt:97:1
 returns-4 : tie.Need-returns-4
 returns-4 c = search putting
 
--- src/put.rt:97:1
 same-length-5 : tie.Need-same-length-5
 same-length-5 c = search needs
 
--- src/put.rt:97:1
 returns-5 : tie.Need-returns-5
 returns-5 c = search putting
 
--- src/put.rt:97:1
 same-length-6 : tie.Need-same-length-6
 same-length-6 c = search needs
 
--- src/put.rt:97:1
 returns-6 : tie.Need-returns-6
 returns-6 c = search putting
 
--- src/put.rt:97:1
 same-length-7 : tie.Need-same-length-7
 same-length-7 c = search needs
 
--- src/put.rt:97:1
 returns-7 : tie.Need-returns-7
 returns-7 c = search putting
 
--- src/put.rt:97:1
 same-length-8 : tie.Need-same-length-8
 same-length-8 c = search needs
 
--- src/put.rt:97:1
 returns-8 : tie.Need-returns-8
 returns-8 c = search putting
 

@@ -7,19 +7,15 @@ use Rattle.parse_tree.proofs.put.put_named.Lts as lts
 use Rattle.octets.proofs.sink.put_atom.Reads as put-atom-reads
 use Rattle.parse_tree.proofs.put.put_code.Reads as put-code-reads
 
--- src/put.rt:44:9
 put-code-requires : tie.Need-put-code-requires
 put-code-requires c κs = search needs
 
--- src/put.rt:45:5
 put-atom-requires : tie.Need-put-atom-requires
 put-atom-requires c κs = search needs
 
--- src/put.rt:40:1
 same-length : tie.Need-same-length
 same-length c = search needs
 
--- src/put.rt:40:1
 returns : tie.Need-returns
 returns c = search putting
 

@@ -13,139 +13,105 @@ use Rattle.parse_tree.proofs.put.put_nonterminal.Reads as put-nontermin
 use Rattle.parse_tree.proofs.put.put_symbol.Reads as put-symbol-reads
 use Rattle.parse_tree.proofs.put.put_text.Reads as put-text-reads
 
--- src/put.rt:172:20
 enum-known-n : tie.Need-enum-known-n
 enum-known-n c = search needs
 
--- src/put.rt:172:26
 put-text-requires : tie.Need-put-text-requires
 put-text-requires c κs = search needs
 
--- src/put.rt:173:27
 enum-known-n-2 : tie.Need-enum-known-n-2
 enum-known-n-2 c = search needs
 
--- src/put.rt:173:33
 put-nonterminal-requires : tie.Need-put-nonterminal-requires
 put-nonterminal-requires c κs = search needs
 
--- src/put.rt:174:24
 enum-known-n-3 : tie.Need-enum-known-n-3
 enum-known-n-3 c = search needs
 
--- src/put.rt:174:30
 put-named-requires : tie.Need-put-named-requires
 put-named-requires c κs = search needs
 
--- src/put.rt:175:24
 enum-known-n-4 : tie.Need-enum-known-n-4
 enum-known-n-4 c = search needs
 
--- src/put.rt:175:30
 put-coded-requires : tie.Need-put-coded-requires
 put-coded-requires c κs = search needs
 
--- src/put.rt:176:27
 enum-known-n-5 : tie.Need-enum-known-n-5
 enum-known-n-5 c = search needs
 
--- src/put.rt:176:33
 put-alternative-requires : tie.Need-put-alternative-requires
 put-alternative-requires c κs = search needs
 
--- src/put.rt:177:25
 enum-known-n-6 : tie.Need-enum-known-n-6
 enum-known-n-6 c = search needs
 
--- src/put.rt:177:31
 put-attribute-requires : tie.Need-put-attribute-requires
 put-attribute-requires c κs = search needs
 
--- src/put.rt:178:25
 enum-known-n-7 : tie.Need-enum-known-n-7
 enum-known-n-7 c = search needs
 
--- src/put.rt:178:31
 put-condition-requires : tie.Need-put-condition-requires
 put-condition-requires c κs = search needs
 
--- src/put.rt:179:22
 enum-known-n-8 : tie.Need-enum-known-n-8
 enum-known-n-8 c = search needs
 
--- src/put.rt:179:31
 put-symbol-requires : tie.Need-put-symbol-requires
 put-symbol-requires c κs = search needs
 
--- src/put.rt:180:26
 enum-told : tie.Need-enum-told
 enum-told c = search needs
 
--- src/put.rt:167:1
 same-length : tie.Need-same-length
 same-length c = search needs
 
--- src/put.rt:167:1
 returns : tie.Need-returns
 returns c = search putting
 
--- src/put.rt:167:1
 same-length-2 : tie.Need-same-length-2
 same-length-2 c = search needs
 
--- src/put.rt:167:1
 returns-2 : tie.Need-returns-2
 returns-2 c = search putting
 
--- src/put.rt:167:1
 same-length-3 : tie.Need-same-length-3
 same-length-3 c = search needs
 
--- src/put.rt:167:1
 returns-3 : tie.Need-returns-3
 returns-3 c = search putting
 
--- src/put.rt:167:1
 same-length-4 : tie.Need-same-length-4
 same-length-4 c = search needs
 
--- src/put.rt:167:1
 returns-4 : tie.Need-returns-4
 returns-4 c = search putting
 
--- src/put.rt:167:1
 same-length-5 : tie.Need-same-length-5
 same-length-5 c = search needs
 
--- src/put.rt:167:1
 returns-5 : tie.Need-returns-5
 returns-5 c = search putting
 
--- src/put.rt:167:1
 same-length-6 : tie.Need-same-length-6
 same-length-6 c = search needs
 
--- src/put.rt:167:1
 returns-6 : tie.Need-returns-6
 returns-6 c = search putting
 
--- src/put.rt:167:1
 same-length-7 : tie.Need-same-length-7
 same-length-7 c = search needs
 
--- src/put.rt:167:1
 returns-7 : tie.Need-returns-7
 returns-7 c = search putting
 
--- src/put.rt:167:1
 same-length-8 : tie.Need-same-length-8
 same-length-8 c = search needs
 
--- src/put.rt:167:1
 returns-8 : tie.Need-returns-8
 returns-8 c = search putting
 
--- src/put.rt:167:1
 returns-9 : tie.Need-returns-9
 returns-9 c = search putting
 

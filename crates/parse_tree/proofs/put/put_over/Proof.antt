@@ -9,47 +9,36 @@ use Rattle.octets.proofs.sink.put8.Reads as put8-reads
 use Rattle.octets.proofs.sink.put_atom.Reads as put-atom-reads
 use Rattle.parse_tree.proofs.put.put_code.Reads as put-code-reads
 
--- src/put.rt:136:21
 enum-known-o : tie.Need-enum-known-o
 enum-known-o c = search needs
 
--- src/put.rt:137:17
 put-code-requires : tie.Need-put-code-requires
 put-code-requires c κs = search needs
 
--- src/put.rt:138:17
 put-atom-requires : tie.Need-put-atom-requires
 put-atom-requires c κs = search needs
 
--- src/put.rt:139:13
 put8-requires : tie.Need-put8-requires
 put8-requires c κs = search needs
 
--- src/put.rt:141:21
 enum-known-o-2 : tie.Need-enum-known-o-2
 enum-known-o-2 c = search needs
 
--- src/put.rt:142:17
 put-code-requires-2 : tie.Need-put-code-requires-2
 put-code-requires-2 c κs = search needs
 
--- src/put.rt:143:13
 put16-requires : tie.Need-put16-requires
 put16-requires c κs = search needs
 
--- src/put.rt:131:1
 same-length : tie.Need-same-length
 same-length c = search needs
 
--- src/put.rt:131:1
 returns : tie.Need-returns
 returns c = search putting
 
--- src/put.rt:131:1
 same-length-2 : tie.Need-same-length-2
 same-length-2 c = search needs
 
--- src/put.rt:131:1
 returns-2 : tie.Need-returns-2
 returns-2 c = search putting
 

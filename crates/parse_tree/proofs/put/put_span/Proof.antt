@@ -6,19 +6,15 @@ use Rattle.parse_tree.proofs.put.put_span.Reads as reads
 use Rattle.parse_tree.proofs.put.put_span.Lts as lts
 use Rattle.octets.proofs.sink.put32.Reads as put32-reads
 
--- src/put.rt:15:9
 put32-requires : tie.Need-put32-requires
 put32-requires c κs = search needs
 
--- src/put.rt:16:5
 put32-requires-2 : tie.Need-put32-requires-2
 put32-requires-2 c κs = search needs
 
--- src/put.rt:11:1
 same-length : tie.Need-same-length
 same-length c = search needs
 
--- src/put.rt:11:1
 returns : tie.Need-returns
 returns c = search putting
 

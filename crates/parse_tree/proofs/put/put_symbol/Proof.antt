@@ -8,51 +8,39 @@ use Rattle.parse_tree.proofs.put.put_around.Reads as put-around-reads
 use Rattle.parse_tree.proofs.put.put_leaf.Reads as put-leaf-reads
 use Rattle.parse_tree.proofs.put.put_over.Reads as put-over-reads
 
--- src/put.rt:153:26
 enum-known-k : tie.Need-enum-known-k
 enum-known-k c = search needs
 
--- src/put.rt:153:32
 put-leaf-requires : tie.Need-put-leaf-requires
 put-leaf-requires c κs = search needs
 
--- src/put.rt:154:28
 enum-known-k-2 : tie.Need-enum-known-k-2
 enum-known-k-2 c = search needs
 
--- src/put.rt:154:34
 put-around-requires : tie.Need-put-around-requires
 put-around-requires c κs = search needs
 
--- src/put.rt:155:26
 enum-known-k-3 : tie.Need-enum-known-k-3
 enum-known-k-3 c = search needs
 
--- src/put.rt:155:32
 put-over-requires : tie.Need-put-over-requires
 put-over-requires c κs = search needs
 
--- src/put.rt:148:1
 same-length : tie.Need-same-length
 same-length c = search needs
 
--- src/put.rt:148:1
 returns : tie.Need-returns
 returns c = search putting
 
--- src/put.rt:148:1
 same-length-2 : tie.Need-same-length-2
 same-length-2 c = search needs
 
--- src/put.rt:148:1
 returns-2 : tie.Need-returns-2
 returns-2 c = search putting
 
--- src/put.rt:148:1
 same-length-3 : tie.Need-same-length-3
 same-length-3 c = search needs
 
--- src/put.rt:148:1
 returns-3 : tie.Need-returns-3
 returns-3 c = search putting
 

@@ -7,19 +7,15 @@ use Rattle.parse_tree.proofs.put.put_text.Lts as lts
 use Rattle.octets.proofs.sink.put16.Reads as put16-reads
 use Rattle.octets.proofs.sink.put8.Reads as put8-reads
 
--- src/put.rt:52:9
 put8-requires : tie.Need-put8-requires
 put8-requires c κs = search needs
 
--- src/put.rt:53:5
 put16-requires : tie.Need-put16-requires
 put16-requires c κs = search needs
 
--- src/put.rt:48:1
 same-length : tie.Need-same-length
 same-length c = search needs
 
--- src/put.rt:48:1
 returns : tie.Need-returns
 returns c = search putting
 

@@ -6,23 +6,18 @@ use Rattle.parse_tree.proofs.put.put_three.Reads as reads
 use Rattle.parse_tree.proofs.put.put_three.Lts as lts
 use Rattle.octets.proofs.sink.put8.Reads as put8-reads
 
--- src/put.rt:42:9
 put8-requires : tie.Need-put8-requires
 put8-requires c κs = search needs
 
--- src/put.rt:43:9
 put8-requires-2 : tie.Need-put8-requires-2
 put8-requires-2 c κs = search needs
 
--- src/put.rt:44:5
 put8-requires-3 : tie.Need-put8-requires-3
 put8-requires-3 c κs = search needs
 
--- src/put.rt:38:1
 same-length : tie.Need-same-length
 same-length c = search needs
 
--- src/put.rt:38:1
 returns : tie.Need-returns
 returns c = search putting
 

@@ -5,67 +5,51 @@ use Rattle.parse_tree.proofs.size.leaf_size.Tie as tie
 use Rattle.parse_tree.proofs.size.leaf_size.Reads as reads
 use Rattle.parse_tree.proofs.size.leaf_size.Lts as lts
 
--- src/size.rt:14:33
 enum-told : tie.Need-enum-told
 enum-told c = search needs
 
--- src/size.rt:15:26
 enum-told-2 : tie.Need-enum-told-2
 enum-told-2 c = search needs
 
--- src/size.rt:16:28
 enum-told-3 : tie.Need-enum-told-3
 enum-told-3 c = search needs
 
--- src/size.rt:17:27
 enum-told-4 : tie.Need-enum-told-4
 enum-told-4 c = search needs
 
--- src/size.rt:18:33
 enum-told-5 : tie.Need-enum-told-5
 enum-told-5 c = search needs
 
--- src/size.rt:19:28
 enum-told-6 : tie.Need-enum-told-6
 enum-told-6 c = search needs
 
--- src/size.rt:20:29
 enum-told-7 : tie.Need-enum-told-7
 enum-told-7 c = search needs
 
--- src/size.rt:21:24
 enum-told-8 : tie.Need-enum-told-8
 enum-told-8 c = search needs
 
--- src/size.rt:9:1
 returns : tie.Need-returns
 returns c = search sizing
 
--- src/size.rt:9:1
 returns-2 : tie.Need-returns-2
 returns-2 c = search sizing
 
--- src/size.rt:9:1
 returns-3 : tie.Need-returns-3
 returns-3 c = search sizing
 
--- src/size.rt:9:1
 returns-4 : tie.Need-returns-4
 returns-4 c = search sizing
 
--- src/size.rt:9:1
 returns-5 : tie.Need-returns-5
 returns-5 c = search sizing
 
--- src/size.rt:9:1
 returns-6 : tie.Need-returns-6
 returns-6 c = search sizing
 
--- src/size.rt:9:1
 returns-7 : tie.Need-returns-7
 returns-7 c = search sizing
 
--- src/size.rt:9:1
 returns-8 : tie.Need-returns-8
 returns-8 c = search sizing
 

@@ -1,5 +1,5 @@
 use Rattle.resolve.specs.Scopes.{foundBy}
-use Rattle.octets.specs.Choice.{pick}
+use Rattle.octets.specs.working.Choice.{pick}
 use Rattle.octets.proofs.Choices.{tests}
 use borrow.Author.Needs.{needs}
 use Rattle.resolve.proofs.scopes.by_code.Statement.{statement}

@@ -8,79 +8,60 @@ use Rattle.octets.proofs.runs.equal.Reads as equal-reads
 use Rattle.texts.proofs.class.least_class.Reads as least-class-reads
 use Rattle.texts.proofs.class.starts_name.Reads as starts-name-reads
 
--- src/class.rt:86:9
 least-class-requires : tie.Need-least-class-requires
 least-class-requires c κs = search needs
 
--- src/class.rt:88:9
 returns : tie.Need-returns
 returns c = search judging
 
--- src/class.rt:91:9
 returns-2 : tie.Need-returns-2
 returns-2 c = search judging
 
--- src/class.rt:93:21
 shared-slice-read-starts-name : tie.Need-shared-slice-read-starts-name
 shared-slice-read-starts-name c = search needs
 
--- src/class.rt:93:9
 starts-name-requires : tie.Need-starts-name-requires
 starts-name-requires c κs = search needs
 
--- src/class.rt:94:9
 returns-3 : tie.Need-returns-3
 returns-3 c = search judging
 
--- src/class.rt:96:14
 sub-equal : tie.Need-sub-equal
 sub-equal c = search needs
 
--- src/class.rt:96:14
 part-equal-start : tie.Need-part-equal-start
 part-equal-start c = search needs
 
--- src/class.rt:96:14
 part-equal-end : tie.Need-part-equal-end
 part-equal-end c = search needs
 
--- src/class.rt:96:27
 slice-aggregate-equal : tie.Need-slice-aggregate-equal
 slice-aggregate-equal c = search needs
 
--- src/class.rt:96:8
 equal-requires : tie.Need-equal-requires
 equal-requires c κs = search needs
 
--- src/class.rt:97:9
 returns-4 : tie.Need-returns-4
 returns-4 c = search judging
 
--- src/class.rt:99:14
 sub-equal-2 : tie.Need-sub-equal-2
 sub-equal-2 c = search needs
 
--- src/class.rt:99:14
 part-equal-start-2 : tie.Need-part-equal-start-2
 part-equal-start-2 c = search needs
 
--- src/class.rt:99:14
 part-equal-end-2 : tie.Need-part-equal-end-2
 part-equal-end-2 c = search needs
 
--- src/class.rt:99:27
 slice-aggregate-equal-2 : tie.Need-slice-aggregate-equal-2
 slice-aggregate-equal-2 c = search needs
 
--- src/class.rt:99:8
 equal-requires-2 : tie.Need-equal-requires-2
 equal-requires-2 c κs = search needs
 
--- src/class.rt:100:9
 returns-5 : tie.Need-returns-5
 returns-5 c = search judging
 
--- src/class.rt:82:1
 returns-6 : tie.Need-returns-6
 returns-6 c = search judging
 

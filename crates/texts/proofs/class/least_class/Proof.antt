@@ -1,5 +1,5 @@
 use Prim.Native.Nat.{_-_}
-use Rattle.octets.specs.Runs.{part}
+use Rattle.octets.specs.plain.Runs.{part}
 use Rattle.texts.specs.Classes.{least}
 use Rattle.texts.proofs.Classing.{Least, leasting}
 use Rattle.texts.proofs.class.least_class.Statement.{statement}
@@ -15,35 +15,27 @@ Inv-loop tape a e m₀ i₀ m i = Least tape (least 3 (part a e tape)) e m i
 abbrev μ-loop : tie.MeasureT-loop
 μ-loop tape a e m₀ i₀ m i = e - i
 
--- src/class.rt:65:5
 loop-holds : tie.Need-loop-holds Inv-loop μ-loop
 loop-holds c = search leasting
 
--- src/class.rt:66:37
 shared-slice-read-byte-class : tie.Need-shared-slice-read-byte-class Inv-loop μ-loop
 shared-slice-read-byte-class c = search leasting
 
--- src/class.rt:66:26
 byte-class-requires : tie.Need-byte-class-requires Inv-loop μ-loop
 byte-class-requires c κs = search leasting
 
--- src/class.rt:66:9
 lesser-of-requires : tie.Need-lesser-of-requires Inv-loop μ-loop
 lesser-of-requires c κs = search leasting
 
--- src/class.rt:67:9
 add-i : tie.Need-add-i Inv-loop μ-loop
 add-i c = search leasting
 
--- src/class.rt:65:5
 loop-less : tie.Need-loop-less Inv-loop μ-loop
 loop-less c = search leasting
 
--- src/class.rt:65:5
 loop-again : tie.Need-loop-again Inv-loop μ-loop
 loop-again c = search leasting
 
--- src/class.rt:59:1
 returns : tie.Need-returns Inv-loop μ-loop
 returns c = search leasting
 

@@ -4,11 +4,9 @@ use Rattle.texts.proofs.class.lesser_of.Tie as tie
 use Rattle.texts.proofs.class.lesser_of.Reads as reads
 use Rattle.texts.proofs.class.lesser_of.Lts as lts
 
--- src/class.rt:53:9
 returns : tie.Need-returns
 returns c = search byting
 
--- src/class.rt:49:1
 returns-2 : tie.Need-returns-2
 returns-2 c = search byting
 

@@ -4,23 +4,18 @@ use Rattle.texts.proofs.class.starts_name.Tie as tie
 use Rattle.texts.proofs.class.starts_name.Reads as reads
 use Rattle.texts.proofs.class.starts_name.Lts as lts
 
--- src/class.rt:14:9
 returns : tie.Need-returns
 returns c = search naming
 
--- src/class.rt:17:9
 returns-2 : tie.Need-returns-2
 returns-2 c = search naming
 
--- src/class.rt:20:9
 returns-3 : tie.Need-returns-3
 returns-3 c = search naming
 
--- src/class.rt:23:9
 returns-4 : tie.Need-returns-4
 returns-4 c = search naming
 
--- src/class.rt:10:1
 returns-5 : tie.Need-returns-5
 returns-5 c = search naming
 

@@ -6,15 +6,12 @@ use Rattle.texts.proofs.entries.get.Reads as reads
 use Rattle.texts.proofs.entries.get.Lts as lts
 use Rattle.octets.proofs.numbers.u64_at.Reads as u64-at-reads
 
--- src/entries.rt:15:18
 mul-u64-at : tie.Need-mul-u64-at
 mul-u64-at c = search needs
 
--- src/entries.rt:15:5
 u64-at-requires : tie.Need-u64-at-requires
 u64-at-requires c κs = search needs
 
--- src/entries.rt:11:1
 returns : tie.Need-returns
 returns c = search tabling
 

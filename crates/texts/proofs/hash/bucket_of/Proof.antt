@@ -6,15 +6,12 @@ use Rattle.texts.proofs.hash.bucket_of.Reads as reads
 use Rattle.texts.proofs.hash.bucket_of.Lts as lts
 use Rattle.texts.proofs.hash.hash.Reads as hash-reads
 
--- src/hash.rt:33:5
 hash-requires : tie.Need-hash-requires
 hash-requires c κs = search needs
 
--- src/hash.rt:33:5
 rem-result : tie.Need-rem-result
 rem-result c = search needs
 
--- src/hash.rt:29:1
 returns : tie.Need-returns
 returns c = search hashing
 

@@ -6,15 +6,12 @@ use Rattle.texts.proofs.table.class.Reads as reads
 use Rattle.texts.proofs.table.class.Lts as lts
 use Rattle.texts.proofs.entries.get.Reads as get-reads
 
--- src/table.rt:49:9
 returns : tie.Need-returns
 returns c = search tabling
 
--- src/table.rt:51:5
 get-requires : tie.Need-get-requires
 get-requires c κs = search needs
 
--- src/table.rt:44:1
 returns-2 : tie.Need-returns-2
 returns-2 c = search tabling
 

@@ -1,4 +1,4 @@
-use Rattle.octets.specs.Runs.{part}
+use Rattle.octets.specs.plain.Runs.{part}
 use Rattle.texts.proofs.Chasing.{Chasing, chasing}
 use Rattle.texts.proofs.table.known.Statement.{statement}
 use Rattle.texts.proofs.table.known.Tie as tie
@@ -15,71 +15,54 @@ Inv-loop tape work c k a e b j₀ j = Chasing tape c k (part a e tape) j
 abbrev μ-loop : tie.MeasureT-loop
 μ-loop tape work c k a e b j₀ j = j
 
--- src/table.rt:65:9
 bucket-of-requires : tie.Need-bucket-of-requires Inv-loop μ-loop
 bucket-of-requires c κs = search chasing
 
--- src/table.rt:66:27
 add-get : tie.Need-add-get Inv-loop μ-loop
 add-get c = search chasing
 
--- src/table.rt:66:27
 add-get-2 : tie.Need-add-get-2 Inv-loop μ-loop
 add-get-2 c = search chasing
 
--- src/table.rt:66:9
 get-requires : tie.Need-get-requires Inv-loop μ-loop
 get-requires c κs = search chasing
 
--- src/table.rt:67:5
 loop-holds : tie.Need-loop-holds Inv-loop μ-loop
 loop-holds c = search chasing
 
--- src/table.rt:68:17
 sub-i : tie.Need-sub-i Inv-loop μ-loop
 sub-i c = search chasing
 
--- src/table.rt:69:18
 text-requires : tie.Need-text-requires Inv-loop μ-loop
 text-requires c κs = search chasing
 
--- src/table.rt:69:45
 sub-equal : tie.Need-sub-equal Inv-loop μ-loop
 sub-equal c = search chasing
 
--- src/table.rt:69:45
 part-equal-start : tie.Need-part-equal-start Inv-loop μ-loop
 part-equal-start c = search chasing
 
--- src/table.rt:69:45
 part-equal-end : tie.Need-part-equal-end Inv-loop μ-loop
 part-equal-end c = search chasing
 
--- src/table.rt:69:12
 equal-requires : tie.Need-equal-requires Inv-loop μ-loop
 equal-requires c κs = search chasing
 
--- src/table.rt:70:13
 returns : tie.Need-returns Inv-loop μ-loop
 returns c = search chasing
 
--- src/table.rt:72:23
 add-get-3 : tie.Need-add-get-3 Inv-loop μ-loop
 add-get-3 c = search chasing
 
--- src/table.rt:72:9
 get-requires-2 : tie.Need-get-requires-2 Inv-loop μ-loop
 get-requires-2 c κs = search chasing
 
--- src/table.rt:67:5
 loop-less : tie.Need-loop-less Inv-loop μ-loop
 loop-less c = search chasing
 
--- src/table.rt:67:5
 loop-again : tie.Need-loop-again Inv-loop μ-loop
 loop-again c = search chasing
 
--- src/table.rt:61:1
 returns-2 : tie.Need-returns-2 Inv-loop μ-loop
 returns-2 c = search chasing
 

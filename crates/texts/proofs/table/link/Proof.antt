@@ -7,51 +7,39 @@ use Rattle.texts.proofs.table.link.Lts as lts
 use Rattle.texts.proofs.entries.get.Reads as get-reads
 use Rattle.texts.proofs.entries.put.Reads as put-reads
 
--- src/table.rt:82:28
 add-get : tie.Need-add-get
 add-get c = search needs
 
--- src/table.rt:82:28
 add-get-2 : tie.Need-add-get-2
 add-get-2 c = search needs
 
--- src/table.rt:82:9
 get-requires : tie.Need-get-requires
 get-requires c κs = search needs
 
--- src/table.rt:83:5
 put-requires : tie.Need-put-requires
 put-requires c κs = search needs
 
--- src/table.rt:84:15
 add-put : tie.Need-add-put
 add-put c = search needs
 
--- src/table.rt:84:5
 put-requires-2 : tie.Need-put-requires-2
 put-requires-2 c κs = search needs
 
--- src/table.rt:85:15
 add-put-2 : tie.Need-add-put-2
 add-put-2 c = search needs
 
--- src/table.rt:85:15
 add-put-3 : tie.Need-add-put-3
 add-put-3 c = search needs
 
--- src/table.rt:85:26
 add-put-4 : tie.Need-add-put-4
 add-put-4 c = search needs
 
--- src/table.rt:85:5
 put-requires-3 : tie.Need-put-requires-3
 put-requires-3 c κs = search needs
 
--- src/table.rt:78:1
 same-length : tie.Need-same-length
 same-length c = search needs
 
--- src/table.rt:78:1
 returns : tie.Need-returns
 returns c = search linking
 

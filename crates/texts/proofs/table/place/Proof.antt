@@ -6,11 +6,9 @@ use Rattle.texts.proofs.table.place.Reads as reads
 use Rattle.texts.proofs.table.place.Lts as lts
 use Rattle.texts.proofs.entries.get.Reads as get-reads
 
--- src/table.rt:40:5
 get-requires : tie.Need-get-requires
 get-requires c κs = search needs
 
--- src/table.rt:36:1
 returns : tie.Need-returns
 returns c = search tabling
 

@@ -12,39 +12,30 @@ Inv-loop tape work₀ c b₀ work b = Starting work₀ work c b
 abbrev μ-loop : tie.MeasureT-loop
 μ-loop tape work₀ c b₀ work b = c - b
 
--- src/table.rt:105:5
 loop-holds : tie.Need-loop-holds Inv-loop μ-loop
 loop-holds c = search starting
 
--- src/table.rt:106:19
 add-put : tie.Need-add-put Inv-loop μ-loop
 add-put c = search starting
 
--- src/table.rt:106:19
 add-put-2 : tie.Need-add-put-2 Inv-loop μ-loop
 add-put-2 c = search starting
 
--- src/table.rt:106:9
 put-requires : tie.Need-put-requires Inv-loop μ-loop
 put-requires c κs = search starting
 
--- src/table.rt:107:9
 add-b : tie.Need-add-b Inv-loop μ-loop
 add-b c = search starting
 
--- src/table.rt:105:5
 loop-less : tie.Need-loop-less Inv-loop μ-loop
 loop-less c = search starting
 
--- src/table.rt:105:5
 loop-again : tie.Need-loop-again Inv-loop μ-loop
 loop-again c = search starting
 
--- src/table.rt:100:1
 same-length : tie.Need-same-length Inv-loop μ-loop
 same-length c = search starting
 
--- src/table.rt:100:1
 returns : tie.Need-returns Inv-loop μ-loop
 returns c = search starting
 

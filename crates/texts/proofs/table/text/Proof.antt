@@ -7,15 +7,12 @@ use Rattle.texts.proofs.table.text.Lts as lts
 use Rattle.texts.proofs.table.atom_text.Reads as atom-text-reads
 use Rattle.texts.proofs.table.place.Reads as place-reads
 
--- src/table.rt:56:9
 place-requires : tie.Need-place-requires
 place-requires c κs = search needs
 
--- src/table.rt:57:5
 atom-text-requires : tie.Need-atom-text-requires
 atom-text-requires c κs = search tabling
 
--- src/table.rt:52:1
 returns : tie.Need-returns
 returns c = search tabling
 

@@ -12,51 +12,39 @@ use Rattle.parse_tree.proofs.size.size.Reads as size-reads
 use Rattle.validate.proofs.questions.is_defined.Reads as is-defined-reads
 use Rattle.validate.proofs.suits.is_suited.Reads as is-suited-reads
 
--- src/command.rt:24:9
 node-requires : tie.Need-node-requires
 node-requires c κs = search needs
 
--- src/command.rt:25:24
 class-requires : tie.Need-class-requires
 class-requires c κs = search needs
 
--- src/command.rt:25:9
 allowed-requires : tie.Need-allowed-requires
 allowed-requires c κs = search needs
 
--- src/command.rt:26:9
 returns : tie.Need-returns
 returns c = search commanding
 
--- src/command.rt:28:9
 is-defined-requires : tie.Need-is-defined-requires
 is-defined-requires c κs = search needs
 
--- src/command.rt:29:9
 returns-2 : tie.Need-returns-2
 returns-2 c = search commanding
 
--- src/command.rt:32:9
 returns-3 : tie.Need-returns-3
 returns-3 c = search commanding
 
--- src/command.rt:34:9
 is-suited-requires : tie.Need-is-suited-requires
 is-suited-requires c κs = search needs
 
--- src/command.rt:35:9
 returns-4 : tie.Need-returns-4
 returns-4 c = search commanding
 
--- src/command.rt:37:23
 size-requires : tie.Need-size-requires
 size-requires c κs = search needs
 
--- src/command.rt:37:18
 add-t11 : tie.Need-add-t11
 add-t11 c = search asked-fits
 
--- src/command.rt:20:1
 returns-5 : tie.Need-returns-5
 returns-5 c = search commanding
 

@@ -1,7 +1,7 @@
 use Rattle.validate.specs.Steps.{stepOf}
 use Rattle.texts.specs.Atoms.{atomsOf}
-use Rattle.parse_tree.specs.Reading.{times}
-use Rattle.parse_tree.specs.Decode.{ask}
+use Rattle.parse_tree.specs.plain.Reading.{times}
+use Rattle.parse_tree.specs.working.Decode.{ask}
 use mathlib.Core.Bool.{true}
 use mathlib.Core.Path.{_≡_}
 use Rattle.validate.proofs.Walking.{commands}
@@ -17,39 +17,30 @@ Inv-loop tape work m place n at p₀ k₀ p k = stepOf (times (ask true (m .widt
 abbrev μ-loop : tie.MeasureT-loop
 μ-loop tape work m place n at p₀ k₀ p k = k
 
--- src/command.rt:47:5
 loop-holds : tie.Need-loop-holds Inv-loop μ-loop
 loop-holds c = search commands
 
--- src/command.rt:48:15
 command-requires : tie.Need-command-requires Inv-loop μ-loop
 command-requires c κs = search commands
 
--- src/command.rt:49:26
 enum-known-e : tie.Need-enum-known-e Inv-loop μ-loop
 enum-known-e c = search commands
 
--- src/command.rt:51:17
 sub-k : tie.Need-sub-k Inv-loop μ-loop
 sub-k c = search commands
 
--- src/command.rt:47:5
 loop-less : tie.Need-loop-less Inv-loop μ-loop
 loop-less c = search commands
 
--- src/command.rt:47:5
 loop-again : tie.Need-loop-again Inv-loop μ-loop
 loop-again c = search commands
 
--- src/command.rt:53:28
 enum-known-q : tie.Need-enum-known-q Inv-loop μ-loop
 enum-known-q c = search commands
 
--- src/command.rt:54:17
 returns : tie.Need-returns Inv-loop μ-loop
 returns c = search commands
 
--- src/command.rt:41:1
 returns-2 : tie.Need-returns-2 Inv-loop μ-loop
 returns-2 c = search commands
 

@@ -7,39 +7,30 @@ use Rattle.validate.proofs.entry.check.Lts as lts
 use Rattle.octets.proofs.runs.clear.Reads as clear-reads
 use Rattle.validate.proofs.entry.validate.Reads as validate-reads
 
--- src/entry.rt:43:9
 returns : tie.Need-returns
 returns c = search checks
 
--- src/entry.rt:45:9
 validate-requires : tie.Need-validate-requires
 validate-requires c κs = search needs
 
--- src/entry.rt:46:5
 clear-requires : tie.Need-clear-requires
 clear-requires c κs = search needs
 
--- src/entry.rt:48:28
 enum-known-v : tie.Need-enum-known-v
 enum-known-v c = search needs
 
--- src/entry.rt:49:47
 enum-told : tie.Need-enum-told
 enum-told c = search needs
 
--- src/entry.rt:39:1
 same-length : tie.Need-same-length
 same-length c = search needs
 
--- src/entry.rt:39:1
 returns-2 : tie.Need-returns-2
 returns-2 c = search checks
 
--- src/entry.rt:39:1
 same-length-2 : tie.Need-same-length-2
 same-length-2 c = search needs
 
--- src/entry.rt:39:1
 returns-3 : tie.Need-returns-3
 returns-3 c = search checks
 

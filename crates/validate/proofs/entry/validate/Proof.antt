@@ -7,51 +7,39 @@ use Rattle.validate.proofs.entry.validate.Lts as lts
 use Rattle.validate.proofs.front.atoms.Reads as atoms-reads
 use Rattle.validate.proofs.items.items.Reads as items-reads
 
--- src/entry.rt:22:11
 atoms-requires : tie.Need-atoms-requires
 atoms-requires c κs = search needs
 
--- src/entry.rt:23:26
 enum-known-q : tie.Need-enum-known-q
 enum-known-q c = search needs
 
--- src/entry.rt:24:22
 enum-known-k : tie.Need-enum-known-k
 enum-known-k c = search needs
 
--- src/entry.rt:30:19
 items-requires : tie.Need-items-requires
 items-requires c κs = search wholes
 
--- src/entry.rt:31:31
 enum-known-q-2 : tie.Need-enum-known-q-2
 enum-known-q-2 c = search needs
 
--- src/entry.rt:32:34
 enum-told : tie.Need-enum-told
 enum-told c = search needs
 
--- src/entry.rt:17:1
 same-length : tie.Need-same-length
 same-length c = search needs
 
--- src/entry.rt:17:1
 returns : tie.Need-returns
 returns c = search wholes
 
--- src/entry.rt:17:1
 same-length-2 : tie.Need-same-length-2
 same-length-2 c = search needs
 
--- src/entry.rt:17:1
 returns-2 : tie.Need-returns-2
 returns-2 c = search wholes
 
--- src/entry.rt:17:1
 same-length-3 : tie.Need-same-length-3
 same-length-3 c = search needs
 
--- src/entry.rt:17:1
 returns-3 : tie.Need-returns-3
 returns-3 c = search wholes
 

@@ -8,47 +8,36 @@ use Rattle.validate.proofs.entry.check.Reads as check-reads
 use Rattle.validate.proofs.export.wide.Reads as wide-reads
 use Rattle.validate.proofs.export.word.Reads as word-reads
 
--- src/export.rt:24:11
 check-requires : tie.Need-check-requires
 check-requires c κs = search needs
 
--- src/export.rt:25:21
 enum-known-n : tie.Need-enum-known-n
 enum-known-n c = search needs
 
--- src/export.rt:26:27
 word-requires : tie.Need-word-requires
 word-requires c κs = search needs
 
--- src/export.rt:28:20
 enum-known-q : tie.Need-enum-known-q
 enum-known-q c = search needs
 
--- src/export.rt:29:27
 wide-requires : tie.Need-wide-requires
 wide-requires c κs = search needs
 
--- src/export.rt:29:36
 word-requires-2 : tie.Need-word-requires-2
 word-requires-2 c κs = search needs
 
--- src/export.rt:29:45
 word-requires-3 : tie.Need-word-requires-3
 word-requires-3 c κs = search needs
 
--- src/export.rt:20:1
 same-length : tie.Need-same-length
 same-length c = search needs
 
--- src/export.rt:20:1
 returns : tie.Need-returns
 returns c = search exports
 
--- src/export.rt:20:1
 same-length-2 : tie.Need-same-length-2
 same-length-2 c = search needs
 
--- src/export.rt:20:1
 returns-2 : tie.Need-returns-2
 returns-2 c = search exports
 

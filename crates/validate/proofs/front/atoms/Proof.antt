@@ -14,63 +14,48 @@ Inv-loop tape work₀ c width k₀ at₀ work k at = Gathering tape work₀ work
 abbrev μ-loop : tie.MeasureT-loop
 μ-loop tape work₀ c width k₀ at₀ work k at = length tape - at
 
--- src/front.rt:49:5
 start-requires : tie.Need-start-requires Inv-loop μ-loop
 start-requires c κs = search gathering
 
--- src/front.rt:52:5
 loop-holds : tie.Need-loop-holds Inv-loop μ-loop
 loop-holds c = search gathering
 
--- src/front.rt:53:15
 next-requires : tie.Need-next-requires Inv-loop μ-loop
 next-requires c κs = search gathering
 
--- src/front.rt:54:24
 enum-known-e : tie.Need-enum-known-e Inv-loop μ-loop
 enum-known-e c = search gathering
 
--- src/front.rt:55:17
 add-k : tie.Need-add-k Inv-loop μ-loop
 add-k c = search gathering
 
--- src/front.rt:52:5
 loop-less : tie.Need-loop-less Inv-loop μ-loop
 loop-less c = search gathering
 
--- src/front.rt:52:5
 loop-again : tie.Need-loop-again Inv-loop μ-loop
 loop-again c = search gathering
 
--- src/front.rt:59:17
 enum-told : tie.Need-enum-told Inv-loop μ-loop
 enum-told c = search gathering
 
--- src/front.rt:59:17
 same-length : tie.Need-same-length Inv-loop μ-loop
 same-length c = search gathering
 
--- src/front.rt:59:17
 returns : tie.Need-returns Inv-loop μ-loop
 returns c = search gathering
 
--- src/front.rt:62:17
 enum-told-2 : tie.Need-enum-told-2 Inv-loop μ-loop
 enum-told-2 c = search gathering
 
--- src/front.rt:62:17
 same-length-2 : tie.Need-same-length-2 Inv-loop μ-loop
 same-length-2 c = search gathering
 
--- src/front.rt:62:17
 returns-2 : tie.Need-returns-2 Inv-loop μ-loop
 returns-2 c = search gathering
 
--- src/front.rt:45:1
 same-length-3 : tie.Need-same-length-3 Inv-loop μ-loop
 same-length-3 c = search gathering
 
--- src/front.rt:45:1
 returns-3 : tie.Need-returns-3 Inv-loop μ-loop
 returns-3 c = search gathering
 

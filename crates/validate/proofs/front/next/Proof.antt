@@ -11,63 +11,48 @@ use Rattle.texts.proofs.table.enter.Reads as enter-reads
 use Rattle.texts.proofs.table.known.Reads as known-reads
 use Rattle.octets.proofs.wide.from16.Reads as from16-reads
 
--- src/front.rt:28:9
 node-requires : tie.Need-node-requires
 node-requires c κs = search needs
 
--- src/front.rt:29:24
 class-requires : tie.Need-class-requires
 class-requires c κs = search needs
 
--- src/front.rt:29:9
 allowed-requires : tie.Need-allowed-requires
 allowed-requires c κs = search needs
 
--- src/front.rt:30:9
 returns : tie.Need-returns
 returns c = search nexts
 
--- src/front.rt:32:20
 enum-known-n : tie.Need-enum-known-n
 enum-known-n c = search needs
 
--- src/front.rt:33:9
 returns-2 : tie.Need-returns-2
 returns-2 c = search nexts
 
--- src/front.rt:35:13
 add-a : tie.Need-add-a
 add-a c = search needs
 
--- src/front.rt:36:17
 from16-requires : tie.Need-from16-requires
 from16-requires c κs = search needs
 
--- src/front.rt:36:13
 add-e : tie.Need-add-e
 add-e c = search needs
 
--- src/front.rt:37:8
 known-requires : tie.Need-known-requires
 known-requires c κs = search nexts
 
--- src/front.rt:38:9
 same-length : tie.Need-same-length
 same-length c = search needs
 
--- src/front.rt:38:9
 returns-3 : tie.Need-returns-3
 returns-3 c = search nexts
 
--- src/front.rt:40:5
 enter-requires : tie.Need-enter-requires
 enter-requires c κs = search nexts
 
--- src/front.rt:24:1
 same-length-2 : tie.Need-same-length-2
 same-length-2 c = search needs
 
--- src/front.rt:24:1
 returns-4 : tie.Need-returns-4
 returns-4 c = search nexts
 

@@ -7,35 +7,27 @@ use Rattle.validate.proofs.items.alternative.Lts as lts
 use Rattle.validate.proofs.command.command.Reads as command-reads
 use Rattle.validate.proofs.items.alternative_parts.Reads as alternative-parts-reads
 
--- src/items.rt:55:11
 command-requires : tie.Need-command-requires
 command-requires c κs = search needs
 
--- src/items.rt:56:24
 enum-known-q : tie.Need-enum-known-q
 enum-known-q c = search needs
 
--- src/items.rt:57:19
 enum-known-n : tie.Need-enum-known-n
 enum-known-n c = search needs
 
--- src/items.rt:58:35
 enum-known-n-2 : tie.Need-enum-known-n-2
 enum-known-n-2 c = search needs
 
--- src/items.rt:59:17
 returns : tie.Need-returns
 returns c = search alternative
 
--- src/items.rt:61:13
 alternative-parts-requires : tie.Need-alternative-parts-requires
 alternative-parts-requires c κs = search needs
 
--- src/items.rt:51:1
 returns-2 : tie.Need-returns-2
 returns-2 c = search alternative
 
--- src/items.rt:51:1
 returns-3 : tie.Need-returns-3
 returns-3 c = search alternative
 

@@ -9,55 +9,42 @@ use Rattle.octets.proofs.wide.from16.Reads as from16-reads
 use Rattle.octets.proofs.wide.from8.Reads as from8-reads
 use Rattle.validate.proofs.symbols.symbols.Reads as symbols-reads
 
--- src/items.rt:41:47
 from8-requires : tie.Need-from8-requires
 from8-requires c κs = search needs
 
--- src/items.rt:41:11
 commands-requires : tie.Need-commands-requires
 commands-requires c κs = search needs
 
--- src/items.rt:42:23
 enum-known-q : tie.Need-enum-known-q
 enum-known-q c = search needs
 
--- src/items.rt:43:20
 enum-known-e : tie.Need-enum-known-e
 enum-known-e c = search needs
 
--- src/items.rt:43:68
 from8-requires-2 : tie.Need-from8-requires-2
 from8-requires-2 c κs = search needs
 
--- src/items.rt:43:32
 commands-requires-2 : tie.Need-commands-requires-2
 commands-requires-2 c κs = search needs
 
--- src/items.rt:44:27
 enum-known-q-2 : tie.Need-enum-known-q-2
 enum-known-q-2 c = search needs
 
--- src/items.rt:45:24
 enum-known-d : tie.Need-enum-known-d
 enum-known-d c = search needs
 
--- src/items.rt:45:56
 from16-requires : tie.Need-from16-requires
 from16-requires c κs = search needs
 
--- src/items.rt:45:30
 symbols-requires : tie.Need-symbols-requires
 symbols-requires c κs = search needs
 
--- src/items.rt:37:1
 returns : tie.Need-returns
 returns c = search alternative-parts
 
--- src/items.rt:37:1
 returns-2 : tie.Need-returns-2
 returns-2 c = search alternative-parts
 
--- src/items.rt:37:1
 returns-3 : tie.Need-returns-3
 returns-3 c = search alternative-parts
 

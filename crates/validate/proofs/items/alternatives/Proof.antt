@@ -1,7 +1,7 @@
 use Rattle.validate.specs.Steps.{stepOf}
 use Rattle.texts.specs.Atoms.{atomsOf}
-use Rattle.parse_tree.specs.Decode.{readAlternative}
-use Rattle.parse_tree.specs.Reading.{times}
+use Rattle.parse_tree.specs.working.Decode.{readAlternative}
+use Rattle.parse_tree.specs.plain.Reading.{times}
 use mathlib.Core.Bool.{true}
 use mathlib.Core.Path.{_≡_}
 use Rattle.validate.proofs.Parting.{alternatives}
@@ -17,39 +17,30 @@ Inv-loop tape work m n at p₀ k₀ p k = stepOf (times (readAlternative true (m
 abbrev μ-loop : tie.MeasureT-loop
 μ-loop tape work m n at p₀ k₀ p k = k
 
--- src/items.rt:73:5
 loop-holds : tie.Need-loop-holds Inv-loop μ-loop
 loop-holds c = search alternatives
 
--- src/items.rt:74:15
 alternative-requires : tie.Need-alternative-requires Inv-loop μ-loop
 alternative-requires c κs = search alternatives
 
--- src/items.rt:75:24
 enum-known-e : tie.Need-enum-known-e Inv-loop μ-loop
 enum-known-e c = search alternatives
 
--- src/items.rt:77:17
 sub-k : tie.Need-sub-k Inv-loop μ-loop
 sub-k c = search alternatives
 
--- src/items.rt:73:5
 loop-less : tie.Need-loop-less Inv-loop μ-loop
 loop-less c = search alternatives
 
--- src/items.rt:73:5
 loop-again : tie.Need-loop-again Inv-loop μ-loop
 loop-again c = search alternatives
 
--- src/items.rt:79:27
 enum-known-q : tie.Need-enum-known-q Inv-loop μ-loop
 enum-known-q c = search alternatives
 
--- src/items.rt:80:17
 returns : tie.Need-returns Inv-loop μ-loop
 returns c = search alternatives
 
--- src/items.rt:67:1
 returns-2 : tie.Need-returns-2 Inv-loop μ-loop
 returns-2 c = search alternatives
 

@@ -1,6 +1,6 @@
 use Rattle.validate.specs.Steps.{stepOf}
 use Rattle.texts.specs.Atoms.{atomsOf}
-use Rattle.parse_tree.specs.Decode.{readItems}
+use Rattle.parse_tree.specs.working.Decode.{readItems}
 use mathlib.Core.Bool.{true}
 use lib.ListN.{length}
 use Prim.Native.Nat.{_-_}
@@ -17,35 +17,27 @@ Inv-loop tape work m at p₀ p = Left tape (m .width) (m .count) p (stepOf (read
 abbrev μ-loop : tie.MeasureT-loop
 μ-loop tape work m at p₀ p = length tape - p
 
--- src/items.rt:123:5
 loop-holds : tie.Need-loop-holds Inv-loop μ-loop
 loop-holds c = search items
 
--- src/items.rt:124:15
 item-requires : tie.Need-item-requires Inv-loop μ-loop
 item-requires c κs = search items
 
--- src/items.rt:125:24
 enum-known-e : tie.Need-enum-known-e Inv-loop μ-loop
 enum-known-e c = search items
 
--- src/items.rt:123:5
 loop-less : tie.Need-loop-less Inv-loop μ-loop
 loop-less c = search items
 
--- src/items.rt:123:5
 loop-again : tie.Need-loop-again Inv-loop μ-loop
 loop-again c = search items
 
--- src/items.rt:128:27
 enum-known-q : tie.Need-enum-known-q Inv-loop μ-loop
 enum-known-q c = search items
 
--- src/items.rt:129:17
 returns : tie.Need-returns Inv-loop μ-loop
 returns c = search items
 
--- src/items.rt:118:1
 returns-2 : tie.Need-returns-2 Inv-loop μ-loop
 returns-2 c = search items
 

@@ -9,35 +9,27 @@ use Rattle.validate.proofs.items.alternatives.Reads as alternatives-rea
 use Rattle.octets.proofs.wide.from16.Reads as from16-reads
 use Rattle.octets.proofs.wide.from8.Reads as from8-reads
 
--- src/items.rt:92:46
 from8-requires : tie.Need-from8-requires
 from8-requires c κs = search needs
 
--- src/items.rt:92:11
 commands-requires : tie.Need-commands-requires
 commands-requires c κs = search needs
 
--- src/items.rt:93:23
 enum-known-q : tie.Need-enum-known-q
 enum-known-q c = search needs
 
--- src/items.rt:94:20
 enum-known-e : tie.Need-enum-known-e
 enum-known-e c = search needs
 
--- src/items.rt:94:54
 from16-requires : tie.Need-from16-requires
 from16-requires c κs = search needs
 
--- src/items.rt:94:26
 alternatives-requires : tie.Need-alternatives-requires
 alternatives-requires c κs = search needs
 
--- src/items.rt:88:1
 returns : tie.Need-returns
 returns c = search nonterminal-parts
 
--- src/items.rt:88:1
 returns-2 : tie.Need-returns-2
 returns-2 c = search nonterminal-parts
 

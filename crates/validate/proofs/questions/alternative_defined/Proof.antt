@@ -6,31 +6,24 @@ use Rattle.validate.proofs.questions.alternative_defined.Reads as reads
 use Rattle.validate.proofs.questions.alternative_defined.Lts as lts
 use Rattle.octets.proofs.wide.from32.Reads as from32-reads
 
--- src/questions.rt:76:9
 returns : tie.Need-returns
 returns c = search alternatives
 
--- src/questions.rt:79:9
 returns-2 : tie.Need-returns-2
 returns-2 c = search alternatives
 
--- src/questions.rt:83:16
 from32-requires : tie.Need-from32-requires
 from32-requires c κs = search needs
 
--- src/questions.rt:83:9
 returns-3 : tie.Need-returns-3
 returns-3 c = search alternatives
 
--- src/questions.rt:86:16
 from32-requires-2 : tie.Need-from32-requires-2
 from32-requires-2 c κs = search needs
 
--- src/questions.rt:86:9
 returns-4 : tie.Need-returns-4
 returns-4 c = search alternatives
 
--- src/questions.rt:72:1
 returns-5 : tie.Need-returns-5
 returns-5 c = search alternatives
 

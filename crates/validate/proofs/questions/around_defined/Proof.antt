@@ -6,35 +6,27 @@ use Rattle.validate.proofs.questions.around_defined.Reads as reads
 use Rattle.validate.proofs.questions.around_defined.Lts as lts
 use Rattle.octets.proofs.wide.from32.Reads as from32-reads
 
--- src/questions.rt:37:24
 enum-known-a : tie.Need-enum-known-a
 enum-known-a c = search needs
 
--- src/questions.rt:38:27
 enum-told : tie.Need-enum-told
 enum-told c = search needs
 
--- src/questions.rt:39:22
 enum-known-a-2 : tie.Need-enum-known-a-2
 enum-known-a-2 c = search needs
 
--- src/questions.rt:41:17
 returns : tie.Need-returns
 returns c = search symbols
 
--- src/questions.rt:43:13
 from32-requires : tie.Need-from32-requires
 from32-requires c κs = search needs
 
--- src/questions.rt:33:1
 returns-2 : tie.Need-returns-2
 returns-2 c = search symbols
 
--- src/questions.rt:33:1
 returns-3 : tie.Need-returns-3
 returns-3 c = search symbols
 
--- src/questions.rt:33:1
 returns-4 : tie.Need-returns-4
 returns-4 c = search symbols
 

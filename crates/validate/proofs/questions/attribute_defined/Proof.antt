@@ -6,39 +6,30 @@ use Rattle.validate.proofs.questions.attribute_defined.Reads as reads
 use Rattle.validate.proofs.questions.attribute_defined.Lts as lts
 use Rattle.octets.proofs.wide.from32.Reads as from32-reads
 
--- src/questions.rt:97:17
 from32-requires : tie.Need-from32-requires
 from32-requires c κs = search needs
 
--- src/questions.rt:98:9
 returns : tie.Need-returns
 returns c = search attributes
 
--- src/questions.rt:101:9
 returns-2 : tie.Need-returns-2
 returns-2 c = search attributes
 
--- src/questions.rt:104:21
 from32-requires-2 : tie.Need-from32-requires-2
 from32-requires-2 c κs = search needs
 
--- src/questions.rt:105:13
 returns-3 : tie.Need-returns-3
 returns-3 c = search attributes
 
--- src/questions.rt:107:16
 from32-requires-3 : tie.Need-from32-requires-3
 from32-requires-3 c κs = search needs
 
--- src/questions.rt:107:9
 returns-4 : tie.Need-returns-4
 returns-4 c = search attributes
 
--- src/questions.rt:110:9
 returns-5 : tie.Need-returns-5
 returns-5 c = search attributes
 
--- src/questions.rt:91:1
 returns-6 : tie.Need-returns-6
 returns-6 c = search attributes
 

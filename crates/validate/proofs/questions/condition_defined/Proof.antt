@@ -6,23 +6,18 @@ use Rattle.validate.proofs.questions.condition_defined.Reads as reads
 use Rattle.validate.proofs.questions.condition_defined.Lts as lts
 use Rattle.octets.proofs.wide.from32.Reads as from32-reads
 
--- src/questions.rt:121:17
 from32-requires : tie.Need-from32-requires
 from32-requires c κs = search needs
 
--- src/questions.rt:122:9
 returns : tie.Need-returns
 returns c = search conditions
 
--- src/questions.rt:125:9
 returns-2 : tie.Need-returns-2
 returns-2 c = search conditions
 
--- src/questions.rt:127:5
 from32-requires-2 : tie.Need-from32-requires-2
 from32-requires-2 c κs = search needs
 
--- src/questions.rt:116:1
 returns-3 : tie.Need-returns-3
 returns-3 c = search conditions
 

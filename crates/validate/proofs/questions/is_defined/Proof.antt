@@ -10,107 +10,81 @@ use Rattle.validate.proofs.questions.condition_defined.Reads as conditi
 use Rattle.validate.proofs.questions.symbol_defined.Reads as symbol-defined-reads
 use Rattle.octets.proofs.wide.from32.Reads as from32-reads
 
--- src/questions.rt:135:26
 enum-told : tie.Need-enum-told
 enum-told c = search needs
 
--- src/questions.rt:136:27
 enum-known-n : tie.Need-enum-known-n
 enum-known-n c = search needs
 
--- src/questions.rt:138:25
 from32-requires : tie.Need-from32-requires
 from32-requires c κs = search needs
 
--- src/questions.rt:139:17
 returns : tie.Need-returns
 returns c = search nodes
 
--- src/questions.rt:143:24
 enum-known-n-2 : tie.Need-enum-known-n-2
 enum-known-n-2 c = search needs
 
--- src/questions.rt:145:13
 from32-requires-2 : tie.Need-from32-requires-2
 from32-requires-2 c κs = search needs
 
--- src/questions.rt:147:24
 enum-known-n-3 : tie.Need-enum-known-n-3
 enum-known-n-3 c = search needs
 
--- src/questions.rt:147:30
 from32-requires-3 : tie.Need-from32-requires-3
 from32-requires-3 c κs = search needs
 
--- src/questions.rt:148:27
 enum-known-n-4 : tie.Need-enum-known-n-4
 enum-known-n-4 c = search needs
 
--- src/questions.rt:148:33
 alternative-defined-requires : tie.Need-alternative-defined-requires
 alternative-defined-requires c κs = search needs
 
--- src/questions.rt:149:25
 enum-known-n-5 : tie.Need-enum-known-n-5
 enum-known-n-5 c = search needs
 
--- src/questions.rt:149:31
 attribute-defined-requires : tie.Need-attribute-defined-requires
 attribute-defined-requires c κs = search needs
 
--- src/questions.rt:150:25
 enum-known-n-6 : tie.Need-enum-known-n-6
 enum-known-n-6 c = search needs
 
--- src/questions.rt:150:31
 condition-defined-requires : tie.Need-condition-defined-requires
 condition-defined-requires c κs = search needs
 
--- src/questions.rt:151:25
 enum-known-n-7 : tie.Need-enum-known-n-7
 enum-known-n-7 c = search needs
 
--- src/questions.rt:151:31
 symbol-defined-requires : tie.Need-symbol-defined-requires
 symbol-defined-requires c κs = search needs
 
--- src/questions.rt:152:26
 enum-told-2 : tie.Need-enum-told-2
 enum-told-2 c = search needs
 
--- src/questions.rt:131:1
 returns-2 : tie.Need-returns-2
 returns-2 c = search nodes
 
--- src/questions.rt:131:1
 returns-3 : tie.Need-returns-3
 returns-3 c = search nodes
 
--- src/questions.rt:131:1
 returns-4 : tie.Need-returns-4
 returns-4 c = search nodes
 
--- src/questions.rt:131:1
 returns-5 : tie.Need-returns-5
 returns-5 c = search nodes
 
--- src/questions.rt:131:1
 returns-6 : tie.Need-returns-6
 returns-6 c = search nodes
 
--- src/questions.rt:131:1
 returns-7 : tie.Need-returns-7
 returns-7 c = search nodes
 
--- src/questions.rt:131:1
 returns-8 : tie.Need-returns-8
 returns-8 c = search nodes
 
--- src/questions.rt:131:1
 returns-9 : tie.Need-returns-9
 returns-9 c = search nodes
 
--- src/questions.rt:131:1
 returns-10 : tie.Need-returns-10
 returns-10 c = search nodes
 

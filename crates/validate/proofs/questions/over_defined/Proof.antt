@@ -6,27 +6,21 @@ use Rattle.validate.proofs.questions.over_defined.Reads as reads
 use Rattle.validate.proofs.questions.over_defined.Lts as lts
 use Rattle.octets.proofs.wide.from32.Reads as from32-reads
 
--- src/questions.rt:52:21
 enum-known-o : tie.Need-enum-known-o
 enum-known-o c = search needs
 
--- src/questions.rt:53:25
 from32-requires : tie.Need-from32-requires
 from32-requires c κs = search needs
 
--- src/questions.rt:54:17
 returns : tie.Need-returns
 returns c = search symbols
 
--- src/questions.rt:58:27
 enum-told : tie.Need-enum-told
 enum-told c = search needs
 
--- src/questions.rt:48:1
 returns-2 : tie.Need-returns-2
 returns-2 c = search symbols
 
--- src/questions.rt:48:1
 returns-3 : tie.Need-returns-3
 returns-3 c = search symbols
 

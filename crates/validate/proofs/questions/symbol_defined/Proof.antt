@@ -8,39 +8,30 @@ use Rattle.validate.proofs.questions.around_defined.Reads as around-def
 use Rattle.validate.proofs.questions.leaf_defined.Reads as leaf-defined-reads
 use Rattle.validate.proofs.questions.over_defined.Reads as over-defined-reads
 
--- src/questions.rt:66:26
 enum-known-k : tie.Need-enum-known-k
 enum-known-k c = search needs
 
--- src/questions.rt:66:32
 leaf-defined-requires : tie.Need-leaf-defined-requires
 leaf-defined-requires c κs = search needs
 
--- src/questions.rt:67:28
 enum-known-k-2 : tie.Need-enum-known-k-2
 enum-known-k-2 c = search needs
 
--- src/questions.rt:67:34
 around-defined-requires : tie.Need-around-defined-requires
 around-defined-requires c κs = search needs
 
--- src/questions.rt:68:26
 enum-known-k-3 : tie.Need-enum-known-k-3
 enum-known-k-3 c = search needs
 
--- src/questions.rt:68:32
 over-defined-requires : tie.Need-over-defined-requires
 over-defined-requires c κs = search needs
 
--- src/questions.rt:62:1
 returns : tie.Need-returns
 returns c = search symbols
 
--- src/questions.rt:62:1
 returns-2 : tie.Need-returns-2
 returns-2 c = search symbols
 
--- src/questions.rt:62:1
 returns-3 : tie.Need-returns-3
 returns-3 c = search symbols
 

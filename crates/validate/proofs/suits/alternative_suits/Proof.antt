@@ -6,23 +6,18 @@ use Rattle.validate.proofs.suits.alternative_suits.Reads as reads
 use Rattle.validate.proofs.suits.alternative_suits.Lts as lts
 use Rattle.validate.proofs.suits.is_ascii.Reads as is-ascii-reads
 
--- src/suits.rt:87:9
 is-ascii-requires : tie.Need-is-ascii-requires
 is-ascii-requires c κs = search needs
 
--- src/suits.rt:87:9
 returns : tie.Need-returns
 returns c = search parts
 
--- src/suits.rt:90:9
 is-ascii-requires-2 : tie.Need-is-ascii-requires-2
 is-ascii-requires-2 c κs = search needs
 
--- src/suits.rt:90:9
 returns-2 : tie.Need-returns-2
 returns-2 c = search parts
 
--- src/suits.rt:81:1
 returns-3 : tie.Need-returns-3
 returns-3 c = search parts
 

@@ -7,31 +7,24 @@ use Rattle.validate.proofs.suits.attribute_suits.Lts as lts
 use Rattle.validate.proofs.suits.is_ascii.Reads as is-ascii-reads
 use Rattle.validate.proofs.suits.is_name.Reads as is-name-reads
 
--- src/suits.rt:102:9
 is-name-requires : tie.Need-is-name-requires
 is-name-requires c κs = search needs
 
--- src/suits.rt:103:9
 returns : tie.Need-returns
 returns c = search parts
 
--- src/suits.rt:106:9
 returns-2 : tie.Need-returns-2
 returns-2 c = search parts
 
--- src/suits.rt:108:9
 is-ascii-requires : tie.Need-is-ascii-requires
 is-ascii-requires c κs = search needs
 
--- src/suits.rt:109:9
 returns-3 : tie.Need-returns-3
 returns-3 c = search parts
 
--- src/suits.rt:111:5
 is-ascii-requires-2 : tie.Need-is-ascii-requires-2
 is-ascii-requires-2 c κs = search needs
 
--- src/suits.rt:95:1
 returns-4 : tie.Need-returns-4
 returns-4 c = search parts
 

@@ -7,19 +7,15 @@ use Rattle.validate.proofs.suits.condition_suits.Lts as lts
 use Rattle.validate.proofs.suits.is_literal.Reads as is-literal-reads
 use Rattle.validate.proofs.suits.is_name.Reads as is-name-reads
 
--- src/suits.rt:120:9
 is-name-requires : tie.Need-is-name-requires
 is-name-requires c κs = search needs
 
--- src/suits.rt:121:9
 returns : tie.Need-returns
 returns c = search parts
 
--- src/suits.rt:123:5
 is-literal-requires : tie.Need-is-literal-requires
 is-literal-requires c κs = search needs
 
--- src/suits.rt:114:1
 returns-2 : tie.Need-returns-2
 returns-2 c = search parts
 

@@ -7,15 +7,12 @@ use Rattle.validate.proofs.suits.is_name.Lts as lts
 use Rattle.texts.proofs.table.class.Reads as class-reads
 use Rattle.octets.proofs.wide.from32.Reads as from32-reads
 
--- src/suits.rt:30:40
 from32-requires : tie.Need-from32-requires
 from32-requires c κs = search needs
 
--- src/suits.rt:30:5
 class-requires : tie.Need-class-requires
 class-requires c κs = search needs
 
--- src/suits.rt:26:1
 returns : tie.Need-returns
 returns c = search texts
 

@@ -10,103 +10,78 @@ use Rattle.validate.proofs.suits.condition_suits.Reads as condition-sui
 use Rattle.validate.proofs.suits.is_name.Reads as is-name-reads
 use Rattle.validate.proofs.suits.symbol_suits.Reads as symbol-suits-reads
 
--- src/suits.rt:132:26
 enum-told : tie.Need-enum-told
 enum-told c = search needs
 
--- src/suits.rt:133:27
 enum-known-n : tie.Need-enum-known-n
 enum-known-n c = search needs
 
--- src/suits.rt:135:13
 is-name-requires : tie.Need-is-name-requires
 is-name-requires c κs = search needs
 
--- src/suits.rt:137:24
 enum-known-n-2 : tie.Need-enum-known-n-2
 enum-known-n-2 c = search needs
 
--- src/suits.rt:139:13
 is-name-requires-2 : tie.Need-is-name-requires-2
 is-name-requires-2 c κs = search needs
 
--- src/suits.rt:141:24
 enum-known-n-3 : tie.Need-enum-known-n-3
 enum-known-n-3 c = search needs
 
--- src/suits.rt:141:30
 is-name-requires-3 : tie.Need-is-name-requires-3
 is-name-requires-3 c κs = search needs
 
--- src/suits.rt:142:27
 enum-known-n-4 : tie.Need-enum-known-n-4
 enum-known-n-4 c = search needs
 
--- src/suits.rt:142:33
 alternative-suits-requires : tie.Need-alternative-suits-requires
 alternative-suits-requires c κs = search needs
 
--- src/suits.rt:143:25
 enum-known-n-5 : tie.Need-enum-known-n-5
 enum-known-n-5 c = search needs
 
--- src/suits.rt:143:31
 attribute-suits-requires : tie.Need-attribute-suits-requires
 attribute-suits-requires c κs = search needs
 
--- src/suits.rt:144:25
 enum-known-n-6 : tie.Need-enum-known-n-6
 enum-known-n-6 c = search needs
 
--- src/suits.rt:144:31
 condition-suits-requires : tie.Need-condition-suits-requires
 condition-suits-requires c κs = search needs
 
--- src/suits.rt:145:25
 enum-known-n-7 : tie.Need-enum-known-n-7
 enum-known-n-7 c = search needs
 
--- src/suits.rt:145:31
 symbol-suits-requires : tie.Need-symbol-suits-requires
 symbol-suits-requires c κs = search needs
 
--- src/suits.rt:146:26
 enum-told-2 : tie.Need-enum-told-2
 enum-told-2 c = search needs
 
--- src/suits.rt:127:1
 returns : tie.Need-returns
 returns c = search nodes
 
--- src/suits.rt:127:1
 returns-2 : tie.Need-returns-2
 returns-2 c = search nodes
 
--- src/suits.rt:127:1
 returns-3 : tie.Need-returns-3
 returns-3 c = search nodes
 
--- src/suits.rt:127:1
 returns-4 : tie.Need-returns-4
 returns-4 c = search nodes
 
--- src/suits.rt:127:1
 returns-5 : tie.Need-returns-5
 returns-5 c = search nodes
 
--- src/suits.rt:127:1
 returns-6 : tie.Need-returns-6
 returns-6 c = search nodes
 
--- src/suits.rt:127:1
 returns-7 : tie.Need-returns-7
 returns-7 c = search nodes
 
--- src/suits.rt:127:1
 returns-8 : tie.Need-returns-8
 returns-8 c = search nodes
 
--- src/suits.rt:127:1
 returns-9 : tie.Need-returns-9
 returns-9 c = search nodes
 

@@ -7,87 +7,66 @@ use Rattle.validate.proofs.suits.leaf_suits.Lts as lts
 use Rattle.validate.proofs.suits.is_literal.Reads as is-literal-reads
 use Rattle.validate.proofs.suits.is_name.Reads as is-name-reads
 
--- src/suits.rt:52:27
 enum-known-l : tie.Need-enum-known-l
 enum-known-l c = search needs
 
--- src/suits.rt:52:33
 is-name-requires : tie.Need-is-name-requires
 is-name-requires c κs = search needs
 
--- src/suits.rt:53:20
 enum-known-l-2 : tie.Need-enum-known-l-2
 enum-known-l-2 c = search needs
 
--- src/suits.rt:53:26
 is-name-requires-2 : tie.Need-is-name-requires-2
 is-name-requires-2 c κs = search needs
 
--- src/suits.rt:54:22
 enum-known-l-3 : tie.Need-enum-known-l-3
 enum-known-l-3 c = search needs
 
--- src/suits.rt:54:28
 is-literal-requires : tie.Need-is-literal-requires
 is-literal-requires c κs = search needs
 
--- src/suits.rt:55:21
 enum-known-l-4 : tie.Need-enum-known-l-4
 enum-known-l-4 c = search needs
 
--- src/suits.rt:55:27
 is-literal-requires-2 : tie.Need-is-literal-requires-2
 is-literal-requires-2 c κs = search needs
 
--- src/suits.rt:56:27
 enum-known-l-5 : tie.Need-enum-known-l-5
 enum-known-l-5 c = search needs
 
--- src/suits.rt:56:33
 is-name-requires-3 : tie.Need-is-name-requires-3
 is-name-requires-3 c κs = search needs
 
--- src/suits.rt:57:28
 enum-told : tie.Need-enum-told
 enum-told c = search needs
 
--- src/suits.rt:58:29
 enum-told-2 : tie.Need-enum-told-2
 enum-told-2 c = search needs
 
--- src/suits.rt:59:24
 enum-told-3 : tie.Need-enum-told-3
 enum-told-3 c = search needs
 
--- src/suits.rt:47:1
 returns : tie.Need-returns
 returns c = search leaves
 
--- src/suits.rt:47:1
 returns-2 : tie.Need-returns-2
 returns-2 c = search leaves
 
--- src/suits.rt:47:1
 returns-3 : tie.Need-returns-3
 returns-3 c = search leaves
 
--- src/suits.rt:47:1
 returns-4 : tie.Need-returns-4
 returns-4 c = search leaves
 
--- src/suits.rt:47:1
 returns-5 : tie.Need-returns-5
 returns-5 c = search leaves
 
--- src/suits.rt:47:1
 returns-6 : tie.Need-returns-6
 returns-6 c = search leaves
 
--- src/suits.rt:47:1
 returns-7 : tie.Need-returns-7
 returns-7 c = search leaves
 
--- src/suits.rt:47:1
 returns-8 : tie.Need-returns-8
 returns-8 c = search leaves
 

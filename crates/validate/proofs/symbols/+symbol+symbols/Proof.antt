@@ -1,7 +1,7 @@
 use Rattle.validate.specs.Steps.{stepOf}
 use Rattle.texts.specs.Atoms.{atomsOf}
-use Rattle.parse_tree.specs.Reading.{times}
-use Rattle.parse_tree.specs.Decode.{readSym}
+use Rattle.parse_tree.specs.plain.Reading.{times}
+use Rattle.parse_tree.specs.working.Decode.{readSym}
 use mathlib.Core.Bool.{true}
 use mathlib.Core.Path.{_≡_}
 use Rattle.validate.proofs.Walking.{walking}

@@ -7,27 +7,21 @@ use Rattle.validate.proofs.symbols.inside.Lts as lts
 use Rattle.octets.proofs.wide.from16.Reads as from16-reads
 use Rattle.octets.proofs.wide.from8.Reads as from8-reads
 
--- src/symbols.rt:35:24
 enum-known-o : tie.Need-enum-known-o
 enum-known-o c = search needs
 
--- src/symbols.rt:35:30
 from8-requires : tie.Need-from8-requires
 from8-requires c κs = search needs
 
--- src/symbols.rt:36:21
 enum-known-o-2 : tie.Need-enum-known-o-2
 enum-known-o-2 c = search needs
 
--- src/symbols.rt:36:27
 from16-requires : tie.Need-from16-requires
 from16-requires c κs = search needs
 
--- src/symbols.rt:31:1
 returns : tie.Need-returns
 returns c = search insides
 
--- src/symbols.rt:31:1
 returns-2 : tie.Need-returns-2
 returns-2 c = search insides
 

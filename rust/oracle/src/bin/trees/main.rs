@@ -1,5 +1,5 @@
 //! `trees SEED COUNT [ROWS]`: an antt module with COUNT random trees, what LALRPOP's passes answer to each, and theorems by `refl`
-//! that `passes` (crates/grammar/specs/Passes.antt) answers the same, ROWS trees to a theorem (25).
+//! that `passes` (crates/passes/specs/Passes.antt) answers the same, ROWS trees to a theorem (25).
 #[cfg(lalrpop)]
 mod grow;
 #[cfg(lalrpop)]

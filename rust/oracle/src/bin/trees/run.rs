@@ -2,9 +2,9 @@
 use crate::{grow, show};
 use oracle::answers::number_of;
 use oracle::chance::Chance;
+use oracle::expanding::passes;
 use oracle::grammar::parse_tree::{Grammar, Span};
-use oracle::normalize::{macro_expand::expand_macros, precedence::expand_precedence, NormError};
-use std::panic::catch_unwind;
+use oracle::normalize::NormError;
 
 const HEAD: &str = include_str!("head.txt");
 const UNFOLDING: &str = include_str!("unfolding.txt");
@@ -24,14 +24,11 @@ fn panic_numbers(message: &str) -> (usize, usize) {
 }
 
 fn ask_lalrpop(tree: &Grammar, limit: u16) -> Answer {
-    let input = tree.clone();
-    match catch_unwind(move || expand_macros(expand_precedence(input)?, limit)) {
+    match passes(tree.clone(), limit) {
         Ok(Ok(output)) => Answer::Yes(output),
         Ok(Err(NormError { message, span })) => Answer::No(number_of(&message).into(), span),
-        Err(panic) => {
-            let text = panic.downcast_ref::<String>().cloned();
-            let message = text.or(panic.downcast_ref::<&str>().map(|text| text.to_string()));
-            let (first, last) = panic_numbers(&message.unwrap_or_default());
+        Err(message) => {
+            let (first, last) = panic_numbers(&message);
             Answer::Panic(first, last)
         }
     }

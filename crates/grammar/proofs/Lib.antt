@@ -1,4 +1,0 @@
--- Computed cases.
-mod Build
-mod Starred
-mod Needed

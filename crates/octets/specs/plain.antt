@@ -1,0 +1,3 @@
+-- Numbers in bytes, and runs of bytes.
+pub mod Numbers
+pub mod Runs

@@ -1,0 +1,4 @@
+pub mod Outcomes
+-- Computed cases.
+mod Build
+mod Starred
