@@ -1,4 +1,4 @@
 pub mod Outcomes
 -- Computed cases.
-mod Build
+pub mod Build
 mod Starred

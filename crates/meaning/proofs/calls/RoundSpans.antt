@@ -189,10 +189,10 @@ module _ (P : Span → Type 0) where
 
     item-spans : (x : Pending) (d : Nonterminal) → SymSpans P (symbolOf x) → expandSymbol G x ≡ yes d → ItemOf d
     unfolding expandSymbol
-    item-spans (looking s ahead) d h e = yes-as ItemOf e (look-spans s _ ahead h)
-    item-spans (looking s behind) d h e = yes-as ItemOf e (look-spans s _ behind h)
-    item-spans (repeating s o x) d h e = yes-as ItemOf e (repeat-spans s _ o x (h .0) (h .1))
-    item-spans (listing s o xs) d h e = overItem-spans s _ o xs d (h .0) (h .1) e
+    item-spans (looking s ahead) d h e = yes-as ItemOf e (look-spans s (print (leaf s lookahead)) ahead h)
+    item-spans (looking s behind) d h e = yes-as ItemOf e (look-spans s (print (leaf s lookbehind)) behind h)
+    item-spans (repeating s o x) d h e = yes-as ItemOf e (repeat-spans s (print (around s (repeat o) x)) o x (h .0) (h .1))
+    item-spans (listing s o xs) d h e = overItem-spans s (print (over s o xs)) o xs d (h .0) (h .1) e
 
     pub drain-spans : (xs : List Pending) (new : List Item) → Each (λ x. SymSpans P (symbolOf x)) xs → drain G xs ≡ yes new → Each (ItemSpans P) new
     unfolding drain
