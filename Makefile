@@ -1,7 +1,7 @@
 # run, test: README's two commands. compare: resolving set against the Rust on some hundred thousand tapes. bench: nanoseconds per byte.
-# proofs-test: that tools/proofs makes two proofs again as they stand.
+# proofs-test: that tools/proofs makes two proofs again as they stand. trust: counts what a reader must believe, and holds docs/TRUST.md to the files.
 # They need the Rattle kit's rt, cargo and make.
-.PHONY: run test rust compare bench proofs-test clean need-rt
+.PHONY: run test rust compare bench trust proofs-test clean need-rt
 
 cargo = cargo $(1) --quiet --offline --manifest-path rust/Cargo.toml --target-dir target/rust
 
@@ -26,13 +26,17 @@ compare: need-rt
 	$(call cargo,run) --release -p compare --bin compare -- $(or $(SEED),1) $(or $(COUNT),200000)
 
 bench: need-rt
-	rt staticlib validate > /dev/null
 	rt staticlib normalize > /dev/null
 	$(call cargo,run) --release -p bench
 
 # no part of `test`: what the tools write is proved there, so a fault of theirs costs time and no truth; and two crates are checked once more
 proofs-test:
 	tools/proofs/test.sh
+
+# no part of `test`, which needs no Python; the gate holds the line numbers by itself
+trust:
+	@python3 tools/plain_tier.py --check
+	@python3 tools/trust.py
 
 clean:
 	rm -rf target

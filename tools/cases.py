@@ -1,8 +1,8 @@
 #!/usr/bin/env python3
-"""tools/cases.py: writes crates/cases/stdin, the cases that the program `cases` puts to `validate`, and crates/cases/stdout.
-The answers are stated here, from document 01 ("From boxes and vectors to a tape", "Questions put to a tape"): a case says yes
+"""tools/cases.py input|expected: prints the lines that the program `cases` puts to the call for validating, or their answers (tools/cases.sh
+has both written). The answers are stated here, from document 01 ("From boxes and vectors to a tape", "Questions put to a tape"): a case says yes
 or the number of the question, and HERE stands among its commands where the refusal points. Nothing here reads a tape."""
-import os
+import sys
 
 HERE = object()
 WORK, ROOM = 8, 400000           # bytes of work for each byte of the tape; room for a tape in the program
@@ -113,8 +113,8 @@ def word(part):
 def add(case, parts, work, answer):
     assert case not in names and " " not in case and sum(map(length, parts)) <= ROOM, case
     names.add(case)
-    lines.append(" ".join([case] + [word(p) for p in parts if length(p)] + ([] if work is None else [f"w{work}"])))
-    answers.append(f"{case} {answer}")
+    lines.append(" ".join(["validate", case] + [word(p) for p in parts if length(p)] + ([] if work is None else [f"w{work}"])))
+    answers.append(f"validate {case} {answer}")
 
 
 def yes(case, *parts, work=None):
@@ -609,18 +609,18 @@ def spans():
 
 
 def lines_that_are_none():
-    for line in ["", " 00", "odd 0", "odd3 000", "letter 0G", "low aa", "two  00", "behind 00 ", "no-number a", "no-length w", "no-times x41",
-                 "word-in a1b", "times-in 1x2x41", "odd-times 2x4", "too-many a70305", "too-far 400001x00", "too-far2 400000x00 00",
-                 "too-much w3200001", "large w10000000", "larger w99999999999999999999", "stray -"]:
+    for line in ["", " ", "validate", "validate ", "validate  00", " validate none", "valid none", "Validate none", "levels none", "resolve", "resolve "]:
         malformed(line)
+    for words in ["odd 0", "odd3 000", "letter 0G", "low aa", "two  00", "behind 00 ", "no-number a", "no-length w", "no-output o", "no-times x41",
+                  "word-in a1b", "times-in 1x2x41", "odd-times 2x4", "too-many a70305", "too-far 400001x00", "too-far2 400000x00 00",
+                  "too-much w3200001", "too-much-output o16385", "large w10000000", "larger w99999999999999999999", "stray -"]:
+        malformed(f"validate {words}")
 
 
 yes("empty")                     # "The empty tape is a grammar without items"
 for part in [commands_by_places, unknown_codes, cut_off, atoms_whole, behind_an_item, counts, operands, zeros_that_are_no_atoms, repeated_atoms,
              nesting, many_atoms, texts, order, work, prefixes, spans, lines_that_are_none]:
     part()
-folder = os.path.join(os.path.dirname(os.path.dirname(os.path.abspath(__file__))), "crates", "cases")
-for file, text in [("stdin", lines), ("stdout", answers)]:
-    with open(os.path.join(folder, file), "w", encoding="ascii") as f:
-        f.write("".join(t + "\n" for t in text))
-print(len(lines), "cases,", sum(len(t) + 1 for t in lines), "bytes")
+if sys.argv[1:] not in (["input"], ["expected"]):
+    sys.exit("usage: tools/cases.py input|expected")
+print("\n".join(lines if sys.argv[1] == "input" else answers))

@@ -1,7 +1,7 @@
 #!/usr/bin/env python3
 """tools/plain_tier.py [--list]: counts the plain tier, the definitions of specs/ that a reader must believe: those which the exported
 contracts and the statements of demand 3 reach. Lines are counted without blank ones, imports and comments. --list names each with its lines.
-With --check, the count must be the one that docs/TRUST.md prints, and at most LIMIT."""
+With --check, the count must be the one that docs/TRUST.md prints and at most LIMIT, and no working definition may be among them."""
 import glob
 import os
 import re
@@ -12,7 +12,7 @@ LIMIT = 1250
 # where the statements stand: exported functions (every ensures of these files), and demand 3
 EXPORTS = "crates/*/src/export.rt"
 DEMAND_3 = "crates/meaning/proofs/**/OnBytes.antt"
-THEOREMS = ["demand-3", "higher-answer", "higher-bytes"]
+THEOREMS = ["demand-3", "demand-3-flat", "higher-answer", "higher-bytes"]
 # the calls, of which not all are exported yet
 CALLS = ["validateCall", "resolveCall", "levelsCall", "macrosCall", "whole", "answerWords", "written", "workAfter"]
 
@@ -58,10 +58,11 @@ def definitions(path):
     for line in lines_of(f"{ROOT}/{path}"):
         if line.startswith("use ") or re.match(r"^(pub )?mod ", line):
             continue
-        inside = current and re.match(r"^\s*pub (?:data|record) ", current.lines[0]) and indent(line) > indent(current.lines[0])
+        inside = current and not BLOCK.match(line) and re.match(r"^\s*pub (?:data|record) ", current.lines[0]) and indent(line) > indent(current.lines[0])
         m = DECLARED.match(line)
         if not inside and BLOCK.match(line):
             waiting.append(line)
+            current = None
         elif not inside and m and (line.lstrip().startswith(("abbrev", "unfoldable", "pub "))):
             current = Definition(path, m.group(1))
             current.lines, waiting = [line] + waiting, []
@@ -152,6 +153,17 @@ def reached(specs):
     return list(seen.values())
 
 
+def check(total, files):
+    """What is wrong: a working definition that a reader would need, more lines than LIMIT, or another number on the page."""
+    wrong = [f"{path} is reached, and is no plain file" for path in files if "/working/" in path]
+    if total > LIMIT:
+        wrong.append(f"{total} lines are more than {LIMIT}")
+    printed = re.search(r"plain tier: ([\d,]+) lines", open(f"{ROOT}/docs/TRUST.md").read())
+    if not printed or int(printed.group(1).replace(",", "")) != total:
+        wrong.append(f"docs/TRUST.md does not say 'plain tier: {total:,} lines'")
+    return wrong
+
+
 def main():
     found = reached(Specs())
     files = {}
@@ -166,7 +178,11 @@ def main():
             for d in files[path]:
                 print(f"      {len(d.lines):4} {d.name}")
     print(f"{total:5} lines, {len(found)} definitions")
+    wrong = check(total, files) if "--check" in sys.argv else []
+    for line in wrong:
+        print(f"plain tier: {line}")
+    return 1 if wrong else 0
 
 
 if __name__ == "__main__":
-    main()
+    sys.exit(main())

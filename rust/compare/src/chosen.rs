@@ -18,7 +18,7 @@ pub const MOST_OUTPUT: usize = 512;
 pub const MOST_WORK: usize = 8_192;
 
 /// The cases by answer, or nothing where the Rust isn't there.
-pub fn vectors() -> Option<Vec<(Case, Outcome)>> {
+pub fn stored() -> Option<Vec<(Case, Outcome)>> {
     let mut found: BTreeMap<u8, Vec<(Case, Outcome)>> = BTreeMap::new();
     for case in candidates().take_while(|_| oracle::is_there()) {
         let outcome = expected(&case)?;
@@ -53,15 +53,22 @@ fn candidates() -> impl Iterator<Item = Case> {
     known.chain(room).chain(short).chain(random).filter(small)
 }
 
-/// The tape in hex (`-` if empty), the output's length, work's length.
-pub fn case_line(case: &Case) -> String {
-    format!("{} {} {}", hex(&case.tape), case.output_len(), case.work_len())
+/// The lines of crates/cases for the list, each with its answer.
+pub fn lines(list: &[(Case, Outcome)]) -> Vec<(String, String)> {
+    list.iter().enumerate().map(|(index, (case, outcome))| (case_line(index, case), answer_line(index, outcome))).collect()
 }
 
-/// `yes LENGTH TREE` or `no NUMBER PLACE PLACE`.
-pub fn answer_line(outcome: &Outcome) -> String {
-    match outcome {
+/// The call, the name, the tape in hex if it has a byte, the output's length, work's length.
+fn case_line(index: usize, case: &Case) -> String {
+    let tape = if case.tape.is_empty() { String::new() } else { format!(" {}", hex(&case.tape)) };
+    format!("resolve stored-{index}{tape} o{} w{}", case.output_len(), case.work_len())
+}
+
+/// `yes LENGTH TREE` or `refused NUMBER PLACE PLACE`, behind the call and the name.
+fn answer_line(index: usize, outcome: &Outcome) -> String {
+    let answer = match outcome {
         Ok(tree) => format!("yes {} {}", tree.len(), hex(tree)),
-        Err(refusal) => format!("no {} {} {}", refusal.number, refusal.place.0, refusal.place.1),
-    }
+        Err(refusal) => format!("refused {} {} {}", refusal.number, refusal.place.0, refusal.place.1),
+    };
+    format!("resolve stored-{index} {answer}")
 }

@@ -1,5 +1,5 @@
 //! Of the Rust's side alone: what goes in comes back, the unit tests' refusals are its own, the stored list has every answer.
-use compare::chosen::{answer_line, case_line, vectors, LONGEST, NUMBERS, OF_EACH};
+use compare::chosen::{lines, stored, LONGEST, NUMBERS, OF_EACH};
 use compare::grow::{tree, Size};
 use compare::{grammars, the_rust_is_there};
 use oracle::chance::Chance;
@@ -33,7 +33,7 @@ fn the_stored_list_has_each_answer() {
     if !the_rust_is_there(NUMBERS.len() * OF_EACH) {
         return;
     }
-    let list = vectors().unwrap();
+    let list = stored().unwrap();
     assert_eq!(list.len(), NUMBERS.len() * OF_EACH);
     assert!(list.iter().all(|(case, _)| case.tape.len() <= LONGEST));
     for number in NUMBERS {
@@ -42,15 +42,15 @@ fn the_stored_list_has_each_answer() {
     }
 }
 
-/// What crates/vectors replays is what this list says.
+/// What crates/cases puts to resolving is what this list says.
 #[test]
 fn the_stored_files_are_this_list() {
     if !the_rust_is_there(NUMBERS.len() * OF_EACH) {
         return;
     }
-    let stored = |name: &str| std::fs::read_to_string(format!("{}/../../crates/vectors/{name}", env!("CARGO_MANIFEST_DIR"))).unwrap();
-    let (cases, answers): (Vec<String>, Vec<String>) =
-        vectors().unwrap().iter().map(|(case, outcome)| (case_line(case), answer_line(outcome))).unzip();
-    assert_eq!(stored("stdin").lines().collect::<Vec<_>>(), cases);
-    assert_eq!(stored("stdout").lines().collect::<Vec<_>>(), answers);
+    let file = |name: &str| std::fs::read_to_string(format!("{}/../../crates/cases/{name}", env!("CARGO_MANIFEST_DIR"))).unwrap();
+    let resolving = |text: &str| text.lines().filter(|line| line.starts_with("resolve stored-")).map(str::to_string).collect::<Vec<_>>();
+    let (cases, answers): (Vec<String>, Vec<String>) = lines(&stored().unwrap()).into_iter().unzip();
+    assert_eq!(resolving(&file("stdin")), cases);
+    assert_eq!(resolving(&file("stdout")), answers);
 }

@@ -16,6 +16,19 @@ pub fn work_len(tape: usize, output: usize) -> usize {
     tape.saturating_add(output).saturating_mul(8)
 }
 
+/// Questions 1 to 4 alone. `Ok` gives the tape's length.
+pub fn validate(tape: &[u8], work: &mut [u8]) -> Result<usize, Refusal> {
+    let mut answer = Words::default();
+    validate_words(tape, work, &mut answer);
+    answered(&answer)
+}
+
+/// The same, with the words as the archive writes them.
+pub fn validate_words(tape: &[u8], work: &mut [u8], answer: &mut Words) {
+    // SAFETY: the export takes two slices, each by pointer and length, and an array, and asks nothing else of them.
+    unsafe { archive::normalize_validate(tape.as_ptr(), tape.len(), work.as_mut_ptr(), work.len(), answer) }
+}
+
 /// Name resolution alone: questions 1 to 13, 20 and 21. At `Ok` the output begins with the tree, which has that length.
 pub fn resolve(tape: &[u8], output: &mut [u8], work: &mut [u8]) -> Result<usize, Refusal> {
     let mut answer = Words::default();
@@ -97,6 +110,34 @@ mod tests {
         let no = Err(Refusal { number: 1, place: (0, 0) });
         assert_eq!(run(&ATOM_A, 5, need - 1), (no, vec![0xaa; 5], vec![0xaa; need - 1]));
         assert_eq!(run(&ATOM_A, 5, need).0, Ok(4));
+    }
+
+    /// The answer of validating, and work, which held 0xaa before.
+    fn check(tape: &[u8], work: usize) -> (Result<usize, Refusal>, Vec<u8>) {
+        let mut work = vec![0xaa; work];
+        let answer = validate(tape, &mut work);
+        (answer, work)
+    }
+
+    #[test]
+    fn validating_asks_1_to_4_and_no_more() {
+        let twice = [&ATOM_A[..], &EXTERN_A, &EXTERN_A].concat();
+        let need = work_len(twice.len(), 0);
+        assert_eq!(check(&twice, need), (Ok(twice.len()), vec![0; need]));
+        assert_eq!(check(&twice, need - 1), (Err(Refusal { number: 1, place: (0, 0) }), vec![0xaa; need - 1]));
+        assert_eq!(check(&[0x01, 1, 0, b'A', 0xff], 40), (Err(Refusal { number: 2, place: (4, 4) }), vec![0; 40]));
+    }
+
+    /// Every word of an answer is written, whatever it held.
+    #[test]
+    fn each_word_is_written() {
+        let mut answer = [7; WORDS];
+        validate_words(&ATOM_A, &mut [0; 32], &mut answer);
+        assert_eq!(answer, [1, 4, 0, 0, 0]);
+        resolve_words(&[0x30], &mut [], &mut [0; 8], &mut answer);
+        assert_eq!(answer, [0, 2, 0, 0, 0]);
+        resolve_words(&ATOM_A, &mut [], &mut [], &mut answer);
+        assert_eq!(answer, [0, 1, 0, 0, 0]);
     }
 
     /// As docs/TAPE.md says of it.

@@ -1,10 +1,13 @@
--- `cases::line::read_words` is safe and ends. Assumes nothing.
-use Prim.Native.Nat.{_-_}
-use mathlib.Core.Path.{_≡_}
-use lib.ListN.{length}
 use borrow.Author.Needs.{needs}
+use lib.ListN.{length}
+use mathlib.Core.Path.{_≡_}
+use Prim.Native.Nat.{_-_}
 use Rattle.cases.proofs.line.read_words.Statement.{statement}
 use Rattle.cases.proofs.line.read_words.Tie as tie
+use Rattle.cases.proofs.line.read_words.Reads as reads
+use Rattle.cases.proofs.line.read_words.Lts as lts
+use Rattle.cases.proofs.line.read_word.Reads as read-word-reads
+use Rattle.notation.proofs.words.find.Reads as find-reads
 
 abbrev Inv-loop : tie.InvT-loop
 Inv-loop line from tape₀ c₀ at₀ tape c at = length tape ≡ length tape₀

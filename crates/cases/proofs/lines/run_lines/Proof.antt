@@ -1,16 +1,19 @@
--- `cases::lines::run_lines` is safe and ends. Assumes nothing.
-use Prim.Native.Nat.{_-_}
-use mathlib.Core.Path.{_≡_}
 use lib.ListN.{length}
+use mathlib.Core.Path.{_≡_}
+use Prim.Native.Nat.{_-_}
 use borrow.Author.Needs.{needs}
 use Rattle.cases.proofs.lines.run_lines.Statement.{statement}
 use Rattle.cases.proofs.lines.run_lines.Tie as tie
+use Rattle.cases.proofs.lines.run_lines.Reads as reads
+use Rattle.cases.proofs.lines.run_lines.Lts as lts
+use Rattle.cases.proofs.line.run_line.Reads as run-line-reads
+use Rattle.notation.proofs.words.find.Reads as find-reads
 
 abbrev Inv-loop : tie.InvT-loop
-Inv-loop input tape₀ work₀ at₀ tape work at = (length tape ≡ length tape₀) × (length work ≡ length work₀)
+Inv-loop input tape₀ output₀ work₀ at₀ tape output work at = (length tape ≡ length tape₀) × (length output ≡ length output₀) × (length work ≡ length work₀)
 
 abbrev μ-loop : tie.MeasureT-loop
-μ-loop input tape₀ work₀ at₀ tape work at = length input - at
+μ-loop input tape₀ output₀ work₀ at₀ tape output work at = length input - at
 
 loop-holds : tie.Need-loop-holds Inv-loop μ-loop
 loop-holds c = search needs
@@ -45,6 +48,9 @@ same-length c = search needs
 same-length-2 : tie.Need-same-length-2 Inv-loop μ-loop
 same-length-2 c = search needs
 
+same-length-3 : tie.Need-same-length-3 Inv-loop μ-loop
+same-length-3 c = search needs
+
 returns : tie.Need-returns Inv-loop μ-loop
 returns c = search needs
 
@@ -65,4 +71,5 @@ run-lines-spec =
     loop-again
     same-length
     same-length-2
+    same-length-3
     returns)

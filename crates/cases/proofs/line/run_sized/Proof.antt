@@ -1,12 +1,11 @@
--- `vectors::line::run_sized` is safe and ends. Assumes nothing.
 use Rattle.notation.proofs.Laws.{parts}
 use borrow.Author.Needs.{needs}
-use Rattle.vectors.proofs.line.run_sized.Statement.{statement}
-use Rattle.vectors.proofs.line.run_sized.Tie as tie
-use Rattle.vectors.proofs.line.run_sized.Reads as reads
-use Rattle.vectors.proofs.line.run_sized.Lts as lts
-use Rattle.vectors.proofs.line.print_bad.Reads as print-bad-reads
-use Rattle.vectors.proofs.report.run_case.Reads as run-case-reads
+use Rattle.cases.proofs.line.run_sized.Statement.{statement}
+use Rattle.cases.proofs.line.run_sized.Tie as tie
+use Rattle.cases.proofs.line.run_sized.Reads as reads
+use Rattle.cases.proofs.line.run_sized.Lts as lts
+use Rattle.cases.proofs.line.print_bad.Reads as print-bad-reads
+use Rattle.cases.proofs.report.run_case.Reads as run-case-reads
 
 print-bad-requires : tie.Need-print-bad-requires
 print-bad-requires c κs = search needs

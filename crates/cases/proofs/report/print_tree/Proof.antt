@@ -1,13 +1,12 @@
--- `vectors::report::print_tree` is safe and ends. Assumes nothing.
 use Rattle.notation.proofs.Laws.{parts}
 use borrow.Author.Needs.{needs}
-use Rattle.vectors.proofs.report.print_tree.Statement.{statement}
-use Rattle.vectors.proofs.report.print_tree.Tie as tie
-use Rattle.vectors.proofs.report.print_tree.Reads as reads
-use Rattle.vectors.proofs.report.print_tree.Lts as lts
+use Rattle.cases.proofs.report.print_tree.Statement.{statement}
+use Rattle.cases.proofs.report.print_tree.Tie as tie
+use Rattle.cases.proofs.report.print_tree.Reads as reads
+use Rattle.cases.proofs.report.print_tree.Lts as lts
+use Rattle.cases.proofs.report.print_bytes.Reads as print-bytes-reads
 use Rattle.io.proofs.write_all.Reads as write-all-reads
 use Rattle.notation.proofs.buffers.is_all.Reads as is-all-reads
-use Rattle.vectors.proofs.report.print_bytes.Reads as print-bytes-reads
 
 slice-aggregate-write-all : tie.Need-slice-aggregate-write-all
 slice-aggregate-write-all c = search needs

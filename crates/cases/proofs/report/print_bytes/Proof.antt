@@ -1,10 +1,9 @@
--- `vectors::report::print_bytes` is safe and ends. Assumes nothing.
 use Rattle.notation.proofs.Laws.{parts}
 use borrow.Author.Needs.{needs}
-use Rattle.vectors.proofs.report.print_bytes.Statement.{statement}
-use Rattle.vectors.proofs.report.print_bytes.Tie as tie
-use Rattle.vectors.proofs.report.print_bytes.Reads as reads
-use Rattle.vectors.proofs.report.print_bytes.Lts as lts
+use Rattle.cases.proofs.report.print_bytes.Statement.{statement}
+use Rattle.cases.proofs.report.print_bytes.Tie as tie
+use Rattle.cases.proofs.report.print_bytes.Reads as reads
+use Rattle.cases.proofs.report.print_bytes.Lts as lts
 use Rattle.io.proofs.write_all.Reads as write-all-reads
 use Rattle.notation.proofs.bytes.put_digits.Reads as put-digits-reads
 
