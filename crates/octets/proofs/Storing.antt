@@ -6,8 +6,8 @@ use Prim.Native.Nat.{ℕ, zero, suc, _+_, _/_, _%_, _^_, _≤_, _<_}
 use native.Mathlib.Omega.{arith}
 use native.Mathlib.Numerals.{add-one}
 use borrow.Author.Needs.{needs}
-use lib.ListN.{length, take, drop, set, getD, length-set}
-use lib.Seq.{sets, sets-eq, length-sets, getD-set-same, getD-set-other, length-take-le, drop-at, drop-drop, drop-append-seam}
+use lib.ListN.{length, take, drop, set, getD}
+use lib.Seq.{sets, sets-eq, length-sets, getD-set-other, length-take-le, drop-at, drop-drop, drop-append-seam}
 use Rattle.octets.specs.plain.Numbers.{leAt, le}
 use Rattle.octets.specs.working.Stores.{store}
 use Rattle.octets.specs.plain.Runs.{Lies}
@@ -58,18 +58,6 @@ sets-before (v ∷ vs) s at i h =
 pub getD-store-before : (s : List ℕ) (at : ℕ) (vs : List ℕ) (i : ℕ) → i < at → getD (store s at vs) i 0 ≡ getD s i 0
 unfolding store
 getD-store-before s at vs i h = sets-before vs s at i h
-
-sets-in : (vs s : List ℕ) (at j i : ℕ) → at + length vs ≤ length s → j < length vs → i ≡ at + j → getD (sets s at vs) i 0 ≡ getD vs j 0
-sets-in [] s at j i h k e = absurd (omega arith)
-sets-in (v ∷ vs) s at zero i h k e =
-    let z : i ≡ at = omega arith in
-    rw z (sets-before vs (set s at v) (suc at) at (omega arith) ∙ getD-set-same s at v 0 (omega arith))
-sets-in (v ∷ vs) s at (suc j) i h k e =
-    sets-in vs (set s at v) (suc at) j i (simp length-set (omega arith)) (omega arith) (omega arith)
-
-pub getD-store-in : (s : List ℕ) (at : ℕ) (vs : List ℕ) (j i : ℕ) → at + length vs ≤ length s → j < length vs → i ≡ at + j → getD (store s at vs) i 0 ≡ getD vs j 0
-unfolding store
-getD-store-in s at vs j i h k e = sets-in vs s at j i h k e
 
 sets-after : (vs s : List ℕ) (at i : ℕ) → at + length vs ≤ i → getD (sets s at vs) i 0 ≡ getD s i 0
 sets-after [] s at i h = refl

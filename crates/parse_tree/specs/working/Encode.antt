@@ -1,11 +1,10 @@
 -- From a tree to its tape. w is the width of an atom's number in bytes. Assumes nothing: these are definitions.
 use Prim.Native.Nat.{ℕ, _+_}
-use mathlib.Core.Bool.{Bool, true, false}
-use mathlib.Core.List.{List, [], _∷_, _++_}
-use mathlib.Core.Option.{Option, none, some}
+use mathlib.Core.List.{List, [], _++_}
+use mathlib.Core.Option.{none, some}
 use lib.ListN.{length}
 use Rattle.octets.specs.working.Choice.{pick}
-use Rattle.parse_tree.specs.plain.Tree.{Text, Op, Leaf, Around, Over, Sym, Syms, Action, Attribute, Condition, Alternative, Nonterminal, Source, Item, Stage, star, plus, question, ambiguous, bare, quoted, regex, nonterminal, lookahead, lookbehind, error, repeat, choose, name, macro, group, leaf, around, over, nil, cons, noAction, user, fallible, lookaheadAction, lookbehindAction, extern, match, item, terminal, count, conditions}
+use Rattle.parse_tree.specs.plain.Tree.{Text, Leaf, Around, Over, Sym, Syms, Action, Attribute, Condition, Alternative, Nonterminal, Source, Item, Stage, ambiguous, bare, quoted, regex, nonterminal, lookahead, lookbehind, error, repeat, choose, name, macro, group, leaf, around, over, nil, cons, noAction, user, fallible, lookaheadAction, lookbehindAction, extern, match, item, terminal, count, conditions}
 use Rattle.parse_tree.specs.plain.Texts.{number}
 use Rattle.parse_tree.specs.plain.References.{stageOf}
 use Rattle.parse_tree.specs.plain.WriteTape.{bytesOfEach, bit, opCode}

@@ -18,10 +18,7 @@ classOf (Node.Condition c) = 6
 classOf (Node.Symbol s k) = 7
 classOf Node.Unknown = 8
 
--- the rows: the place of a command
-abbrev pub atomsPlace : ℕ
-atomsPlace = 0
-
+-- the rows: the place of a command; row 0 is the atoms'
 abbrev pub itemsPlace : ℕ
 itemsPlace = 1
 
