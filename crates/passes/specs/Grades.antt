@@ -5,6 +5,7 @@ use mathlib.Core.List.{List, [], _∷_}
 use mathlib.Core.Option.{Option, none, some}
 use lib.Dec.{eqb, ltb, leb}
 use Rattle.octets.specs.plain.Runs.{sameAs}
+use Rattle.parse_tree.specs.plain.Texts.{ascii}
 use Rattle.parse_tree.specs.plain.Tree.{Text, Attribute, Alternative, Nonterminal}
 use Rattle.passes.specs.Outcome.{withAttributes}
 
@@ -31,17 +32,17 @@ levelIn (b ∷ bs) = cond (eqb b 43) (unsigned bs) (unsigned (b ∷ bs))
 -- "Side one of left, right, none, all"
 abbrev pub sideIn : Text → Option Side
 sideIn t =
-    cond (sameAs t (97 ∷ 108 ∷ 108 ∷ [])) (some all)
-    (cond (sameAs t (110 ∷ 111 ∷ 110 ∷ 101 ∷ [])) (some non)
-    (cond (sameAs t (108 ∷ 101 ∷ 102 ∷ 116 ∷ [])) (some left)
-    (cond (sameAs t (114 ∷ 105 ∷ 103 ∷ 104 ∷ 116 ∷ [])) (some right) none)))
+    cond (sameAs t (ascii "all")) (some all)
+    (cond (sameAs t (ascii "none")) (some non)
+    (cond (sameAs t (ascii "left")) (some left)
+    (cond (sameAs t (ascii "right")) (some right) none)))
 
 -- ---- attributes
 abbrev pub precedence : Text
-precedence = 112 ∷ 114 ∷ 101 ∷ 99 ∷ 101 ∷ 100 ∷ 101 ∷ 110 ∷ 99 ∷ 101 ∷ []
+precedence = ascii "precedence"
 
 abbrev pub assoc : Text
-assoc = 97 ∷ 115 ∷ 115 ∷ 111 ∷ 99 ∷ []
+assoc = ascii "assoc"
 
 -- "Only the first attribute of each id is taken": nothing where there is none, else its value, which may be missing
 abbrev pub valueOf : Text → List Attribute → Option (Option Text)

@@ -6,7 +6,7 @@ use mathlib.Core.Option.{Option, none, some}
 use lib.Dec.{eqb}
 use Rattle.octets.specs.plain.Runs.{sameAs}
 use Rattle.parse_tree.specs.plain.Tree.{Text, Op, star, plus, question, Around, Over, Sym, Syms, nonterminal, lookahead, lookbehind, repeat, choose, name, macro, group, leaf, around, over, nil, cons, count, Action, user, lookaheadAction, lookbehindAction, Condition, Alternative, Nonterminal, Item, item}
-use Rattle.parse_tree.specs.plain.Texts.{has}
+use Rattle.parse_tree.specs.plain.Texts.{ascii, has}
 use Rattle.parse_tree.specs.plain.Display.{print}
 use Rattle.parse_tree.specs.declared.syntax.Span.{Span}
 use Rattle.passes.specs.Views.{Look, ahead, behind, asNonterminal, asQuoted, asLook, asLeaf}
@@ -132,41 +132,32 @@ abbrev pub made : Span → Text → Bool → List Alternative → Nonterminal
 made s key inline as′ = record { span = s; name = key; inline = inline; public = false; args = []; alternatives = as′ }
 
 -- "Built-in action texts are the Rust's, byte for byte"
--- `alloc::vec![]`
 abbrev pub vecNone : Text
-vecNone = 97 ∷ 108 ∷ 108 ∷ 111 ∷ 99 ∷ 58 ∷ 58 ∷ 118 ∷ 101 ∷ 99 ∷ 33 ∷ 91 ∷ 93 ∷ []
+vecNone = ascii "alloc::vec![]"
 
--- `alloc::vec![<>]`
 abbrev pub vecOne : Text
-vecOne = 97 ∷ 108 ∷ 108 ∷ 111 ∷ 99 ∷ 58 ∷ 58 ∷ 118 ∷ 101 ∷ 99 ∷ 33 ∷ 91 ∷ 60 ∷ 62 ∷ 93 ∷ []
+vecOne = ascii "alloc::vec![<>]"
 
--- `{ let mut v = v; v.push(e); v }`
 abbrev pub pushed : Text
-pushed = 123 ∷ 32 ∷ 108 ∷ 101 ∷ 116 ∷ 32 ∷ 109 ∷ 117 ∷ 116 ∷ 32 ∷ 118 ∷ 32 ∷ 61 ∷ 32 ∷ 118 ∷ 59 ∷ 32 ∷ 118 ∷ 46 ∷ 112 ∷ 117 ∷ 115 ∷ 104 ∷ 40 ∷ 101 ∷ 41 ∷ 59 ∷ 32 ∷ 118 ∷ 32 ∷ 125 ∷ []
+pushed = ascii "{ let mut v = v; v.push(e); v }"
 
--- `Some(<>)`
 abbrev pub someText : Text
-someText = 83 ∷ 111 ∷ 109 ∷ 101 ∷ 40 ∷ 60 ∷ 62 ∷ 41 ∷ []
+someText = ascii "Some(<>)"
 
--- `None`
 abbrev pub noneText : Text
-noneText = 78 ∷ 111 ∷ 110 ∷ 101 ∷ []
+noneText = ascii "None"
 
--- `<>`
 abbrev pub oneChosen : Text
-oneChosen = 60 ∷ 62 ∷ []
+oneChosen = ascii "<>"
 
--- `(<>)`
 abbrev pub allChosen : Text
-allChosen = 40 ∷ 60 ∷ 62 ∷ 41 ∷ []
+allChosen = ascii "(<>)"
 
--- `v`
 abbrev pub vName : Text
-vName = 118 ∷ []
+vName = ascii "v"
 
--- `e`
 abbrev pub eName : Text
-eName = 101 ∷ []
+eName = ascii "e"
 
 -- ---- groups: "Group without a direct name symbol? 19"
 abbrev pub isNamed : Sym → Bool

@@ -1,10 +1,18 @@
 -- Texts and their classes, and lists of texts by number. Assumes nothing: these are definitions.
 use Prim.Native.Nat.{ℕ, suc}
+use Prim.Native.Char.{code}
+use Prim.Native.String.{String}
+use Prim.Native.String as Quoted
 use mathlib.Core.Bool.{Bool, true, false, _&&_, _||_, not}
 use mathlib.Core.List.{List, [], _∷_, _++_}
 use lib.Dec.{eqb, leb}
 use Rattle.octets.specs.plain.Runs.{sameAs}
 use Rattle.parse_tree.specs.plain.Tree.{Text}
+
+-- the bytes of a text that is written out, of ASCII characters
+abbrev pub ascii : String → Text
+ascii Quoted.[] = []
+ascii (Quoted._∷_ c cs) = code c ∷ ascii cs
 
 -- whether every byte passes a test
 unfoldable pub every : (ℕ → Bool) → Text → Bool
@@ -26,12 +34,11 @@ unfoldable pub nameBytes : Text → Bool
 nameBytes [] = false
 nameBytes (b ∷ bs) = startsName b && every inName bs
 
--- `mut` and `error`
 abbrev pub mutText : Text
-mutText = 0x6d ∷ 0x75 ∷ 0x74 ∷ []
+mutText = ascii "mut"
 
 abbrev pub errorText : Text
-errorText = 0x65 ∷ 0x72 ∷ 0x72 ∷ 0x6f ∷ 0x72 ∷ []
+errorText = ascii "error"
 
 -- "Names are nonempty: letter or `_`, then letters, digits, `_`; `mut` and `error` are refused"
 unfoldable pub isName : Text → Bool
