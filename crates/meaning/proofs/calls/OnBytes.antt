@@ -21,7 +21,8 @@ use Rattle.meaning.specs.Premises.{Unmarked, HasItem, Flat}
 use Rattle.passes.specs.Stages.{allStages}
 use Rattle.passes.specs.Calls.{sizes, validateCall, whole, answerWords, written}
 use Rattle.passes.proofs.Outcomes.{after-yes}
-use Rattle.meaning.proofs.calls.Staged.{opened, whole-passes, whole-higher}
+use Rattle.meaning.proofs.calls.Staged.{opened, whole-higher}
+use Rattle.meaning.proofs.calls.Agreement.{whole-passes}
 use Rattle.meaning.proofs.macros.TreeRounds.{passTree, passes-tree}
 use Rattle.meaning.proofs.calls.Tapes.{unresolved}
 use Rattle.meaning.proofs.calls.Output.{output-read}
@@ -53,7 +54,7 @@ module _ (tape output work : List ℕ) (limit n e k : ℕ) (U g X : Stage) (byte
       let (u, eu, e1) = after-yes (validateCall true 2 tape (length output) (length work)) (allStages (sizes 2 (length output)) limit) g accepted in
       let o = opened true 2 tape (length output) (length work) u eu in
       let same : u ≡ U = got-value u U (o .end) e (sym (o .decoded) ∙ reads) in
-      let p = whole-passes true 2 tape limit (length output) (length work) u g eu accepted in
+      let p = whole-passes true 2 tape limit (length output) (length work) u eu g accepted in
       ap (λ (z : Stage). passTree limit (z .items)) (sym same) ∙ sym (passes-tree limit (u .items)) ∙ p ∙ ap (λ (x : Stage). yes (x .items)) wrote
 
   within : StageWithin true 2 U
