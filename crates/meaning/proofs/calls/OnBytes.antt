@@ -92,9 +92,11 @@ module _ (tape output work output′ work′ : List ℕ) (l l′ n : ℕ) (accep
       let (g, yes-g, long) = answered (whole true 2 tape l (length output) (length work)) n accepted in
       whole-higher true 2 tape l l′ (length output) (length output′) (length work) (length work′) g higher longer enough yes-g ∙ sym yes-g
 
+  -- theorem: the answer
   pub higher-answer : answerWords 2 (whole true 2 tape l′ (length output′) (length work′)) ≡ 1 ∷ n ∷ 0 ∷ 0 ∷ 0 ∷ []
   higher-answer = ap (answerWords 2) again ∙ accepted
 
+  -- theorem: and the tree's bytes
   pub higher-bytes : take n (written 2 (whole true 2 tape l′ (length output′) (length work′)) output′) ≡ take n (written 2 (whole true 2 tape l (length output) (length work)) output)
   higher-bytes =
       let (g, yes-g, long) = answered (whole true 2 tape l (length output) (length work)) n accepted in

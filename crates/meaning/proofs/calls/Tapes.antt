@@ -12,7 +12,8 @@ use Rattle.parse_tree.specs.plain.Texts.{isName}
 use Rattle.parse_tree.specs.working.Within.{Each, Uses, LeafWithin, AroundWithin, OverWithin, SymWithin, SymsWithin, NonterminalWithin, ItemWithin, StageWithin}
 use Rattle.passes.specs.Outcome.{Tree}
 use Rattle.meaning.specs.Meaning.{isTerminal}
-use Rattle.meaning.specs.Premises.{UnmarkedLeaf, UnmarkedSym, UnmarkedSyms, Unmarked, UnresolvedLeaf, NamedAround, NamedOver, UnresolvedSym, UnresolvedSyms, Unresolved}
+use Rattle.meaning.specs.Premises.{UnmarkedLeaf, UnmarkedSym, UnmarkedSyms, Unmarked}
+use Rattle.meaning.proofs.Predicates.{UnresolvedLeaf, NamedAround, NamedOver, UnresolvedSym, UnresolvedSyms, Unresolved}
 use Rattle.meaning.proofs.Basics.{or-cases, each-at}
 
 module _ (ts : List Text) where
