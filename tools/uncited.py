@@ -64,7 +64,7 @@ def declared(path):
     lines = open(path).read().split("\n")
     for number, line in enumerate(lines):
         match = SIGNATURE.match(line)
-        statement = number > 0 and lines[number - 1].startswith("-- theorem")
+        statement = number > 0 and lines[number - 1].strip().startswith("-- theorem")
         if match and len(match.group(1)) <= 2 and not statement:
             yield match.group(3), number + 1, match.group(1)
 

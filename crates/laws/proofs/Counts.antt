@@ -20,7 +20,7 @@ use Rattle.passes.specs.Outcome.{withSymbols, withAlternatives}
 use Rattle.passes.specs.Macros.{Pending, looking, repeating, listing, symbolOf, spanOf, Expander, push, replaceAround, replaceSymbol, replaceSymbols, replaceAlternatives, replaceItems}
 use Rattle.passes.specs.Views.{ahead, behind}
 use Rattle.laws.specs.Flat.{nodes, nodesAll}
-use Rattle.laws.specs.Counts.{looksLeaf, looks, looksAll, repeats, expanded, expandedAll, headsIn, heads, overAlternatives, overItems}
+use Rattle.laws.specs.Counts.{looksLeaf, looks, looksAll, repeats, countExpanded, countExpandedAll, headsIn, heads, overAlternatives, overItems}
 use Rattle.laws.proofs.Flat.{nodes-few, nodes-all-few}
 
 -- ---- what is replaced, and what grows, is a symbol
@@ -40,14 +40,14 @@ around-repeats choose = omega arith
 around-repeats (name m n) = omega arith
 
 mutual
-  unfolding expanded nodes
+  unfolding countExpanded nodes
 
-  pub expanded-few : (x : Sym) → expanded x ≤ nodes x
+  pub expanded-few : (x : Sym) → countExpanded x ≤ nodes x
   expanded-few (leaf s l) = leaf-looks l
   expanded-few (around s a x) = omega (arith, around-repeats a, expanded-few x)
   expanded-few (over s o xs) = omega (arith, expanded-all-few xs)
 
-  pub expanded-all-few : (xs : Syms) → expandedAll xs ≤ nodesAll xs
+  pub expanded-all-few : (xs : Syms) → countExpandedAll xs ≤ nodesAll xs
   expanded-all-few nil = omega arith
   expanded-all-few (cons x xs) = omega (arith, expanded-few x, expanded-all-few xs)
 
@@ -125,11 +125,11 @@ over-items-less f g h (item d ∷ is) = omega (arith, go (d .alternatives), over
     go (a ∷ as′) = omega (arith, h (a .symbols), go as′)
 over-items-less f g h (Item.terminal s o x ∷ is) = over-items-less f g h is
 
--- what the sums of a round ask: 9 c + qs ≤ s
-pub expanded-fit : (ts : List Text) (is : List Item) → 9 * overItems expandedAll is + heads is ≤ length (bytesOfEach (itemBytes 2 ts) is)
-expanded-fit ts is = omega (arith, items-few ts is, over-items-less expandedAll nodesAll expanded-all-few is)
+-- theorem: what the sums of a round ask: 9 c + qs ≤ s
+pub expanded-fit : (ts : List Text) (is : List Item) → 9 * overItems countExpandedAll is + heads is ≤ length (bytesOfEach (itemBytes 2 ts) is)
+expanded-fit ts is = omega (arith, items-few ts is, over-items-less countExpandedAll nodesAll expanded-all-few is)
 
--- and nine bytes for each symbol straight in an alternative, whatever it is
+-- theorem: and nine bytes for each symbol straight in an alternative, whatever it is
 pub straight-fit : (ts : List Text) (is : List Item) → 9 * overItems count is + heads is ≤ length (bytesOfEach (itemBytes 2 ts) is)
 straight-fit ts is = omega (arith, items-few ts is, over-items-less count nodesAll count-few is)
 

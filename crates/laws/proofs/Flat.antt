@@ -181,10 +181,6 @@ module _ (w : ℕ) (ts : List Text) where
         many = omega (arith, joined-count (children x) xs, inside-count x);
       }
 
-  pub no-step : (s : List ℕ) (p e : ℕ) → Lies s p (symsBytes w ts nil) e → p ≡ e
-  unfolding symsBytes
-  no-step s p e l = omega (arith, l .end)
-
 -- ---- an effect on each command
 module _ (w : ℕ) {A : Type 0} (effect : A → ℕ → Node → A) (ts : List Text) where
   abbrev size : Sym → ℕ
@@ -204,7 +200,7 @@ module _ (w : ℕ) {A : Type 0} (effect : A → ℕ → Node → A) (ts : List T
   fold-inside (around s a x) acc at = refl
   fold-inside (over s o xs) acc at = refl
 
-  -- the fold over what is left, from the state there: what a loop keeps
+  -- theorem: the fold over what is left, from the state there: what a loop keeps
   pub fold-step : (x : Sym) (xs : Syms) (acc : A) (at : ℕ) → foldSyms w effect ts (cons x xs) acc at ≡ foldSyms w effect ts (joined (children x) xs) (effect acc at (symNode ts x)) (at + size x)
   unfolding foldSyms sizeOf
   fold-step x xs acc at =

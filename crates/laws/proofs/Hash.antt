@@ -34,6 +34,7 @@ module _ (B : ℕ) where
   hashFrom-small h [] l = l
   hashFrom-small h (b ∷ bs) l = hashFrom-small ((h + b) * B % 4294967296) bs (mod-lt ((h + b) * B) (omega arith))
 
+  -- theorem
   pub hash-small : (t : List ℕ) → hash B t < 4294967296
   unfolding hash
   hash-small t = hashFrom-small 0 t (omega arith)
@@ -102,6 +103,7 @@ module _ (B : ℕ) where
       go true e = let l = ltb-true n 65536 e in less l (stop-less n l)
       go false e = let l = ltb-false n 65536 e in full l (stop-full n l)
 
+  -- theorem
   pub stop-small : (n : ℕ) → stop n ≤ 65536
   stop-small n = go (stops n)
     where
@@ -117,7 +119,7 @@ module _ (B : ℕ) where
       go (less l e) (full k f) = stop-full (m + n) (omega arith) ∙ sym (stop-full (stop m + stop n) (omega arith))
       go (full l e) y = stop-full (m + n) (omega arith) ∙ sym (stop-full (stop m + stop n) (omega arith))
 
-  -- a length below the stop is the length
+  -- theorem: a length below the stop is the length
   pub stop-exact : (n : ℕ) → stop n < 65536 → stop n ≡ n
   stop-exact n h = go (stops n)
     where
@@ -130,6 +132,7 @@ module _ (B : ℕ) where
   unfolding formOf join
   form-append xs ys = cc (length-append xs ys, hash-append xs ys, power-add (length xs) (length ys), stop-add (length xs) (length ys))
 
+  -- theorem
   pub form-none : formOf B [] ≡ record { hash = 0; power = 1; len = 0 }
   unfolding formOf hash hashFrom power stop pick
   form-none = refl
@@ -142,15 +145,12 @@ module _ (B : ℕ) where
       let o : stop 1 ≡ 1 = stop-less 1 (omega arith) in
       cc (n, z, o, hashFrom-append 0 xs (b ∷ []), stop-add (length xs) 1)
 
-  -- equal texts have equal forms: a miss is a miss
-  pub form-same : (xs ys : List ℕ) → xs ≡ ys → formOf B xs ≡ formOf B ys
-  form-same xs ys e = ap (formOf B) e
-
   -- ---- nothing wraps
+  -- theorem
   pub join-fits : (h p k : ℕ) → h < 4294967296 → p < 4294967296 → k < 4294967296 → (h * p < 2 ^ 64) × (h * p + k < 2 ^ 64)
   join-fits h p k a b c = let m = mul-le-mul {n₁ = h} {m₁ = p} {n₂ = 4294967295} {m₂ = 4294967295} (omega arith) (omega arith) in (omega arith, omega arith)
 
-  -- a byte more: B is at most 2^32 - 255
+  -- theorem: a byte more: B is at most 2^32 - 255
   pub more-fits : (h b : ℕ) → h < 4294967296 → b < 256 → B ≤ 4294967041 → (h + b) * B < 2 ^ 64
   more-fits h b l k c = let m = mul-le-mul {n₁ = h + b} {m₁ = B} {n₂ = 4294967550} {m₂ = 4294967041} (omega arith) c in omega arith
 
@@ -158,6 +158,7 @@ module _ (B : ℕ) where
   pub bucket-small : (h n : ℕ) → h < 4294967296 → 0 < n → h * n / 4294967296 < n
   bucket-small h n l k = let m = mul-lt-mul-of-pos-right {m = h} {n = 4294967296} {k = n} l k in omega arith
 
+  -- theorem
   pub bucket-fits : (h n : ℕ) → h < 4294967296 → n ≤ 4294967296 → h * n < 2 ^ 64
   bucket-fits h n l k = let m = mul-le-mul {n₁ = h} {m₁ = n} {n₂ = 4294967295} {m₂ = 4294967296} (omega arith) k in omega arith
 
@@ -169,6 +170,7 @@ power-times B m (suc k) =
     let z : suc k * m ≡ k * m + m = omega arith in
     rw (power-times B m k, z) (sym (power-add B (k * m) m))
 
+-- theorem
 pub power-tables : (B n : ℕ) → power B n ≡ power B (n % 256) * power (power B 256) (n / 256) % 4294967296
 power-tables B n =
     let z : n ≡ n % 256 + n / 256 * 256 = omega arith in

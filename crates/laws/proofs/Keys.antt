@@ -16,7 +16,7 @@ use Rattle.passes.specs.Outcome.{Tree, Outcome, yes, no, after, simple}
 use Rattle.passes.specs.Macros.{Pending, looking, repeating, listing, symbolOf, expandAlternative, expandLookaroundSymbol, Expander, push, replaceAround, replaceSymbol, replaceSymbols, replaceAlternatives, replaceItems, at, argumentOf, orName, macroExpandSymbol, macroExpandSymbols, evaluateCondition, expandAlternatives, macroIn, expandMacroSymbol, expandRepeatSymbol, expandExprSymbol, expandSymbol, drain, hasName, groupAction, made, oneChosen, vName, eName}
 use Rattle.passes.specs.Views.{Look, ahead, behind}
 use Rattle.passes.proofs.Outcomes.{no≢yes, after-yes}
-use Rattle.laws.specs.Keys.{Sound, Expands, LeafSound, AroundSound, OverSound, SymSound, SymsSound, AlternativeSound, ItemSound, Piled}
+use Rattle.laws.specs.Keys.{SoundText, Expands, LeafSound, AroundSound, OverSound, SymSound, SymsSound, AlternativeSound, ItemSound, Piled}
 use Rattle.laws.proofs.Prints.{unlike-start, print-built, print-sound, ident-sound}
 
 -- ---- pushing
@@ -89,7 +89,7 @@ at-sound s (leaf t l) h = h
 at-sound s (around t a x) h = h
 at-sound s (over t o xs) h = h
 
-argument-sound : (s : Span) (n : Text) (ps : List Text) (xs : Syms) → Sound n → SymsSound xs → SymSound (orName s n (argumentOf ps xs n))
+argument-sound : (s : Span) (n : Text) (ps : List Text) (xs : Syms) → SoundText n → SymsSound xs → SymSound (orName s n (argumentOf ps xs n))
 argument-sound s n [] xs h k = h
 argument-sound s n (p ∷ ps) nil h k = h
 argument-sound s n (p ∷ ps) (cons x xs) h k = go (sameAs n p) (argument-sound s n ps xs h (k .1))
@@ -166,7 +166,7 @@ e-ident : nameBytes eName ≡ true
 unfolding nameBytes startsName every
 e-ident = refl
 
-repeat-sound : (s : Span) (key : Text) (o : Op) (x : Sym) → SymSound x → Sound key → Each AlternativeSound (expandRepeatSymbol s key o x .alternatives)
+repeat-sound : (s : Span) (key : Text) (o : Op) (x : Sym) → SymSound x → SoundText key → Each AlternativeSound (expandRepeatSymbol s key o x .alternatives)
 repeat-sound s key star x h k = (tt, (((v-ident, (tt, h)), tt), tt))
 repeat-sound s key plus x h k = ((h, tt), (((v-ident, k), ((e-ident, h), tt)), tt))
 repeat-sound s key question x h k = ((h, tt), (tt, tt))
@@ -202,8 +202,8 @@ name-bytes : (n : Text) → isName n ≡ true → nameBytes n ≡ true
 unfolding isName
 name-bytes n e = and-elim-left (nameBytes n) (not (sameAs n mutText) && not (sameAs n errorText)) e
 
--- a level's name: an identifier, and digits
-pub level-sound : (n r : Text) → nameBytes n ≡ true → Sound (n ++ r)
+-- theorem: a level's name: an identifier, and digits
+pub level-sound : (n r : Text) → nameBytes n ≡ true → SoundText (n ++ r)
 unfolding startsName
 level-sound n r h = record { some = λ p. unlike-start n r [] h refl p; other = λ p. unlike-start n r oneChosen h refl p }
 

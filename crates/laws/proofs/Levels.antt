@@ -190,7 +190,7 @@ module _ (code : Side → ℕ) (small : (s : Side) → code s < 4) where
       let z : often (g .level) vs * pick (eqb (keyOf code (g .level) i (g .side)) k) 1 0 ≡ pick (eqb (keyOf code (g .level) i (g .side)) k) 1 0 = rw (h .0) (omega arith) in
       omega arith
 
-  -- whatever ascends and has just the keys of the alternatives has them level by level
+  -- theorem: whatever ascends and has just the keys of the alternatives has them level by level
   pub sorted-is : (gs : List Graded) (ks : List ℕ) → length gs ≤ 65536 → Ascends ks → ((k : ℕ) → often k ks ≡ often k (keysFrom code 0 gs)) → ks ≡ byLevels code (levelsOf gs) 0 gs
   sorted-is gs ks h a o =
       ascending-unique ks (byLevels code (levelsOf gs) 0 gs) a (by-levels-ascend (levelsOf gs) 0 gs (levels-ascend gs) (omega arith)) (λ k. o k ∙ sym (by-levels-often k (levelsOf gs) 0 gs (levels-hold gs)))

@@ -15,7 +15,7 @@ use Rattle.parse_tree.specs.plain.Display.{shownOp, shownLeaf, shownBefore, sho
 use Rattle.parse_tree.specs.declared.syntax.Span.{Span}
 use Rattle.passes.specs.Macros.{vecNone, vecOne, pushed, someText, noneText, oneChosen, allChosen, vName, eName}
 use Rattle.parse_tree.proofs.Printing.{shownAll-app, print-then}
-use Rattle.laws.specs.Keys.{builtIns, Sound, Expands, SymSound, SymsSound}
+use Rattle.laws.specs.Keys.{builtIns, SoundText, Expands, SymSound, SymsSound}
 
 -- ---- the first and the last byte of a text, and what stands before the last
 abbrev headOf : Text → ℕ
@@ -245,9 +245,9 @@ print-built (around s a x) e h = around-built s a x e
 print-built (over s o xs) e h = over-built s o xs h
 
 -- ---- what is sound: identifiers, and printed forms
-pub ident-sound : (n : Text) → nameBytes n ≡ true → Sound n
+pub ident-sound : (n : Text) → nameBytes n ≡ true → SoundText n
 unfolding startsName
 ident-sound n h = record { some = λ p. unlike-start n [] [] h refl (append-nil n ∙ p); other = λ p. unlike-start n [] oneChosen h refl (append-nil n ∙ p) }
 
-pub print-sound : (x : Sym) → SymSound x → Sound (print x)
+pub print-sound : (x : Sym) → SymSound x → SoundText (print x)
 print-sound x h = record { some = print-some x h; other = print-other x h }

@@ -196,7 +196,7 @@ module _ (w : ℕ) (ts : List Text) (E : Text) (F : ℕ → Text) (known : has E
           omega (arith, p .1, q .1),
         )
 
-  -- the flat run: occurrence j, in tape order, becomes F j
+  -- theorem: the flat run: occurrence j, in tape order, becomes F j
   pub rename-run : (xs : Syms) (g : ℕ) (s : List ℕ) (at e : ℕ) → SymsFits w ts xs → nodesAll xs ≤ g → Lies s at (symsBytes w ts xs) e
       → Renamed (run w effect bytes g (count xs) (s, 0) at .0) s at (symsBytes w ts (replaceOccurrencesIn E F xs 0)) (occursIn E xs)
   rename-run xs g s at e h k l =

@@ -79,43 +79,46 @@ mutual
   replaced-alike (cons x xs) σ = (replaced-print x σ, replaced-alike xs (replaceSymbol x σ .1))
 
 -- ---- printing from left to right: p was printed, and what is left stands behind it
+-- theorem
 pub over-starts : (s : Span) (o : Over) (xs : Syms) → print (over s o xs) ≡ opening o [] ++ shownAll xs (separator o) (closing o ∷ [])
 unfolding print shown opening
 over-starts s (macro n) xs = sym (append-assoc n (60 ∷ []) (shownAll xs (44 ∷ 32 ∷ []) (62 ∷ [])))
 over-starts s group xs = refl
 
+-- theorem
 pub list-first : (p : Text) (x : Sym) (xs : Syms) (sep r : Text) → p ++ shownAll (cons x xs) sep r ≡ (p ++ print x) ++ shownMore xs sep r
 unfolding shownAll
 list-first p x xs sep r = ap (λ (t : Text). p ++ t) (sym (print-then x (shownMore xs sep r))) ∙ sym (append-assoc p (print x) (shownMore xs sep r))
 
+-- theorem
 pub list-next : (p : Text) (x : Sym) (xs : Syms) (sep r : Text) → p ++ shownMore (cons x xs) sep r ≡ ((p ++ sep) ++ print x) ++ shownMore xs sep r
 unfolding shownMore
 list-next p x xs sep r =
     sym (append-assoc p sep (shown x (shownMore xs sep r))) ∙ ap (λ (t : Text). (p ++ sep) ++ t) (sym (print-then x (shownMore xs sep r)))
     ∙ sym (append-assoc (p ++ sep) (print x) (shownMore xs sep r))
 
+-- theorem
 pub list-ends : (p sep r : Text) → (p ++ shownAll nil sep r ≡ p ++ r) × (p ++ shownMore nil sep r ≡ p ++ r)
 unfolding shownAll shownMore
 list-ends p sep r = (refl, refl)
 
 -- ---- forms: what the code joins is the form of the printed symbol
 module _ (B : ℕ) where
+  -- theorem
   pub repeat-form : (s : Span) (o : Op) (x : Sym) → formOf B (print (around s (repeat o) x)) ≡ more B (formOf B (print x)) (shownOp o)
   unfolding print shown shownBefore shownBehind
   repeat-form s o x = ap (formOf B) (sym (print-then x (shownOp o ∷ []))) ∙ form-more B (print x) (shownOp o)
 
+  -- theorem
   pub choose-form : (s : Span) (x : Sym) → formOf B (print (around s choose x)) ≡ more B (join B (formOf B (60 ∷ [])) (formOf B (print x))) 62
   unfolding print shown shownBefore shownBehind
   choose-form s x =
       ap (λ (t : Text). formOf B (60 ∷ t)) (sym (print-then x (62 ∷ []))) ∙ form-more B (60 ∷ print x) 62 ∙ ap (λ (f : Form). more B f 62) (form-append B (60 ∷ []) (print x))
 
-  -- a member of a list behind what was printed
+  -- theorem: a member of a list behind what was printed
   pub first-form : (p : Text) (x : Sym) → formOf B (p ++ print x) ≡ join B (formOf B p) (formOf B (print x))
   first-form p x = form-append B p (print x)
 
+  -- theorem
   pub next-form : (p sep : Text) (x : Sym) → formOf B ((p ++ sep) ++ print x) ≡ join B (join B (formOf B p) (formOf B sep)) (formOf B (print x))
   next-form p sep x = form-append B (p ++ sep) (print x) ∙ ap (λ (f : Form). join B f (formOf B (print x))) (form-append B p sep)
-
-  -- symbols that print alike have the same form; so where the forms differ, the prints do
-  pub form-alike : (x y : Sym) → print x ≡ print y → formOf B (print x) ≡ formOf B (print y)
-  form-alike x y e = ap (formOf B) e

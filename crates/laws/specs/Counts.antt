@@ -31,14 +31,14 @@ repeats choose = 0
 repeats (name m n) = 0
 
 unfoldable mutual
-  pub expanded : Sym → ℕ
-  expanded (leaf s l) = looksLeaf l
-  expanded (around s a x) = repeats a + expanded x
-  expanded (over s o xs) = suc (expandedAll xs)
+  pub countExpanded : Sym → ℕ
+  countExpanded (leaf s l) = looksLeaf l
+  countExpanded (around s a x) = repeats a + countExpanded x
+  countExpanded (over s o xs) = suc (countExpandedAll xs)
 
-  pub expandedAll : Syms → ℕ
-  expandedAll nil = 0
-  expandedAll (cons x xs) = expanded x + expandedAll xs
+  pub countExpandedAll : Syms → ℕ
+  countExpandedAll nil = 0
+  countExpandedAll (cons x xs) = countExpanded x + countExpandedAll xs
 
 -- ---- of the alternatives of items: the bytes of the commands of items and alternatives, the symbols straight in alternatives, all symbols, those that are replaced
 unfoldable pub headsIn : List Alternative → ℕ

@@ -12,7 +12,7 @@ unfoldable pub builtIns : List Text
 builtIns = vecNone ∷ vName ∷ vecOne ∷ pushed ∷ eName ∷ someText ∷ noneText ∷ oneChosen ∷ allChosen ∷ []
 
 -- a text that a symbol may have for its name: an identifier, or the printed form of a symbol that was replaced, is one
-pub record Sound (t : Text) : Type 0 where
+pub record SoundText (t : Text) : Type 0 where
   pub some : t ≡ [] → ⊥
   pub other : t ≡ oneChosen → ⊥
 
@@ -39,11 +39,11 @@ Expands (over s o xs) = Unit {0}
 
 -- each name in a symbol: those of 20, 21 and 24 are sound, those of 25 and 28 are identifiers
 abbrev pub LeafSound : Leaf → Type 0
-LeafSound (ambiguous n) = Sound n
-LeafSound (bare n) = Sound n
+LeafSound (ambiguous n) = SoundText n
+LeafSound (bare n) = SoundText n
 LeafSound (quoted t) = Unit {0}
 LeafSound (regex t) = Unit {0}
-LeafSound (nonterminal n) = Sound n
+LeafSound (nonterminal n) = SoundText n
 LeafSound lookahead = Unit {0}
 LeafSound lookbehind = Unit {0}
 LeafSound error = Unit {0}

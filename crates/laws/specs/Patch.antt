@@ -1,8 +1,7 @@
 -- A 20 becomes a 21 or a 24, in the tree and in its bytes. Assumes nothing: these are definitions.
 use Prim.Native.Nat.{ℕ}
-use mathlib.Core.Bool.{Bool, true, false}
+use mathlib.Core.Bool.{Bool}
 use mathlib.Core.List.{List}
-use mathlib.Core.Option.{Option, none, some}
 use lib.ListN.{set}
 use Rattle.octets.specs.working.Choice.{pick}
 use Rattle.parse_tree.specs.plain.Tree.{Text, Leaf, Sym, Syms, ambiguous, bare, quoted, regex, nonterminal, lookahead, lookbehind, error, leaf, around, over, nil, cons}
@@ -10,14 +9,6 @@ use Rattle.parse_tree.specs.plain.Texts.{number}
 use Rattle.parse_tree.specs.declared.syntax.Leaf.{Leaf as LeafNode}
 use Rattle.parse_tree.specs.declared.syntax.SymbolKind.{SymbolKind}
 use Rattle.parse_tree.specs.declared.syntax.Node.{Node}
-use Rattle.passes.specs.Resolve.{Def, terminalDef, nonterminalDef, argumentDef}
-
--- whether a name is a terminal's
-abbrev pub isTerminalDef : Option Def → Bool
-isTerminalDef none = false
-isTerminalDef (some terminalDef) = true
-isTerminalDef (some (nonterminalDef k)) = false
-isTerminalDef (some argumentDef) = false
 
 -- which atoms are names of terminals, by number
 module _ (terminal : ℕ → Bool) where

@@ -7,4 +7,5 @@ pub mod resolving
 pub mod levels
 pub mod macros
 pub mod calls
-mod Needed
+mod Never
+pub mod Needed

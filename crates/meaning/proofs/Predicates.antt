@@ -6,11 +6,48 @@ use mathlib.Core.List.{List, [], _∷_, List·Memᴰ}
 use mathlib.Core.Option.{none}
 use Rattle.octets.specs.plain.Runs.{sameAs}
 use Rattle.parse_tree.specs.plain.Tree.{Text, Leaf, Around, Over, Sym, Syms, ambiguous, bare, quoted, regex, nonterminal, lookahead, lookbehind, error, repeat, choose, name, macro, group, leaf, around, over, nil, cons, Alternative, Nonterminal, item}
-use Rattle.parse_tree.specs.plain.Texts.{every, startsName, inName, mutText, errorText, has}
+use Rattle.parse_tree.specs.plain.Texts.{every, startsName, inName, mutText, errorText, isName, has}
 use Rattle.passes.specs.Outcome.{Tree}
+use Rattle.passes.specs.Grades.{annotated}
 use Rattle.meaning.specs.Phrases.{Phrase, token, parameter, reference, call, repeated, sequence}
 use Rattle.meaning.specs.Meaning.{isTerminal, named}
 use Rattle.meaning.specs.Premises.{HasItem}
+
+-- ---- the same with every name a name, as question 4 asks of a tape: what it comes to for a tree by itself
+abbrev pub UnresolvedLeaf : Leaf → Type 0
+UnresolvedLeaf (ambiguous n) = isName n ≡ true
+UnresolvedLeaf (bare n) = ⊥
+UnresolvedLeaf (quoted t) = Unit {0}
+UnresolvedLeaf (regex t) = Unit {0}
+UnresolvedLeaf (nonterminal n) = ⊥
+UnresolvedLeaf lookahead = Unit {0}
+UnresolvedLeaf lookbehind = Unit {0}
+UnresolvedLeaf error = Unit {0}
+
+abbrev pub NamedAround : Around → Type 0
+NamedAround (repeat o) = Unit {0}
+NamedAround choose = Unit {0}
+NamedAround (name m n) = isName n ≡ true
+
+abbrev pub NamedOver : Over → Type 0
+NamedOver (macro n) = isName n ≡ true
+NamedOver group = Unit {0}
+
+abbrev mutual
+  pub UnresolvedSym : Sym → Type 0
+  UnresolvedSym (leaf s l) = UnresolvedLeaf l
+  UnresolvedSym (around s a x) = NamedAround a × UnresolvedSym x
+  UnresolvedSym (over s o xs) = NamedOver o × UnresolvedSyms xs
+
+  pub UnresolvedSyms : Syms → Type 0
+  UnresolvedSyms nil = Unit {0}
+  UnresolvedSyms (cons x xs) = UnresolvedSym x × UnresolvedSyms xs
+
+pub record Unresolved (U : Tree) : Type 0 where
+  pub symbols : (d : Nonterminal) → List·Memᴰ (item d) U → (a : Alternative) → List·Memᴰ a (d .alternatives) → UnresolvedSyms (a .symbols)
+  pub names : (d : Nonterminal) → List·Memᴰ (item d) U → isName (d .name) ≡ true
+  pub terminals : (n : Text) → isTerminal U n ≡ true → isName n ≡ true
+  pub noMacro : (d : Nonterminal) → List·Memᴰ (item d) U → annotated d ≡ true → d .args ≡ []
 
 abbrev pub startsWell : Text → Bool
 startsWell [] = false

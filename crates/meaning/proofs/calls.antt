@@ -1,5 +1,6 @@
 -- The passes as one, the calls and their bytes.
 pub mod Staged
+pub mod Agreement
 pub mod Tapes
 pub mod Spans
 pub mod RoundSpans

@@ -5,11 +5,12 @@ use Prim.Native.Nat.{ℕ, _+_, _≤_}
 use mathlib.Core.Bool.{Bool, true, false, cond, not, _&&_, _||_}
 use mathlib.Core.List.{List, [], _∷_, List·Memᴰ}
 use mathlib.Core.Option.{Option, none, some}
+use lib.Dec.{ltb, leb}
 use Rattle.octets.specs.plain.Runs.{sameAs}
 use Rattle.parse_tree.specs.plain.Tree.{Text, star, plus, question, Leaf, Around, Over, Sym, Syms, ambiguous, bare, quoted, regex, nonterminal, lookahead, lookbehind, error, repeat, choose, name, macro, group, leaf, around, over, nil, cons, Condition, Alternative, Nonterminal, Item, item}
 use Rattle.parse_tree.specs.plain.Texts.{has}
 use Rattle.passes.specs.Outcome.{Tree}
-use Rattle.passes.specs.Grades.{annotated, Graded, graded, below, ceiling}
+use Rattle.passes.specs.Grades.{annotated, Graded, graded, ceiling}
 use Rattle.meaning.specs.Phrases.{Token, bareToken, quotedToken, regexToken, errorToken, Phrase, Phrases, token, parameter, reference, call, repeated, sequence, pnil, pcons, Derives-from}
 
 -- ---- reading a symbol
@@ -97,17 +98,17 @@ holds ps xs (some c) = ofQuoted (argument ps xs (c .lhs)) (λ t. cond (c .equal)
 module _ (E : Text) where
   unfoldable mutual
     -- how often E stands in a phrase
-    pub count : Phrase → ℕ
-    count (token t) = 0
-    count (parameter n) = 0
-    count (reference n c) = cond (sameAs n E) 1 0
-    count (call n ms) = counts ms
-    count (repeated o m) = count m
-    count (sequence ms) = counts ms
+    pub occurrences : Phrase → ℕ
+    occurrences (token t) = 0
+    occurrences (parameter n) = 0
+    occurrences (reference n c) = cond (sameAs n E) 1 0
+    occurrences (call n ms) = occurrencesIn ms
+    occurrences (repeated o m) = occurrences m
+    occurrences (sequence ms) = occurrencesIn ms
 
-    pub counts : Phrases → ℕ
-    counts pnil = 0
-    counts (pcons m ms) = count m + counts ms
+    pub occurrencesIn : Phrases → ℕ
+    occurrencesIn pnil = 0
+    occurrencesIn (pcons m ms) = occurrences m + occurrencesIn ms
 
   module _ (f : ℕ → ℕ) where
     unfoldable mutual
@@ -122,16 +123,21 @@ module _ (E : Text) where
 
       pub marks : Phrases → ℕ → Phrases
       marks pnil i = pnil
-      marks (pcons m ms) i = pcons (mark m i) (marks ms (i + count m))
+      marks (pcons m ms) i = pcons (mark m i) (marks ms (i + occurrences m))
 
 -- "An occurrence derives only by alternatives at or under its ceiling. Elsewhere there is no ceiling"
 abbrev pub Under : Option ℕ → ℕ → Type 0
 Under none v = Unit {0}
 Under (some c) v = v ≤ c
 
+-- "the next lower level": the highest one that is below v
+abbrev pub below : ℕ → List Graded → ℕ
+below v [] = 0
+below v (g ∷ rest) = cond (ltb (g .level) v && leb (below v rest) (g .level)) (g .level) (below v rest)
+
 -- an alternative of the annotated nonterminal d, its own occurrences marked
 abbrev pub own : Text → Nonterminal → Graded → Phrases → Phrases
-own E d g ms = marks E (ceiling (g .side) (g .level) (below (g .level) (graded d)) (counts E ms)) ms 0
+own E d g ms = marks E (ceiling (g .side) (g .level) (below (g .level) (graded d)) (occurrencesIn E ms)) ms 0
 
 -- ---- the steps of a tree G. "In a levelled or expanded tree leftover attributes mean nothing": `levels` is false there
 module _ (levels : Bool) (G : Tree) where

@@ -1,4 +1,7 @@
 pub mod Outcomes
+pub mod RangeOfPasses
+pub mod RangeOfReading
+pub mod Range
 -- Computed cases.
 pub mod Build
 mod Starred

@@ -3,7 +3,7 @@ use Prim.Native.Nat.{ℕ, suc, _+_, _*_, _-_}
 use mathlib.Core.Bool.{Bool, true, false, cond, _&&_, _||_}
 use mathlib.Core.List.{List, [], _∷_}
 use mathlib.Core.Option.{Option, none, some}
-use lib.Dec.{eqb, ltb, leb}
+use lib.Dec.{eqb, leb}
 use Rattle.octets.specs.plain.Runs.{sameAs}
 use Rattle.parse_tree.specs.plain.Texts.{ascii}
 use Rattle.parse_tree.specs.plain.Tree.{Text, Attribute, Alternative, Nonterminal}
@@ -105,11 +105,6 @@ withSides s (x ∷ rest) =
 -- each alternative with its level and side
 abbrev pub graded : Nonterminal → List Graded
 graded d = withSides all (withLevels 0 (d .alternatives))
-
--- "the next lower level": the highest one that is below v
-abbrev pub below : ℕ → List Graded → ℕ
-below v [] = 0
-below v (g ∷ rest) = cond (ltb (g .level) v && leb (below v rest) (g .level)) (g .level) (below v rest)
 
 -- what occurrence j of `total` gets, its own level's or the next lower one's:
 -- "`all` v; `none` the next lower level; `left` v for the first in tape order, the next lower for others; `right` v for the last"

@@ -9,3 +9,4 @@ pub mod Stages
 pub mod Passes
 pub mod Sizes
 pub mod Calls
+pub mod Range

@@ -46,7 +46,7 @@ replaceAround s (repeat o) q = push (repeating s o (q .0)) (q .1)
 replaceAround s choose q = (around s choose (q .0), q .1)
 replaceAround s (name m n) q = (around s (name m n) (q .0), q .1)
 
--- inner symbols first; of the leaves only `@L` and `@R` are expandAlternative
+-- inner symbols first; of the leaves only `@L` and `@R` are expanded
 unfoldable mutual
   pub replaceSymbol : Sym → Expander → Sym × Expander
   replaceSymbol (leaf s l) σ = elim (asLook l) [ none ↦ (leaf s l, σ) | some k ↦ push (looking s k) σ ]

@@ -3,7 +3,7 @@ use Prim.Native.Nat.{ℕ}
 use mathlib.Core.List.{[]}
 use Rattle.parse_tree.specs.plain.Tree.{Stage}
 use Rattle.passes.specs.Outcome.{Tree, Outcome, yes, after}
-use Rattle.passes.specs.Stages.{macroStages, allStages}
+use Rattle.passes.specs.Stages.{allStages}
 
 -- a tree as a stage, and back
 abbrev pub treeStage : Tree → Stage
@@ -11,10 +11,6 @@ treeStage G = record { atoms = []; items = G }
 
 abbrev pub itemsOf : Outcome Stage → Outcome Tree
 itemsOf r = after r (λ g. yes (g .items))
-
--- a resolved tree expanded, within so many rounds
-unfoldable pub macros : ℕ → Tree → Outcome Tree
-macros limit G = itemsOf (macroStages yes limit (treeStage G))
 
 -- resolving, levels, "Resolving again", macros
 unfoldable pub passes : ℕ → Tree → Outcome Tree

@@ -247,11 +247,13 @@ module _ (four : Bool) (w : ℕ) (s : List ℕ) (ts : List Text) (b : Bytes s) (
       (refs-as (listed (λ q. places w s left q) n (h .mid)) x (u .slots) (u .kept) (λ ps k r q t. m (v .at ++ o .at) (i .mid) j q (among-right q (v .at) (o .at) (got-as (λ zs y. among q zs ≡ true) (sym r ∙ o .is) t))))))
 
   -- ---- of a symbol with a reference, all that stands inside it
+  -- theorem
   pub inside-around : (p c : ℕ) (sp : Span) (o : AroundNode) (x : Slots) → AllNoted w s x → HasRef p x → nodeAt w s p ≡ Node.Symbol sp (SymbolKind.Around o)
       → p + sizeOf w (Node.Symbol sp (SymbolKind.Around o)) ≡ c → RefsIn (places w s 63 c) x
   unfolding then
   inside-around p c sp o x h r q e ps m j t v = h p r (ps ++ aroundPlaces o p) m (places-at 63 p c sp (SymbolKind.Around o) q e ∙ rw j refl) t (among-left t ps (aroundPlaces o p) v)
 
+  -- theorem
   pub inside-over : (p c : ℕ) (sp : Span) (o : OverNode) (x : Slots) → AllNoted w s x → HasRef p x → nodeAt w s p ≡ Node.Symbol sp (SymbolKind.Over o)
       → p + sizeOf w (Node.Symbol sp (SymbolKind.Over o)) ≡ c → RefsIn (listed (λ q. places w s 63 q) (insideOf o) c) x
   unfolding then

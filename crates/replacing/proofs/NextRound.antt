@@ -59,6 +59,7 @@ module _ (at : ℕ → Sym) (Here : ℕ → Type 0) (ts us : List Text) (x : Slo
   abbrev pub nextMarks : List ℕ
   nextMarks = x .marks ++ numbersFrom (length ts) (length us)
 
+  -- theorem
   pub next-keys : (t : Text) → Key t → has t (σ .keys) ≡ has t (map (λ k. getD (ts ++ us) k []) nextMarks)
   next-keys t k =
       h .keys t k ∙ ap (λ (v : Bool). has t (map (λ m. getD ts m []) (x .marks)) || v) (sym (new t k))
@@ -67,6 +68,7 @@ module _ (at : ℕ → Sym) (Here : ℕ → Type 0) (ts us : List Text) (x : Slo
       ∙ ap (λ (l : List Text). map (λ m. getD (ts ++ us) m []) (x .marks) ++ l) (sym (map-behind ts us))
       ∙ sym (map-append (λ m. getD (ts ++ us) m []) (x .marks) (numbersFrom (length ts) (length us))))
 
+  -- theorem
   pub next-below : Each (λ k. k < length (ts ++ us)) nextMarks
   next-below =
       let n = length-append ts us in

@@ -170,7 +170,7 @@ module _ (four : Bool) (w : ℕ) (s : List ℕ) (ts : List Text) (b : Bytes s) (
         noted = g .noted (none-noted ms);
       })
 
-  -- K are the keys before the round: the texts with the numbers ms
+  -- theorem: K are the keys before the round: the texts with the numbers ms
   pub round-means : (K : List Text) (ms : List ℕ) → ((t : Text) → Key t → has t K ≡ has t (map (λ k. getD ts k []) ms)) → Each (λ k. k < length ts) ms
       → (n : ℕ) (is : List Item) → readItems four w s ts n 0 ≡ got is (length s)
       → Replaced four w s ts K (replaceItems (withoutMacros is) (record { keys = K; pile = [] })) (replaced four w s ts ms)

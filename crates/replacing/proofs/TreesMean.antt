@@ -52,6 +52,7 @@ mutual
   renamed-shownMore nil sep r = refl
   renamed-shownMore (cons x xs) sep r = ap (sep ++_) (renamed-shown x (shownMore (renamedAll xs) sep r) ∙ ap (shown x) (renamed-shownMore xs sep r))
 
+-- theorem
 pub print-renamed : (x : Sym) → print (renamed x) ≡ print x
 unfolding print
 print-renamed x = renamed-shown x []

@@ -9,7 +9,8 @@ use Rattle.meaning.specs.Phrases.{Token}
 use Rattle.meaning.specs.Meaning.{Derives, Derives-expanded}
 use Rattle.passes.specs.Resolve.{resolve}
 use Rattle.passes.specs.Levels.{levels}
-use Rattle.meaning.specs.Premises.{Unresolved, HasItem, Flat}
+use Rattle.meaning.specs.Premises.{HasItem, Flat}
+use Rattle.meaning.proofs.Predicates.{Unresolved}
 use Rattle.passes.proofs.Outcomes.{after-yes}
 use Rattle.meaning.proofs.levels.BeforeMacros.{Ready, ready}
 use Rattle.meaning.proofs.macros.Rounding.{expanded-derives, expanded-flat}

@@ -1,6 +1,6 @@
 -- The stages: what a size refuses is 20 or 21, and all else is as the passes have it; a yes is the same yes at every higher limit, with an output
 -- no shorter. Assumes nothing.
-use mathlib.Core.Path.{_≡_, refl, sym, ap, _∙_}
+use mathlib.Core.Path.{_≡_, refl, ap, _∙_}
 use mathlib.Core.Logic.{_⊎_, inl, inr}
 use mathlib.Core.Bool.{Bool, true, false, cond}
 use mathlib.Core.List.{List, [], _∷_, _++_}
@@ -14,17 +14,14 @@ use Rattle.parse_tree.specs.plain.Reading.{Reading, got, refused}
 use Rattle.parse_tree.specs.plain.WriteTape.{tapeOf}
 use Rattle.parse_tree.specs.plain.ReadTape.{readTape}
 use Rattle.parse_tree.specs.plain.References.{stageOf}
-use Rattle.parse_tree.specs.declared.syntax.Span.{Span}
 use Rattle.passes.specs.Outcome.{Tree, Outcome, yes, no, after}
 use Rattle.passes.specs.Resolve.{resolve}
 use Rattle.passes.specs.Levels.{levels}
 use Rattle.passes.specs.Macros.{Pending, Expander, replaceItems, drain, spanOf, withoutMacros}
 use Rattle.passes.specs.Sizes.{stageFits}
 use Rattle.passes.specs.Stages.{lastStage, orMore, stage, resolveStage, levelStage, rounds, macroStages, allStages}
-use Rattle.passes.specs.Passes.{itemsOf, passes}
 use Rattle.passes.specs.Calls.{nowhere, readAs, sizes, validateCall, whole}
 use Rattle.passes.proofs.Outcomes.{no≢yes, yes-inj, after-yes, after-is}
-use Rattle.meaning.proofs.macros.TreeRounds.{stages-tree, passes-tree}
 
 -- ---- a stage that its size admits
 pub record Admitted (w cap : ℕ) (g h : Stage) : Type 0 where
@@ -45,13 +42,10 @@ admitted w cap g h e = go (stageFits w g) refl (leb (length (tapeOf w g)) cap) r
 abbrev pub Admits : (Stage → Outcome Stage) → (Stage → Outcome Stage) → Type 0
 Admits low high = (g h : Stage) → low g ≡ yes h → high g ≡ yes h
 
--- a longer output admits more, and no size asked admits all
+-- a longer output admits more
 pub sizes-more : (w cap cap′ : ℕ) → cap ≤ cap′ → Admits (sizes w cap) (sizes w cap′)
 unfolding sizes
 sizes-more w cap cap′ l g h e = let a = admitted w cap g h e in cc (a .fits, le-leb (length (tapeOf w g)) cap′ (omega (arith, a .room)), a .same)
-
-pub sizes-all : (w cap : ℕ) → Admits (sizes w cap) yes
-sizes-all w cap g h e = ap yes (admitted w cap g h e .same)
 
 -- what stands behind a replacing stage with symbols pending; q is what replacing gave
 abbrev on : (Stage → Outcome Stage) → Tree → ℕ → List Text → List Item → List Item × Expander → Outcome Stage
@@ -114,7 +108,7 @@ BySize x = (x ≡ no 20 nowhere) ⊎ (x ≡ no 21 nowhere)
 abbrev pub Agrees : {A : Type 0} → Outcome A → Outcome A → Type 0
 Agrees x y = (x ≡ y) ⊎ BySize x
 
-agree-after : {A B : Type 0} (r r′ : Outcome A) (f f′ : A → Outcome B) → Agrees r r′ → ((a : A) → Agrees (f a) (f′ a)) → Agrees (after r f) (after r′ f′)
+pub agree-after : {A B : Type 0} (r r′ : Outcome A) (f f′ : A → Outcome B) → Agrees r r′ → ((a : A) → Agrees (f a) (f′ a)) → Agrees (after r f) (after r′ f′)
 agree-after {A = A} {B = B} r r′ f f′ (inl e) h = go r′ e
   where
     go : (x : Outcome A) → r ≡ x → Agrees (after r f) (after x f′)
@@ -180,29 +174,6 @@ module _ (four : Bool) (w : ℕ) (tape : List ℕ) where
       go true p (got h n) q z = record { room = p; end = n; decoded = q ∙ ap (λ (x : Stage). got x n) (yes-inj h u z) }
       go true p (refused n k) q z = absurd (no≢yes n _ u z)
       go false p r q z = absurd (no≢yes 1 nowhere u z)
-
-  -- a yes of the call for all is one of the passes, with the same items
-  pub whole-passes : (limit cap work : ℕ) (u g : Stage) → validateCall four w tape cap work ≡ yes u → whole four w tape limit cap work ≡ yes g → passes limit (u .items) ≡ yes (g .items)
-  unfolding whole
-  whole-passes limit cap work u g eu e =
-      let s : allStages (sizes w cap) limit u ≡ yes g = sym (ap (λ (x : Outcome Stage). after x (allStages (sizes w cap) limit)) eu) ∙ e in
-      let t = stages-more (sizes w cap) yes (sizes-all w cap) limit limit (omega arith) u g s in
-      passes-tree limit (u .items) ∙ sym (stages-tree limit u) ∙ ap itemsOf t
-
-  -- and a refusal that is no size's is theirs, with the same place
-  pub whole-refuses : (limit cap work : ℕ) (u : Stage) (n : ℕ) (s : Span) → validateCall four w tape cap work ≡ yes u → whole four w tape limit cap work ≡ no n s → n ≤ 19 → passes limit (u .items) ≡ no n s
-  unfolding whole
-  whole-refuses limit cap work u n s eu e small =
-      let t : allStages (sizes w cap) limit u ≡ no n s = sym (ap (λ (x : Outcome Stage). after x (allStages (sizes w cap) limit)) eu) ∙ e in
-      passes-tree limit (u .items) ∙ sym (stages-tree limit u) ∙ ap itemsOf (go t (stages-agree (sizes w cap) (sizes-agree w cap) limit u))
-    where
-      other : (m : ℕ) → 20 ≤ m → _≡_ {A = Outcome Stage} (no n s) (no m nowhere) → ⊥
-      other m b q = let z : n ≡ m = cc in omega arith
-
-      go : allStages (sizes w cap) limit u ≡ no n s → Agrees (allStages (sizes w cap) limit u) (allStages yes limit u) → allStages yes limit u ≡ no n s
-      go t (inl q) = sym q ∙ t
-      go t (inr (inl q)) = absurd (other 20 (omega arith) (sym t ∙ q))
-      go t (inr (inr q)) = absurd (other 21 (omega arith) (sym t ∙ q))
 
   -- "With the same tape, any higher limit, an output buffer no shorter and work that passes question 1, the call gives a yes with the same length
   -- and the same tree bytes": the same stage, and so both

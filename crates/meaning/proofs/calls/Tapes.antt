@@ -1,8 +1,8 @@
 -- A tree that was read from a tape has names where names stand: so what demand 3 asks of it is all that the proofs need. Assumes nothing.
-use mathlib.Core.Path.{_≡_, sym, ap, subst, _∙_}
+use mathlib.Core.Path.{_≡_, ap, _∙_}
 use mathlib.Core.Logic.{_⊎_, inl, inr}
 use mathlib.Core.Bool.{true, false≢true}
-use mathlib.Core.List.{List, [], _∷_, List·Memᴰ, List·Memᴰ·head, List·Memᴰ·tail, List·Memᴰ·not-nil}
+use mathlib.Core.List.{List, [], _∷_}
 use Prim.Native.Nat.{ℕ, zero, suc}
 use Rattle.octets.specs.working.Choice.{pick}
 use Rattle.octets.specs.plain.Runs.{sameAs}
@@ -12,13 +12,9 @@ use Rattle.parse_tree.specs.plain.Texts.{isName}
 use Rattle.parse_tree.specs.working.Within.{Each, Uses, LeafWithin, AroundWithin, OverWithin, SymWithin, SymsWithin, NonterminalWithin, ItemWithin, StageWithin}
 use Rattle.passes.specs.Outcome.{Tree}
 use Rattle.meaning.specs.Meaning.{isTerminal}
-use Rattle.meaning.specs.Premises.{UnmarkedLeaf, UnmarkedSym, UnmarkedSyms, Unmarked, UnresolvedLeaf, NamedAround, NamedOver, UnresolvedSym, UnresolvedSyms, Unresolved}
-use Rattle.meaning.proofs.Basics.{or-cases}
-
-each-at : {A : Type 0} (P : A → Type 0) (xs : List A) (x : A) → Each P xs → List·Memᴰ x xs → P x
-each-at P [] x h i = absurd (List·Memᴰ·not-nil i)
-each-at P (y ∷ xs) x h (List·Memᴰ·head e) = subst P (sym e) (h .0)
-each-at P (y ∷ xs) x h (List·Memᴰ·tail i) = each-at P xs x (h .1) i
+use Rattle.meaning.specs.Premises.{UnmarkedLeaf, UnmarkedSym, UnmarkedSyms, Unmarked}
+use Rattle.meaning.proofs.Predicates.{UnresolvedLeaf, NamedAround, NamedOver, UnresolvedSym, UnresolvedSyms, Unresolved}
+use Rattle.meaning.proofs.Basics.{or-cases, each-at}
 
 module _ (ts : List Text) where
   used : (x : Text) → Uses true 2 ts isName x → isName x ≡ true

@@ -8,9 +8,9 @@ use Rattle.meaning.specs.Phrases.{Token}
 use Rattle.meaning.specs.Meaning.{Derives, Derives-expanded}
 use Rattle.passes.specs.Resolve.{resolve}
 use Rattle.passes.specs.Levels.{levelled, checkLevels, levels}
-use Rattle.meaning.specs.Premises.{Unresolved, HasItem}
+use Rattle.meaning.specs.Premises.{HasItem}
 use Rattle.passes.proofs.Outcomes.{after-yes, yes-inj}
-use Rattle.meaning.proofs.Predicates.{Resolved}
+use Rattle.meaning.proofs.Predicates.{Unresolved, Resolved}
 use Rattle.meaning.proofs.resolving.ResolvedSteps.{resolved, resolved-plain, resolved-derives, has-item}
 use Rattle.meaning.proofs.levels.LevelMeaning.{AllSided, levelled-derives}
 use Rattle.meaning.proofs.levels.LevelledResolved.{keep-item, levelled-resolved}

@@ -8,7 +8,8 @@ use borrow.Author.Tests.{leb-true, leb-false, ltb-true, ltb-false, eqb-true, eqb
 use lib.Dec.{eqb, ltb, leb, leb·zero}
 use native.Mathlib.Omega.{arith}
 use Rattle.parse_tree.specs.plain.Tree.{Syms, Alternative, Nonterminal}
-use Rattle.passes.specs.Grades.{Side, all, non, left, right, startsAnnotated, annotated, withLevels, Graded, withSides, graded, below, ceiling}
+use Rattle.passes.specs.Grades.{Side, all, non, left, right, startsAnnotated, annotated, withLevels, Graded, withSides, graded, ceiling}
+use Rattle.meaning.specs.Meaning.{below}
 use Rattle.passes.specs.Levels.{insert, levelsOf}
 use Rattle.meaning.proofs.Basics.{test}
 

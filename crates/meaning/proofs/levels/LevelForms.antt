@@ -11,7 +11,8 @@ use lib.Dec.{eqb}
 use native.Mathlib.Omega.{arith}
 use Rattle.parse_tree.specs.plain.Tree.{Text, nonterminal, leaf, nil, cons, Alternative, Nonterminal, item, noAction}
 use Rattle.passes.specs.Outcome.{withAlternatives, withName, simple}
-use Rattle.passes.specs.Grades.{Side, all, non, left, right, Graded, graded, below, ceiling}
+use Rattle.passes.specs.Grades.{Side, all, non, left, right, Graded, graded, ceiling}
+use Rattle.meaning.specs.Meaning.{below}
 use Rattle.passes.specs.Levels.{levelsOf, ofLevel, decimal, Group, levelName, groupsOf, grouped, occursIn, replaceOccurrencesIn, lowerName, substitute, substituted, fallThrough, withFallThrough, levelItems}
 use Rattle.meaning.proofs.Basics.{test}
 use Rattle.meaning.proofs.levels.LevelFacts.{Level, highest, highest-max, highest-least, below-max, isLowest, below-level, not-lowest, levels-have, levels-only, Ascends, levels-ascend, Sided}

@@ -10,8 +10,8 @@ use lib.Dec.{eqb}
 use Rattle.octets.specs.plain.Runs.{sameAs}
 use Rattle.parse_tree.specs.plain.Tree.{Text, Alternative, Nonterminal, Item, item}
 use Rattle.passes.specs.Outcome.{Tree}
-use Rattle.passes.specs.Grades.{annotated, Graded, graded, below}
-use Rattle.meaning.specs.Meaning.{isTerminal}
+use Rattle.passes.specs.Grades.{annotated, Graded, graded}
+use Rattle.meaning.specs.Meaning.{isTerminal, below}
 use Rattle.passes.specs.Levels.{levelsOf, ofLevel, substitute, fallThrough, levelItems, levelled}
 use Rattle.meaning.proofs.Basics.{item-inj, item≢terminal, terminal-append}
 use Rattle.meaning.proofs.levels.LevelFacts.{Level, isLowest, levels-have, levels-only}

@@ -9,9 +9,9 @@ use native.Mathlib.Omega.{arith}
 use native.Mathlib.Decide.{decLt}
 use Rattle.parse_tree.specs.plain.Tree.{Text, Alternative, Nonterminal, item}
 use Rattle.passes.specs.Outcome.{Tree}
-use Rattle.passes.specs.Grades.{annotated, Graded, graded, below}
+use Rattle.passes.specs.Grades.{annotated, Graded, graded}
 use Rattle.meaning.specs.Phrases.{Token, Phrase, Phrases, token, reference, call, pnil, pcons, Derives-from, Derive-from, d-token, d-step, d-nil, d-cons}
-use Rattle.meaning.specs.Meaning.{mean, means, puts, Under, own, Step, s-plain, s-level, s-call, s-sequence, s-question-none, s-question-one, s-star-none, s-star-plus, s-plus-one, s-plus-more, Derives, Derives-expanded}
+use Rattle.meaning.specs.Meaning.{mean, means, puts, Under, own, Step, s-plain, s-level, s-call, s-sequence, s-question-none, s-question-one, s-star-none, s-star-plus, s-plus-one, s-plus-more, Derives, Derives-expanded, below}
 use Rattle.passes.specs.Levels.{levelled}
 use Rattle.meaning.specs.Premises.{HasItem}
 use Rattle.meaning.proofs.Basics.{test}

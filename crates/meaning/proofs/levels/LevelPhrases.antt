@@ -11,9 +11,9 @@ use Rattle.parse_tree.specs.plain.Tree.{Text, Op, Leaf, Around, Over, Sym, Syms
 use Rattle.parse_tree.specs.plain.Texts.{has}
 use Rattle.parse_tree.specs.declared.syntax.Span.{Span}
 use Rattle.passes.specs.Outcome.{Tree}
-use Rattle.passes.specs.Grades.{all, annotated, Graded, graded, below, ceiling}
+use Rattle.passes.specs.Grades.{all, annotated, Graded, graded, ceiling}
 use Rattle.meaning.specs.Phrases.{Token, Phrase, Phrases, token, parameter, reference, call, repeated, sequence, pnil, pcons}
-use Rattle.meaning.specs.Meaning.{isTerminal, named, meanLeaf, meanAround, meanOver, mean, means, argument, put, puts, ofQuoted, holds, count, counts, mark, marks, own}
+use Rattle.meaning.specs.Meaning.{isTerminal, named, meanLeaf, meanAround, meanOver, mean, means, argument, put, puts, ofQuoted, holds, occurrences, occurrencesIn, mark, marks, own, below}
 use Rattle.passes.specs.Levels.{occurs, occursIn, replaceOccurrences, replaceOccurrencesIn, levelled}
 use Rattle.meaning.specs.Premises.{HasItem}
 use Rattle.meaning.proofs.Predicates.{OkayLeaf, Okay, Okays, Resolved, named-parameter, named-reference}
@@ -149,38 +149,38 @@ module _ (R : Tree) where
     level-named v l = named-reference L [] (nameAt d v) (nothing-had (nameAt d v)) (level-known v l)
 
     -- ---- occurrences are counted alike in symbols and in phrases
-    count-leaf : (s : Span) (l : Leaf) → OkayLeaf R [] l → count (d .name) (meanLeaf R [] l) ≡ occurs (d .name) (leaf s l)
-    unfolding count has occurs
+    count-leaf : (s : Span) (l : Leaf) → OkayLeaf R [] l → occurrences (d .name) (meanLeaf R [] l) ≡ occurs (d .name) (leaf s l)
+    unfolding occurrences has occurs
     count-leaf s (ambiguous n) o = absurd o
     count-leaf s (bare n) o = refl
     count-leaf s (quoted t) o = refl
     count-leaf s (regex t) o = refl
     count-leaf s (nonterminal n) (inl e) = absurd (false≢true e)
-    count-leaf s (nonterminal n) (inr (e, i, t, h)) = ap (count (d .name)) (named-reference R [] n e t)
+    count-leaf s (nonterminal n) (inr (e, i, t, h)) = ap (occurrences (d .name)) (named-reference R [] n e t)
     count-leaf s lookahead o = refl
     count-leaf s lookbehind o = refl
     count-leaf s error o = refl
 
-    count-around : (a : Around) (m : Phrase) → count (d .name) (meanAround R [] a m) ≡ count (d .name) m
-    unfolding count
+    count-around : (a : Around) (m : Phrase) → occurrences (d .name) (meanAround R [] a m) ≡ occurrences (d .name) m
+    unfolding occurrences
     count-around (repeat o) m = refl
     count-around choose m = refl
     count-around (name b n) m = refl
 
-    count-over : (o : Over) (ms : Phrases) → count (d .name) (meanOver R [] o ms) ≡ counts (d .name) ms
-    unfolding count
+    count-over : (o : Over) (ms : Phrases) → occurrences (d .name) (meanOver R [] o ms) ≡ occurrencesIn (d .name) ms
+    unfolding occurrences
     count-over (macro n) ms = refl
     count-over group ms = refl
 
     mutual
-      unfolding mean count occurs
+      unfolding mean occurrences occurs
 
-      count-mean : (x : Sym) → Okay R [] x → count (d .name) (mean R [] x) ≡ occurs (d .name) x
+      count-mean : (x : Sym) → Okay R [] x → occurrences (d .name) (mean R [] x) ≡ occurs (d .name) x
       count-mean (leaf s l) o = count-leaf s l o
       count-mean (around s a x) o = count-around a (mean R [] x) ∙ count-mean x (o .1)
       count-mean (over s k xs) o = count-over k (means R [] xs) ∙ counts-mean xs (o .1)
 
-      counts-mean : (xs : Syms) → Okays R [] xs → counts (d .name) (means R [] xs) ≡ occursIn (d .name) xs
+      counts-mean : (xs : Syms) → Okays R [] xs → occurrencesIn (d .name) (means R [] xs) ≡ occursIn (d .name) xs
       counts-mean nil o = refl
       counts-mean (cons x xs) o = ap₂ _+_ (count-mean x (o .0)) (counts-mean xs (o .1))
 

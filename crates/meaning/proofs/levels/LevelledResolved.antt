@@ -9,8 +9,8 @@ use Rattle.parse_tree.specs.plain.Tree.{Text, Leaf, Over, Sym, Syms, ambiguous,
 use Rattle.parse_tree.specs.plain.Texts.{has}
 use Rattle.parse_tree.specs.declared.syntax.Span.{Span}
 use Rattle.passes.specs.Outcome.{Tree}
-use Rattle.passes.specs.Grades.{annotated, Graded, graded, below}
-use Rattle.meaning.specs.Meaning.{isTerminal}
+use Rattle.passes.specs.Grades.{annotated, Graded, graded}
+use Rattle.meaning.specs.Meaning.{isTerminal, below}
 use Rattle.passes.specs.Resolve.{externs, matches, globals}
 use Rattle.passes.specs.Levels.{occurs, occursIn, replaceOccurrences, replaceOccurrencesIn, levelled}
 use Rattle.meaning.specs.Premises.{HasItem}

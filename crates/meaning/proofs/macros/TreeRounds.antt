@@ -9,7 +9,7 @@ use Rattle.passes.specs.Resolve.{resolve}
 use Rattle.passes.specs.Levels.{levels}
 use Rattle.passes.specs.Macros.{Pending, Expander, replaceItems, drain, spanOf, withoutMacros}
 use Rattle.passes.specs.Stages.{lastStage, orMore, stage, resolveStage, levelStage, rounds, macroStages, allStages}
-use Rattle.passes.specs.Passes.{itemsOf, treeStage, macros, passes}
+use Rattle.passes.specs.Passes.{itemsOf, treeStage, passes}
 
 -- "rounds so far within the limit? 18, span of the last pushed"
 unfoldable pub atLimit : List Item → List Pending → Outcome (List Item)
@@ -54,10 +54,6 @@ rounds-tree G (suc limit) ts old fresh keys =
     go q [] d ih = refl
     go q (x ∷ xs) (yes new) ih = ih _ new
     go q (x ∷ xs) (no n s) ih = refl
-
-pub macros-tree : (limit : ℕ) (G : Tree) → macros limit G ≡ expandTree limit G
-unfolding macros macroStages expandTree
-macros-tree limit G = rounds-tree G limit [] [] (withoutMacros G) []
 
 -- the atoms have no say
 pub stages-tree : (limit : ℕ) (g : Stage) → itemsOf (allStages yes limit g) ≡ passTree limit (g .items)

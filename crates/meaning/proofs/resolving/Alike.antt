@@ -7,8 +7,8 @@ use lib.Dec.{ltb, leb}
 use Rattle.octets.specs.plain.Runs.{sameAs}
 use Rattle.parse_tree.specs.plain.Tree.{Text, Attribute, Alternative, Nonterminal, Item, item}
 use Rattle.passes.specs.Outcome.{Tree, yes, withAttributes}
-use Rattle.passes.specs.Grades.{Side, all, precedence, assoc, valueOf, withoutFirst, isGiven, startsAnnotated, levelOf, withLevels, Graded, sideOf, withSides, below}
-use Rattle.meaning.specs.Meaning.{isTerminal}
+use Rattle.passes.specs.Grades.{Side, all, precedence, assoc, valueOf, withoutFirst, isGiven, startsAnnotated, levelOf, withLevels, Graded, sideOf, withSides}
+use Rattle.meaning.specs.Meaning.{isTerminal, below}
 use Rattle.passes.specs.Resolve.{Global, nonterminals, checkCondition, validateSymbols, validateAlternatives, validateMacroArgs, validateItems}
 use Rattle.passes.proofs.Outcomes.{yes-inj, after-yes}
 use Rattle.meaning.proofs.resolving.Globals.{globalOf}

@@ -15,9 +15,8 @@ use Rattle.passes.specs.Outcome.{Tree, Outcome, yes, no}
 use Rattle.meaning.specs.Phrases.{token, bareToken, pcons}
 use Rattle.meaning.specs.Meaning.{isTerminal, named, meanAround, meanOver, mean, means}
 use Rattle.passes.specs.Resolve.{Def, terminalDef, nonterminalDef, argumentDef, globals, lookup, rewriteAmbiguousId, validateNonterminal, validateMacro, validateLeaf, validateOver, validateSymbol, validateSymbols}
-use Rattle.meaning.specs.Premises.{UnresolvedLeaf, NamedAround, NamedOver, UnresolvedSym, UnresolvedSyms}
 use Rattle.passes.proofs.Outcomes.{no≢yes, yes-inj, after-yes}
-use Rattle.meaning.proofs.Predicates.{Ident, IdentAround, Arity, Okay, OkayOver, Okays}
+use Rattle.meaning.proofs.Predicates.{UnresolvedLeaf, NamedAround, NamedOver, UnresolvedSym, UnresolvedSyms, Ident, IdentAround, Arity, Okay, OkayOver, Okays}
 use Rattle.meaning.proofs.Idents.{ident-of}
 use Rattle.meaning.proofs.resolving.Globals.{Distinct, no-terminal}
 use Rattle.meaning.proofs.resolving.Lookups.{Found, f-argument, f-terminal, f-nonterminal, found}

@@ -8,13 +8,13 @@ use mathlib.Core.Bool.{Bool, true, false, cond}
 use Rattle.parse_tree.specs.plain.Tree.{Text, Leaf, Around, Over, Sym, Syms, ambiguous, bare, quoted, regex, nonterminal, lookahead, lookbehind, error, repeat, choose, name, macro, group, leaf, around, over, nil, cons, Condition, Alternative, Nonterminal, item}
 use Rattle.parse_tree.specs.plain.Texts.{has}
 use Rattle.passes.specs.Outcome.{Tree, yes}
-use Rattle.passes.specs.Grades.{Side, all, annotated, Graded, graded, below, ceiling}
+use Rattle.passes.specs.Grades.{Side, all, annotated, Graded, graded, ceiling}
 use Rattle.meaning.specs.Phrases.{Token, Phrase, Phrases, token, bareToken, parameter, reference, call, sequence, pcons}
-use Rattle.meaning.specs.Meaning.{isTerminal, named, meanLeaf, meanAround, meanOver, mean, means, puts, holds, counts, marks, Under, own, Step, s-plain, s-level, s-call, s-sequence, s-question-none, s-question-one, s-star-none, s-star-plus, s-plus-one, s-plus-more, Derives}
+use Rattle.meaning.specs.Meaning.{isTerminal, named, meanLeaf, meanAround, meanOver, mean, means, puts, holds, occurrencesIn, marks, Under, own, Step, s-plain, s-level, s-call, s-sequence, s-question-none, s-question-one, s-star-none, s-star-plus, s-plus-one, s-plus-more, Derives, below}
 use Rattle.passes.specs.Resolve.{Global, externs, matches, globals, checkGlobals, resolve}
-use Rattle.meaning.specs.Premises.{Unresolved, HasItem}
+use Rattle.meaning.specs.Premises.{HasItem}
 use Rattle.passes.proofs.Outcomes.{after-yes}
-use Rattle.meaning.proofs.Predicates.{Ident, Okays, Resolved}
+use Rattle.meaning.proofs.Predicates.{Unresolved, Ident, Okays, Resolved}
 use Rattle.meaning.proofs.Idents.{ident-of}
 use Rattle.meaning.proofs.Simulation.{include}
 use Rattle.meaning.proofs.resolving.Globals.{Distinct, check-distinct, one-nonterminal, no-terminal}
@@ -92,7 +92,7 @@ module _ (U R : Tree) (premises : Unresolved U) (resolves : resolve U ≡ yes R)
   lows g d = (g .level, below (g .level) (graded d))
 
   same-own : (n : Text) (d e : Nonterminal) (g h : Graded) (ms : Phrases) → Like U d e → GradedLike U (d .args) g h → own n e h ms ≡ own n d g ms
-  same-own n d e g h ms l k = ap (λ (f : ℕ → ℕ). marks n f ms 0) (ap₂ (λ (s : Side) (z : ℕ × ℕ). ceiling s (z .0) (z .1) (counts n ms)) (k .side) pair)
+  same-own n d e g h ms l k = ap (λ (f : ℕ → ℕ). marks n f ms 0) (ap₂ (λ (s : Side) (z : ℕ × ℕ). ceiling s (z .0) (z .1) (occurrencesIn n ms)) (k .side) pair)
     where
       pair : _≡_ {A = ℕ × ℕ} (lows h e) (lows g d)
       pair = ap {B = ℕ × ℕ} (λ v. (v, below v (graded e))) (k .level) ∙ ap {B = ℕ × ℕ} (λ b. (g .level, b)) (below-like U (d .args) (g .level) (graded-like U (d .args) 0 all (l .alternatives)))
