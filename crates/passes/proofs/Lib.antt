@@ -1,3 +1,4 @@
+-- Laws of outcomes, and what each call can refuse with.
 pub mod Outcomes
 pub mod RangeOfPasses
 pub mod RangeOfReading
