@@ -18,3 +18,8 @@ after-yes (no n s) f b e = absurd (no≢yes n s b e)
 
 pub after-is : {A B : Type 0} (r : Outcome A) (f : A → Outcome B) (a : A) (b : B) → r ≡ yes a → f a ≡ yes b → after r f ≡ yes b
 after-is {A = A} r f a b e h = ap (λ (x : Outcome A). after x f) e ∙ h
+
+-- the same before, and after each yes the same
+pub after-same : {A B : Type 0} (r : Outcome A) (f g : A → Outcome B) → ((a : A) → f a ≡ g a) → after r f ≡ after r g
+after-same (yes a) f g h = h a
+after-same (no n s) f g h = refl

@@ -9,7 +9,8 @@ use Rattle.passes.specs.Resolve.{resolve}
 use Rattle.passes.specs.Levels.{levels}
 use Rattle.passes.specs.Macros.{Pending, Expander, replaceItems, drain, spanOf, withoutMacros}
 use Rattle.passes.specs.Stages.{lastStage, orMore, stage, resolveStage, levelStage, rounds, macroStages, allStages}
-use Rattle.passes.specs.Passes.{itemsOf, treeStage, passes}
+use Rattle.passes.specs.Passes.{itemsOf, macros, passes}
+use Rattle.passes.proofs.Outcomes.{after-same}
 
 -- "rounds so far within the limit? 18, span of the last pushed"
 unfoldable pub atLimit : List Item → List Pending → Outcome (List Item)
@@ -75,6 +76,11 @@ stages-tree limit g = first (resolve (g .items)) (g .atoms)
     first (yes R) ts = second (levels R) _
     first (no n s) ts = refl
 
+macros-tree : (limit : ℕ) (G : Tree) → macros limit G ≡ expandTree limit G
+unfolding macros macroStages expandTree
+macros-tree limit G = rounds-tree G limit [] [] (withoutMacros G) []
+
 pub passes-tree : (limit : ℕ) (U : Tree) → passes limit U ≡ passTree limit U
-unfolding passes
-passes-tree limit U = stages-tree limit (treeStage U)
+unfolding passes passTree
+passes-tree limit U =
+    after-same (resolve U) _ _ (λ R. after-same (levels R) _ _ (λ L. after-same (resolve L) _ _ (λ G. macros-tree limit G)))
