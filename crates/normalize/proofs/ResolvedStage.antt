@@ -23,14 +23,16 @@ use Rattle.parse_tree.specs.plain.References.{stageOf}
 use Rattle.parse_tree.specs.working.Within.{StageWithin}
 use Rattle.parse_tree.specs.declared.syntax.Span.{Span}
 use Rattle.parse_tree.proofs.Written.{written}
+use Rattle.parse_tree.proofs.WriteTapeIs.{tape-is}
 use Rattle.texts.specs.Atoms.{atomsOf}
 use Rattle.texts.proofs.Tabling.{length-atoms}
 use Rattle.validate.specs.Whole.{Valid, Validates}
 use Rattle.validate.specs.declared.Atoms.{Atoms}
 use Rattle.validate.specs.declared.Validated.{Validated}
-use Rattle.passes.specs.Outcome.{Outcome, yes, no}
+use Rattle.passes.specs.Outcome.{Outcome, yes, no, after}
 use Rattle.passes.specs.Resolve.{resolve}
-use Rattle.passes.specs.Calls.{done, denied, next, passed, stage, admit, resolved}
+use Rattle.passes.specs.Stages.{stage, resolveStage}
+use Rattle.passes.specs.Calls.{nowhere, sizes}
 use Rattle.resolve.specs.Scopes.{base}
 use Rattle.resolve.specs.Items.{behind}
 use Rattle.resolve.specs.Whole.{Resolving, Answers, ResolvesRead, Resolves}
@@ -46,14 +48,14 @@ scopeOf a n cap = record { room = a .room; count = a .count; width = a .width; l
 
 -- ---- what the call says is what was answered
 module _ (s : List ℕ) (cap : ℕ) (w : List ℕ) where
-  says-denied : (q p p′ : ℕ) → staged s cap ≡ denied q p p′ → Resolved s cap (Answer.No q p p′) w
+  says-no : (q : ℕ) (sp : Span) → staged s cap ≡ no q sp → Resolved s cap (Answer.No q (sp .0) (sp .1)) w
   unfolding answerOf Holds
-  says-denied q p p′ e = record { answered = rw e; holds = rw e tt }
+  says-no q sp e = record { answered = rw e; holds = rw e tt }
 
-  says-done : (h : Stage) (n : ℕ) → staged s cap ≡ done h → n ≡ length (stageBytes 2 h)
+  says-yes : (h : Stage) (n : ℕ) → staged s cap ≡ yes h → n ≡ length (stageBytes 2 h)
       → part (8 * length s) (8 * length s + length (stageBytes 2 h)) w ≡ stageBytes 2 h → Resolved s cap (Answer.Yes n) w
   unfolding answerOf Holds
-  says-done h n e l p = record { answered = rw (e, l); holds = rw e p }
+  says-yes h n e l p = record { answered = rw (e, l, tape-is 2 h); holds = rw e (rw (tape-is 2 h) p) }
 
 -- ---- the bytes laid behind the tables, read from `to` on
 behind-part : (m : Scope) (w w′ xs : List ℕ) (to : ℕ) → base m ≤ to → to + length xs ≤ m .lim → m .lim ≤ length w
@@ -119,8 +121,8 @@ module _ (s : List ℕ) (cap : ℕ) (w : List ℕ) (a : Atoms) (at : ℕ) (v : V
     unfolding Resolves ResolvesRead
     answers = rw (v .decoded) at i
 
-    staged-as : (x : Outcome (List Item)) → resolve (v .items) ≡ x → staged s cap ≡ next (passed x) (λ R. stage cap (atomsOf s (a .count)) R)
-    unfolding staged resolved
+    staged-as : (x : Outcome (List Item)) → resolve (v .items) ≡ x → staged s cap ≡ after x (λ R. stage (sizes 2 cap) (atomsOf s (a .count)) R)
+    unfolding staged resolveStage
     staged-as x e = rw (v .decoded, e)
 
     pub valid-no : (q : ℕ) (sp : Span) (x y : ℕ) → r ≡ Walked.Refused q sp → x ≡ sp .0 → y ≡ sp .1 → Resolved s cap (Answer.No q x y) w′
@@ -132,7 +134,7 @@ module _ (s : List ℕ) (cap : ℕ) (w : List ℕ) (a : Atoms) (at : ℕ) (v : V
         go (no q′ sp′) p k =
             let t : q ≡ q′ = cc in
             let u : sp ≡ sp′ = cc in
-            says-denied s cap w′ q x y (rw (f, g, t, u) (staged-as (no q′ sp′) p))
+            rw (f, g, t, u) (says-no s cap w′ q′ sp′ (staged-as (no q′ sp′) p))
 
     module _ (p e : ℕ) (n : r ≡ Walked.Next p e) where
       written-as : Put (scopeOf a (length s) cap) (atomsOf s (a .count)) (v .items) w (8 * length s) e w′
@@ -165,24 +167,24 @@ module _ (s : List ℕ) (cap : ℕ) (w : List ℕ) (a : Atoms) (at : ℕ) (v : V
             many : length (tape .atoms) ≡ a .count
             many = length-atoms s (a .count)
 
-            is : staged s cap ≡ admit cap (stageOf (atomsOf s (a .count)) (k .tree))
+            is : staged s cap ≡ sizes 2 cap (stageOf (atomsOf s (a .count)) (k .tree))
             is = staged-as (yes (k .tree)) (k .is)
 
             go : (c : Bool) → ltb 65536 (a .count) ≡ c → (d : Bool) → ltb (8 * length s + cap) e ≡ d
                 → Resolved s cap (pick c (Answer.No 20 0 0) (pick d (Answer.No 21 0 0) (Answer.Yes (e - 8 * length s)))) w′
-            go true x d y = let h = ltb-true 65536 (a .count) x in says-denied s cap w′ 20 0 0 (is ∙ admit-many tape (k .tree) (k .is) within cap (omega (arith, many)))
+            go true x d y = let h = ltb-true 65536 (a .count) x in says-no s cap w′ 20 nowhere (is ∙ admit-many tape (k .tree) (k .is) within cap (omega (arith, many)))
             go false x true y =
                 let h = ltb-false 65536 (a .count) x in
                 let g = ltb-true (8 * length s + cap) e y in
                 let l : cap < length xs = over (8 * length s) cap (length xs) e (k .end) g in
-                says-denied s cap w′ 21 0 0 (is ∙ admit-long tape (k .tree) (k .is) within cap (omega (arith, many)) l)
+                says-no s cap w′ 21 nowhere (is ∙ admit-long tape (k .tree) (k .is) within cap (omega (arith, many)) l)
             go false x false y =
                 let h = ltb-false 65536 (a .count) x in
                 let g = ltb-false (8 * length s + cap) e y in
                 let f : 8 * length s + length xs ≤ 8 * length s + cap = adv-fits (8 * length s + cap) (8 * length s) (length xs) (omega (arith, k .end)) in
                 let l : e ≡ 8 * length s + length xs = k .end ∙ adv-in (8 * length s + cap) (8 * length s) (length xs) (omega arith) in
                 let t = v .third in
-                says-done s cap w′ (record { atoms = atomsOf s (a .count); items = k .tree }) (e - 8 * length s) (is ∙ admit-done tape (k .tree) (k .is) within cap (omega (arith, many)) (omega arith)) (omega arith)
+                says-yes s cap w′ (record { atoms = atomsOf s (a .count); items = k .tree }) (e - 8 * length s) (is ∙ admit-done tape (k .tree) (k .is) within cap (omega (arith, many)) (omega arith)) (omega arith)
                 (behind-part (scopeOf a (length s) cap) w w′ xs (8 * length s) (omega arith) (omega arith) (omega arith) (k .bytes))
 
         pub valid-yes : (y : Answer) → y ≡ sized (a .count) (8 * length s) e (8 * length s + cap) → Resolved s cap y w′
@@ -194,7 +196,7 @@ pub ruleset validated = (needs, valid-resolving, valid-no, valid-from, valid-yes
 module _ (s : List ℕ) (cap : ℕ) (w : List ℕ) (x : Validated) (i : Validates s x w) where
   pub stage-refused : (q p : ℕ) → x ≡ Validated.Refused q p → Resolved s cap (Answer.No q p p) w
   unfolding Validates staged
-  stage-refused q p e = let z : decode s ≡ refused q p = rw e at i in says-denied s cap w q p p (rw z)
+  stage-refused q p e = let z : decode s ≡ refused q p = rw e at i in says-no s cap w q (record { 0 = p; 1 = p }) (rw z)
 
   pub stage-valid : (a : Atoms) (at : ℕ) → x ≡ Validated.Valid a at → Valid s w a at
   unfolding Validates

@@ -5,6 +5,7 @@ use crate::room::enough;
 use octets::runs::clear;
 use octets::sink::put_run;
 ghost use mathlib.Core.Path.{_≡_};
+ghost use mathlib.Core.Bool.{true};
 ghost use lib.ListN.{length};
 ghost use Rattle.passes.specs.Calls.{resolveCall};
 ghost use Rattle.normalize.specs.Answers.{Called, Fits, handed};
@@ -25,7 +26,7 @@ fn hand_over(r: Answer, work: &[u8], a: usize, output: &mut [u8])
 
 // Resolving alone: questions 1 to 13, 20 and 21.
 pub fn resolve(tape: &[u8], output: &mut [u8], work: &mut [u8]) -> Answer
-    ensures { λ r. ⌜ Called (resolveCall (now (tape .entry)) (length (now (output .entry))) (length (now (work .entry)))) (now (tape .entry)) (now (output .entry)) (now (work .entry)) r (now (output .exit)) (now (work .exit)) ⌝ }
+    ensures { λ r. ⌜ Called (resolveCall true 2 (now (tape .entry)) (length (now (output .entry))) (length (now (work .entry)))) (now (tape .entry)) (now (output .entry)) (now (work .entry)) r (now (output .exit)) (now (work .exit)) ⌝ }
 {
     if enough(tape.len(), output.len(), work.len()) {
         let r = resolve_stage(tape, output.len(), work);

@@ -1,6 +1,7 @@
-// The entries for Rust: byte slices in, four words out.
+// The entries for Rust: byte slices in, five words out.
 use crate::Answer;
 use crate::calls::resolve;
+ghost use mathlib.Core.Bool.{true};
 ghost use lib.ListN.{length};
 ghost use Rattle.passes.specs.Calls.{resolveCall};
 ghost use Rattle.normalize.specs.Answers.{Exported};
@@ -18,22 +19,22 @@ fn word(x: usize) -> u64
     x as u64
 }
 
-// Resolving alone; answer becomes 1, length, 0, 0 or 0, number, place, place.
+// Resolving alone; answer becomes 1, length, 0, 0, 0 or 0, number, place, place, 0.
 #[no_mangle]
 pub extern "C" fn normalize_resolve(
     tape: &[u8],
     output: &mut [u8],
     work: &mut [u8],
-    answer: &mut [u64; 4],
+    answer: &mut [u64; 5],
 )
-    ensures { λ _. ⌜ Exported (resolveCall (now (tape .entry)) (length (now (output .entry))) (length (now (work .entry)))) (now (tape .entry)) (now (output .entry)) (now (work .entry)) (now (answer .exit)) (now (output .exit)) (now (work .exit)) ⌝ }
+    ensures { λ _. ⌜ Exported (resolveCall true 2 (now (tape .entry)) (length (now (output .entry))) (length (now (work .entry)))) (now (tape .entry)) (now (output .entry)) (now (work .entry)) (now (answer .exit)) (now (output .exit)) (now (work .exit)) ⌝ }
 {
     match resolve(tape, output, work) {
         Answer::Yes(n) => {
-            *answer = [1, word(n), 0, 0];
+            *answer = [1, word(n), 0, 0, 0];
         }
         Answer::No(q, a, b) => {
-            *answer = [0, wide(q), word(a), word(b)];
+            *answer = [0, wide(q), word(a), word(b), 0];
         }
     }
 }
