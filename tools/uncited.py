@@ -66,7 +66,7 @@ def declared(path):
         match = SIGNATURE.match(line)
         statement = number > 0 and lines[number - 1].startswith("-- theorem")
         if match and len(match.group(1)) <= 2 and not statement:
-            yield match.group(3), number + 1
+            yield match.group(3), number + 1, match.group(1)
 
 
 def uncited_lemmas(paths, trust):
@@ -80,9 +80,10 @@ def uncited_lemmas(paths, trust):
     for path in paths:
         if path.endswith("/Proof.antt") or "/proofs/" not in path and "/specs/" not in path:
             continue
-        for name, line in declared(path):
+        for name, line, indent in declared(path):
             others = [p for p in counts.get(name, {}) if p != path]
-            own = len(re.findall(r"(?m)^\s*(?:pub |abbrev |unfoldable )*" + re.escape(name) + r"(?=[\s:])", texts[path]))
+            # its signature and clauses stand as far in as it does; a line that goes on stands further in
+            own = len(re.findall(r"(?m)^" + indent + r"(?:pub |abbrev |unfoldable )*" + re.escape(name) + r"(?=[\s:])", texts[path]))
             if not others and counts[name][path] <= own and f"`{name}`" not in trust:
                 yield f"{os.path.relpath(path, ROOT)}:{line}: {name}"
 
