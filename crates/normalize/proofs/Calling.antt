@@ -16,11 +16,16 @@ use Rattle.parse_tree.specs.plain.WriteTape.{tapeOf}
 use Rattle.parse_tree.specs.plain.References.{stageOf}
 use Rattle.passes.specs.Resolve.{resolve}
 use Rattle.passes.specs.Sizes.{stageFits}
+use Rattle.parse_tree.specs.plain.ReadTape.{readTape}
+use Rattle.parse_tree.specs.working.Refusals.{refusalAt}
+use Rattle.parse_tree.specs.declared.refusal.Refusal.{Refusal}
 use Rattle.parse_tree.proofs.ReadTapeIs.{read-is}
 use Rattle.passes.specs.Outcome.{Outcome, yes, no, after}
 use Rattle.passes.specs.Stages.{resolveStage}
 use Rattle.passes.specs.Calls.{nowhere, readAs, sizes, validateCall, resolveCall, written, workAfter}
-use Rattle.normalize.specs.Answers.{answerOf, Called, staged, Holds, Resolved, Fits, handed}
+use Rattle.normalize.specs.plain.Answers.{answerOf, Called, Checked}
+use Rattle.normalize.specs.working.Stages.{staged, Holds, Resolved}
+use Rattle.normalize.specs.working.Handing.{Fits, handed}
 use Rattle.normalize.specs.declared.Answer.{Answer}
 
 -- ---- a yes has at most cap bytes
@@ -63,9 +68,9 @@ holds-written s (no q sp) w o h = refl
 
 -- ---- ok is what `enough` answered
 module _ (s o w : List ℕ) (ok : Bool) (i : ok ≡ leb (8 * (length s + length o)) (length w)) where
-  pub call-short : ok ≡ false → Called (resolveCall true 2 s (length o) (length w)) s o w (Answer.No 1 0 0) o w
-  unfolding resolveCall validateCall answerOf written workAfter
-  call-short e = let z : leb (8 * (length s + length o)) (length w) ≡ false = cc in record { answered = rw z; tree = rw z; zeroed = rw z }
+  pub call-short : (why : Refusal) → why ≡ refusalAt 1 0 → ok ≡ false → Called (resolveCall true 2 s (length o) (length w)) s o w (Answer.No why) o w
+  unfolding refusalAt resolveCall validateCall answerOf written workAfter
+  call-short why u e = let z : leb (8 * (length s + length o)) (length w) ≡ false = cc in record { answered = rw (z, u); tree = rw z; zeroed = rw z }
 
   module _ (e : ok ≡ true) where
     long : leb (8 * (length s + length o)) (length w) ≡ true
@@ -97,3 +102,21 @@ module _ (s o w : List ℕ) (ok : Bool) (i : ok ≡ leb (8 * (length s + length 
           }
 
 pub ruleset calling = (needs, call-short, call-room, call-start, call-fits, call-done)
+
+-- ---- `validate`, which has no output
+module _ (s w : List ℕ) (ok : Bool) (i : ok ≡ leb (8 * (length s + 0)) (length w)) where
+  pub check-short : (why : Refusal) → why ≡ refusalAt 1 0 → ok ≡ false → Checked (validateCall true 2 s 0 (length w)) s w (Answer.No why) w
+  unfolding refusalAt validateCall answerOf workAfter
+  check-short why u e = let z : leb (8 * (length s + 0)) (length w) ≡ false = cc in record { answered = rw (z, u); zeroed = rw z }
+
+  module _ (e : ok ≡ true) where
+    pub check-room : 8 * length s ≤ length w
+    check-room = let z = leb-true (8 * (length s + 0)) (length w) (sym i ∙ e) in omega arith
+
+    pub check-done : (r : Answer) (w₁ w₂ : List ℕ) → r ≡ answerOf (readAs (readTape true 2 s)) → length w₁ ≡ length w → w₂ ≡ replicate (length w₁) 0 → Checked (validateCall true 2 s 0 (length w)) s w r w₂
+    unfolding validateCall workAfter
+    check-done r w₁ w₂ d l q =
+        let z : leb (8 * (length s + 0)) (length w) ≡ true = sym i ∙ e in
+        record { answered = rw z d; zeroed = rw z (q ∙ ap (λ (n : ℕ). replicate n 0) l) }
+
+pub ruleset checking = (needs, check-short, check-room, check-done)

@@ -2,13 +2,16 @@
 use crate::Answer;
 use crate::resolving::resolve_stage;
 use crate::room::enough;
+use crate::validating::validate_tape;
 use octets::runs::clear;
 use octets::sink::put_run;
+use parse_tree::refusal;
 ghost use mathlib.Core.Path.{_≡_};
 ghost use mathlib.Core.Bool.{true};
 ghost use lib.ListN.{length};
-ghost use Rattle.passes.specs.Calls.{resolveCall};
-ghost use Rattle.normalize.specs.Answers.{Called, Fits, handed};
+ghost use Rattle.passes.specs.Calls.{validateCall, resolveCall};
+ghost use Rattle.normalize.specs.plain.Answers.{Called, Checked};
+ghost use Rattle.normalize.specs.working.Handing.{Fits, handed};
 
 // At a yes the tree, which stands in work from a on, goes to the front of the output.
 fn hand_over(r: Answer, work: &[u8], a: usize, output: &mut [u8])
@@ -16,11 +19,24 @@ fn hand_over(r: Answer, work: &[u8], a: usize, output: &mut [u8])
     ensures { λ _. ⌜ now (output .exit) ≡ handed r a (now (work .entry)) (now (output .entry)) ⌝ }
 {
     match r {
-        Answer::No(_, _, _) => {}
+        Answer::No(_) => {}
         Answer::Yes(n) => {
             let lim = output.len();
             put_run(work, a, a + n, output, lim, 0);
         }
+    }
+}
+
+// Validating alone: questions 1 to 4. There is no output; the yes has the tape's length, since its tree is written as it was.
+pub fn validate(tape: &[u8], work: &mut [u8]) -> Answer
+    ensures { λ r. ⌜ Checked (validateCall true 2 (now (tape .entry)) 0 (length (now (work .entry)))) (now (tape .entry)) (now (work .entry)) r (now (work .exit)) ⌝ }
+{
+    if enough(tape.len(), 0, work.len()) {
+        let r = validate_tape(tape, work);
+        clear(work);
+        r
+    } else {
+        Answer::No(refusal::at(1, 0))
     }
 }
 
@@ -34,6 +50,6 @@ pub fn resolve(tape: &[u8], output: &mut [u8], work: &mut [u8]) -> Answer
         clear(work);
         r
     } else {
-        Answer::No(1, 0, 0)
+        Answer::No(refusal::at(1, 0))
     }
 }

@@ -50,8 +50,8 @@ pub fn commands(tape: &[u8], work: &[u8], m: Atoms, place: usize, n: usize, at: 
                 p = e;
                 k -= 1;
             }
-            Asked::Refused(z) => {
-                return Step::Refused(z);
+            Asked::Refused(why) => {
+                return Step::Refused(why);
             }
         }
     }

@@ -16,7 +16,7 @@ pub fn validate(tape: &[u8], work: &mut [u8], width: usize, four: bool) -> Valid
 {
     let c = tape.len() / 3;
     match atoms(tape, work, c, width) {
-        Entered::Refused(z) => Validated::Refused(z),
+        Entered::Refused(why) => Validated::Refused(why),
         Entered::All(k, at) => {
             let m = Atoms {
                 room: c,
@@ -25,7 +25,7 @@ pub fn validate(tape: &[u8], work: &mut [u8], width: usize, four: bool) -> Valid
                 four: four,
             };
             match items(tape, work, m, at) {
-                Step::Refused(z) => Validated::Refused(z),
+                Step::Refused(why) => Validated::Refused(why),
                 Step::Next(_) => Validated::Valid(m, at),
             }
         }

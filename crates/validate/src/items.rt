@@ -29,9 +29,9 @@ fn alternative_parts(tape: &[u8], work: &[u8], m: Atoms, a: Alternative, at: usi
     ensures { λ r. ⌜ r ≡ stepOf (alternativeParts (m .four) (m .width) (now (tape .entry)) (atomsOf (now (tape .entry)) (m .count)) a at) ⌝ }
 {
     match commands(tape, work, m, ATTRIBUTES, from8(a.attributes), at) {
-        Step::Refused(z) => Step::Refused(z),
+        Step::Refused(why) => Step::Refused(why),
         Step::Next(e) => match commands(tape, work, m, CONDITIONS, from8(a.conditions), e) {
-            Step::Refused(z) => Step::Refused(z),
+            Step::Refused(why) => Step::Refused(why),
             Step::Next(d) => symbols(tape, work, m, d, from16(a.symbols), 64),
         },
     }
@@ -43,7 +43,7 @@ fn alternative(tape: &[u8], work: &[u8], m: Atoms, at: usize) -> Step
     ensures { λ r. ⌜ r ≡ stepOf (readAlternative (m .four) (m .width) (now (tape .entry)) (atomsOf (now (tape .entry)) (m .count)) at) ⌝ }
 {
     match command(tape, work, m, ALTERNATIVES, 1, at) {
-        Asked::Refused(z) => Step::Refused(z),
+        Asked::Refused(why) => Step::Refused(why),
         Asked::Is(n, e) => {
             let Node::Alternative(a) = n else {
                 return Step::Refused(refusal::at(2, at));
@@ -66,8 +66,8 @@ fn alternatives(tape: &[u8], work: &[u8], m: Atoms, n: usize, at: usize) -> Step
                 p = e;
                 k -= 1;
             }
-            Step::Refused(z) => {
-                return Step::Refused(z);
+            Step::Refused(why) => {
+                return Step::Refused(why);
             }
         }
     }
@@ -80,7 +80,7 @@ fn nonterminal_parts(tape: &[u8], work: &[u8], m: Atoms, d: NonterminalData, at:
     ensures { λ r. ⌜ r ≡ stepOf (nonterminalParts (m .four) (m .width) (now (tape .entry)) (atomsOf (now (tape .entry)) (m .count)) d at) ⌝ }
 {
     match commands(tape, work, m, ARGUMENTS, from8(d.args), at) {
-        Step::Refused(z) => Step::Refused(z),
+        Step::Refused(why) => Step::Refused(why),
         Step::Next(e) => alternatives(tape, work, m, from16(d.alternatives), e),
     }
 }
@@ -91,7 +91,7 @@ fn item(tape: &[u8], work: &[u8], m: Atoms, at: usize) -> Step
     ensures { λ r. ⌜ r ≡ stepOf (readItem (m .four) (m .width) (now (tape .entry)) (atomsOf (now (tape .entry)) (m .count)) at) ⌝ }
 {
     match command(tape, work, m, ITEMS, 1, at) {
-        Asked::Refused(z) => Step::Refused(z),
+        Asked::Refused(why) => Step::Refused(why),
         Asked::Is(n, e) => match n {
             Node::Terminal(_) => Step::Next(e),
             Node::Nonterminal(d) => nonterminal_parts(tape, work, m, d, e),
@@ -111,8 +111,8 @@ pub fn items(tape: &[u8], work: &[u8], m: Atoms, at: usize) -> Step
             Step::Next(e) => {
                 p = e;
             }
-            Step::Refused(z) => {
-                return Step::Refused(z);
+            Step::Refused(why) => {
+                return Step::Refused(why);
             }
         }
     }

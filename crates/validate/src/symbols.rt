@@ -33,7 +33,7 @@ pub fn symbol(tape: &[u8], work: &[u8], m: Atoms, at: usize, left: usize) -> Ste
     ensures { λ r. ⌜ r ≡ stepOf (readSym (m .four) (m .width) (now (tape .entry)) (atomsOf (now (tape .entry)) (m .count)) left at) ⌝ }
 {
     match command(tape, work, m, SYMBOLS, left, at) {
-        Asked::Refused(z) => Step::Refused(z),
+        Asked::Refused(why) => Step::Refused(why),
         Asked::Is(n, e) => {
             if left == 0 {
                 return Step::Refused(refusal::at(3, at));
@@ -63,8 +63,8 @@ pub fn symbols(tape: &[u8], work: &[u8], m: Atoms, at: usize, n: usize, left: us
                 p = e;
                 k -= 1;
             }
-            Step::Refused(z) => {
-                return Step::Refused(z);
+            Step::Refused(why) => {
+                return Step::Refused(why);
             }
         }
     }

@@ -31,8 +31,8 @@ loop-less c = search commands
 loop-again : tie.Need-loop-again Inv-loop μ-loop
 loop-again c = search commands
 
-enum-known-z : tie.Need-enum-known-z Inv-loop μ-loop
-enum-known-z c = search commands
+enum-known-why : tie.Need-enum-known-why Inv-loop μ-loop
+enum-known-why c = search commands
 
 returns : tie.Need-returns Inv-loop μ-loop
 returns c = search commands
@@ -52,6 +52,6 @@ commands-spec =
     sub-k
     loop-less
     loop-again
-    enum-known-z
+    enum-known-why
     returns
     returns-2)

@@ -6,8 +6,8 @@ use Rattle.validate.proofs.entry.validate.Tie as tie
 atoms-requires : tie.Need-atoms-requires
 atoms-requires c κs = search needs
 
-enum-known-z : tie.Need-enum-known-z
-enum-known-z c = search needs
+enum-known-why : tie.Need-enum-known-why
+enum-known-why c = search needs
 
 enum-known-k : tie.Need-enum-known-k
 enum-known-k c = search needs
@@ -15,8 +15,8 @@ enum-known-k c = search needs
 items-requires : tie.Need-items-requires
 items-requires c κs = search wholes
 
-enum-known-z-2 : tie.Need-enum-known-z-2
-enum-known-z-2 c = search needs
+enum-known-why-2 : tie.Need-enum-known-why-2
+enum-known-why-2 c = search needs
 
 enum-told : tie.Need-enum-told
 enum-told c = search needs
@@ -44,10 +44,10 @@ validate-spec =
     tie.close
     (tie.spec
     atoms-requires
-    enum-known-z
+    enum-known-why
     enum-known-k
     items-requires
-    enum-known-z-2
+    enum-known-why-2
     enum-told
     same-length
     returns

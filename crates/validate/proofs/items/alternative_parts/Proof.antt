@@ -9,8 +9,8 @@ from8-requires c κs = search needs
 commands-requires : tie.Need-commands-requires
 commands-requires c κs = search needs
 
-enum-known-z : tie.Need-enum-known-z
-enum-known-z c = search needs
+enum-known-why : tie.Need-enum-known-why
+enum-known-why c = search needs
 
 enum-known-e : tie.Need-enum-known-e
 enum-known-e c = search needs
@@ -21,8 +21,8 @@ from8-requires-2 c κs = search needs
 commands-requires-2 : tie.Need-commands-requires-2
 commands-requires-2 c κs = search needs
 
-enum-known-z-2 : tie.Need-enum-known-z-2
-enum-known-z-2 c = search needs
+enum-known-why-2 : tie.Need-enum-known-why-2
+enum-known-why-2 c = search needs
 
 enum-known-d : tie.Need-enum-known-d
 enum-known-d c = search needs
@@ -48,11 +48,11 @@ alternative-parts-spec =
     (tie.spec
     from8-requires
     commands-requires
-    enum-known-z
+    enum-known-why
     enum-known-e
     from8-requires-2
     commands-requires-2
-    enum-known-z-2
+    enum-known-why-2
     enum-known-d
     from16-requires
     symbols-requires

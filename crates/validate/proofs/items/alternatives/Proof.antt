@@ -31,8 +31,8 @@ loop-less c = search alternatives
 loop-again : tie.Need-loop-again Inv-loop μ-loop
 loop-again c = search alternatives
 
-enum-known-z : tie.Need-enum-known-z Inv-loop μ-loop
-enum-known-z c = search alternatives
+enum-known-why : tie.Need-enum-known-why Inv-loop μ-loop
+enum-known-why c = search alternatives
 
 returns : tie.Need-returns Inv-loop μ-loop
 returns c = search alternatives
@@ -52,6 +52,6 @@ alternatives-spec =
     sub-k
     loop-less
     loop-again
-    enum-known-z
+    enum-known-why
     returns
     returns-2)

@@ -6,8 +6,8 @@ use Rattle.validate.proofs.items.item.Tie as tie
 command-requires : tie.Need-command-requires
 command-requires c κs = search needs
 
-enum-known-z : tie.Need-enum-known-z
-enum-known-z c = search needs
+enum-known-why : tie.Need-enum-known-why
+enum-known-why c = search needs
 
 enum-known-n : tie.Need-enum-known-n
 enum-known-n c = search needs
@@ -41,7 +41,7 @@ item-spec =
     tie.close
     (tie.spec
     command-requires
-    enum-known-z
+    enum-known-why
     enum-known-n
     enum-told
     enum-known-n-2

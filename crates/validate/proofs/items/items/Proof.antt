@@ -28,8 +28,8 @@ loop-less c = search items
 loop-again : tie.Need-loop-again Inv-loop μ-loop
 loop-again c = search items
 
-enum-known-z : tie.Need-enum-known-z Inv-loop μ-loop
-enum-known-z c = search items
+enum-known-why : tie.Need-enum-known-why Inv-loop μ-loop
+enum-known-why c = search items
 
 returns : tie.Need-returns Inv-loop μ-loop
 returns c = search items
@@ -48,6 +48,6 @@ items-spec =
     enum-known-e
     loop-less
     loop-again
-    enum-known-z
+    enum-known-why
     returns
     returns-2)

@@ -9,8 +9,8 @@ from8-requires c κs = search needs
 commands-requires : tie.Need-commands-requires
 commands-requires c κs = search needs
 
-enum-known-z : tie.Need-enum-known-z
-enum-known-z c = search needs
+enum-known-why : tie.Need-enum-known-why
+enum-known-why c = search needs
 
 enum-known-e : tie.Need-enum-known-e
 enum-known-e c = search needs
@@ -33,7 +33,7 @@ nonterminal-parts-spec =
     (tie.spec
     from8-requires
     commands-requires
-    enum-known-z
+    enum-known-why
     enum-known-e
     from16-requires
     alternatives-requires

@@ -46,8 +46,8 @@ symbols-calls t = (symbol-below t, symbol.Post)
 symbol-command-requires : (t : ℕ) → symbol-lts.Need-command-requires (symbol-calls t) (symbol-at t) symbol.Post
 symbol-command-requires t c κs = search walking
 
-symbol-enum-known-z : (t : ℕ) → symbol-lts.Need-enum-known-z (symbol-calls t) (symbol-at t) symbol.Post
-symbol-enum-known-z t c = search walking
+symbol-enum-known-why : (t : ℕ) → symbol-lts.Need-enum-known-why (symbol-calls t) (symbol-at t) symbol.Post
+symbol-enum-known-why t c = search walking
 
 symbol-enum-known-n : (t : ℕ) → symbol-lts.Need-enum-known-n (symbol-calls t) (symbol-at t) symbol.Post
 symbol-enum-known-n t c = search walking
@@ -127,8 +127,8 @@ symbols-loop-less t c = search walking
 symbols-loop-again : (t : ℕ) → symbols-lts.Need-loop-again (symbols-calls t) (symbols-at t) symbols.Post symbols-Inv-loop symbols-μ-loop
 symbols-loop-again t c = search walking
 
-symbols-enum-known-z : (t : ℕ) → symbols-lts.Need-enum-known-z (symbols-calls t) (symbols-at t) symbols.Post symbols-Inv-loop symbols-μ-loop
-symbols-enum-known-z t c = search walking
+symbols-enum-known-why : (t : ℕ) → symbols-lts.Need-enum-known-why (symbols-calls t) (symbols-at t) symbols.Post symbols-Inv-loop symbols-μ-loop
+symbols-enum-known-why t c = search walking
 
 symbols-returns : (t : ℕ) → symbols-lts.Need-returns (symbols-calls t) (symbols-at t) symbols.Post symbols-Inv-loop symbols-μ-loop
 symbols-returns t c = search walking
@@ -138,5 +138,5 @@ symbols-returns-2 t c = search walking
 
 pub +symbol+symbols-spec : {M : Type 1} → statement M
 +symbol+symbols-spec = close μ-symbol μ-symbols
-    (λ t. symbol-lts.spec (symbol-calls t) (symbol-at t) symbol.Post (symbol-command-requires t) (symbol-enum-known-z t) (symbol-enum-known-n t) (symbol-at-requires t) (symbol-returns t) (symbol-enum-known-n-2 t) (symbol-at-requires-2 t) (symbol-returns-2 t) (symbol-enum-told t) (symbol-enum-told-2 t) (symbol-sub-symbol t) (symbol-symbol-requires t) (symbol-enum-known-k t) (symbol-inside-requires t) (symbol-sub-symbols t) (symbol-symbols-requires t) (symbol-returns-3 t) (symbol-returns-4 t) (symbol-returns-5 t) (symbol-returns-6 t))
-    λ t. symbols-lts.spec (symbols-calls t) (symbols-at t) symbols.Post symbols-Inv-loop symbols-μ-loop (symbols-loop-holds t) (symbols-symbol-requires t) (symbols-enum-known-e t) (symbols-sub-k t) (symbols-loop-less t) (symbols-loop-again t) (symbols-enum-known-z t) (symbols-returns t) (symbols-returns-2 t)
+    (λ t. symbol-lts.spec (symbol-calls t) (symbol-at t) symbol.Post (symbol-command-requires t) (symbol-enum-known-why t) (symbol-enum-known-n t) (symbol-at-requires t) (symbol-returns t) (symbol-enum-known-n-2 t) (symbol-at-requires-2 t) (symbol-returns-2 t) (symbol-enum-told t) (symbol-enum-told-2 t) (symbol-sub-symbol t) (symbol-symbol-requires t) (symbol-enum-known-k t) (symbol-inside-requires t) (symbol-sub-symbols t) (symbol-symbols-requires t) (symbol-returns-3 t) (symbol-returns-4 t) (symbol-returns-5 t) (symbol-returns-6 t))
+    λ t. symbols-lts.spec (symbols-calls t) (symbols-at t) symbols.Post symbols-Inv-loop symbols-μ-loop (symbols-loop-holds t) (symbols-symbol-requires t) (symbols-enum-known-e t) (symbols-sub-k t) (symbols-loop-less t) (symbols-loop-again t) (symbols-enum-known-why t) (symbols-returns t) (symbols-returns-2 t)
