@@ -1,9 +1,9 @@
 // One case run, and its answer printed.
 use libc::STDOUT_FILENO;
+use normalize::Answer;
+use normalize::calls::validate;
 use notation::buffers::fill;
 use notation::buffers::is_all;
-use validate::Answer;
-use validate::entry::check;
 
 // What the work buffer holds before a case.
 const BEFORE: u8 = 0xAA;
@@ -16,10 +16,6 @@ fn after(tape: usize, work: usize) -> u8 {
     0
 }
 
-fn wide(q: u8) -> u64 {
-    q as u64
-}
-
 fn print_number(before: &[u8], n: u64) {
     io::write_all(STDOUT_FILENO, before);
     io::print_decimal(STDOUT_FILENO, n);
@@ -30,17 +26,17 @@ fn print_answer(a: Answer) {
         Answer::Yes(n) => {
             print_number(b" yes ", n as u64);
         }
-        Answer::No(q, s, e) => {
-            print_number(b" refused ", wide(q));
-            print_number(b" ", s as u64);
-            print_number(b" ", e as u64);
+        Answer::No(why) => {
+            print_number(b" refused ", why.number as u64);
+            print_number(b" ", why.from as u64);
+            print_number(b" ", why.to as u64);
         }
     }
 }
 
 pub fn run_case(name: &[u8], tape: &[u8], work: &mut [u8]) {
     fill(work, BEFORE);
-    let a = check(tape, work);
+    let a = validate(tape, work);
     io::write_all(STDOUT_FILENO, name);
     print_answer(a);
     if !is_all(work, after(tape.len(), work.len())) {

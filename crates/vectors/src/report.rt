@@ -10,10 +10,6 @@ use notation::bytes::put_digits;
 // What the buffers hold before a case.
 const BEFORE: u8 = 0xAA;
 
-fn wide(q: u8) -> u64 {
-    q as u64
-}
-
 fn print_number(before: &[u8], n: u64) {
     io::write_all(STDOUT_FILENO, before);
     io::print_decimal(STDOUT_FILENO, n);
@@ -51,10 +47,10 @@ fn print_answer(a: Answer, output: &[u8]) {
             print_number(b"yes ", n as u64);
             print_tree(output, n);
         }
-        Answer::No(q, s, e) => {
-            print_number(b"no ", wide(q));
-            print_number(b" ", s as u64);
-            print_number(b" ", e as u64);
+        Answer::No(why) => {
+            print_number(b"no ", why.number as u64);
+            print_number(b" ", why.from as u64);
+            print_number(b" ", why.to as u64);
             if !is_all(output, BEFORE) {
                 io::write_all(STDOUT_FILENO, b" output");
             }
