@@ -7,15 +7,17 @@ use borrow.Author.Tests.{lt-leb, le-leb}
 use lib.Dec.{leb, ltb}
 use lib.ListN.{length}
 use Rattle.parse_tree.specs.plain.Tree.{Text, Item, Stage}
+use Rattle.parse_tree.specs.plain.WriteTape.{tapeOf}
 use Rattle.parse_tree.specs.working.Encode.{stageBytes}
 use Rattle.parse_tree.specs.plain.References.{stageOf}
 use Rattle.parse_tree.specs.working.Within.{StageWithin}
 use Rattle.parse_tree.proofs.TextLaws.{both, and-both}
 use Rattle.parse_tree.proofs.NothingNew.{none-new}
-use Rattle.passes.specs.Outcome.{yes}
+use Rattle.parse_tree.proofs.WriteTapeIs.{tape-is}
+use Rattle.passes.specs.Outcome.{yes, no}
 use Rattle.passes.specs.Resolve.{globals, checkGlobals, validateItems, resolve}
 use Rattle.passes.specs.Sizes.{each, itemFits, stageFits}
-use Rattle.passes.specs.Calls.{done, denied, admit}
+use Rattle.passes.specs.Calls.{nowhere, sizes}
 use Rattle.resolve.proofs.SymbolsMean.{after-yes}
 use Rattle.resolve.proofs.ResolvedKeeps.{resolve-keeps, resolve-fits, stage-fits}
 
@@ -43,19 +45,19 @@ module _ (g : Stage) (R : List Item) (p : resolve (g .items) ≡ yes R) (k : Sta
   fits-many l = let z : leb (length (g .atoms)) (256 ^ 2) ≡ false = lt-leb (length (g .atoms)) (256 ^ 2) l in rw z
 
   -- ---- 20, 21 and the yes
-  pub admit-many : (cap : ℕ) → 65536 < length (g .atoms) → admit cap (stageOf (g .atoms) R) ≡ denied 20 0 0
-  unfolding admit
+  pub admit-many : (cap : ℕ) → 65536 < length (g .atoms) → sizes 2 cap (stageOf (g .atoms) R) ≡ no 20 nowhere
+  unfolding sizes
   admit-many cap l = rw (stage-is, fits-many l)
 
-  pub admit-long : (cap : ℕ) → length (g .atoms) ≤ 65536 → cap < length (stageBytes 2 (record { atoms = g .atoms; items = R })) → admit cap (stageOf (g .atoms) R) ≡ denied 21 0 0
-  unfolding admit
+  pub admit-long : (cap : ℕ) → length (g .atoms) ≤ 65536 → cap < length (stageBytes 2 (record { atoms = g .atoms; items = R })) → sizes 2 cap (stageOf (g .atoms) R) ≡ no 21 nowhere
+  unfolding sizes
   admit-long cap l h =
-      let z : leb (length (stageBytes 2 (record { atoms = g .atoms; items = R }))) cap ≡ false = lt-leb (length (stageBytes 2 (record { atoms = g .atoms; items = R }))) cap h in
+      let z : leb (length (tapeOf 2 (record { atoms = g .atoms; items = R }))) cap ≡ false = rw (tape-is 2 (record { atoms = g .atoms; items = R })) (lt-leb (length (stageBytes 2 (record { atoms = g .atoms; items = R }))) cap h) in
       rw (stage-is, fits-few l, z)
 
   pub admit-done : (cap : ℕ) → length (g .atoms) ≤ 65536 → length (stageBytes 2 (record { atoms = g .atoms; items = R })) ≤ cap
-      → admit cap (stageOf (g .atoms) R) ≡ done (record { atoms = g .atoms; items = R })
-  unfolding admit
+      → sizes 2 cap (stageOf (g .atoms) R) ≡ yes (record { atoms = g .atoms; items = R })
+  unfolding sizes
   admit-done cap l h =
-      let z : leb (length (stageBytes 2 (record { atoms = g .atoms; items = R }))) cap ≡ true = le-leb (length (stageBytes 2 (record { atoms = g .atoms; items = R }))) cap h in
+      let z : leb (length (tapeOf 2 (record { atoms = g .atoms; items = R }))) cap ≡ true = rw (tape-is 2 (record { atoms = g .atoms; items = R })) (le-leb (length (stageBytes 2 (record { atoms = g .atoms; items = R }))) cap h) in
       rw (stage-is, fits-few l, z)

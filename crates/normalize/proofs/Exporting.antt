@@ -4,30 +4,35 @@ use mathlib.Core.List.{List, [], _∷_}
 use Prim.Native.Nat.{ℕ}
 use borrow.Author.Needs.{needs}
 use Rattle.parse_tree.specs.plain.Tree.{Stage}
-use Rattle.passes.specs.Calls.{Answer as Says, done, denied, answerWords}
-use Rattle.normalize.specs.Answers.{answerOf, Called, Exported}
+use Rattle.parse_tree.specs.declared.refusal.Refusal.{Refusal}
+use Rattle.passes.specs.Outcome.{Outcome, yes, no}
+use Rattle.passes.specs.Calls.{answerWords}
+use Rattle.normalize.specs.plain.Answers.{answerOf, Called, Exported, Checked, CheckedWords}
+use Rattle.normalize.specs.working.Handing.{wordsOf}
 use Rattle.normalize.specs.declared.Answer.{Answer}
 
--- the four words of an answer
-wordsOf : Answer → List ℕ
-wordsOf (Answer.Yes n) = 1 ∷ n ∷ 0 ∷ 0 ∷ []
-wordsOf (Answer.No q a b) = 0 ∷ q ∷ a ∷ b ∷ []
+-- ---- `words`
+module _ (r : Answer) where
+  pub words-yes : (n m : ℕ) → r ≡ Answer.Yes n → m ≡ n → 1 ∷ m ∷ 0 ∷ 0 ∷ 0 ∷ [] ≡ wordsOf r
+  unfolding wordsOf
+  words-yes n m e p = rw (e, p)
 
-words-are : (x : Says Stage) → wordsOf (answerOf x) ≡ answerWords x
+  pub words-no : (why : Refusal) (k a b : ℕ) → r ≡ Answer.No why → k ≡ why .number → a ≡ why .from → b ≡ why .to → 0 ∷ k ∷ a ∷ b ∷ 0 ∷ [] ≡ wordsOf r
+  unfolding wordsOf
+  words-no why k a b e p t z = rw (e, p, t, z)
+
+pub ruleset wording = (needs, words-yes, words-no)
+
+-- ---- the exports
+words-are : (x : Outcome Stage) → wordsOf (answerOf x) ≡ answerWords 2 x
 unfolding wordsOf answerOf answerWords
-words-are (done g) = refl
-words-are (denied n p q) = refl
+words-are (yes g) = refl
+words-are (no n s) = refl
 
-module _ (x : Says Stage) (s o w : List ℕ) (r : Answer) (o′ w′ : List ℕ) (c : Called x s o w r o′ w′) where
-  says : (ws : List ℕ) → ws ≡ wordsOf r → Exported x s o w ws o′ w′
-  says ws e = record { answered = e ∙ ap wordsOf (c .answered) ∙ words-are x; tree = c .tree; zeroed = c .zeroed }
+pub exported : (x : Outcome Stage) (s o w : List ℕ) (r : Answer) (o′ w′ : List ℕ) → Called x s o w r o′ w′ → (ws : List ℕ) → ws ≡ wordsOf r → Exported x s o w ws o′ w′
+exported x s o w r o′ w′ c ws e = record { answered = e ∙ ap wordsOf (c .answered) ∙ words-are x; tree = c .tree; zeroed = c .zeroed }
 
-  pub words-yes : (n m : ℕ) → r ≡ Answer.Yes n → m ≡ n → Exported x s o w (1 ∷ m ∷ 0 ∷ 0 ∷ []) o′ w′
-  unfolding wordsOf
-  words-yes n m e p = says (1 ∷ m ∷ 0 ∷ 0 ∷ []) (rw (e, p))
+pub checked : (x : Outcome Stage) (s w : List ℕ) (r : Answer) (w′ : List ℕ) → Checked x s w r w′ → (ws : List ℕ) → ws ≡ wordsOf r → CheckedWords x s w ws w′
+checked x s w r w′ c ws e = record { answered = e ∙ ap wordsOf (c .answered) ∙ words-are x; zeroed = c .zeroed }
 
-  pub words-no : (q k a b u v : ℕ) → r ≡ Answer.No q a b → k ≡ q → u ≡ a → v ≡ b → Exported x s o w (0 ∷ k ∷ u ∷ v ∷ []) o′ w′
-  unfolding wordsOf
-  words-no q k a b u v e p t z = says (0 ∷ k ∷ u ∷ v ∷ []) (rw (e, p, t, z))
-
-pub ruleset exporting = (needs, words-yes, words-no)
+pub ruleset exporting = (needs, exported, checked)

@@ -13,7 +13,8 @@ use Rattle.octets.specs.working.Sink.{lay, Laid}
 use Rattle.octets.proofs.Fitting.{lay-fits}
 use Rattle.octets.proofs.Parts.{part-length}
 use Rattle.octets.proofs.Storing.{store-is}
-use Rattle.normalize.specs.Answers.{Fits, handed}
+use Rattle.parse_tree.specs.declared.refusal.Refusal.{Refusal}
+use Rattle.normalize.specs.working.Handing.{Fits, handed}
 use Rattle.normalize.specs.declared.Answer.{Answer}
 
 module _ (r : Answer) (a o w : ℕ) (f : Fits r a o w) where
@@ -27,9 +28,9 @@ module _ (r : Answer) (a o w : ℕ) (f : Fits r a o w) where
   pub hand-end : (n : ℕ) → r ≡ Answer.Yes n → w < 2 ^ 64 → Bound.Fits w64 (a + n)
   hand-end n e h = let k = hand-inside n e in record { fits = omega arith }
 
-pub hand-no : (r : Answer) (a q p p′ : ℕ) (w o : List ℕ) → r ≡ Answer.No q p p′ → o ≡ handed r a w o
+pub hand-no : (r : Answer) (a : ℕ) (why : Refusal) (w o : List ℕ) → r ≡ Answer.No why → o ≡ handed r a w o
 unfolding handed
-hand-no r a q p p′ w o e = rw e
+hand-no r a why w o e = rw e
 
 -- all of a run at the front
 front : (xs o : List ℕ) → length xs ≤ length o → lay o (length o) 0 xs ≡ xs ++ drop (length xs) o

@@ -5,3 +5,4 @@ mod Calling
 mod Exporting
 mod Admitting
 mod ResolvedStage
+mod ValidatedTape

@@ -16,27 +16,33 @@ use Rattle.octets.specs.plain.Runs.{part}
 use Rattle.octets.specs.working.Sink.{adv, lay}
 use Rattle.octets.proofs.Fitting.{adv-le, adv-fits, adv-in, lay-part}
 use Rattle.parse_tree.specs.plain.Tree.{Text, Item, Stage}
-use Rattle.parse_tree.specs.plain.Reading.{refused}
-use Rattle.parse_tree.specs.working.Decode.{decode}
+use Rattle.parse_tree.specs.plain.Reading.{got}
+use Rattle.parse_tree.specs.working.Decode.{decodeBy, decode}
 use Rattle.parse_tree.specs.working.Encode.{stageBytes}
 use Rattle.parse_tree.specs.plain.References.{stageOf}
 use Rattle.parse_tree.specs.working.Within.{StageWithin}
 use Rattle.parse_tree.specs.declared.syntax.Span.{Span}
+use Rattle.parse_tree.specs.working.Refusals.{refusalAt, refusalOver}
+use Rattle.parse_tree.specs.declared.refusal.Refusal.{Refusal}
 use Rattle.parse_tree.proofs.Written.{written}
+use Rattle.parse_tree.proofs.WriteTapeIs.{tape-is}
 use Rattle.texts.specs.Atoms.{atomsOf}
 use Rattle.texts.proofs.Tabling.{length-atoms}
+use Rattle.validate.specs.Steps.{Refuses}
 use Rattle.validate.specs.Whole.{Valid, Validates}
 use Rattle.validate.specs.declared.Atoms.{Atoms}
 use Rattle.validate.specs.declared.Validated.{Validated}
-use Rattle.passes.specs.Outcome.{Outcome, yes, no}
+use Rattle.passes.specs.Outcome.{Outcome, yes, no, after}
 use Rattle.passes.specs.Resolve.{resolve}
-use Rattle.passes.specs.Calls.{done, denied, next, passed, stage, admit, resolved}
+use Rattle.passes.specs.Stages.{stage, resolveStage}
+use Rattle.passes.specs.Calls.{nowhere, sizes}
 use Rattle.resolve.specs.Scopes.{base}
 use Rattle.resolve.specs.Items.{behind}
 use Rattle.resolve.specs.Whole.{Resolving, Answers, ResolvesRead, Resolves}
 use Rattle.resolve.specs.declared.Scope.{Scope}
 use Rattle.resolve.specs.declared.Walked.{Walked}
-use Rattle.normalize.specs.Answers.{answerOf, sized, staged, Holds, Resolved}
+use Rattle.normalize.specs.plain.Answers.{answerOf}
+use Rattle.normalize.specs.working.Stages.{sized, staged, Holds, Resolved}
 use Rattle.normalize.specs.declared.Answer.{Answer}
 use Rattle.normalize.proofs.Admitting.{admit-many, admit-long, admit-done}
 
@@ -46,14 +52,14 @@ scopeOf a n cap = record { room = a .room; count = a .count; width = a .width; l
 
 -- ---- what the call says is what was answered
 module _ (s : List ℕ) (cap : ℕ) (w : List ℕ) where
-  says-denied : (q p p′ : ℕ) → staged s cap ≡ denied q p p′ → Resolved s cap (Answer.No q p p′) w
-  unfolding answerOf Holds
-  says-denied q p p′ e = record { answered = rw e; holds = rw e tt }
+  says-no : (q : ℕ) (sp : Span) → staged s cap ≡ no q sp → Resolved s cap (Answer.No (refusalOver q sp)) w
+  unfolding refusalOver answerOf Holds
+  says-no q sp e = record { answered = rw e; holds = rw e tt }
 
-  says-done : (h : Stage) (n : ℕ) → staged s cap ≡ done h → n ≡ length (stageBytes 2 h)
+  says-yes : (h : Stage) (n : ℕ) → staged s cap ≡ yes h → n ≡ length (stageBytes 2 h)
       → part (8 * length s) (8 * length s + length (stageBytes 2 h)) w ≡ stageBytes 2 h → Resolved s cap (Answer.Yes n) w
   unfolding answerOf Holds
-  says-done h n e l p = record { answered = rw (e, l); holds = rw e p }
+  says-yes h n e l p = record { answered = rw (e, l, tape-is 2 h); holds = rw e (rw (tape-is 2 h) p) }
 
 -- ---- the bytes laid behind the tables, read from `to` on
 behind-part : (m : Scope) (w w′ xs : List ℕ) (to : ℕ) → base m ≤ to → to + length xs ≤ m .lim → m .lim ≤ length w
@@ -66,8 +72,8 @@ behind-part m w w′ xs to h k l e =
     rw (y, x, e) (lay-part (drop (base m) w) (m .lim - base m) (to - base m) xs (omega arith) (omega (arith, length-drop (base m) w)))
 
 -- ---- a pass's answer taken apart
-next-no : {p e q : ℕ} {sp : Span} → Walked.Next p e ≡ Walked.Refused q sp → ⊥
-next-no {p} {e} {q} {sp} h = let z : _≡_ {A = ℕ} 0 1 = cc in omega arith
+next-no : {p e : ℕ} {why : Refusal} → Walked.Next p e ≡ Walked.Refused why → ⊥
+next-no {p} {e} {why} h = let z : _≡_ {A = ℕ} 0 1 = cc in omega arith
 
 next-end : {p e p′ e′ : ℕ} → Walked.Next p e ≡ Walked.Next p′ e′ → e ≡ e′
 next-end {p} {e} {p′} {e′} h = cc
@@ -88,9 +94,13 @@ over to cap n e h k = go (leb n cap) refl
     go false x = leb-false n cap x
 
 -- ---- a tape that was validated
-module _ (s : List ℕ) (cap : ℕ) (w : List ℕ) (a : Atoms) (at : ℕ) (v : Valid s w a at) where
+module _ (s : List ℕ) (cap : ℕ) (w : List ℕ) (a : Atoms) (at : ℕ) (v : Valid true 2 s w a at) where
   abbrev tape : Stage
   tape = record { atoms = atomsOf s (a .count); items = v .items }
+
+  decoded : decode s ≡ got tape (length s)
+  unfolding decode
+  decoded = v .decoded
 
   module _ (room : 8 * (length s + cap) ≤ length w) where
     pub valid-resolving : Resolving s w (scopeOf a (length s) cap) at (8 * length s)
@@ -107,32 +117,31 @@ module _ (s : List ℕ) (cap : ℕ) (w : List ℕ) (a : Atoms) (at : ℕ) (v : V
         apart = let z = v .third in omega arith;
       };
       inside = v .ready .inside;
-      width = v .width;
+      width = v .wide;
       apart = v .ready .apart;
       read = v .read;
-      decoded = v .decoded;
+      decoded = decoded;
     }
 
   -- r is what the pass answered, and w′ what it left
   module _ (r : Walked) (w′ : List ℕ) (i : Resolves s (scopeOf a (length s) cap) w (8 * length s) r w′) where
     answers : Answers (scopeOf a (length s) cap) (atomsOf s (a .count)) (resolve (v .items)) w (8 * length s) r w′
     unfolding Resolves ResolvesRead
-    answers = rw (v .decoded) at i
+    answers = rw decoded at i
 
-    staged-as : (x : Outcome (List Item)) → resolve (v .items) ≡ x → staged s cap ≡ next (passed x) (λ R. stage cap (atomsOf s (a .count)) R)
-    unfolding staged resolved
-    staged-as x e = rw (v .decoded, e)
+    staged-as : (x : Outcome (List Item)) → resolve (v .items) ≡ x → staged s cap ≡ after x (λ R. stage (sizes 2 cap) (atomsOf s (a .count)) R)
+    unfolding staged resolveStage
+    staged-as x e = rw (decoded, e)
 
-    pub valid-no : (q : ℕ) (sp : Span) (x y : ℕ) → r ≡ Walked.Refused q sp → x ≡ sp .0 → y ≡ sp .1 → Resolved s cap (Answer.No q x y) w′
+    pub valid-no : (why : Refusal) → r ≡ Walked.Refused why → Resolved s cap (Answer.No why) w′
     unfolding Answers
-    valid-no q sp x y e f g = go (resolve (v .items)) refl answers
+    valid-no why e = go (resolve (v .items)) refl answers
       where
-        go : (z : Outcome (List Item)) → resolve (v .items) ≡ z → Answers (scopeOf a (length s) cap) (atomsOf s (a .count)) z w (8 * length s) r w′ → Resolved s cap (Answer.No q x y) w′
+        go : (z : Outcome (List Item)) → resolve (v .items) ≡ z → Answers (scopeOf a (length s) cap) (atomsOf s (a .count)) z w (8 * length s) r w′ → Resolved s cap (Answer.No why) w′
         go (yes R) p k = absurd (next-no (sym (k .answered) ∙ e))
         go (no q′ sp′) p k =
-            let t : q ≡ q′ = cc in
-            let u : sp ≡ sp′ = cc in
-            says-denied s cap w′ q x y (rw (f, g, t, u) (staged-as (no q′ sp′) p))
+            let t : why ≡ refusalOver q′ sp′ = cc in
+            rw t (says-no s cap w′ q′ sp′ (staged-as (no q′ sp′) p))
 
     module _ (p e : ℕ) (n : r ≡ Walked.Next p e) where
       written-as : Put (scopeOf a (length s) cap) (atomsOf s (a .count)) (v .items) w (8 * length s) e w′
@@ -153,7 +162,7 @@ module _ (s : List ℕ) (cap : ℕ) (w : List ℕ) (a : Atoms) (at : ℕ) (v : V
         within = written true 2 s tape (length s) (λ j. b j .fits) (v .decoded) .within
 
         judged : Resolved s cap (sized (a .count) (8 * length s) e (8 * length s + cap)) w′
-        unfolding sized pick base
+        unfolding sized pick base refusalAt refusalOver
         judged = go (ltb 65536 (a .count)) refl (ltb (8 * length s + cap) e) refl
           where
             k : Put (scopeOf a (length s) cap) (atomsOf s (a .count)) (v .items) w (8 * length s) e w′
@@ -165,24 +174,24 @@ module _ (s : List ℕ) (cap : ℕ) (w : List ℕ) (a : Atoms) (at : ℕ) (v : V
             many : length (tape .atoms) ≡ a .count
             many = length-atoms s (a .count)
 
-            is : staged s cap ≡ admit cap (stageOf (atomsOf s (a .count)) (k .tree))
+            is : staged s cap ≡ sizes 2 cap (stageOf (atomsOf s (a .count)) (k .tree))
             is = staged-as (yes (k .tree)) (k .is)
 
             go : (c : Bool) → ltb 65536 (a .count) ≡ c → (d : Bool) → ltb (8 * length s + cap) e ≡ d
-                → Resolved s cap (pick c (Answer.No 20 0 0) (pick d (Answer.No 21 0 0) (Answer.Yes (e - 8 * length s)))) w′
-            go true x d y = let h = ltb-true 65536 (a .count) x in says-denied s cap w′ 20 0 0 (is ∙ admit-many tape (k .tree) (k .is) within cap (omega (arith, many)))
+                → Resolved s cap (pick c (Answer.No (refusalAt 20 0)) (pick d (Answer.No (refusalAt 21 0)) (Answer.Yes (e - 8 * length s)))) w′
+            go true x d y = let h = ltb-true 65536 (a .count) x in says-no s cap w′ 20 nowhere (is ∙ admit-many tape (k .tree) (k .is) within cap (omega (arith, many)))
             go false x true y =
                 let h = ltb-false 65536 (a .count) x in
                 let g = ltb-true (8 * length s + cap) e y in
                 let l : cap < length xs = over (8 * length s) cap (length xs) e (k .end) g in
-                says-denied s cap w′ 21 0 0 (is ∙ admit-long tape (k .tree) (k .is) within cap (omega (arith, many)) l)
+                says-no s cap w′ 21 nowhere (is ∙ admit-long tape (k .tree) (k .is) within cap (omega (arith, many)) l)
             go false x false y =
                 let h = ltb-false 65536 (a .count) x in
                 let g = ltb-false (8 * length s + cap) e y in
                 let f : 8 * length s + length xs ≤ 8 * length s + cap = adv-fits (8 * length s + cap) (8 * length s) (length xs) (omega (arith, k .end)) in
                 let l : e ≡ 8 * length s + length xs = k .end ∙ adv-in (8 * length s + cap) (8 * length s) (length xs) (omega arith) in
                 let t = v .third in
-                says-done s cap w′ (record { atoms = atomsOf s (a .count); items = k .tree }) (e - 8 * length s) (is ∙ admit-done tape (k .tree) (k .is) within cap (omega (arith, many)) (omega arith)) (omega arith)
+                says-yes s cap w′ (record { atoms = atomsOf s (a .count); items = k .tree }) (e - 8 * length s) (is ∙ admit-done tape (k .tree) (k .is) within cap (omega (arith, many)) (omega arith)) (omega arith)
                 (behind-part (scopeOf a (length s) cap) w w′ xs (8 * length s) (omega arith) (omega arith) (omega arith) (k .bytes))
 
         pub valid-yes : (y : Answer) → y ≡ sized (a .count) (8 * length s) e (8 * length s + cap) → Resolved s cap y w′
@@ -191,12 +200,15 @@ module _ (s : List ℕ) (cap : ℕ) (w : List ℕ) (a : Atoms) (at : ℕ) (v : V
 pub ruleset validated = (needs, valid-resolving, valid-no, valid-from, valid-yes)
 
 -- ---- `resolve_stage`: x is what `validate` answered
-module _ (s : List ℕ) (cap : ℕ) (w : List ℕ) (x : Validated) (i : Validates s x w) where
-  pub stage-refused : (q p : ℕ) → x ≡ Validated.Refused q p → Resolved s cap (Answer.No q p p) w
-  unfolding Validates staged
-  stage-refused q p e = let z : decode s ≡ refused q p = rw e at i in says-denied s cap w q p p (rw z)
+module _ (s : List ℕ) (cap : ℕ) (w : List ℕ) (x : Validated) (i : Validates true 2 s x w) where
+  pub stage-refused : (why : Refusal) → x ≡ Validated.Refused why → Resolved s cap (Answer.No why) w
+  unfolding Validates staged decode refusalOver
+  stage-refused why e =
+      let n : Refuses (decodeBy true 2 s) why = rw e at i in
+      let z = says-no s cap w (why .number) (record { 0 = why .from; 1 = why .from }) (rw (n .is)) in
+      record { answered = ap (λ (k : ℕ). Answer.No (record { number = why .number; from = why .from; to = k })) (n .twice) ∙ z .answered; holds = z .holds }
 
-  pub stage-valid : (a : Atoms) (at : ℕ) → x ≡ Validated.Valid a at → Valid s w a at
+  pub stage-valid : (a : Atoms) (at : ℕ) → x ≡ Validated.Valid a at → Valid true 2 s w a at
   unfolding Validates
   stage-valid a at e = rw e at i
 

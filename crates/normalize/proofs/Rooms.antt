@@ -7,7 +7,9 @@ use borrow.Author.Needs.{needs}
 use borrow.Author.Tests.{lt-leb, le-leb, leb-true, leb-false, lt-ltb, le-ltb}
 use lib.Dec.{leb}
 use Rattle.octets.specs.working.Choice.{pick}
-use Rattle.normalize.specs.Answers.{sized}
+use Rattle.parse_tree.specs.working.Refusals.{refusalAt}
+use Rattle.parse_tree.specs.declared.refusal.Refusal.{Refusal}
+use Rattle.normalize.specs.working.Stages.{sized}
 use Rattle.normalize.specs.declared.Answer.{Answer}
 
 -- ---- `enough`
@@ -22,13 +24,13 @@ enough-is tape output work h = go (leb output (work / 8 - tape)) refl
     go false e = let x = leb-false output (work / 8 - tape) e in sym (lt-leb (8 * (tape + output)) work (omega arith))
 
 -- ---- `judge`
-pub judge-many : (n a e lim : ℕ) → 65536 < n → Answer.No 20 0 0 ≡ sized n a e lim
+pub judge-many : (n a e lim : ℕ) (why : Refusal) → why ≡ refusalAt 20 0 → 65536 < n → Answer.No why ≡ sized n a e lim
 unfolding sized pick
-judge-many n a e lim h = cc (lt-ltb 65536 n h)
+judge-many n a e lim why o h = cc (lt-ltb 65536 n h)
 
-pub judge-long : (n a e lim : ℕ) → n ≤ 65536 → lim < e → Answer.No 21 0 0 ≡ sized n a e lim
+pub judge-long : (n a e lim : ℕ) (why : Refusal) → why ≡ refusalAt 21 0 → n ≤ 65536 → lim < e → Answer.No why ≡ sized n a e lim
 unfolding sized pick
-judge-long n a e lim h k = cc (le-ltb 65536 n h, lt-ltb lim e k)
+judge-long n a e lim why o h k = cc (le-ltb 65536 n h, lt-ltb lim e k)
 
 pub judge-fits : (n a e lim : ℕ) → n ≤ 65536 → e ≤ lim → Answer.Yes (e - a) ≡ sized n a e lim
 unfolding sized pick

@@ -2,12 +2,16 @@
 use crate::Answer;
 use crate::resolving::resolve_stage;
 use crate::room::enough;
+use crate::validating::validate_tape;
 use octets::runs::clear;
 use octets::sink::put_run;
+use parse_tree::refusal;
 ghost use mathlib.Core.Path.{_≡_};
+ghost use mathlib.Core.Bool.{true};
 ghost use lib.ListN.{length};
-ghost use Rattle.passes.specs.Calls.{resolveCall};
-ghost use Rattle.normalize.specs.Answers.{Called, Fits, handed};
+ghost use Rattle.passes.specs.Calls.{validateCall, resolveCall};
+ghost use Rattle.normalize.specs.plain.Answers.{Called, Checked};
+ghost use Rattle.normalize.specs.working.Handing.{Fits, handed};
 
 // At a yes the tree, which stands in work from a on, goes to the front of the output.
 fn hand_over(r: Answer, work: &[u8], a: usize, output: &mut [u8])
@@ -15,7 +19,7 @@ fn hand_over(r: Answer, work: &[u8], a: usize, output: &mut [u8])
     ensures { λ _. ⌜ now (output .exit) ≡ handed r a (now (work .entry)) (now (output .entry)) ⌝ }
 {
     match r {
-        Answer::No(_, _, _) => {}
+        Answer::No(_) => {}
         Answer::Yes(n) => {
             let lim = output.len();
             put_run(work, a, a + n, output, lim, 0);
@@ -23,9 +27,22 @@ fn hand_over(r: Answer, work: &[u8], a: usize, output: &mut [u8])
     }
 }
 
+// Validating alone: questions 1 to 4. There is no output; the yes has the tape's length, since its tree is written as it was.
+pub fn validate(tape: &[u8], work: &mut [u8]) -> Answer
+    ensures { λ r. ⌜ Checked (validateCall true 2 (now (tape .entry)) 0 (length (now (work .entry)))) (now (tape .entry)) (now (work .entry)) r (now (work .exit)) ⌝ }
+{
+    if enough(tape.len(), 0, work.len()) {
+        let r = validate_tape(tape, work);
+        clear(work);
+        r
+    } else {
+        Answer::No(refusal::at(1, 0))
+    }
+}
+
 // Resolving alone: questions 1 to 13, 20 and 21.
 pub fn resolve(tape: &[u8], output: &mut [u8], work: &mut [u8]) -> Answer
-    ensures { λ r. ⌜ Called (resolveCall (now (tape .entry)) (length (now (output .entry))) (length (now (work .entry)))) (now (tape .entry)) (now (output .entry)) (now (work .entry)) r (now (output .exit)) (now (work .exit)) ⌝ }
+    ensures { λ r. ⌜ Called (resolveCall true 2 (now (tape .entry)) (length (now (output .entry))) (length (now (work .entry)))) (now (tape .entry)) (now (output .entry)) (now (work .entry)) r (now (output .exit)) (now (work .exit)) ⌝ }
 {
     if enough(tape.len(), output.len(), work.len()) {
         let r = resolve_stage(tape, output.len(), work);
@@ -33,6 +50,6 @@ pub fn resolve(tape: &[u8], output: &mut [u8], work: &mut [u8]) -> Answer
         clear(work);
         r
     } else {
-        Answer::No(1, 0, 0)
+        Answer::No(refusal::at(1, 0))
     }
 }

@@ -1,16 +1,13 @@
-// The entries for Rust: byte slices in, four words out.
+// The entries for Rust: byte slices in, five words out.
 use crate::Answer;
 use crate::calls::resolve;
-ghost use lib.ListN.{length};
-ghost use Rattle.passes.specs.Calls.{resolveCall};
-ghost use Rattle.normalize.specs.Answers.{Exported};
+use crate::calls::validate;
 ghost use mathlib.Core.Path.{_≡_};
-
-fn wide(x: u8) -> u64
-    ensures { λ r. ⌜ r ≡ x ⌝ }
-{
-    x as u64
-}
+ghost use mathlib.Core.Bool.{true};
+ghost use lib.ListN.{length};
+ghost use Rattle.passes.specs.Calls.{validateCall, resolveCall};
+ghost use Rattle.normalize.specs.plain.Answers.{Exported, CheckedWords};
+ghost use Rattle.normalize.specs.working.Handing.{wordsOf};
 
 fn word(x: usize) -> u64
     ensures { λ r. ⌜ r ≡ x ⌝ }
@@ -18,22 +15,33 @@ fn word(x: usize) -> u64
     x as u64
 }
 
-// Resolving alone; answer becomes 1, length, 0, 0 or 0, number, place, place.
+// 1, length, 0, 0, 0 or 0, number, place, place, 0.
+fn words(r: Answer) -> [u64; 5]
+    ensures { λ x. ⌜ x ≡ wordsOf r ⌝ }
+{
+    match r {
+        Answer::Yes(n) => [1, word(n), 0, 0, 0],
+        Answer::No(why) => [0, word(why.number), word(why.from), word(why.to), 0],
+    }
+}
+
+// Validating alone; answer becomes the words of the answer.
+#[no_mangle]
+pub extern "C" fn normalize_validate(tape: &[u8], work: &mut [u8], answer: &mut [u64; 5])
+    ensures { λ _. ⌜ CheckedWords (validateCall true 2 (now (tape .entry)) 0 (length (now (work .entry)))) (now (tape .entry)) (now (work .entry)) (now (answer .exit)) (now (work .exit)) ⌝ }
+{
+    *answer = words(validate(tape, work));
+}
+
+// Resolving alone; answer becomes the words of the answer.
 #[no_mangle]
 pub extern "C" fn normalize_resolve(
     tape: &[u8],
     output: &mut [u8],
     work: &mut [u8],
-    answer: &mut [u64; 4],
+    answer: &mut [u64; 5],
 )
-    ensures { λ _. ⌜ Exported (resolveCall (now (tape .entry)) (length (now (output .entry))) (length (now (work .entry)))) (now (tape .entry)) (now (output .entry)) (now (work .entry)) (now (answer .exit)) (now (output .exit)) (now (work .exit)) ⌝ }
+    ensures { λ _. ⌜ Exported (resolveCall true 2 (now (tape .entry)) (length (now (output .entry))) (length (now (work .entry)))) (now (tape .entry)) (now (output .entry)) (now (work .entry)) (now (answer .exit)) (now (output .exit)) (now (work .exit)) ⌝ }
 {
-    match resolve(tape, output, work) {
-        Answer::Yes(n) => {
-            *answer = [1, word(n), 0, 0];
-        }
-        Answer::No(q, a, b) => {
-            *answer = [0, wide(q), word(a), word(b)];
-        }
-    }
+    *answer = words(resolve(tape, output, work));
 }

@@ -1,21 +1,21 @@
 // Questions 2 to 13, 20 and 21 of one tape: the resolved stage, in the work buffer behind the tables.
 use crate::Answer;
 use crate::room::judge;
-use octets::wide::from32;
 use resolve::Scope;
 use resolve::Walked;
 use resolve::whole::resolve;
 use validate::Atoms;
 use validate::Validated;
 use validate::entry::validate;
+ghost use mathlib.Core.Bool.{true};
 ghost use Prim.Native.Nat.{_+_, _*_, _≤_};
 ghost use lib.ListN.{length};
 ghost use Rattle.validate.specs.Whole.{Valid};
-ghost use Rattle.normalize.specs.Answers.{Resolved};
+ghost use Rattle.normalize.specs.working.Stages.{Resolved};
 
 // The stage of a tape that was validated.
 fn resolve_valid(tape: &[u8], cap: usize, work: &mut [u8], a: Atoms, at: usize) -> Answer
-    requires { ⌜ Valid (now tape) (now work) a at × (8 * (length (now tape) + cap) ≤ length (now work)) ⌝ }
+    requires { ⌜ Valid true 2 (now tape) (now work) a at × (8 * (length (now tape) + cap) ≤ length (now work)) ⌝ }
     ensures { λ r. ⌜ Resolved (now (tape .entry)) cap r (now (work .exit)) ⌝ }
 {
     let to = 8 * tape.len();
@@ -27,7 +27,7 @@ fn resolve_valid(tape: &[u8], cap: usize, work: &mut [u8], a: Atoms, at: usize) 
         first: 0,
     };
     match resolve(tape, work, m, at, to) {
-        Walked::Refused(q, s) => Answer::No(q, from32(s.0), from32(s.1)),
+        Walked::Refused(why) => Answer::No(why),
         Walked::Next(_, e) => judge(a.count, to, e, m.lim),
     }
 }
@@ -37,8 +37,8 @@ pub fn resolve_stage(tape: &[u8], cap: usize, work: &mut [u8]) -> Answer
     requires { ⌜ 8 * (length (now tape) + cap) ≤ length (now work) ⌝ }
     ensures { λ r. ⌜ Resolved (now (tape .entry)) cap r (now (work .exit)) ⌝ }
 {
-    match validate(tape, work) {
-        Validated::Refused(q, p) => Answer::No(q, p, p),
+    match validate(tape, work, 2, true) {
+        Validated::Refused(why) => Answer::No(why),
         Validated::Valid(a, at) => resolve_valid(tape, cap, work, a, at),
     }
 }

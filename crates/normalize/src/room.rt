@@ -1,9 +1,10 @@
 // The sizes that are asked: of the work buffer, and of a finished stage.
 use crate::Answer;
+use parse_tree::refusal;
 ghost use mathlib.Core.Path.{_≡_};
 ghost use Prim.Native.Nat.{_+_, _*_, _≤_};
 ghost use lib.Dec.{leb};
-ghost use Rattle.normalize.specs.Answers.{sized};
+ghost use Rattle.normalize.specs.working.Stages.{sized};
 
 // "Is work at least 8 × (tape + output) bytes?" The sum may wrap, so it isn't made.
 pub fn enough(tape: usize, output: usize, work: usize) -> bool
@@ -22,10 +23,10 @@ pub fn judge(atoms: usize, a: usize, e: usize, lim: usize) -> Answer
     ensures { λ r. ⌜ r ≡ sized atoms a e lim ⌝ }
 {
     if 65536 < atoms {
-        return Answer::No(20, 0, 0);
+        return Answer::No(refusal::at(20, 0));
     }
     if lim < e {
-        return Answer::No(21, 0, 0);
+        return Answer::No(refusal::at(21, 0));
     }
     Answer::Yes(e - a)
 }

@@ -7,6 +7,7 @@ pub mod NodeSays
 pub mod NodeBack
 mod Noding
 mod Putting
+mod Refusing
 pub mod Sizing
 -- Trees and their tapes; RoundTrip has the theorems.
 pub mod Printing

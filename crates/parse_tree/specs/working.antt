@@ -1,4 +1,5 @@
 -- Commands as values, the table of places, and reading and writing by them.
+pub mod Refusals
 pub mod Nodes
 pub mod Places
 pub mod Questions

@@ -2,5 +2,6 @@
 pub mod node;
 pub mod places;
 pub mod put;
+pub mod refusal;
 pub mod size;
 pub mod syntax;

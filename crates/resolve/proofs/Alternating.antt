@@ -16,7 +16,8 @@ use Rattle.octets.specs.working.Choice.{pick}
 use Rattle.octets.specs.plain.Runs.{part}
 use Rattle.octets.specs.working.Sink.{Laid}
 use Rattle.parse_tree.specs.working.Nodes.{nodeAt, sizeOf}
-use Rattle.parse_tree.specs.declared.syntax.Span.{Span}
+use Rattle.parse_tree.specs.working.Refusals.{refusalAt}
+use Rattle.parse_tree.specs.declared.refusal.Refusal.{Refusal}
 use Rattle.parse_tree.specs.declared.syntax.Alternative.{Alternative}
 use Rattle.parse_tree.specs.declared.syntax.Condition.{Condition}
 use Rattle.parse_tree.specs.declared.syntax.Node.{Node}
@@ -27,7 +28,7 @@ use Rattle.resolve.specs.declared.Verdict.{Verdict}
 use Rattle.resolve.specs.declared.Walked.{Walked}
 use Rattle.resolve.specs.Scopes.{Area, tables}
 use Rattle.resolve.specs.Names.{conditionSays}
-use Rattle.resolve.specs.Walks.{Out, prefix, many, Staged, astray, symOut}
+use Rattle.resolve.specs.Walks.{Out, denied, prefix, many, Staged, astray, symOut}
 use Rattle.resolve.specs.Items.{skipTo, stray, passedBy, conditionIn, alternativeIn, passedThen, conditionOut, alternativeOut}
 use Rattle.resolve.proofs.Inside.{command-inside, known-fits, alternative-below}
 use Rattle.resolve.proofs.Declaring.{next-not}
@@ -85,9 +86,9 @@ module _ (m : Scope) (t s : List ℕ) (n at : ℕ) where
     unfolding conditionOut pick
     opened = rw i (ap (λ (y : Bool). pick y (Passed.Next at) (conditionIn (λ c. passedBy (at + sizeOf (m .width) (nodeAt (m .width) s at)) (conditionSays m t c)) (nodeAt (m .width) s at))) (ne-eqb n 0 z))
 
-    pub condition-other : OneOf noCondition (tagOf the-type x) → Passed.Refused 2 (record { 0 = 0; 1 = 0 }) ≡ conditionOut m t s n at
+    pub condition-other : (why : Refusal) → why ≡ refusalAt 2 0 → OneOf noCondition (tagOf the-type x) → Passed.Refused why ≡ conditionOut m t s n at
     unfolding conditionIn
-    condition-other h = sym (opened ∙ go x refl h)
+    condition-other why o h = ap Passed.Refused o ∙ sym (opened ∙ go x refl h)
       where
         go : (y : Node) → x ≡ y → OneOf noCondition (tagOf the-type y)
             → conditionIn (λ c. passedBy (at + sizeOf (m .width) x) (conditionSays m t c)) y ≡ stray
@@ -102,9 +103,9 @@ module _ (m : Scope) (t s : List ℕ) (n at : ℕ) where
         go Node.Unknown e h = refl
 
     module _ (c : Condition) (j : x ≡ Node.Condition c) (v : Verdict) (f : v ≡ conditionSays m t c) where
-      pub condition-refused : (q : ℕ) (p : Span) → v ≡ Verdict.Refused q p → Passed.Refused q p ≡ conditionOut m t s n at
+      pub condition-refused : (why : Refusal) → v ≡ Verdict.Refused why → Passed.Refused why ≡ conditionOut m t s n at
       unfolding conditionIn passedBy
-      condition-refused q p e = sym (opened ∙ cc)
+      condition-refused why e = sym (opened ∙ cc)
 
       pub condition-fine : (k : ℕ) → v ≡ Verdict.Fine → k ≡ sizeOf (m .width) (Node.Condition c) → Passed.Next (at + k) ≡ conditionOut m t s n at
       unfolding conditionIn passedBy
@@ -116,7 +117,7 @@ pub ruleset conditions = (needs, known-fits, condition-none, condition-other, co
 passed-next : (e : ℕ) (v : Verdict) (p : ℕ) → passedBy e v ≡ Passed.Next p → e ≡ p
 unfolding passedBy
 passed-next e Verdict.Fine p h = cc
-passed-next e (Verdict.Refused q sp) p h = absurd (next-not (sym h))
+passed-next e (Verdict.Refused why) p h = absurd (next-not (sym h))
 
 module _ (m : Scope) (t s : List ℕ) (b : (i : ℕ) → Fits w8 (getD s i 0)) (at p : ℕ) where
   in-next : (x : Node) → nodeAt (m .width) s at ≡ x → at ≤ length s → conditionIn (λ c. passedBy (at + sizeOf (m .width) x) (conditionSays m t c)) x ≡ Passed.Next p → (at ≤ p) × (p ≤ length s)
@@ -171,18 +172,18 @@ no-alternative f (Node.Symbol sp k) h = refl
 no-alternative f Node.Unknown h = refl
 
 module _ (m : Scope) (s : List ℕ) (at : ℕ) (w : List ℕ) (to : ℕ) (n : Node) (i : n ≡ nodeAt (m .width) s at) where
-  pub alternative-other : (w1 : List ℕ) → OneOf noAlternative (tagOf the-type n) → Staged (alternativeOut m (tables m w) s at) w (m .lim) to (Walked.Refused 2 (record { 0 = 0; 1 = 0 })) w1
+  pub alternative-other : (why : Refusal) → why ≡ refusalAt 2 0 → (w1 : List ℕ) → OneOf noAlternative (tagOf the-type n) → Staged (alternativeOut m (tables m w) s at) w (m .lim) to (Walked.Refused why) w1
   unfolding alternativeOut
-  alternative-other w1 h = staged-denied _ 2 (record { 0 = 0; 1 = 0 }) w w1 (m .lim) to (no-alternative _ (nodeAt (m .width) s at) (rw i at h))
+  alternative-other why o w1 h = staged-denied _ why w w1 (m .lim) to (no-alternative _ (nodeAt (m .width) s at) (rw i at h) ∙ ap denied (sym o))
 
   module _ (a : Alternative) (j : n ≡ Node.Alternative a) (z : ℕ) (g : z ≡ sizeOf (m .width) (Node.Alternative a)) (x : Passed) (f : x ≡ conditionOut m (tables m w) s (a .conditions) (skipTo (m .width) s (a .attributes) (at + z))) where
     alternative-is : (t : List ℕ) → t ≡ tables m w → alternativeOut m t s at ≡ passedThen x (λ p. prefix (part at p s) (many (symOut m t s 64) (a .symbols) p))
     unfolding alternativeOut alternativeIn
     alternative-is t u = cc
 
-    pub alternative-refused : (c : ℕ) (p : Span) (w1 : List ℕ) → x ≡ Passed.Refused c p → Staged (alternativeOut m (tables m w) s at) w (m .lim) to (Walked.Refused c p) w1
+    pub alternative-refused : (why : Refusal) (w1 : List ℕ) → x ≡ Passed.Refused why → Staged (alternativeOut m (tables m w) s at) w (m .lim) to (Walked.Refused why) w1
     unfolding passedThen
-    alternative-refused c p w1 u = staged-denied _ c p w w1 (m .lim) to (alternative-is (tables m w) refl ∙ cc)
+    alternative-refused why w1 u = staged-denied _ why w w1 (m .lim) to (alternative-is (tables m w) refl ∙ cc)
 
     pub alternative-next : (p nn y d : ℕ) (w1 : List ℕ) (r : Walked) (w2 : List ℕ) → x ≡ Passed.Next p → Area m to nn → Laid w (m .lim) to (part at p s) y w1 → d ≡ a .symbols
         → Staged (many (symOut m (tables m w1) s 64) d p) w1 (m .lim) y r w2 → Staged (alternativeOut m (tables m w) s at) w (m .lim) to r w2
@@ -215,7 +216,7 @@ module _ (m : Scope) (s : List ℕ) (n at : ℕ) (w : List ℕ) (to k p q : ℕ)
   pub alternatives-next : (e t : ℕ) → x ≡ Walked.Next e t → Carrying m (alternativeOut m (tables m w) s) n at w to (k - 1) e t w2
   alternatives-next e t y = step-next m (alternativeOut m (tables m w) s) n at w to k p q w1 c (alternativeOut m (tables m w) s p) refl h e t w2 (rw (y, c .same) at g)
 
-  pub alternatives-stop : (d : ℕ) (sp : Span) → x ≡ Walked.Refused d sp → Staged (many (alternativeOut m (tables m w) s) n at) w (m .lim) to (Walked.Refused d sp) w2
-  alternatives-stop d sp y = step-stop m (alternativeOut m (tables m w) s) n at w to k p q w1 c (alternativeOut m (tables m w) s p) refl h d sp w2 (rw (y, c .same) at g)
+  pub alternatives-stop : (why : Refusal) → x ≡ Walked.Refused why → Staged (many (alternativeOut m (tables m w) s) n at) w (m .lim) to (Walked.Refused why) w2
+  alternatives-stop why y = step-stop m (alternativeOut m (tables m w) s) n at w to k p q w1 c (alternativeOut m (tables m w) s p) refl h why w2 (rw (y, c .same) at g)
 
 pub ruleset alternatives = (needs, carry-start, carry-end, alternatives-next, alternatives-stop)

@@ -21,6 +21,7 @@ use Rattle.parse_tree.specs.working.Places.{argumentsPlace}
 use Rattle.parse_tree.specs.plain.Reading.{got, times}
 use Rattle.parse_tree.specs.working.Decode.{readArgument}
 use Rattle.parse_tree.specs.working.Within.{Each}
+use Rattle.parse_tree.specs.working.Refusals.{refusalOver}
 use Rattle.parse_tree.specs.declared.syntax.Span.{Span}
 use Rattle.parse_tree.specs.declared.syntax.NonterminalString.{NonterminalString}
 use Rattle.parse_tree.specs.declared.syntax.Node.{Node}
@@ -138,7 +139,7 @@ pub record Marking (m : Scope) (ts : List Text) (G : Tree) (r : Stamped) (e : �
 
 abbrev pub Answer : Scope → List Text → Tree → Span → Bool → Stamped → ℕ → (Text → Bool) → Type 0
 Answer m ts G sp true r e H = Marking m ts G r e H
-Answer m ts G sp false r e H = r ≡ against 7 sp
+Answer m ts G sp false r e H = r ≡ against (refusalOver 7 sp)
 
 -- the same said otherwise
 answer-as : (m : Scope) (ts : List Text) (G : Tree) (sp : Span) (b : Bool) (r r′ : Stamped) (e : ℕ) (H H′ : Text → Bool) → r′ ≡ r → ((x : Text) → H x ≡ H′ x) → Answer m ts G sp b r e H → Answer m ts G sp b r′ e H′
@@ -215,11 +216,11 @@ module _ (m : Scope) (ts : List Text) (d : distinct ts ≡ true) (c : m .count �
     unfolding apart defined argumentIn turn pick
     one-goes n f k a z xs e t qs st p h =
         let l = ltb-true (k .0) (length ts) (st .passes .known) in
-        let o : argumentsOut m s sp (suc n) t a ≡ pick (has (getD ts (k .0) []) qs) (against 7 sp) (argumentsOut m s sp n (store t (8 * (m .room + m .room + k .0)) (le 8 (m .first))) z) =
+        let o : argumentsOut m s sp (suc n) t a ≡ pick (has (getD ts (k .0) []) qs) (against (refusalOver 7 sp)) (argumentsOut m s sp n (store t (8 * (m .room + m .room + k .0)) (le 8 (m .first))) z) =
         arguments-turn m s sp n t a z (Node.Argument k) (sym (st .here)) (st .behind) ∙ rw (lt-leb (m .count) (k .0) (omega arith), h .marked (k .0) l) refl in
         go (has (getD ts (k .0) []) qs) o (f z xs e (store t (8 * (m .room + m .room + k .0)) (le 8 (m .first))) (getD ts (k .0) [] ∷ qs) p (mark-one t qs h (k .0) l))
       where
-        go : (u : Bool) → argumentsOut m s sp (suc n) t a ≡ pick u (against 7 sp) (argumentsOut m s sp n (store t (8 * (m .room + m .room + k .0)) (le 8 (m .first))) z)
+        go : (u : Bool) → argumentsOut m s sp (suc n) t a ≡ pick u (against (refusalOver 7 sp)) (argumentsOut m s sp n (store t (8 * (m .room + m .room + k .0)) (le 8 (m .first))) z)
             → Answer m ts G sp (apart (getD ts (k .0) [] ∷ qs) xs) (argumentsOut m s sp n (store t (8 * (m .room + m .room + k .0)) (le 8 (m .first))) z) e (λ x. has x (getD ts (k .0) [] ∷ qs) || has x xs)
             → Answer m ts G sp (not u && apart (getD ts (k .0) [] ∷ qs) xs) (argumentsOut m s sp (suc n) t a) e (λ x. has x qs || has x (getD ts (k .0) [] ∷ xs))
         go true o i = o

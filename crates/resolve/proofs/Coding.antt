@@ -22,6 +22,7 @@ use Rattle.texts.specs.Table.{entry}
 use Rattle.texts.proofs.Tabling.{entry-same, entry-other}
 use Rattle.passes.specs.Outcome.{Outcome, yes, no}
 use Rattle.passes.specs.Resolve.{Def as Definition, terminalDef, nonterminalDef, argumentDef, Global as Met, defIn, kind, metAgain, checkGlobals}
+use Rattle.parse_tree.specs.working.Refusals.{refusalOver}
 use Rattle.resolve.specs.Scopes.{base, codeOf, foundBy}
 use Rattle.resolve.specs.Globals.{Tabled, tabled, refused, thenTabled, describe, declareBy, declareOut}
 use Rattle.resolve.specs.declared.Def.{Def}
@@ -101,17 +102,17 @@ entered m ts t (g ∷ gs) = thenTabled (declareOut m t (number ts (g .name)) (de
 then-then : (x : Tabled) (f g : List ℕ → Tabled) → thenTabled (thenTabled x f) g ≡ thenTabled x (λ t. thenTabled (f t) g)
 unfolding thenTabled
 then-then (tabled t) f g = refl
-then-then (refused q p) f g = refl
+then-then (refused why) f g = refl
 
 pub then-same : (x : Tabled) (f g : List ℕ → Tabled) → ((t : List ℕ) → f t ≡ g t) → thenTabled x f ≡ thenTabled x g
 unfolding thenTabled
 then-same (tabled t) f g h = h t
-then-same (refused q p) f g h = refl
+then-same (refused why) f g h = refl
 
 pub then-tabled : (x : Tabled) → thenTabled x (λ t. tabled t) ≡ x
 unfolding thenTabled
 then-tabled (tabled t) = refl
-then-tabled (refused q p) = refl
+then-tabled (refused why) = refl
 
 pub entered-append : (m : Scope) (ts : List Text) (gs hs : List Met) (t : List ℕ) → entered m ts t (gs ++ hs) ≡ thenTabled (entered m ts t gs) (λ t′. entered m ts t′ hs)
 unfolding entered thenTabled
@@ -130,7 +131,7 @@ pub record Tabular (m : Scope) (ts : List Text) (t : List ℕ) (gs : List Met) :
 -- what entering gs leaves, by what `checkGlobals` says
 abbrev pub Says : Scope → List Text → List Met → Outcome (Unit {0}) → Tabled → Type 0
 Says m ts gs (yes u) x = (t : List ℕ) × (x ≡ tabled t) × Tabular m ts t gs
-Says m ts gs (no q sp) x = x ≡ refused q sp
+Says m ts gs (no q sp) x = x ≡ refused (refusalOver q sp)
 
 pub says-as : (m : Scope) (ts : List Text) (gs : List Met) (o : Outcome (Unit {0})) (x y : Tabled) → x ≡ y → Says m ts gs o y → Says m ts gs o x
 says-as m ts gs (yes u) x y e (t, p, h) = (t, e ∙ p, h)
@@ -195,7 +196,7 @@ module _ (m : Scope) (ts : List Text) (d : distinct ts ≡ true) (c : m .count �
         cc (lt-leb (m .count) at b)
 
     met-again : (old : Definition) → defIn (g .name) before ≡ some old
-        → declareOut m t at (defOf (g .def)) (g .span) ≡ pick (eqb (kind (g .def)) (kind old)) (refused 5 (g .span)) (refused 6 (g .span))
+        → declareOut m t at (defOf (g .def)) (g .span) ≡ pick (eqb (kind (g .def)) (kind old)) (refused (refusalOver 5 (g .span))) (refused (refusalOver 6 (g .span)))
     unfolding declareBy
     met-again old e =
         let z : foundOf (defIn (g .name) before) ≡ Found.Is (defOf old) = ap foundOf e in
@@ -238,7 +239,7 @@ module _ (m : Scope) (ts : List Text) (d : distinct ts ≡ true) (c : m .count �
       go (defIn (g .name) before) refl
       (enter-says gs (g ∷ before) (next t before h p g (q .0)) (more t before h p g (q .0)) (q .0, p) (q .1))
     where
-      fives : (b : Bool) → Says m ts (onto (g ∷ before) gs) (cond b (no 5 (g .span)) (no 6 (g .span))) (thenTabled (pick b (refused 5 (g .span)) (refused 6 (g .span))) (λ t′. entered m ts t′ gs))
+      fives : (b : Bool) → Says m ts (onto (g ∷ before) gs) (cond b (no 5 (g .span)) (no 6 (g .span))) (thenTabled (pick b (refused (refusalOver 5 (g .span))) (refused (refusalOver 6 (g .span)))) (λ t′. entered m ts t′ gs))
       fives true = refl
       fives false = refl
 

@@ -19,6 +19,8 @@ use Rattle.octets.specs.working.Stores.{store}
 use Rattle.octets.proofs.Choices.{by-pick}
 use Rattle.parse_tree.proofs.syntax.Node.{the-type as node-type}
 use Rattle.parse_tree.specs.working.Nodes.{nodeAt, sizeOf}
+use Rattle.parse_tree.specs.working.Refusals.{refusalOver}
+use Rattle.parse_tree.specs.declared.refusal.Refusal.{Refusal}
 use Rattle.parse_tree.specs.declared.syntax.Span.{Span}
 use Rattle.parse_tree.specs.declared.syntax.NonterminalData.{NonterminalData}
 use Rattle.parse_tree.specs.declared.syntax.TerminalData.{TerminalData}
@@ -98,9 +100,9 @@ pub ruleset declared = (needs, global-nonterminal, global-otherwise, global-term
 kept-none : (m : Scope) (w : List ℕ) → Kept m (tables m w) w w
 kept-none m w = record { tabled = refl; others = refl }
 
-tabling-refused : (m : Scope) (x : Tabled) (w w′ : List ℕ) (q : ℕ) (p : Span) → x ≡ refused q p → Tabling m x w (Verdict.Refused q p) w′
+tabling-refused : (m : Scope) (x : Tabled) (w w′ : List ℕ) (why : Refusal) → x ≡ refused why → Tabling m x w (Verdict.Refused why) w′
 unfolding Tabling
-tabling-refused m x w w′ q p e = rw e refl
+tabling-refused m x w w′ why e = rw e refl
 
 tabling-fine : (m : Scope) (x : Tabled) (t w w′ : List ℕ) → x ≡ tabled t → Kept m t w w′ → Tabling m x w Verdict.Fine w′
 unfolding Tabling
@@ -133,13 +135,13 @@ module _ (w : List ℕ) (m : Scope) (id k : ℕ) (e : k ≡ id) (d : Def) (s : S
         })
 
     module _ (old : Def) (o : f ≡ Found.Is old) (x y : ℕ) (g : x ≡ describe d) (j : y ≡ describe old) (w′ : List ℕ) where
-      pub declare-alike : x ≡ y → Tabling m (declareOut m (tables m w) id d s) w (Verdict.Refused 5 s) w′
+      pub declare-alike : (why : Refusal) → why ≡ refusalOver 5 s → x ≡ y → Tabling m (declareOut m (tables m w) id d s) w (Verdict.Refused why) w′
       unfolding declareBy pick
-      declare-alike z = tabling-refused m _ w w′ 5 s (declare-is ∙ cc (eq-eqb x y z))
+      declare-alike why n z = tabling-refused m _ w w′ why (declare-is ∙ cc (eq-eqb x y z))
 
-      pub declare-unlike : (x ≡ y → ⊥) → Tabling m (declareOut m (tables m w) id d s) w (Verdict.Refused 6 s) w′
+      pub declare-unlike : (why : Refusal) → why ≡ refusalOver 6 s → (x ≡ y → ⊥) → Tabling m (declareOut m (tables m w) id d s) w (Verdict.Refused why) w′
       unfolding declareBy pick
-      declare-unlike z = tabling-refused m _ w w′ 6 s (declare-is ∙ cc (ne-eqb x y z))
+      declare-unlike why n z = tabling-refused m _ w w′ why (declare-is ∙ cc (ne-eqb x y z))
 
 pub ruleset declaring = (needs, declare-above, declare-new, declare-alike, declare-unlike)
 
@@ -147,11 +149,11 @@ pub ruleset declaring = (needs, declare-above, declare-new, declare-alike, decla
 nothing-is : {k : ℕ} {d : Def} {s : Span} → Global.Nothing ≡ Global.Is k d s → ⊥
 nothing-is {k} {d} {s} e = let z : _≡_ {A = ℕ} 0 1 = cc in omega arith
 
-pub fine-not : {q : ℕ} {p : Span} → Verdict.Fine ≡ Verdict.Refused q p → ⊥
-fine-not {q} {p} e = let z : _≡_ {A = ℕ} 0 1 = cc in omega arith
+pub fine-not : {why : Refusal} → Verdict.Fine ≡ Verdict.Refused why → ⊥
+fine-not {why} e = let z : _≡_ {A = ℕ} 0 1 = cc in omega arith
 
-pub next-not : {e q : ℕ} {p : Span} → Passed.Next e ≡ Passed.Refused q p → ⊥
-next-not {e} {q} {p} h = let z : _≡_ {A = ℕ} 0 1 = cc in omega arith
+pub next-not : {e : ℕ} {why : Refusal} → Passed.Next e ≡ Passed.Refused why → ⊥
+next-not {e} {why} h = let z : _≡_ {A = ℕ} 0 1 = cc in omega arith
 
 -- a number of arguments is a byte
 args-small : (w : ℕ) (s : List ℕ) (at : ℕ) (n : Node) → NodeSays w s at n → (which k : ℕ) (d : Def) (sp : Span) → globalOf which n ≡ Global.Is k d sp → codeOf d ≤ 257
@@ -181,12 +183,12 @@ not-declared Global.Nothing h = refl
 entering-next : (m : Scope) (x : Tabled) (e : ℕ) (w w′ : List ℕ) → Tabling m x w Verdict.Fine w′ → Entering m (x, e) w (Passed.Next e) w′
 unfolding Tabling Entering
 entering-next m (tabled t) e w w′ h = (refl, h .kept)
-entering-next m (refused q p) e w w′ h = absurd (fine-not h)
+entering-next m (refused why) e w w′ h = absurd (fine-not h)
 
-entering-refused : (m : Scope) (x : Tabled) (e : ℕ) (w w′ : List ℕ) (q : ℕ) (p : Span) → Tabling m x w (Verdict.Refused q p) w′ → Entering m (x, e) w (Passed.Refused q p) w′
+entering-refused : (m : Scope) (x : Tabled) (e : ℕ) (w w′ : List ℕ) (why : Refusal) → Tabling m x w (Verdict.Refused why) w′ → Entering m (x, e) w (Passed.Refused why) w′
 unfolding Tabling Entering
-entering-refused m (tabled t) e w w′ q p h = absurd (fine-not (sym (h .answered)))
-entering-refused m (refused a b) e w w′ q p h = cc
+entering-refused m (tabled t) e w w′ why h = absurd (fine-not (sym (h .answered)))
+entering-refused m (refused why′) e w w′ why h = cc
 
 module _ (w s : List ℕ) (m : Scope) (which at : ℕ) (n : Node) (i : n ≡ nodeAt (m .width) s at) (z : ℕ) (j : z ≡ sizeOf (m .width) n) (g : Global) (o : g ≡ globalOf which n) where
   command-is : commandOut m (tables m w) s which at ≡ (globalOut m (tables m w) g, at + z)
@@ -202,9 +204,9 @@ module _ (w s : List ℕ) (m : Scope) (which at : ℕ) (n : Node) (i : n ≡ nod
     unfolding globalOut
     command-fine a = rw (command-is, u) (entering-next m (declareOut m (tables m w) k d sp) (at + z) w w′ (rw a at h))
 
-    pub command-refused : (q : ℕ) (p : Span) → v ≡ Verdict.Refused q p → Entering m (commandOut m (tables m w) s which at) w (Passed.Refused q p) w′
+    pub command-refused : (why : Refusal) → v ≡ Verdict.Refused why → Entering m (commandOut m (tables m w) s which at) w (Passed.Refused why) w′
     unfolding globalOut
-    command-refused q p a = rw (command-is, u) (entering-refused m (declareOut m (tables m w) k d sp) (at + z) w w′ q p (rw a at h))
+    command-refused why a = rw (command-is, u) (entering-refused m (declareOut m (tables m w) k d sp) (at + z) w w′ why (rw a at h))
 
 pub ruleset commanding = (needs, command-fits, command-code, command-none, command-fine, command-refused)
 
@@ -213,7 +215,7 @@ pub ruleset commanding = (needs, command-fits, command-code, command-none, comma
 kept-then : (m : Scope) (x : Tabled) (t w w1 : List ℕ) (r : Verdict) (w′ : List ℕ) → Kept m t w w1 → Tabling m x w1 r w′ → Tabling m x w r w′
 unfolding Tabling
 kept-then m (tabled t₁) t w w1 r w′ k h = record { answered = h .answered; kept = record { tabled = h .kept .tabled; others = h .kept .others ∙ k .others } }
-kept-then m (refused q p) t w w1 r w′ k h = h
+kept-then m (refused why) t w w1 r w′ k h = h
 
 -- an answer, taken apart
 record Nexted (m : Scope) (x : Tabled × ℕ) (w : List ℕ) (e : ℕ) (w′ : List ℕ) : Type 0 where
@@ -225,12 +227,12 @@ record Nexted (m : Scope) (x : Tabled × ℕ) (w : List ℕ) (e : ℕ) (w′ : L
 nexted : (m : Scope) (x : Tabled) (y : ℕ) (w : List ℕ) (e : ℕ) (w′ : List ℕ) → Entering m (x, y) w (Passed.Next e) w′ → Nexted m (x, y) w e w′
 unfolding Entering
 nexted m (tabled t) y w e w′ h = let z : y ≡ e = let q = h .0 in cc in record { table = t; is = refl; place = z; kept = h .1 }
-nexted m (refused q p) y w e w′ h = absurd (next-not h)
+nexted m (refused why) y w e w′ h = absurd (next-not h)
 
-denied : (m : Scope) (x : Tabled) (y : ℕ) (w : List ℕ) (q : ℕ) (p : Span) (w′ : List ℕ) → Entering m (x, y) w (Passed.Refused q p) w′ → x ≡ refused q p
+denied : (m : Scope) (x : Tabled) (y : ℕ) (w : List ℕ) (why : Refusal) (w′ : List ℕ) → Entering m (x, y) w (Passed.Refused why) w′ → x ≡ refused why
 unfolding Entering
-denied m (tabled t) y w q p w′ h = absurd (next-not (sym (h .0)))
-denied m (refused a b) y w q p w′ h = cc
+denied m (tabled t) y w why w′ h = absurd (next-not (sym (h .0)))
+denied m (refused why′) y w why w′ h = cc
 
 -- with `fuel` commands to come at the most, what the rest leaves is what the whole leaves
 pub record Scanning (m : Scope) (s w₀ : List ℕ) (which at : ℕ) (w : List ℕ) (p : ℕ) : Type 0 where
@@ -266,11 +268,11 @@ module _ (m : Scope) (s w₀ : List ℕ) (which at : ℕ) (w : List ℕ) (p : �
         let z : g .fuel ≡ suc (g .fuel - 1) = omega (arith, g .enough) in
         ap (λ (n : ℕ). scanOut m s which n (tables m w) p) z ∙ scan-turn m s which (g .fuel - 1) (tables m w) p h
 
-    pub scan-refused : (q : ℕ) (sp : Span) → r ≡ Passed.Refused q sp → (v : List ℕ) → Tabling m (scanOut m s which (length s) (tables m w₀) at) w₀ (Verdict.Refused q sp) v
+    pub scan-refused : (why : Refusal) → r ≡ Passed.Refused why → (v : List ℕ) → Tabling m (scanOut m s which (length s) (tables m w₀) at) w₀ (Verdict.Refused why) v
     unfolding turn thenTabled
-    scan-refused q sp u v =
-        let x = denied m (commandOut m (tables m w) s which p .0) (commandOut m (tables m w) s which p .1) w q sp w′ (rw u at i) in
-        g .carry (Verdict.Refused q sp) v (tabling-refused m _ w v q sp (opened ∙ cc))
+    scan-refused why u v =
+        let x = denied m (commandOut m (tables m w) s which p .0) (commandOut m (tables m w) s which p .1) w why w′ (rw u at i) in
+        g .carry (Verdict.Refused why) v (tabling-refused m _ w v why (opened ∙ cc))
 
     module _ (e : ℕ) (u : r ≡ Passed.Next e) where
       next : Nexted m (commandOut m (tables m w) s which p) w e w′
@@ -302,10 +304,10 @@ pub ruleset scanning = (needs, scan-start, scan-done, scan-refused, scan-stuck, 
 
 -- ---- `globals`
 -- a verdict, taken apart
-no-from : (m : Scope) (x : Tabled) (w w′ : List ℕ) (q : ℕ) (p : Span) → Tabling m x w (Verdict.Refused q p) w′ → x ≡ refused q p
+no-from : (m : Scope) (x : Tabled) (w w′ : List ℕ) (why : Refusal) → Tabling m x w (Verdict.Refused why) w′ → x ≡ refused why
 unfolding Tabling
-no-from m (tabled t) w w′ q p h = absurd (fine-not (sym (h .answered)))
-no-from m (refused a b) w w′ q p h = cc
+no-from m (tabled t) w w′ why h = absurd (fine-not (sym (h .answered)))
+no-from m (refused why′) w w′ why h = cc
 
 record Entered (m : Scope) (x : Tabled) (w w′ : List ℕ) : Type 0 where
   is : x ≡ tabled (tables m w′)
@@ -314,7 +316,7 @@ record Entered (m : Scope) (x : Tabled) (w w′ : List ℕ) : Type 0 where
 yes-from : (m : Scope) (x : Tabled) (w w′ : List ℕ) → Tabling m x w Verdict.Fine w′ → Entered m x w w′
 unfolding Tabling
 yes-from m (tabled t) w w′ h = record { is = ap tabled (sym (h .kept .tabled)); kept = record { tabled = refl; others = h .kept .others } }
-yes-from m (refused a b) w w′ h = absurd (fine-not h)
+yes-from m (refused why′) w w′ h = absurd (fine-not h)
 
 -- r is what `clear` left of the columns of definitions and arguments
 module _ (w r : List ℕ) (m : Scope) (t : Tables m (length w)) (z : r ≡ replicate (length (midOf (8 * m .room) (8 * m .room + 8 * m .room + 8 * m .room - 8 * m .room) w)) 0) where
@@ -356,9 +358,9 @@ module _ (w r : List ℕ) (m : Scope) (t : Tables m (length w)) (z : r ≡ repli
     first : Tabling m (scanOut m s 16 (length s) (blank m (tables m w)) at) w v1 w1
     first = kept-then m _ (blank m (tables m w)) w back v1 w1 cleared (rw (cleared .tabled) at i)
 
-    pub globals-first : (q : ℕ) (p : Span) → v1 ≡ Verdict.Refused q p → (w′ : List ℕ) → Tabling m (globalsOut m s (tables m w) at) w (Verdict.Refused q p) w′
+    pub globals-first : (why : Refusal) → v1 ≡ Verdict.Refused why → (w′ : List ℕ) → Tabling m (globalsOut m s (tables m w) at) w (Verdict.Refused why) w′
     unfolding globalsOut thenTabled
-    globals-first q p e w′ = tabling-refused m _ w w′ q p (let x = no-from m _ w w1 q p (rw e at first) in cc)
+    globals-first why e w′ = tabling-refused m _ w w′ why (let x = no-from m _ w w1 why (rw e at first) in cc)
 
     module _ (e : v1 ≡ Verdict.Fine) (v2 : Verdict) (w2 : List ℕ) (j : Tabling m (scanOut m s 48 (length s) (tables m w1) at) w1 v2 w2) where
       after1 : Entered m (scanOut m s 16 (length s) (blank m (tables m w)) at) w w1
@@ -367,9 +369,9 @@ module _ (w r : List ℕ) (m : Scope) (t : Tables m (length w)) (z : r ≡ repli
       second : Tabling m (scanOut m s 48 (length s) (tables m w1) at) w v2 w2
       second = kept-then m _ (tables m w1) w w1 v2 w2 (after1 .kept) j
 
-      pub globals-second : (q : ℕ) (p : Span) → v2 ≡ Verdict.Refused q p → (w′ : List ℕ) → Tabling m (globalsOut m s (tables m w) at) w (Verdict.Refused q p) w′
+      pub globals-second : (why : Refusal) → v2 ≡ Verdict.Refused why → (w′ : List ℕ) → Tabling m (globalsOut m s (tables m w) at) w (Verdict.Refused why) w′
       unfolding globalsOut thenTabled
-      globals-second q p u w′ = tabling-refused m _ w w′ q p (let x = no-from m _ w w2 q p (rw u at second) in cc (after1 .is))
+      globals-second why u w′ = tabling-refused m _ w w′ why (let x = no-from m _ w w2 why (rw u at second) in cc (after1 .is))
 
       pub globals-third : v2 ≡ Verdict.Fine → (v3 : Verdict) (w3 : List ℕ) → Tabling m (scanOut m s 49 (length s) (tables m w2) at) w2 v3 w3 → Tabling m (globalsOut m s (tables m w) at) w v3 w3
       unfolding globalsOut thenTabled

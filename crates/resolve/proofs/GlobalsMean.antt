@@ -120,7 +120,7 @@ module _ (w : ℕ) (s : List ℕ) (ts : List Text) where
     items-chain zero a xs e h p = got-as (λ (ys : List Item) m. Chain a ys) p (let z : length s ≤ a = omega arith in z)
     items-chain (suc n) a xs e h p =
         items-then w s ts n a (λ (ys : List Item) m. Chain a ys) (λ z. z)
-        (λ z x c q ys k r. (c, item-begins w s ts b a x c q, items-chain n c ys k (omega (arith, item-inside w s b ts d a x c q .0)) r)) xs e p
+        (λ z x c q ys k r. (c, item-begins w s ts b a x c q, items-chain n c ys k (omega (arith, item-inside true w s b ts d a x c q .0)) r)) xs e p
 
   declares : distinct ts ≡ true → (a : ℕ) (x : Item) (e : ℕ) → Begins w s ts a x e → (which : ℕ) → globalOf which (nodeAt w s a) ≡ asGlobal ts (one which x)
   unfolding globalOf nonterminalOf

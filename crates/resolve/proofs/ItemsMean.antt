@@ -21,6 +21,7 @@ use Rattle.parse_tree.specs.working.Operands.{nonterminalOf, terminalOf}
 use Rattle.parse_tree.specs.working.Decode.{readArgument, readAlternative, nonterminalParts, readItem, readItems}
 use Rattle.parse_tree.specs.working.Encode.{argumentBytes, alternativeBytes, nonterminalNode, itemBytes}
 use Rattle.parse_tree.specs.plain.WriteTape.{bytesOfEach, bit}
+use Rattle.parse_tree.specs.working.Refusals.{refusalOver}
 use Rattle.parse_tree.specs.declared.syntax.Span.{Span}
 use Rattle.parse_tree.specs.declared.syntax.NonterminalData.{NonterminalData}
 use Rattle.parse_tree.specs.declared.syntax.TerminalData.{TerminalData}
@@ -115,7 +116,7 @@ pub record Putting (m : Scope) (ts : List Text) (G : Tree) (x : Put) (xs : List 
 
 abbrev pub Puts : {A : Type 0} → Scope → List Text → Tree → (A → List ℕ) → Outcome A → Put → ℕ → Type 0
 Puts m ts G f (yes a) x e = Putting m ts G x (f a) e
-Puts m ts G f (no q sp) x e = x ≡ unput q sp
+Puts m ts G f (no q sp) x e = x ≡ unput (refusalOver q sp)
 
 puts-as : {A : Type 0} (m : Scope) (ts : List Text) (G : Tree) (f : A → List ℕ) (r : Outcome A) (x y : Put) (e : ℕ) → y ≡ x → Puts m ts G f r x e → Puts m ts G f r y e
 puts-as m ts G f (yes a) x y e p h = record { table = h .table; is = p ∙ h .is; scoped = h .scoped }
@@ -239,4 +240,4 @@ module _ (m : Scope) (s : List ℕ) (ts : List Text) (b : Bytes s) (d : distinct
       (λ o. rw (items-end m s (suc n) t a o) (record { table = t; is = refl; scoped = h }))
       (λ o x c q js k r.
       rw (items-turn m s n t a o, ← (answers G x js))
-      (more-mean n (items-mean n) a js k c r (item-inside (m .width) s b ts d a x c q .0) (itemAnswer G x) (itemOut m t s a) (item-means a t x c q h))) is e p
+      (more-mean n (items-mean n) a js k c r (item-inside true (m .width) s b ts d a x c q .0) (itemAnswer G x) (itemOut m t s a) (item-means a t x c q h))) is e p

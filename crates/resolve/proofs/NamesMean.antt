@@ -14,6 +14,7 @@ use Rattle.parse_tree.specs.plain.Texts.{number, distinct}
 use Rattle.parse_tree.specs.working.Questions.{defined, symbolDefined, leafDefined}
 use Rattle.parse_tree.specs.working.Operands.{leafOf, overOf, insideOf, conditionOf}
 use Rattle.parse_tree.specs.working.Encode.{leafNode, symBytes}
+use Rattle.parse_tree.specs.working.Refusals.{refusalOver}
 use Rattle.parse_tree.specs.declared.syntax.Span.{Span}
 use Rattle.parse_tree.specs.declared.syntax.Atom.{Atom}
 use Rattle.parse_tree.specs.declared.syntax.NonterminalString.{NonterminalString}
@@ -41,11 +42,11 @@ Looks m t ts G ps = (k : ℕ) → k < length ts → found m t k ≡ foundOf (loo
 -- a pass's answer as the walks give it: the bytes of a yes
 unfoldable pub outOf : {A : Type 0} → (A → List ℕ) → Outcome A → ℕ → Out
 outOf f (yes a) e = wrote (f a) e
-outOf f (no q sp) e = denied q sp
+outOf f (no q sp) e = denied (refusalOver q sp)
 
 unfoldable pub verdictOf : Outcome (Unit {0}) → Verdict
 verdictOf (yes u) = Verdict.Fine
-verdictOf (no q sp) = Verdict.Refused q sp
+verdictOf (no q sp) = Verdict.Refused (refusalOver q sp)
 
 -- ---- by the definition of the name
 condition-by : (sp : Span) (o : Option Meant)
@@ -64,7 +65,7 @@ macro-by G ps sp k (some terminalDef) = refl
 macro-by G ps sp k (some (nonterminalDef zero)) = refl
 macro-by G ps sp k (some (nonterminalDef (suc n))) = cc (ne-eqb (suc n) 0 (λ z. omega arith), go (eqb (suc n) k))
   where
-    go : (b : Bool) → pick b Verdict.Fine (Verdict.Refused 12 sp) ≡ verdictOf (cond b (yes tt) (no 12 sp))
+    go : (b : Bool) → pick b Verdict.Fine (Verdict.Refused (refusalOver 12 sp)) ≡ verdictOf (cond b (yes tt) (no 12 sp))
     go true = refl
     go false = refl
 macro-by G ps sp k (some argumentDef) = refl

@@ -1,5 +1,5 @@
 -- What one name is answered: one law for each way out of the functions of names.rt. Assumes nothing.
-use mathlib.Core.Path.{_≡_, refl, _∙_}
+use mathlib.Core.Path.{_≡_, refl, ap, _∙_}
 use mathlib.Core.List.{List, [], _∷_}
 use Prim.Native.Nat.{ℕ, _<_, _≤_}
 use borrow.Author.Needs.{needs}
@@ -7,6 +7,8 @@ use borrow.Author.Tests.{lt-ltb, le-ltb, eq-eqb, ne-eqb}
 use denote.Enum.Declared.{tagOf}
 use types.Run.{OneOf, miss}
 use Rattle.octets.specs.working.Choice.{pick}
+use Rattle.parse_tree.specs.working.Refusals.{refusalOver}
+use Rattle.parse_tree.specs.declared.refusal.Refusal.{Refusal}
 use Rattle.parse_tree.specs.declared.syntax.Span.{Span}
 use Rattle.parse_tree.specs.declared.syntax.Atom.{Atom}
 use Rattle.parse_tree.specs.declared.syntax.NonterminalString.{NonterminalString}
@@ -31,85 +33,85 @@ module _ (m : Scope) (t : List ℕ) (s : Span) (k : ℕ) (x : Found) (i : x ≡ 
   unfolding idOf idBy
   id-is d e = cc
 
-  pub id-nothing : OneOf (1 ∷ []) (tagOf found-type x) → Id.Refused 8 s ≡ idOf m t s k
+  pub id-nothing : (why : Refusal) → why ≡ refusalOver 8 s → OneOf (1 ∷ []) (tagOf found-type x) → Id.Refused why ≡ idOf m t s k
   unfolding idOf idBy
-  id-nothing h = go x refl h ∙ cc
+  id-nothing why a h = ap Id.Refused a ∙ go x refl h ∙ cc
     where
-      go : (y : Found) → x ≡ y → OneOf (1 ∷ []) (tagOf found-type y) → Id.Refused 8 s ≡ idBy s y
+      go : (y : Found) → x ≡ y → OneOf (1 ∷ []) (tagOf found-type y) → Id.Refused (refusalOver 8 s) ≡ idBy s y
       go (Found.Is d) e h = absurd (miss (1 ∷ []) 0 tt h)
       go Found.Nothing e h = refl
 
 -- ---- the others: x is what validate_id answered
 module _ (m : Scope) (t : List ℕ) (x : Id) where
   module _ (c : Condition) (i : x ≡ idOf m t (c .span) (c .lhs .0)) where
-    pub condition-refused : (q : ℕ) (p : Span) → x ≡ Id.Refused q p → Verdict.Refused q p ≡ conditionSays m t c
+    pub condition-refused : (why : Refusal) → x ≡ Id.Refused why → Verdict.Refused why ≡ conditionSays m t c
     unfolding conditionSays conditionBy
-    condition-refused q p e = cc
+    condition-refused why e = cc
 
     pub condition-argument : (d : Def) → x ≡ Id.Is d → d ≡ Def.MacroArg → Verdict.Fine ≡ conditionSays m t c
     unfolding conditionSays conditionBy
     condition-argument d e f = cc
 
-    pub condition-other : (d : Def) → x ≡ Id.Is d → OneOf (0 ∷ 1 ∷ []) (tagOf def-type d) → Verdict.Refused 9 (c .span) ≡ conditionSays m t c
+    pub condition-other : (why : Refusal) → why ≡ refusalOver 9 (c .span) → (d : Def) → x ≡ Id.Is d → OneOf (0 ∷ 1 ∷ []) (tagOf def-type d) → Verdict.Refused why ≡ conditionSays m t c
     unfolding conditionSays conditionBy
-    condition-other d e h = go d refl h ∙ cc
+    condition-other why a d e h = ap Verdict.Refused a ∙ go d refl h ∙ cc
       where
-        go : (y : Def) → d ≡ y → OneOf (0 ∷ 1 ∷ []) (tagOf def-type y) → Verdict.Refused 9 (c .span) ≡ conditionBy (c .span) (Id.Is y)
+        go : (y : Def) → d ≡ y → OneOf (0 ∷ 1 ∷ []) (tagOf def-type y) → Verdict.Refused (refusalOver 9 (c .span)) ≡ conditionBy (c .span) (Id.Is y)
         go Def.Terminal e h = refl
         go (Def.Nonterminal n) e h = refl
         go Def.MacroArg e h = absurd (miss (0 ∷ 1 ∷ []) 2 tt h)
 
   module _ (s : Span) (id : NonterminalString) (i : x ≡ idOf m t s (id .0)) where
-    pub nonterminal-refused : (q : ℕ) (p : Span) → x ≡ Id.Refused q p → Rewritten.Refused q p ≡ nonterminalSays m t s id
+    pub nonterminal-refused : (why : Refusal) → x ≡ Id.Refused why → Rewritten.Refused why ≡ nonterminalSays m t s id
     unfolding nonterminalSays nonterminalBy
-    nonterminal-refused q p e = cc
+    nonterminal-refused why e = cc
 
-    pub nonterminal-terminal : (d : Def) → x ≡ Id.Is d → d ≡ Def.Terminal → Rewritten.Refused 10 s ≡ nonterminalSays m t s id
+    pub nonterminal-terminal : (why : Refusal) → why ≡ refusalOver 10 s → (d : Def) → x ≡ Id.Is d → d ≡ Def.Terminal → Rewritten.Refused why ≡ nonterminalSays m t s id
     unfolding nonterminalSays nonterminalBy
-    nonterminal-terminal d e f = cc
+    nonterminal-terminal why a d e f = cc
 
     pub nonterminal-argument : (d : Def) → x ≡ Id.Is d → d ≡ Def.MacroArg → Rewritten.Is (Leaf.Nonterminal id) ≡ nonterminalSays m t s id
     unfolding nonterminalSays nonterminalBy
     nonterminal-argument d e f = cc
 
-    pub nonterminal-macro : (d : Def) (n : ℕ) → x ≡ Id.Is d → d ≡ Def.Nonterminal n → 0 < n → Rewritten.Refused 10 s ≡ nonterminalSays m t s id
+    pub nonterminal-macro : (why : Refusal) → why ≡ refusalOver 10 s → (d : Def) (n : ℕ) → x ≡ Id.Is d → d ≡ Def.Nonterminal n → 0 < n → Rewritten.Refused why ≡ nonterminalSays m t s id
     unfolding nonterminalSays nonterminalBy pick
-    nonterminal-macro d n e f h = let z = lt-ltb _ _ h in cc
+    nonterminal-macro why a d n e f h = let z = lt-ltb _ _ h in cc
 
     pub nonterminal-plain : (d : Def) (n : ℕ) → x ≡ Id.Is d → d ≡ Def.Nonterminal n → n ≤ 0 → Rewritten.Is (Leaf.Nonterminal id) ≡ nonterminalSays m t s id
     unfolding nonterminalSays nonterminalBy pick
     nonterminal-plain d n e f h = let z = le-ltb _ _ h in cc
 
     module _ (k : ℕ) where
-      pub macro-refused : (q : ℕ) (p : Span) → x ≡ Id.Refused q p → Verdict.Refused q p ≡ macroSays m t s id k
+      pub macro-refused : (why : Refusal) → x ≡ Id.Refused why → Verdict.Refused why ≡ macroSays m t s id k
       unfolding macroSays macroBy
-      macro-refused q p e = cc
+      macro-refused why e = cc
 
-      pub macro-other : (d : Def) → x ≡ Id.Is d → OneOf (0 ∷ 2 ∷ []) (tagOf def-type d) → Verdict.Refused 11 s ≡ macroSays m t s id k
+      pub macro-other : (why : Refusal) → why ≡ refusalOver 11 s → (d : Def) → x ≡ Id.Is d → OneOf (0 ∷ 2 ∷ []) (tagOf def-type d) → Verdict.Refused why ≡ macroSays m t s id k
       unfolding macroSays macroBy
-      macro-other d e h = go d refl h ∙ cc
+      macro-other why a d e h = ap Verdict.Refused a ∙ go d refl h ∙ cc
         where
-          go : (y : Def) → d ≡ y → OneOf (0 ∷ 2 ∷ []) (tagOf def-type y) → Verdict.Refused 11 s ≡ macroBy s k (Id.Is y)
+          go : (y : Def) → d ≡ y → OneOf (0 ∷ 2 ∷ []) (tagOf def-type y) → Verdict.Refused (refusalOver 11 s) ≡ macroBy s k (Id.Is y)
           go Def.Terminal e h = refl
           go (Def.Nonterminal n) e h = absurd (miss (0 ∷ 2 ∷ []) 1 tt h)
           go Def.MacroArg e h = refl
 
-      pub macro-plain : (d : Def) (n : ℕ) → x ≡ Id.Is d → d ≡ Def.Nonterminal n → n ≡ 0 → Verdict.Refused 11 s ≡ macroSays m t s id k
+      pub macro-plain : (why : Refusal) → why ≡ refusalOver 11 s → (d : Def) (n : ℕ) → x ≡ Id.Is d → d ≡ Def.Nonterminal n → n ≡ 0 → Verdict.Refused why ≡ macroSays m t s id k
       unfolding macroSays macroBy pick
-      macro-plain d n e f h = let z = eq-eqb _ _ h in cc
+      macro-plain why a d n e f h = let z = eq-eqb _ _ h in cc
 
-      pub macro-count : (d : Def) (n j : ℕ) → x ≡ Id.Is d → d ≡ Def.Nonterminal n → (n ≡ 0 → ⊥) → j ≡ k → (n ≡ j → ⊥) → Verdict.Refused 12 s ≡ macroSays m t s id k
+      pub macro-count : (why : Refusal) → why ≡ refusalOver 12 s → (d : Def) (n j : ℕ) → x ≡ Id.Is d → d ≡ Def.Nonterminal n → (n ≡ 0 → ⊥) → j ≡ k → (n ≡ j → ⊥) → Verdict.Refused why ≡ macroSays m t s id k
       unfolding macroSays macroBy pick
-      macro-count d n j e f h g o = let z = ne-eqb _ _ h in let y = ne-eqb _ _ o in cc
+      macro-count why a d n j e f h g o = let z = ne-eqb _ _ h in let y = ne-eqb _ _ o in cc
 
       pub macro-fine : (d : Def) (n j : ℕ) → x ≡ Id.Is d → d ≡ Def.Nonterminal n → (n ≡ 0 → ⊥) → j ≡ k → n ≡ j → Verdict.Fine ≡ macroSays m t s id k
       unfolding macroSays macroBy pick
       macro-fine d n j e f h g o = let z = ne-eqb _ _ h in let y = eq-eqb _ _ o in cc
 
   module _ (s : Span) (id : Atom) (i : x ≡ idOf m t s (id .0)) where
-    pub ambiguous-refused : (q : ℕ) (p : Span) → x ≡ Id.Refused q p → Rewritten.Refused q p ≡ ambiguousSays m t s id
+    pub ambiguous-refused : (why : Refusal) → x ≡ Id.Refused why → Rewritten.Refused why ≡ ambiguousSays m t s id
     unfolding ambiguousSays ambiguousBy
-    ambiguous-refused q p e = cc
+    ambiguous-refused why e = cc
 
     pub ambiguous-terminal : (d : Def) → x ≡ Id.Is d → d ≡ Def.Terminal → Rewritten.Is (Leaf.Bare (record { 0 = id .0 })) ≡ ambiguousSays m t s id
     unfolding ambiguousSays ambiguousBy
@@ -119,9 +121,9 @@ module _ (m : Scope) (t : List ℕ) (x : Id) where
     unfolding ambiguousSays ambiguousBy
     ambiguous-argument d e f = cc
 
-    pub ambiguous-macro : (d : Def) (n : ℕ) → x ≡ Id.Is d → d ≡ Def.Nonterminal n → 0 < n → Rewritten.Refused 13 s ≡ ambiguousSays m t s id
+    pub ambiguous-macro : (why : Refusal) → why ≡ refusalOver 13 s → (d : Def) (n : ℕ) → x ≡ Id.Is d → d ≡ Def.Nonterminal n → 0 < n → Rewritten.Refused why ≡ ambiguousSays m t s id
     unfolding ambiguousSays ambiguousBy pick
-    ambiguous-macro d n e f h = let z = lt-ltb _ _ h in cc
+    ambiguous-macro why a d n e f h = let z = lt-ltb _ _ h in cc
 
     pub ambiguous-plain : (d : Def) (n : ℕ) → x ≡ Id.Is d → d ≡ Def.Nonterminal n → n ≤ 0 → Rewritten.Is (Leaf.Nonterminal (record { 0 = id .0 })) ≡ ambiguousSays m t s id
     unfolding ambiguousSays ambiguousBy pick

@@ -18,7 +18,8 @@ use Rattle.octets.specs.working.Sink.{Laid, adv, lay}
 use Rattle.octets.proofs.Laying.{adv-append, lay-append}
 use Rattle.octets.proofs.Fitting.{adv-le}
 use Rattle.parse_tree.specs.working.Nodes.{nodeAt, sizeOf}
-use Rattle.parse_tree.specs.declared.syntax.Span.{Span}
+use Rattle.parse_tree.specs.working.Refusals.{refusalAt}
+use Rattle.parse_tree.specs.declared.refusal.Refusal.{Refusal}
 use Rattle.parse_tree.specs.declared.syntax.NonterminalData.{NonterminalData}
 use Rattle.parse_tree.specs.declared.syntax.TerminalData.{TerminalData}
 use Rattle.parse_tree.specs.declared.syntax.Node.{Node}
@@ -36,12 +37,12 @@ use Rattle.resolve.proofs.Staging.{staged-prefix, area-next, tables-lai
 use Rattle.resolve.proofs.Stamping.{Ends, arguments-end}
 
 -- ---- answers
-walked-not : {e t q : ℕ} {p : Span} → Walked.Next e t ≡ Walked.Refused q p → ⊥
-walked-not {e} {t} {q} {p} h = let z : _≡_ {A = ℕ} 0 1 = cc in omega arith
+walked-not : {e t : ℕ} {why : Refusal} → Walked.Next e t ≡ Walked.Refused why → ⊥
+walked-not {e} {t} {why} h = let z : _≡_ {A = ℕ} 0 1 = cc in omega arith
 
-replaced-unput : (m : Scope) (x : Put) (q : ℕ) (p : Span) (w : List ℕ) (to : ℕ) (w′ : List ℕ) → x ≡ unput q p → Replaced m x w to (Walked.Refused q p) w′
+replaced-unput : (m : Scope) (x : Put) (why : Refusal) (w : List ℕ) (to : ℕ) (w′ : List ℕ) → x ≡ unput why → Replaced m x w to (Walked.Refused why) w′
 unfolding Replaced
-replaced-unput m x q p w to w′ e = rw e refl
+replaced-unput m x why w to w′ e = rw e refl
 
 replaced-as : (m : Scope) (x y : Put) (w : List ℕ) (to : ℕ) (r : Walked) (w′ : List ℕ) → x ≡ y → Replaced m y w to r w′ → Replaced m x w to r w′
 replaced-as m x y w to r w′ e h = rw e h
@@ -54,7 +55,7 @@ replaced-staged m (wrote xs e) w w1 to r w2 h k g = record {
   tabled = ap (tables m) (g .bytes) ∙ tables-lay m w1 (m .lim) to xs h;
   bytes = ap (behind m) (g .bytes) ∙ behind-lay m w1 (m .lim) to xs h ∙ ap (λ (v : List ℕ). lay v (m .lim - base m) (to - base m) xs) k;
 }
-replaced-staged m (denied q p) w w1 to r w2 h k g = g
+replaced-staged m (denied why) w w1 to r w2 h k g = g
 
 -- ---- put_alternatives
 pub alternatives-behind : (m : Scope) (s : List ℕ) (n at p : ℕ) (w : List ℕ) (to nn q : ℕ) (w1 : List ℕ) (r : Walked) (w2 : List ℕ) → Area m to nn → Laid w (m .lim) to (part at p s) q w1
@@ -75,17 +76,17 @@ stood m (stamped t e) p w w1 h =
     let a = h .answered in
     let b : e ≡ p = cc in
     record { is = cc (h .kept .tabled); kept = h .kept .others }
-stood m (against q sp) p w w1 h = absurd (next-not h)
+stood m (against why) p w w1 h = absurd (next-not h)
 
-fallen : (m : Scope) (x : Stamped) (q : ℕ) (p : Span) (w w1 : List ℕ) → Stamping m x w (Passed.Refused q p) w1 → x ≡ against q p
+fallen : (m : Scope) (x : Stamped) (why : Refusal) (w w1 : List ℕ) → Stamping m x w (Passed.Refused why) w1 → x ≡ against why
 unfolding Stamping
-fallen m (stamped t e) q p w w1 h = absurd (next-not (sym (h .answered)))
-fallen m (against a b) q p w w1 h = cc
+fallen m (stamped t e) why w w1 h = absurd (next-not (sym (h .answered)))
+fallen m (against why′) why w w1 h = cc
 
 module _ (m : Scope) (s : List ℕ) (d : NonterminalData) (e : ℕ) (w : List ℕ) (a : ℕ) (x : Passed) (w1 : List ℕ) (g : Stamping m (argumentsOut m s (d .span) a (tables m w) e) w x w1) where
-  pub data-refused : (at to q : ℕ) (p : Span) → a ≡ d .args → x ≡ Passed.Refused q p → (w2 : List ℕ) → Replaced m (dataOut m (tables m w) s d at e) w to (Walked.Refused q p) w2
+  pub data-refused : (at to : ℕ) (why : Refusal) → a ≡ d .args → x ≡ Passed.Refused why → (w2 : List ℕ) → Replaced m (dataOut m (tables m w) s d at e) w to (Walked.Refused why) w2
   unfolding dataOut stampedThen
-  data-refused at to q p f u w2 = replaced-unput m _ q p w to w2 (let z = fallen m _ q p w w1 (rw u at g) in cc)
+  data-refused at to why f u w2 = replaced-unput m _ why w to w2 (let z = fallen m _ why w w1 (rw u at g) in cc)
 
   module _ (p : ℕ) (u : x ≡ Passed.Next p) where
     ends : e ≤ length s → ((i : ℕ) → Fits w8 (getD s i 0)) → Ends e (length s) (stamped (tables m w1) p)
@@ -127,12 +128,12 @@ no-item f x Node.Unknown h = refl
 replaced-within : (m : Scope) (c : ℕ) (x : Put) (w : List ℕ) (to : ℕ) (r : Walked) (w1 : List ℕ) → Replaced (within m c) x w to r w1 → Replaced m x w to r w1
 unfolding Replaced within tables behind base
 replaced-within m c (put xs t e) w to r w1 h = record { answered = h .answered; tabled = h .tabled; bytes = h .bytes }
-replaced-within m c (unput q p) w to r w1 h = h
+replaced-within m c (unput why) w to r w1 h = h
 
 module _ (m : Scope) (s : List ℕ) (at : ℕ) (w : List ℕ) (to : ℕ) (n : Node) (i : n ≡ nodeAt (m .width) s at) where
-  pub item-other : (w1 : List ℕ) → OneOf noItem (tagOf the-type n) → Replaced m (itemOut m (tables m w) s at) w to (Walked.Refused 2 (record { 0 = 0; 1 = 0 })) w1
+  pub item-other : (why : Refusal) → why ≡ refusalAt 2 0 → (w1 : List ℕ) → OneOf noItem (tagOf the-type n) → Replaced m (itemOut m (tables m w) s at) w to (Walked.Refused why) w1
   unfolding itemOut
-  item-other w1 h = replaced-unput m _ 2 (record { 0 = 0; 1 = 0 }) w to w1 (no-item _ _ (nodeAt (m .width) s at) (rw i at h))
+  item-other why o w1 h = replaced-unput m _ why w to w1 (no-item _ _ (nodeAt (m .width) s at) (rw i at h) ∙ ap unput (sym o))
 
   module _ (z : ℕ) (g : z ≡ sizeOf (m .width) n) where
     pub item-terminal : (t : TerminalData) (nn q : ℕ) (w1 : List ℕ) → n ≡ Node.Terminal t → Area m to nn → Laid w (m .lim) to (part at (at + z) s) q w1
@@ -175,7 +176,7 @@ replaced-prefix m (put ys t′ e) xs w w1 to t r w2 f k b h = record {
   tabled = h .tabled;
   bytes = h .bytes ∙ ap (λ (v : List ℕ). lay v (m .lim - base m) (t - base m) ys) b ∙ lay-two m to t w xs ys f k;
 }
-replaced-prefix m (unput q p) xs w w1 to t r w2 f k b h = h
+replaced-prefix m (unput why) xs w w1 to t r w2 f k b h = h
 
 -- an answer, taken apart
 record Went (m : Scope) (x : Put) (e t : ℕ) (w : List ℕ) (to : ℕ) (w1 : List ℕ) : Type 0 where
@@ -191,12 +192,12 @@ went m (put xs t′ e′) e t w to w1 h =
     let b : e′ ≡ e = cc in
     let c : t ≡ adv (m .lim) to (length xs) = cc in
     record { written = xs; is = cc (h .tabled); after = c; bytes = h .bytes }
-went m (unput q p) e t w to w1 h = absurd (walked-not h)
+went m (unput why) e t w to w1 h = absurd (walked-not h)
 
-refused-is : (m : Scope) (x : Put) (q : ℕ) (p : Span) (w : List ℕ) (to : ℕ) (w1 : List ℕ) → Replaced m x w to (Walked.Refused q p) w1 → x ≡ unput q p
+refused-is : (m : Scope) (x : Put) (why : Refusal) (w : List ℕ) (to : ℕ) (w1 : List ℕ) → Replaced m x w to (Walked.Refused why) w1 → x ≡ unput why
 unfolding Replaced
-refused-is m (put xs t e) q p w to w1 h = absurd (walked-not (sym (h .answered)))
-refused-is m (unput a b) q p w to w1 h = cc
+refused-is m (put xs t e) why w to w1 h = absurd (walked-not (sym (h .answered)))
+refused-is m (unput why′) why w to w1 h = cc
 
 -- the items from p on are to be written from q on in w, fewer than `fuel`; all of them stand from at on, written to w₀
 pub record Placing (m : Scope) (s : List ℕ) (at : ℕ) (w₀ : List ℕ) (to : ℕ) (w : List ℕ) (p q : ℕ) : Type 0 where
@@ -233,11 +234,11 @@ module _ (m : Scope) (s : List ℕ) (at : ℕ) (w₀ : List ℕ) (to : ℕ) (w :
         let z : g .fuel ≡ suc (g .fuel - 1) = omega (arith, g .enough) in
         ap (λ (n : ℕ). itemsOut m s n (tables m w) p) z ∙ items-turn m s (g .fuel - 1) (tables m w) p h
 
-    pub place-refused : (c : ℕ) (sp : Span) → x ≡ Walked.Refused c sp → (w2 : List ℕ) → Replaced m (itemsOut m s (length s) (tables m w₀) at) w₀ to (Walked.Refused c sp) w2
+    pub place-refused : (why : Refusal) → x ≡ Walked.Refused why → (w2 : List ℕ) → Replaced m (itemsOut m s (length s) (tables m w₀) at) w₀ to (Walked.Refused why) w2
     unfolding turn putThen
-    place-refused c sp u w2 =
-        let y = refused-is m _ c sp w q w1 (rw u at i) in
-        g .carry (Walked.Refused c sp) w2 (replaced-unput m _ c sp w q w2 (opened ∙ cc))
+    place-refused why u w2 =
+        let y = refused-is m _ why w q w1 (rw u at i) in
+        g .carry (Walked.Refused why) w2 (replaced-unput m _ why w q w2 (opened ∙ cc))
 
     module _ (e t : ℕ) (u : x ≡ Walked.Next e t) where
       gone : Went m (itemOut m (tables m w) s p) e t w q w1
@@ -247,9 +248,9 @@ module _ (m : Scope) (s : List ℕ) (at : ℕ) (w₀ : List ℕ) (to : ℕ) (w :
       unfolding turn putThen
       so = opened ∙ ap (λ (y : Put). putThen y (λ t′ e′. pick (leb e′ p) nowhere (itemsOut m s (g .fuel - 1) t′ e′))) (gone .is)
 
-      pub place-stuck : e ≤ p → (w2 : List ℕ) → Replaced m (itemsOut m s (length s) (tables m w₀) at) w₀ to (Walked.Refused 2 (record { 0 = 0; 1 = 0 })) w2
+      pub place-stuck : (why : Refusal) → why ≡ refusalAt 2 0 → e ≤ p → (w2 : List ℕ) → Replaced m (itemsOut m s (length s) (tables m w₀) at) w₀ to (Walked.Refused why) w2
       unfolding pick prefixPut
-      place-stuck l w2 = g .carry _ w2 (replaced-unput m _ 2 (record { 0 = 0; 1 = 0 }) w q w2 (so ∙ ap (λ (c : Bool). prefixPut (gone .written) (pick c nowhere (itemsOut m s (g .fuel - 1) (tables m w1) e))) (le-leb e p l)))
+      place-stuck why n l w2 = g .carry _ w2 (replaced-unput m _ why w q w2 (so ∙ ap (λ (c : Bool). prefixPut (gone .written) (pick c nowhere (itemsOut m s (g .fuel - 1) (tables m w1) e))) (le-leb e p l) ∙ ap unput (sym n)))
 
       pub place-next : p < e → length w1 ≡ length w → Placing m s at w₀ to w1 e t
       unfolding pick base

@@ -18,10 +18,11 @@ use Rattle.parse_tree.specs.plain.Reading.{got}
 use Rattle.parse_tree.specs.working.Decode.{decode, readItems}
 use Rattle.parse_tree.specs.working.Encode.{stageBytes, atomBytes, itemBytes}
 use Rattle.parse_tree.specs.plain.WriteTape.{bytesOfEach}
-use Rattle.parse_tree.specs.declared.syntax.Span.{Span}
 use Rattle.parse_tree.proofs.Written.{written}
 use Rattle.parse_tree.proofs.ItemFound.{item-finds}
 use Rattle.parse_tree.proofs.ReadingLaws.{got-as}
+use Rattle.parse_tree.specs.working.Refusals.{refusalOver}
+use Rattle.parse_tree.specs.declared.refusal.Refusal.{Refusal}
 use Rattle.texts.specs.Atoms.{atomsOf}
 use Rattle.texts.proofs.Tabling.{length-atoms}
 use Rattle.passes.specs.Outcome.{Outcome, yes, no, after}
@@ -99,17 +100,17 @@ module _ (s w : List ℕ) (m : Scope) (at to : ℕ) (h : Resolving s w m at to) 
   unfolding Resolves ResolvesRead
   resolves o r w3 e a = rw (h .decoded, e) a
 
-  pub whole-refused : (q : ℕ) (p : Span) → v ≡ Verdict.Refused q p → Resolves s m w to (Walked.Refused q p) w1
+  pub whole-refused : (why : Refusal) → v ≡ Verdict.Refused why → Resolves s m w to (Walked.Refused why) w1
   unfolding Tabling Answers resolve
-  whole-refused q p e = go (checkGlobals [] (globals (h .items))) refl (globalsOut m s (tables m w) at) say g
+  whole-refused why e = go (checkGlobals [] (globals (h .items))) refl (globalsOut m s (tables m w) at) say g
     where
-      go : (o : Outcome (Unit {0})) → checkGlobals [] (globals (h .items)) ≡ o → (x : Tabled) → GlobalsSay m ts (h .items) o x → Tabling m x w v w1 → Resolves s m w to (Walked.Refused q p) w1
+      go : (o : Outcome (Unit {0})) → checkGlobals [] (globals (h .items)) ≡ o → (x : Tabled) → GlobalsSay m ts (h .items) o x → Tabling m x w v w1 → Resolves s m w to (Walked.Refused why) w1
       go (yes u) i x (t, j, k) z =
           let y : Fined m t w v w1 = rw j at z in
           absurd (fine-not (sym (y .answered) ∙ e))
       go (no q′ p′) i x j z =
-          let y : v ≡ Verdict.Refused q′ p′ = rw j at z in
-          resolves (no q′ p′) (Walked.Refused q p) w1 (ap (λ (o : Outcome (Unit {0})). after o (λ u. validateItems (h .items) (h .items))) i) cc
+          let y : v ≡ Verdict.Refused (refusalOver q′ p′) = rw j at z in
+          resolves (no q′ p′) (Walked.Refused why) w1 (ap (λ (o : Outcome (Unit {0})). after o (λ u. validateItems (h .items) (h .items))) i) cc
 
   module _ (e : v ≡ Verdict.Fine) (r : Walked) (w3 : List ℕ) (k : Replaced m (treeOut m (tables m w1) s at) w1 to r w3) where
     atoms-are : part 0 at s ≡ bytesOfEach (atomBytes 2) ts
@@ -141,7 +142,7 @@ module _ (s w : List ℕ) (m : Scope) (at to : ℕ) (h : Resolving s w m at to) 
             resolves (validateItems (h .items) (h .items)) r w3 (ap (λ (o : Outcome (Unit {0})). after o (λ u. validateItems (h .items) (h .items))) i)
             (walked t (y .kept) (validateItems (h .items) (h .items)) (itemsOut m s (length s) (tables m w1) at) (items-say t c (y .kept .tabled)) k)
         go (no q′ p′) i x j z =
-            let y : v ≡ Verdict.Refused q′ p′ = rw j at z in
+            let y : v ≡ Verdict.Refused (refusalOver q′ p′) = rw j at z in
             absurd (fine-not (sym e ∙ y))
 
 pub ruleset resolving = (needs, whole-refused, whole-fine)

@@ -12,6 +12,8 @@ use Rattle.octets.proofs.Laying.{laid-append}
 use Rattle.octets.proofs.Fitting.{adv-le, length-lay}
 use Rattle.parse_tree.specs.working.Nodes.{nodeAt, nodeBytes, sizeOf}
 use Rattle.parse_tree.specs.working.Operands.{insideOf}
+use Rattle.parse_tree.specs.working.Refusals.{refusalAt}
+use Rattle.parse_tree.specs.declared.refusal.Refusal.{Refusal}
 use Rattle.parse_tree.specs.declared.syntax.Span.{Span}
 use Rattle.parse_tree.specs.declared.syntax.Leaf.{Leaf}
 use Rattle.parse_tree.specs.declared.syntax.Around.{Around}
@@ -40,12 +42,12 @@ unfolding Staged prefix
 staged-prefix (wrote ys e) xs w w1 w2 lim to q r l h =
     let a = laid-append w w1 w2 lim to q (adv lim q (length ys)) xs ys l (moved-laid h) in
     record { answered = h .answered ∙ ap (Walked.Next e) (a .after); bytes = a .bytes }
-staged-prefix (denied c p) xs w w1 w2 lim to q r l h = h
+staged-prefix (denied why) xs w w1 w2 lim to q r l h = h
 
 -- a refusal
-pub staged-denied : (x : Out) (c : ℕ) (p : Span) (w w1 : List ℕ) (lim to : ℕ) → x ≡ denied c p → Staged x w lim to (Walked.Refused c p) w1
+pub staged-denied : (x : Out) (why : Refusal) (w w1 : List ℕ) (lim to : ℕ) → x ≡ denied why → Staged x w lim to (Walked.Refused why) w1
 unfolding Staged
-staged-denied x c p w w1 lim to e = rw e refl
+staged-denied x why w w1 lim to e = rw e refl
 
 pub staged-as : (x y : Out) (w w1 : List ℕ) (lim to : ℕ) (r : Walked) → x ≡ y → Staged y w lim to r w1 → Staged x w lim to r w1
 staged-as x y w w1 lim to r e h = rw e h
@@ -70,9 +72,9 @@ tables-laid m to n q xs w w1 a l = ap (tables m) (l .bytes) ∙ tables-lay m w (
 
 -- ---- put_leaf
 module _ (m : Scope) (t : List ℕ) (s : Span) (l : Leaf) (e : ℕ) (w : List ℕ) (lim to : ℕ) (x : Rewritten) (i : x ≡ leafSays m t s l) where
-  pub put-leaf-refused : (c : ℕ) (p : Span) (w1 : List ℕ) → x ≡ Rewritten.Refused c p → Staged (leafOut m t s l e) w lim to (Walked.Refused c p) w1
+  pub put-leaf-refused : (why : Refusal) (w1 : List ℕ) → x ≡ Rewritten.Refused why → Staged (leafOut m t s l e) w lim to (Walked.Refused why) w1
   unfolding leafOut leafBy
-  put-leaf-refused c p w1 h = staged-denied (leafOut m t s l e) c p w w1 lim to cc
+  put-leaf-refused why w1 h = staged-denied (leafOut m t s l e) why w w1 lim to cc
 
   pub put-leaf-is : (y : Leaf) (q : ℕ) (w1 : List ℕ) → x ≡ Rewritten.Is y → Laid w lim to (nodeBytes (m .width) (Node.Symbol s (SymbolKind.Leaf y))) q w1
       → Staged (leafOut m t s l e) w lim to (Walked.Next e q) w1
@@ -81,9 +83,9 @@ module _ (m : Scope) (t : List ℕ) (s : Span) (l : Leaf) (e : ℕ) (w : List �
 
 -- ---- validate_list
 module _ (m : Scope) (s : List ℕ) (sp : Span) (o : Over) (left at : ℕ) (w : List ℕ) (to : ℕ) (v : Verdict) (f : v ≡ overSays m (tables m w) sp o) where
-  pub list-refused : (c : ℕ) (p : Span) (w1 : List ℕ) → v ≡ Verdict.Refused c p → Staged (listOut m (tables m w) s sp o left at) w (m .lim) to (Walked.Refused c p) w1
+  pub list-refused : (why : Refusal) (w1 : List ℕ) → v ≡ Verdict.Refused why → Staged (listOut m (tables m w) s sp o left at) w (m .lim) to (Walked.Refused why) w1
   unfolding listOut verdictBy
-  list-refused c p w1 h = staged-denied _ c p w w1 (m .lim) to cc
+  list-refused why w1 h = staged-denied _ why w w1 (m .lim) to cc
 
   pub list-fine : (nn q j : ℕ) (w1 : List ℕ) (r : Walked) (w2 : List ℕ) → v ≡ Verdict.Fine → Area m to nn → Laid w (m .lim) to (nodeBytes (m .width) (Node.Symbol sp (SymbolKind.Over o))) q w1 → j ≡ insideOf o
       → Staged (many (symOut m (tables m w1) s left) j at) w1 (m .lim) q r w2 → Staged (listOut m (tables m w) s sp o left at) w (m .lim) to r w2
@@ -149,17 +151,17 @@ module _ (w at : ℕ) where
 
 -- ---- validate_symbol
 module _ (m : Scope) (s : List ℕ) (at left : ℕ) (w : List ℕ) (to : ℕ) where
-  pub sym-deep : (w1 : List ℕ) → left ≡ 0 → Staged (symOut m (tables m w) s left at) w (m .lim) to (Walked.Refused 2 (record { 0 = 0; 1 = 0 })) w1
+  pub sym-deep : (why : Refusal) → why ≡ refusalAt 2 0 → (w1 : List ℕ) → left ≡ 0 → Staged (symOut m (tables m w) s left at) w (m .lim) to (Walked.Refused why) w1
   unfolding symOut
-  sym-deep w1 z = staged-denied (symOut m (tables m w) s left at) 2 (record { 0 = 0; 1 = 0 }) w w1 (m .lim) to (ap (λ l. symOut m (tables m w) s l at) z)
+  sym-deep why o w1 z = staged-denied (symOut m (tables m w) s left at) why w w1 (m .lim) to (ap (λ l. symOut m (tables m w) s l at) z ∙ ap denied (sym o))
 
   module _ (z : left ≡ 0 → ⊥) (n : Standing) (i : n ≡ standing (m .width) at (nodeAt (m .width) s at)) where
     opened : (t : List ℕ) → symOut m t s left at ≡ symOut m t s (suc (left - 1)) at
     opened t = let y : left ≡ suc (left - 1) = omega arith in ap (λ (l : ℕ). symOut m t s l at) y
 
-    pub sym-other : (w1 : List ℕ) → OneOf (1 ∷ []) (tagOf standing-type n) → Staged (symOut m (tables m w) s left at) w (m .lim) to (Walked.Refused 2 (record { 0 = 0; 1 = 0 })) w1
+    pub sym-other : (why : Refusal) → why ≡ refusalAt 2 0 → (w1 : List ℕ) → OneOf (1 ∷ []) (tagOf standing-type n) → Staged (symOut m (tables m w) s left at) w (m .lim) to (Walked.Refused why) w1
     unfolding symOut
-    sym-other w1 h = staged-denied _ 2 (record { 0 = 0; 1 = 0 }) w w1 (m .lim) to (opened (tables m w) ∙ missing (m .width) at _ (nodeAt (m .width) s at) (rw i at h))
+    sym-other why o w1 h = staged-denied _ why w w1 (m .lim) to (opened (tables m w) ∙ missing (m .width) at _ (nodeAt (m .width) s at) (rw i at h) ∙ ap denied (sym o))
 
     module _ (sp : Span) (k : SymbolKind) (e : ℕ) (j : n ≡ Standing.Is sp k e) where
       it : (nodeAt (m .width) s at ≡ Node.Symbol sp k) × (e ≡ at + sizeOf (m .width) (Node.Symbol sp k))
@@ -225,22 +227,22 @@ module _ (m : Scope) (f : ℕ → Out) (n at : ℕ) (w : List ℕ) (to k p q : �
         kept = ap length (g .bytes) ∙ length-lay w1 (m .lim) q xs ∙ c .kept;
         area = area-next m q (length w1) t (length w2) xs w1 w2 (c .area) (ap length (g .bytes) ∙ length-lay w1 (m .lim) q xs) l;
       }
-  step-next (denied d s) i h e t w2 g = let z : _≡_ {A = ℕ} 0 1 = cc in absurd (omega arith)
+  step-next (denied why) i h e t w2 g = let z : _≡_ {A = ℕ} 0 1 = cc in absurd (omega arith)
 
-  pub step-stop : (x : Out) → f p ≡ x → 0 < k → (d : ℕ) (s : Span) (w2 : List ℕ) → Staged x w1 (m .lim) q (Walked.Refused d s) w2 → Staged (many f n at) w (m .lim) to (Walked.Refused d s) w2
+  pub step-stop : (x : Out) → f p ≡ x → 0 < k → (why : Refusal) (w2 : List ℕ) → Staged x w1 (m .lim) q (Walked.Refused why) w2 → Staged (many f n at) w (m .lim) to (Walked.Refused why) w2
   unfolding Staged andThen
-  step-stop (wrote xs e) i h d s w2 g =
+  step-stop (wrote xs e) i h why w2 g =
       let a = g .answered in
       let z : _≡_ {A = ℕ} 0 1 = cc in
       absurd (omega arith)
-  step-stop (denied d′ s′) i h d s w2 g = c .carry (Walked.Refused d s) w2 (staged-as (many f k p) (denied d′ s′) w1 w2 (m .lim) q (Walked.Refused d s) (many-opens f k p h ∙ cc) g)
+  step-stop (denied why′) i h why w2 g = c .carry (Walked.Refused why) w2 (staged-as (many f k p) (denied why′) w1 w2 (m .lim) q (Walked.Refused why) (many-opens f k p h ∙ cc) g)
 
 -- ---- validate_expr
 module _ (m : Scope) (s : List ℕ) (left n at : ℕ) (w : List ℕ) (to k p q : ℕ) (w1 : List ℕ) (c : Carrying m (symOut m (tables m w) s left) n at w to k p q w1) (h : 0 < k) (x : Walked) (w2 : List ℕ) (g : Staged (symOut m (tables m w1) s left p) w1 (m .lim) q x w2) where
   pub expr-next : (e t : ℕ) → x ≡ Walked.Next e t → Carrying m (symOut m (tables m w) s left) n at w to (k - 1) e t w2
   expr-next e t y = step-next m (symOut m (tables m w) s left) n at w to k p q w1 c (symOut m (tables m w) s left p) refl h e t w2 (rw (y, c .same) at g)
 
-  pub expr-stop : (d : ℕ) (sp : Span) → x ≡ Walked.Refused d sp → Staged (many (symOut m (tables m w) s left) n at) w (m .lim) to (Walked.Refused d sp) w2
-  expr-stop d sp y = step-stop m (symOut m (tables m w) s left) n at w to k p q w1 c (symOut m (tables m w) s left p) refl h d sp w2 (rw (y, c .same) at g)
+  pub expr-stop : (why : Refusal) → x ≡ Walked.Refused why → Staged (many (symOut m (tables m w) s left) n at) w (m .lim) to (Walked.Refused why) w2
+  expr-stop why y = step-stop m (symOut m (tables m w) s left) n at w to k p q w1 c (symOut m (tables m w) s left p) refl h why w2 (rw (y, c .same) at g)
 
 pub ruleset staging = (needs, known-fits, standing-no, standing-is, list-refused, list-fine, area-next, put-leaf-refused, put-leaf-is, sym-deep, sym-other, sym-leaf, sym-around, sym-over, carry-start, carry-end, expr-next, expr-stop)

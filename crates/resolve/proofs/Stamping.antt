@@ -18,6 +18,8 @@ use Rattle.octets.specs.working.Stores.{store}
 use Rattle.octets.proofs.Choices.{by-pick}
 use Rattle.octets.proofs.Storing.{length-store}
 use Rattle.parse_tree.specs.working.Nodes.{nodeAt, sizeOf}
+use Rattle.parse_tree.specs.working.Refusals.{refusalAt, refusalOver}
+use Rattle.parse_tree.specs.declared.refusal.Refusal.{Refusal}
 use Rattle.parse_tree.specs.declared.syntax.Span.{Span}
 use Rattle.parse_tree.specs.declared.syntax.NonterminalString.{NonterminalString}
 use Rattle.parse_tree.specs.declared.syntax.Node.{Node}
@@ -32,15 +34,15 @@ use Rattle.resolve.proofs.Regions.{tables-entry, tables-store, behind-s
 use Rattle.resolve.proofs.Inside.{inside, command-inside}
 
 -- ---- answers
-stamping-against : (m : Scope) (x : Stamped) (w w′ : List ℕ) (q : ℕ) (p : Span) → x ≡ against q p → Stamping m x w (Passed.Refused q p) w′
+stamping-against : (m : Scope) (x : Stamped) (w w′ : List ℕ) (why : Refusal) → x ≡ against why → Stamping m x w (Passed.Refused why) w′
 unfolding Stamping
-stamping-against m x w w′ q p e = rw e refl
+stamping-against m x w w′ why e = rw e refl
 
 -- what was marked goes on
 stamping-then : (m : Scope) (x : Stamped) (w w1 : List ℕ) (r : Passed) (w′ : List ℕ) → Kept m (tables m w1) w w1 → Stamping m x w1 r w′ → Stamping m x w r w′
 unfolding Stamping
 stamping-then m (stamped t e) w w1 r w′ k h = record { answered = h .answered; kept = record { tabled = h .kept .tabled; others = h .kept .others ∙ k .others } }
-stamping-then m (against q p) w w1 r w′ k h = h
+stamping-then m (against why) w w1 r w′ k h = h
 
 -- the numbers of the commands that are no argument
 abbrev noArgument : List ℕ
@@ -73,7 +75,7 @@ mark-start m s sp n at w t h = record { room = t; same = refl; inside = h; carry
 unfoldable pub turn : Scope → List ℕ → Span → ℕ → List ℕ → ℕ → NonterminalString → Stamped
 turn m s sp n t z a =
     pick (leb (m .count) (a .0)) (lost 3)
-    (pick (eqb (entry t (m .room + m .room + a .0)) (m .first)) (against 7 sp)
+    (pick (eqb (entry t (m .room + m .room + a .0)) (m .first)) (against (refusalOver 7 sp))
     (argumentsOut m s sp n (store t (8 * (m .room + m .room + a .0)) (le 8 (m .first))) z))
 
 pub arguments-turn : (m : Scope) (s : List ℕ) (sp : Span) (n : ℕ) (t : List ℕ) (p z : ℕ) (x : Node) → x ≡ nodeAt (m .width) s p → p + sizeOf (m .width) x ≡ z
@@ -92,28 +94,28 @@ module _ (m : Scope) (s : List ℕ) (sp : Span) (n at : ℕ) (w₀ w : List ℕ)
         let z : k ≡ suc (k - 1) = omega arith in
         ap (λ (j : ℕ). argumentsOut m s sp j (tables m w) p) z ∙ arguments-turn m s sp (k - 1) (tables m w) p (p + sizeOf (m .width) x) x i refl
 
-    stop : (q : ℕ) (u : Span) (w′ : List ℕ) → argumentIn (turn m s sp (k - 1) (tables m w) (p + sizeOf (m .width) x)) x ≡ against q u → Stamping m (argumentsOut m s sp n (tables m w₀) at) w₀ (Passed.Refused q u) w′
-    stop q u w′ e = g .carry (Passed.Refused q u) w′ (stamping-against m _ w w′ q u (opened ∙ e))
+    stop : (why : Refusal) (w′ : List ℕ) → argumentIn (turn m s sp (k - 1) (tables m w) (p + sizeOf (m .width) x)) x ≡ against why → Stamping m (argumentsOut m s sp n (tables m w₀) at) w₀ (Passed.Refused why) w′
+    stop why w′ e = g .carry (Passed.Refused why) w′ (stamping-against m _ w w′ why (opened ∙ e))
 
-    pub mark-other : OneOf noArgument (tagOf the-type x) → Stamping m (argumentsOut m s sp n (tables m w₀) at) w₀ (Passed.Refused 2 (record { 0 = 0; 1 = 0 })) w
-    mark-other o = stop 2 (record { 0 = 0; 1 = 0 }) w (no-argument (turn m s sp (k - 1) (tables m w) (p + sizeOf (m .width) x)) x o)
+    pub mark-other : (why : Refusal) → why ≡ refusalAt 2 0 → OneOf noArgument (tagOf the-type x) → Stamping m (argumentsOut m s sp n (tables m w₀) at) w₀ (Passed.Refused why) w
+    mark-other why e o = stop why w (no-argument (turn m s sp (k - 1) (tables m w) (p + sizeOf (m .width) x)) x o ∙ ap against (sym e))
 
     module _ (a : NonterminalString) (j : x ≡ Node.Argument a) (id : ℕ) (f : id ≡ a .0) where
       it : argumentIn (turn m s sp (k - 1) (tables m w) (p + sizeOf (m .width) x)) x ≡ turn m s sp (k - 1) (tables m w) (p + sizeOf (m .width) x) a
       unfolding argumentIn
       it = cc
 
-      pub mark-above : m .count ≤ id → Stamping m (argumentsOut m s sp n (tables m w₀) at) w₀ (Passed.Refused 3 (record { 0 = 0; 1 = 0 })) w
+      pub mark-above : (why : Refusal) → why ≡ refusalAt 3 0 → m .count ≤ id → Stamping m (argumentsOut m s sp n (tables m w₀) at) w₀ (Passed.Refused why) w
       unfolding turn pick
-      mark-above c = stop 3 (record { 0 = 0; 1 = 0 }) w (it ∙ cc (le-leb (m .count) id c))
+      mark-above why e c = stop why w (it ∙ cc (le-leb (m .count) id c))
 
       module _ (c : id < m .count) (v : Bool) (d : v ≡ eqb (entry w (m .room + m .room + id)) (m .first)) where
         low : m .room + m .room + id < m .room + m .room + m .room
         low = omega (arith, g .room .few)
 
-        pub mark-twice : v ≡ true → Stamping m (argumentsOut m s sp n (tables m w₀) at) w₀ (Passed.Refused 7 sp) w
+        pub mark-twice : (why : Refusal) → why ≡ refusalOver 7 sp → v ≡ true → Stamping m (argumentsOut m s sp n (tables m w₀) at) w₀ (Passed.Refused why) w
         unfolding turn pick
-        mark-twice e = stop 7 sp w (it ∙ cc (lt-leb (m .count) id c, tables-entry m w (m .room + m .room + id) low))
+        mark-twice why n e = stop why w (it ∙ cc (lt-leb (m .count) id c, tables-entry m w (m .room + m .room + id) low))
 
         pub mark-next : v ≡ false → (w′ : List ℕ) → w′ ≡ store w (8 * (m .room + m .room + id)) (le 8 (m .first)) → (z : ℕ) → z ≡ sizeOf (m .width) (Node.Argument a)
             → ((l : ℕ) → Fits w8 (getD s l 0)) → Marking m s sp n at w₀ w′ (p + z) (k - 1)
@@ -138,11 +140,11 @@ pub ruleset marking = (needs, mark-is, mark-start, mark-end, mark-other, mark-ab
 -- ---- where the arguments end
 abbrev pub Ends : ℕ → ℕ → Stamped → Type 0
 Ends a l (stamped t p) = (a ≤ p) × (p ≤ l)
-Ends a l (against q p) = Unit {0}
+Ends a l (against why) = Unit {0}
 
 ends-from : (a b l : ℕ) (x : Stamped) → a ≤ b → Ends b l x → Ends a l x
 ends-from a b l (stamped t p) h e = (omega (arith, e .0), e .1)
-ends-from a b l (against q p) h e = tt
+ends-from a b l (against why) h e = tt
 
 argument-ends : (a l : ℕ) (f : NonterminalString → Stamped) (x : Node) → ((k : NonterminalString) → Ends a l (f k)) → Ends a l (argumentIn f x)
 unfolding argumentIn

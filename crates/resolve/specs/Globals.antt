@@ -8,6 +8,8 @@ use Rattle.octets.specs.working.Choice.{pick}
 use Rattle.octets.specs.plain.Numbers.{le}
 use Rattle.octets.specs.working.Stores.{store}
 use Rattle.parse_tree.specs.working.Nodes.{nodeAt, sizeOf}
+use Rattle.parse_tree.specs.working.Refusals.{refusalOver}
+use Rattle.parse_tree.specs.declared.refusal.Refusal.{Refusal}
 use Rattle.parse_tree.specs.declared.syntax.Span.{Span}
 use Rattle.parse_tree.specs.declared.syntax.Node.{Node}
 use Rattle.texts.specs.Table.{entry}
@@ -40,11 +42,11 @@ globalOf which Node.Unknown = Global.Nothing
 -- the tables afterwards, or a refusal
 pub data Tabled : Type 0 where
   tabled : List ℕ → Tabled
-  refused : ℕ → Span → Tabled
+  refused : Refusal → Tabled
 
 unfoldable pub thenTabled : Tabled → (List ℕ → Tabled) → Tabled
 thenTabled (tabled t) f = f t
-thenTabled (refused q p) f = refused q p
+thenTabled (refused why) f = refused why
 
 -- what a function that enters globals leaves of w: nothing but the tables changes
 pub record Kept (m : Scope) (t w w′ : List ℕ) : Type 0 where
@@ -57,12 +59,12 @@ pub record Fined (m : Scope) (t w : List ℕ) (r : Verdict) (w′ : List ℕ) : 
 
 unfoldable pub Tabling : Scope → Tabled → List ℕ → Verdict → List ℕ → Type 0
 Tabling m (tabled t) w r w′ = Fined m t w r w′
-Tabling m (refused q p) w r w′ = r ≡ Verdict.Refused q p
+Tabling m (refused why) w r w′ = r ≡ Verdict.Refused why
 
 -- the k-th atom as a global
 unfoldable pub declareBy : Scope → List ℕ → ℕ → Def → Span → Found → Tabled
 declareBy m t k d s Found.Nothing = tabled (store t (8 * (m .room + k)) (le 8 (codeOf d)))
-declareBy m t k d s (Found.Is old) = pick (eqb (describe d) (describe old)) (refused 5 s) (refused 6 s)
+declareBy m t k d s (Found.Is old) = pick (eqb (describe d) (describe old)) (refused (refusalOver 5 s)) (refused (refusalOver 6 s))
 
 unfoldable pub declareOut : Scope → List ℕ → ℕ → Def → Span → Tabled
 declareOut m t k d s = pick (leb (m .count) k) (tabled t) (declareBy m t k d s (foundBy (entry t (m .room + k))))
@@ -71,7 +73,7 @@ declareOut m t k d s = pick (leb (m .count) k) (tabled t) (declareBy m t k d s (
 unfoldable pub Entering : Scope → Tabled × ℕ → List ℕ → Passed → List ℕ → Type 0
 Entering m x w r w′ = elim (x .0) [
   | tabled t ↦ (r ≡ Passed.Next (x .1)) × Kept m t w w′
-  | refused q p ↦ r ≡ Passed.Refused q p
+  | refused why ↦ r ≡ Passed.Refused why
 ]
 
 unfoldable pub globalOut : Scope → List ℕ → Global → Tabled

@@ -10,6 +10,8 @@ use Rattle.octets.specs.plain.Runs.{part}
 use Rattle.octets.specs.working.Stores.{store}
 use Rattle.octets.specs.working.Sink.{adv, lay}
 use Rattle.parse_tree.specs.working.Nodes.{nodeAt, sizeOf}
+use Rattle.parse_tree.specs.working.Refusals.{refusalAt, refusalOver}
+use Rattle.parse_tree.specs.declared.refusal.Refusal.{Refusal}
 use Rattle.parse_tree.specs.declared.syntax.Span.{Span}
 use Rattle.parse_tree.specs.declared.syntax.NonterminalString.{NonterminalString}
 use Rattle.parse_tree.specs.declared.syntax.NonterminalData.{NonterminalData}
@@ -33,12 +35,12 @@ skipTo w s (suc n) at = skipTo w s n (at + sizeOf w (nodeAt w s at))
 
 -- no command of the kind that is wanted: a tape that passed 2 to 4 has none such
 abbrev pub stray : Passed
-stray = Passed.Refused 2 (record { 0 = 0; 1 = 0 })
+stray = Passed.Refused (refusalAt 2 0)
 
 -- ---- alternatives
 unfoldable pub passedBy : ℕ → Verdict → Passed
 passedBy e Verdict.Fine = Passed.Next e
-passedBy e (Verdict.Refused q p) = Passed.Refused q p
+passedBy e (Verdict.Refused why) = Passed.Refused why
 
 unfoldable pub conditionIn : (Condition → Passed) → Node → Passed
 conditionIn f (Node.Text k) = stray
@@ -64,7 +66,7 @@ alternativeIn f Node.Unknown = astray
 
 unfoldable pub passedThen : Passed → (ℕ → Out) → Out
 passedThen (Passed.Next e) f = f e
-passedThen (Passed.Refused q p) f = denied q p
+passedThen (Passed.Refused why) f = denied why
 
 module _ (m : Scope) (t s : List ℕ) where
   unfoldable pub conditionOut : ℕ → ℕ → Passed
@@ -82,7 +84,7 @@ module _ (m : Scope) (t s : List ℕ) where
 -- ---- arguments: the tables and the place behind, or a refusal
 pub data Stamped : Type 0 where
   stamped : List ℕ → ℕ → Stamped
-  against : ℕ → Span → Stamped
+  against : Refusal → Stamped
 
 pub record Marked (m : Scope) (t : List ℕ) (e : ℕ) (w : List ℕ) (r : Passed) (w′ : List ℕ) : Type 0 where
   pub answered : r ≡ Passed.Next e
@@ -90,10 +92,10 @@ pub record Marked (m : Scope) (t : List ℕ) (e : ℕ) (w : List ℕ) (r : Passe
 
 unfoldable pub Stamping : Scope → Stamped → List ℕ → Passed → List ℕ → Type 0
 Stamping m (stamped t e) w r w′ = Marked m t e w r w′
-Stamping m (against q p) w r w′ = r ≡ Passed.Refused q p
+Stamping m (against why) w r w′ = r ≡ Passed.Refused why
 
 abbrev pub lost : ℕ → Stamped
-lost q = against q (record { 0 = 0; 1 = 0 })
+lost q = against (refusalAt q 0)
 
 unfoldable pub argumentIn : (NonterminalString → Stamped) → Node → Stamped
 argumentIn f (Node.Text k) = lost 2
@@ -112,14 +114,14 @@ argumentsOut m s sp zero t at = stamped t at
 argumentsOut m s sp (suc n) t at =
     argumentIn (λ a.
     pick (leb (m .count) (a .0)) (lost 3)
-    (pick (eqb (entry t (m .room + m .room + a .0)) (m .first)) (against 7 sp)
+    (pick (eqb (entry t (m .room + m .room + a .0)) (m .first)) (against (refusalOver 7 sp))
     (argumentsOut m s sp n (store t (8 * (m .room + m .room + a .0)) (le 8 (m .first))) (at + sizeOf (m .width) (nodeAt (m .width) s at)))))
     (nodeAt (m .width) s at)
 
 -- ---- items: the bytes written, the tables afterwards and the place to read on at; or a refusal
 pub data Put : Type 0 where
   put : List ℕ → List ℕ → ℕ → Put
-  unput : ℕ → Span → Put
+  unput : Refusal → Put
 
 -- what stands behind the tables, and the bytes laid there
 unfoldable pub behind : Scope → List ℕ → List ℕ
@@ -132,24 +134,24 @@ pub record Laying (m : Scope) (xs t : List ℕ) (e : ℕ) (w : List ℕ) (to : �
 
 unfoldable pub Replaced : Scope → Put → List ℕ → ℕ → Walked → List ℕ → Type 0
 Replaced m (put xs t e) w to r w′ = Laying m xs t e w to r w′
-Replaced m (unput q p) w to r w′ = r ≡ Walked.Refused q p
+Replaced m (unput why) w to r w′ = r ≡ Walked.Refused why
 
 -- an Out with tables that stay
 unfoldable pub putBy : List ℕ → Out → Put
 putBy t (wrote xs e) = put xs t e
-putBy t (denied q p) = unput q p
+putBy t (denied why) = unput why
 
 unfoldable pub stampedThen : Stamped → (List ℕ → ℕ → Put) → Put
 stampedThen (stamped t e) f = f t e
-stampedThen (against q p) f = unput q p
+stampedThen (against why) f = unput why
 
 unfoldable pub prefixPut : List ℕ → Put → Put
 prefixPut xs (put ys t e) = put (xs ++ ys) t e
-prefixPut xs (unput q p) = unput q p
+prefixPut xs (unput why) = unput why
 
 unfoldable pub putThen : Put → (List ℕ → ℕ → Put) → Put
 putThen (put xs t e) f = prefixPut xs (f t e)
-putThen (unput q p) f = unput q p
+putThen (unput why) f = unput why
 
 -- with the arguments at another place
 unfoldable pub within : Scope → ℕ → Scope
@@ -161,7 +163,7 @@ dataOut m t s d at e =
     putBy t′ (prefix (part at p s) (many (alternativeOut m t′ s) (d .alternatives) p)))
 
 abbrev pub nowhere : Put
-nowhere = unput 2 (record { 0 = 0; 1 = 0 })
+nowhere = unput (refusalAt 2 0)
 
 unfoldable pub itemIn : (NonterminalData → Put) → Put → Node → Put
 itemIn f x (Node.Text k) = nowhere

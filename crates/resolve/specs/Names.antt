@@ -3,6 +3,7 @@ use mathlib.Core.List.{List}
 use Prim.Native.Nat.{ℕ}
 use lib.Dec.{eqb, ltb}
 use Rattle.octets.specs.working.Choice.{pick}
+use Rattle.parse_tree.specs.working.Refusals.{refusalOver}
 use Rattle.parse_tree.specs.declared.syntax.Span.{Span}
 use Rattle.parse_tree.specs.declared.syntax.Atom.{Atom}
 use Rattle.parse_tree.specs.declared.syntax.NonterminalString.{NonterminalString}
@@ -20,31 +21,31 @@ use Rattle.resolve.specs.Scopes.{found}
 -- 8
 unfoldable pub idBy : Span → Found → Id
 idBy s (Found.Is d) = Id.Is d
-idBy s Found.Nothing = Id.Refused 8 s
+idBy s Found.Nothing = Id.Refused (refusalOver 8 s)
 
 unfoldable pub conditionBy : Span → Id → Verdict
-conditionBy s (Id.Is Def.Terminal) = Verdict.Refused 9 s
-conditionBy s (Id.Is (Def.Nonterminal n)) = Verdict.Refused 9 s
+conditionBy s (Id.Is Def.Terminal) = Verdict.Refused (refusalOver 9 s)
+conditionBy s (Id.Is (Def.Nonterminal n)) = Verdict.Refused (refusalOver 9 s)
 conditionBy s (Id.Is Def.MacroArg) = Verdict.Fine
-conditionBy s (Id.Refused q p) = Verdict.Refused q p
+conditionBy s (Id.Refused why) = Verdict.Refused why
 
 unfoldable pub nonterminalBy : Span → NonterminalString → Id → Rewritten
-nonterminalBy s id (Id.Is Def.Terminal) = Rewritten.Refused 10 s
-nonterminalBy s id (Id.Is (Def.Nonterminal n)) = pick (ltb 0 n) (Rewritten.Refused 10 s) (Rewritten.Is (Leaf.Nonterminal id))
+nonterminalBy s id (Id.Is Def.Terminal) = Rewritten.Refused (refusalOver 10 s)
+nonterminalBy s id (Id.Is (Def.Nonterminal n)) = pick (ltb 0 n) (Rewritten.Refused (refusalOver 10 s)) (Rewritten.Is (Leaf.Nonterminal id))
 nonterminalBy s id (Id.Is Def.MacroArg) = Rewritten.Is (Leaf.Nonterminal id)
-nonterminalBy s id (Id.Refused q p) = Rewritten.Refused q p
+nonterminalBy s id (Id.Refused why) = Rewritten.Refused why
 
 unfoldable pub ambiguousBy : Span → Atom → Id → Rewritten
 ambiguousBy s id (Id.Is Def.Terminal) = Rewritten.Is (Leaf.Bare (record { 0 = id .0 }))
-ambiguousBy s id (Id.Is (Def.Nonterminal n)) = pick (ltb 0 n) (Rewritten.Refused 13 s) (Rewritten.Is (Leaf.Nonterminal (record { 0 = id .0 })))
+ambiguousBy s id (Id.Is (Def.Nonterminal n)) = pick (ltb 0 n) (Rewritten.Refused (refusalOver 13 s)) (Rewritten.Is (Leaf.Nonterminal (record { 0 = id .0 })))
 ambiguousBy s id (Id.Is Def.MacroArg) = Rewritten.Is (Leaf.Nonterminal (record { 0 = id .0 }))
-ambiguousBy s id (Id.Refused q p) = Rewritten.Refused q p
+ambiguousBy s id (Id.Refused why) = Rewritten.Refused why
 
 unfoldable pub macroBy : Span → ℕ → Id → Verdict
-macroBy s k (Id.Is Def.Terminal) = Verdict.Refused 11 s
-macroBy s k (Id.Is (Def.Nonterminal n)) = pick (eqb n 0) (Verdict.Refused 11 s) (pick (eqb n k) Verdict.Fine (Verdict.Refused 12 s))
-macroBy s k (Id.Is Def.MacroArg) = Verdict.Refused 11 s
-macroBy s k (Id.Refused q p) = Verdict.Refused q p
+macroBy s k (Id.Is Def.Terminal) = Verdict.Refused (refusalOver 11 s)
+macroBy s k (Id.Is (Def.Nonterminal n)) = pick (eqb n 0) (Verdict.Refused (refusalOver 11 s)) (pick (eqb n k) Verdict.Fine (Verdict.Refused (refusalOver 12 s)))
+macroBy s k (Id.Is Def.MacroArg) = Verdict.Refused (refusalOver 11 s)
+macroBy s k (Id.Refused why) = Verdict.Refused why
 
 module _ (m : Scope) (t : List ℕ) where
   unfoldable pub idOf : Span → ℕ → Id

@@ -6,6 +6,8 @@ use lib.ListN.{length}
 use Rattle.octets.specs.working.Sink.{adv, lay}
 use Rattle.parse_tree.specs.working.Nodes.{nodeAt, nodeBytes, sizeOf}
 use Rattle.parse_tree.specs.working.Operands.{insideOf}
+use Rattle.parse_tree.specs.working.Refusals.{refusalAt}
+use Rattle.parse_tree.specs.declared.refusal.Refusal.{Refusal}
 use Rattle.parse_tree.specs.declared.syntax.Span.{Span}
 use Rattle.parse_tree.specs.declared.syntax.Leaf.{Leaf}
 use Rattle.parse_tree.specs.declared.syntax.Over.{Over}
@@ -21,17 +23,17 @@ use Rattle.resolve.specs.Names.{leafSays, overSays}
 -- the bytes written and the place to read on at, or a refusal
 pub data Out : Type 0 where
   wrote : List ℕ → ℕ → Out
-  denied : ℕ → Span → Out
+  denied : Refusal → Out
 
 -- with bytes before
 unfoldable pub prefix : List ℕ → Out → Out
 prefix xs (wrote ys e) = wrote (xs ++ ys) e
-prefix xs (denied q p) = denied q p
+prefix xs (denied why) = denied why
 
 -- one behind another
 unfoldable pub andThen : Out → (ℕ → Out) → Out
 andThen (wrote xs e) f = prefix xs (f e)
-andThen (denied q p) f = denied q p
+andThen (denied why) f = denied why
 
 unfoldable pub many : (ℕ → Out) → ℕ → ℕ → Out
 many f zero at = wrote [] at
@@ -44,19 +46,19 @@ pub record Moved (xs : List ℕ) (e : ℕ) (w : List ℕ) (lim to : ℕ) (r : Wa
 
 unfoldable pub Staged : Out → List ℕ → ℕ → ℕ → Walked → List ℕ → Type 0
 Staged (wrote xs e) w lim to r w′ = Moved xs e w lim to r w′
-Staged (denied q p) w lim to r w′ = r ≡ Walked.Refused q p
+Staged (denied why) w lim to r w′ = r ≡ Walked.Refused why
 
 -- no symbol stands there: a tape that passed 2 to 4 has none such
 abbrev pub astray : Out
-astray = denied 2 (record { 0 = 0; 1 = 0 })
+astray = denied (refusalAt 2 0)
 
 unfoldable pub leafBy : ℕ → Span → ℕ → Rewritten → Out
 leafBy w s e (Rewritten.Is l) = wrote (nodeBytes w (Node.Symbol s (SymbolKind.Leaf l))) e
-leafBy w s e (Rewritten.Refused q p) = denied q p
+leafBy w s e (Rewritten.Refused why) = denied why
 
 unfoldable pub verdictBy : Verdict → Out → Out
 verdictBy Verdict.Fine x = x
-verdictBy (Verdict.Refused q p) x = denied q p
+verdictBy (Verdict.Refused why) x = denied why
 
 -- the command of a symbol, and the place behind it
 unfoldable pub standing : ℕ → ℕ → Node → Standing

@@ -11,6 +11,7 @@ use Rattle.parse_tree.specs.plain.Texts.{distinct}
 use Rattle.parse_tree.specs.plain.Reading.{Reading, got, refused}
 use Rattle.parse_tree.specs.working.Decode.{decode, readItems}
 use Rattle.parse_tree.specs.working.Encode.{stageBytes}
+use Rattle.parse_tree.specs.working.Refusals.{refusalOver}
 use Rattle.texts.specs.Atoms.{atomsOf}
 use Rattle.passes.specs.Outcome.{Outcome, yes, no}
 use Rattle.passes.specs.Resolve.{resolve}
@@ -42,7 +43,7 @@ pub record Written (m : Scope) (xs w : List ℕ) (to : ℕ) (r : Walked) (w′ :
 -- a yes writes the tree's tape; a no gives the question's number and the span
 unfoldable pub Answers : Scope → List Text → Outcome (List Item) → List ℕ → ℕ → Walked → List ℕ → Type 0
 Answers m ts (yes R) w to r w′ = Written m (stageBytes 2 (record { atoms = ts; items = R })) w to r w′
-Answers m ts (no q p) w to r w′ = r ≡ Walked.Refused q p
+Answers m ts (no q p) w to r w′ = r ≡ Walked.Refused (refusalOver q p)
 
 unfoldable pub ResolvesRead : Scope → Reading Stage → List ℕ → ℕ → Walked → List ℕ → Type 0
 ResolvesRead m (got g e) w to r w′ = Answers m (g .atoms) (resolve (g .items)) w to r w′

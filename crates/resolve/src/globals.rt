@@ -11,6 +11,7 @@ use octets::runs::clear;
 use octets::wide::from8;
 use octets::wide::from32;
 use parse_tree::node::node;
+use parse_tree::refusal;
 use parse_tree::size::size;
 use parse_tree::syntax::Node;
 use parse_tree::syntax::Span;
@@ -31,9 +32,9 @@ pub fn globals(tape: &[u8], work: &mut [u8], m: Scope, at: usize) -> Verdict
     let e = a + a + a;
     clear(&mut work[a..e]);
     match declare_each(tape, work, m, 0x10, at) {
-        Verdict::Refused(q, p) => Verdict::Refused(q, p),
+        Verdict::Refused(why) => Verdict::Refused(why),
         Verdict::Fine => match declare_each(tape, work, m, 0x30, at) {
-            Verdict::Refused(q, p) => Verdict::Refused(q, p),
+            Verdict::Refused(why) => Verdict::Refused(why),
             Verdict::Fine => declare_each(tape, work, m, 0x31, at),
         },
     }
@@ -47,8 +48,8 @@ fn declare_each(tape: &[u8], work: &mut [u8], m: Scope, which: u8, at: usize) ->
     let mut p = at;
     while p < tape.len() {
         match declare_command(tape, work, m, which, p) {
-            Passed::Refused(q, s) => {
-                return Verdict::Refused(q, s);
+            Passed::Refused(why) => {
+                return Verdict::Refused(why);
             }
             Passed::Next(e) => {
                 if e <= p {
@@ -73,7 +74,7 @@ fn declare_command(tape: &[u8], work: &mut [u8], m: Scope, which: u8, at: usize)
     };
     match declare(work, m, id, d, s) {
         Verdict::Fine => Passed::Next(e),
-        Verdict::Refused(q, p) => Passed::Refused(q, p),
+        Verdict::Refused(why) => Passed::Refused(why),
     }
 }
 
@@ -116,9 +117,9 @@ fn declare(work: &mut [u8], m: Scope, id: u32, d: Def, s: Span) -> Verdict
         return Verdict::Fine;
     };
     if description(d) == description(old) {
-        return Verdict::Refused(5, s);
+        return Verdict::Refused(refusal::over(5, s));
     }
-    Verdict::Refused(6, s)
+    Verdict::Refused(refusal::over(6, s))
 }
 
 // The kinds: terminal, nonterminal, macro and macro argument.

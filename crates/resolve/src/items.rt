@@ -10,6 +10,7 @@ use octets::wide::from8;
 use octets::wide::from16;
 use octets::wide::from32;
 use parse_tree::node::node;
+use parse_tree::refusal;
 use parse_tree::size::size;
 use parse_tree::syntax::Alternative;
 use parse_tree::syntax::Node;
@@ -36,12 +37,12 @@ pub fn validate(tape: &[u8], work: &mut [u8], m: Scope, at: usize, to: usize) ->
     let mut q = to;
     while p < tape.len() {
         match validate_item(tape, work, m, p, q) {
-            Walked::Refused(c, s) => {
-                return Walked::Refused(c, s);
+            Walked::Refused(why) => {
+                return Walked::Refused(why);
             }
             Walked::Next(e, t) => {
                 if e <= p {
-                    return Walked::Refused(2, Span(0, 0));
+                    return Walked::Refused(refusal::at(2, 0));
                 }
                 p = e;
                 q = t;
@@ -73,7 +74,7 @@ fn validate_item(tape: &[u8], work: &mut [u8], m: Scope, at: usize, to: usize) -
             };
             validate_data(tape, work, x, d, at, e, to)
         }
-        _ => Walked::Refused(2, Span(0, 0)),
+        _ => Walked::Refused(refusal::at(2, 0)),
     }
 }
 
@@ -92,7 +93,7 @@ fn validate_data(
 {
     let s = d.span;
     match validate_macro_args(tape, work, m, s, from8(d.args), e) {
-        Passed::Refused(q, p) => Walked::Refused(q, p),
+        Passed::Refused(why) => Walked::Refused(why),
         Passed::Next(p) => put_alternatives(tape, work, m, from16(d.alternatives), at, p, to),
     }
 }
@@ -131,14 +132,14 @@ fn validate_macro_args(
     while 0 < k {
         let x = node(tape, p, m.width);
         let Node::Argument(a) = x else {
-            return Passed::Refused(2, Span(0, 0));
+            return Passed::Refused(refusal::at(2, 0));
         };
         let id = from32(a.0);
         if m.count <= id {
-            return Passed::Refused(3, Span(0, 0));
+            return Passed::Refused(refusal::at(3, 0));
         }
         if marked(work, m, id) {
-            return Passed::Refused(7, s);
+            return Passed::Refused(refusal::over(7, s));
         }
         put(work, m.room + m.room + id, m.first);
         p += size(x, m.width);
@@ -177,8 +178,8 @@ fn validate_alternatives(
                 q = t;
                 k -= 1;
             }
-            Walked::Refused(c, s) => {
-                return Walked::Refused(c, s);
+            Walked::Refused(why) => {
+                return Walked::Refused(why);
             }
         }
     }
@@ -192,10 +193,10 @@ fn validate_alternative(tape: &[u8], work: &mut [u8], m: Scope, at: usize, to: u
 {
     let n = node(tape, at, m.width);
     let Node::Alternative(a) = n else {
-        return Walked::Refused(2, Span(0, 0));
+        return Walked::Refused(refusal::at(2, 0));
     };
     match symbols_from(tape, work, m, a, at + size(n, m.width)) {
-        Passed::Refused(q, p) => Walked::Refused(q, p),
+        Passed::Refused(why) => Walked::Refused(why),
         Passed::Next(p) => {
             let q = put_run(tape, at, p, work, m.lim, to);
             validate_expr(tape, work, m, p, from16(a.symbols), 64, q)
@@ -222,10 +223,10 @@ fn validate_conditions(tape: &[u8], work: &[u8], m: Scope, n: u8, at: usize) -> 
     }
     let x = node(tape, at, m.width);
     let Node::Condition(c) = x else {
-        return Passed::Refused(2, Span(0, 0));
+        return Passed::Refused(refusal::at(2, 0));
     };
     match validate_condition(work, m, c) {
-        Verdict::Refused(q, p) => Passed::Refused(q, p),
+        Verdict::Refused(why) => Passed::Refused(why),
         Verdict::Fine => Passed::Next(at + size(x, m.width)),
     }
 }

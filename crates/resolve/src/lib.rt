@@ -1,5 +1,6 @@
 // Name resolution: questions 5 to 13, and the tree written with each name looked up. Touches the work buffer only: tables of
 // definitions and arguments by the number of an atom, and behind them the tree.
+use parse_tree::refusal::Refusal;
 use parse_tree::syntax::Leaf;
 use parse_tree::syntax::Span;
 use parse_tree::syntax::SymbolKind;
@@ -34,33 +35,33 @@ pub struct Scope {
     pub first: usize,
 }
 
-// The definition of a name, or a refusal: the question's number and the span.
+// The definition of a name, or a refusal.
 pub enum Id {
     Is(Def),
-    Refused(u8, Span),
+    Refused(Refusal),
 }
 
 // A leaf with its name looked up, or a refusal.
 pub enum Rewritten {
     Is(Leaf),
-    Refused(u8, Span),
+    Refused(Refusal),
 }
 
 pub enum Verdict {
     Fine,
-    Refused(u8, Span),
+    Refused(Refusal),
 }
 
 // Where to read on, or a refusal.
 pub enum Passed {
     Next(usize),
-    Refused(u8, Span),
+    Refused(Refusal),
 }
 
 // Where to read on and where to write on, or a refusal.
 pub enum Walked {
     Next(usize, usize),
-    Refused(u8, Span),
+    Refused(Refusal),
 }
 
 // What a command declares: a name by the number of its atom, its definition and its span; or nothing.

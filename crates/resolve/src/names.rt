@@ -7,6 +7,7 @@ use crate::Scope;
 use crate::Verdict;
 use crate::scopes::def;
 use octets::wide::from8;
+use parse_tree::refusal;
 use parse_tree::syntax::Atom;
 use parse_tree::syntax::Condition;
 use parse_tree::syntax::Leaf;
@@ -27,10 +28,10 @@ pub fn validate_condition(work: &[u8], m: Scope, c: Condition) -> Verdict
     let s = c.span;
     let id = c.lhs;
     match validate_id(work, m, s, id.0) {
-        Id::Refused(q, p) => Verdict::Refused(q, p),
+        Id::Refused(why) => Verdict::Refused(why),
         Id::Is(d) => match d {
             Def::MacroArg => Verdict::Fine,
-            _ => Verdict::Refused(9, s),
+            _ => Verdict::Refused(refusal::over(9, s)),
         },
     }
 }
@@ -53,13 +54,13 @@ fn validate_nonterminal(work: &[u8], m: Scope, s: Span, id: NonterminalString) -
     ensures { λ r. ⌜ r ≡ nonterminalSays m (tables m (now (work .entry))) s id ⌝ }
 {
     match validate_id(work, m, s, id.0) {
-        Id::Refused(q, p) => Rewritten::Refused(q, p),
+        Id::Refused(why) => Rewritten::Refused(why),
         Id::Is(d) => match d {
-            Def::Terminal => Rewritten::Refused(10, s),
+            Def::Terminal => Rewritten::Refused(refusal::over(10, s)),
             Def::MacroArg => Rewritten::Is(Leaf::Nonterminal(id)),
             Def::Nonterminal(n) => {
                 if 0 < n {
-                    return Rewritten::Refused(10, s);
+                    return Rewritten::Refused(refusal::over(10, s));
                 }
                 Rewritten::Is(Leaf::Nonterminal(id))
             }
@@ -84,18 +85,18 @@ fn validate_macro(work: &[u8], m: Scope, s: Span, id: NonterminalString, k: u8) 
     ensures { λ r. ⌜ r ≡ macroSays m (tables m (now (work .entry))) s id k ⌝ }
 {
     match validate_id(work, m, s, id.0) {
-        Id::Refused(q, p) => Verdict::Refused(q, p),
+        Id::Refused(why) => Verdict::Refused(why),
         Id::Is(d) => match d {
             Def::Nonterminal(n) => {
                 if n == 0 {
-                    return Verdict::Refused(11, s);
+                    return Verdict::Refused(refusal::over(11, s));
                 }
                 if n != from8(k) {
-                    return Verdict::Refused(12, s);
+                    return Verdict::Refused(refusal::over(12, s));
                 }
                 Verdict::Fine
             }
-            _ => Verdict::Refused(11, s),
+            _ => Verdict::Refused(refusal::over(11, s)),
         },
     }
 }
@@ -106,13 +107,13 @@ fn rewrite_ambiguous_id(work: &[u8], m: Scope, s: Span, id: Atom) -> Rewritten
     ensures { λ r. ⌜ r ≡ ambiguousSays m (tables m (now (work .entry))) s id ⌝ }
 {
     match validate_id(work, m, s, id.0) {
-        Id::Refused(q, p) => Rewritten::Refused(q, p),
+        Id::Refused(why) => Rewritten::Refused(why),
         Id::Is(d) => match d {
             Def::Terminal => Rewritten::Is(Leaf::Bare(TerminalString(id.0))),
             Def::MacroArg => Rewritten::Is(Leaf::Nonterminal(NonterminalString(id.0))),
             Def::Nonterminal(n) => {
                 if 0 < n {
-                    return Rewritten::Refused(13, s);
+                    return Rewritten::Refused(refusal::over(13, s));
                 }
                 Rewritten::Is(Leaf::Nonterminal(NonterminalString(id.0)))
             }
@@ -126,7 +127,7 @@ fn validate_id(work: &[u8], m: Scope, s: Span, id: u32) -> Id
     ensures { λ r. ⌜ r ≡ idOf m (tables m (now (work .entry))) s id ⌝ }
 {
     let Found::Is(d) = def(work, m, id) else {
-        return Id::Refused(8, s);
+        return Id::Refused(refusal::over(8, s));
     };
     Id::Is(d)
 }

@@ -8,6 +8,7 @@ use crate::names::validate_leaf;
 use crate::names::validate_over;
 use parse_tree::node::node;
 use parse_tree::put::put_node;
+use parse_tree::refusal;
 use parse_tree::size::size;
 use parse_tree::syntax::Leaf;
 use parse_tree::syntax::Node;
@@ -45,8 +46,8 @@ pub fn validate_expr(
                 q = t;
                 k -= 1;
             }
-            Walked::Refused(c, s) => {
-                return Walked::Refused(c, s);
+            Walked::Refused(why) => {
+                return Walked::Refused(why);
             }
         }
     }
@@ -66,10 +67,10 @@ pub fn validate_symbol(
     ensures { λ r. ⌜ Staged (symOut m (tables m (now (work .entry))) (now (tape .entry)) left at) (now (work .entry)) (m .lim) to r (now (work .exit)) ⌝ }
 {
     if left == 0 {
-        return Walked::Refused(2, Span(0, 0));
+        return Walked::Refused(refusal::at(2, 0));
     }
     let Standing::Is(s, k, e) = symbol_at(tape, m.width, at) else {
-        return Walked::Refused(2, Span(0, 0));
+        return Walked::Refused(refusal::at(2, 0));
     };
     match k {
         SymbolKind::Leaf(l) => put_leaf(work, m, s, l, e, to),
@@ -96,7 +97,7 @@ fn validate_list(
     ensures { λ r. ⌜ Staged (listOut m (tables m (now (work .entry))) (now (tape .entry)) s o left at) (now (work .entry)) (m .lim) to r (now (work .exit)) ⌝ }
 {
     match validate_over(work, m, s, o) {
-        Verdict::Refused(q, p) => Walked::Refused(q, p),
+        Verdict::Refused(why) => Walked::Refused(why),
         Verdict::Fine => {
             let q = put_node(
                 work,
@@ -128,7 +129,7 @@ fn put_leaf(work: &mut [u8], m: Scope, s: Span, l: Leaf, e: usize, to: usize) ->
     ensures { λ r. ⌜ Staged (leafOut m (tables m (now (work .entry))) s l e) (now (work .entry)) (m .lim) to r (now (work .exit)) ⌝ }
 {
     match validate_leaf(work, m, s, l) {
-        Rewritten::Refused(q, p) => Walked::Refused(q, p),
+        Rewritten::Refused(why) => Walked::Refused(why),
         Rewritten::Is(x) => {
             let q = put_node(
                 work,

@@ -17,7 +17,7 @@ pub fn resolve(tape: &[u8], work: &mut [u8], m: Scope, at: usize, to: usize) -> 
     ensures { λ r. ⌜ Resolves (now (tape .entry)) m (now (work .entry)) to r (now (work .exit)) ⌝ }
 {
     match globals(tape, work, m, at) {
-        Verdict::Refused(q, p) => Walked::Refused(q, p),
+        Verdict::Refused(why) => Walked::Refused(why),
         Verdict::Fine => put_tree(tape, work, m, at, to),
     }
 }

@@ -15,10 +15,13 @@ use Rattle.parse_tree.specs.plain.Reading.{Reading, got, refused, then, times}
 use Rattle.parse_tree.specs.working.Expect.{expectArgument, expectAttribute, expectCondition}
 use Rattle.parse_tree.specs.working.Operands.{textOf, attributeOf, conditionOf}
 use Rattle.parse_tree.specs.working.Decode.{ask, readArgument, readAttribute, readCondition}
+use Rattle.parse_tree.specs.working.Refusals.{refusalAt}
+use Rattle.parse_tree.specs.declared.refusal.Refusal.{Refusal}
 use Rattle.parse_tree.specs.declared.syntax.Node.{Node}
 use Rattle.validate.specs.Steps.{stepOf}
 use Rattle.validate.specs.declared.Step.{Step}
-use Rattle.validate.proofs.Commanding.{step-refused}
+use Rattle.validate.proofs.Commanding.{step-refused, refuses-step}
+use Rattle.validate.proofs.Walking.{refuses-then}
 
 -- what is read behind a command goes on from it, if it is of a kind that may stand at its place
 module _ {B : Type 0} (place at : ℕ) (f : Node → ℕ → Reading B) (on : (n : Node) (e : ℕ) → allowedAt place (classOf n) ≡ true → stepOf (f n e) ≡ Step.Next e) where
@@ -30,12 +33,12 @@ module _ {B : Type 0} (place at : ℕ) (f : Node → ℕ → Reading B) (on : (n
   picked n true true false e h = refl
   picked n true true true e h = on n e h
 
-  then-ask : (w : ℕ) (s : List ℕ) (ts : List Text) → stepOf (then (ask true w s ts place 1 at) f) ≡ stepOf (ask true w s ts place 1 at)
+  then-ask : (four : Bool) (w : ℕ) (s : List ℕ) (ts : List Text) → stepOf (then (ask four w s ts place 1 at) f) ≡ stepOf (ask four w s ts place 1 at)
   unfolding ask
-  then-ask w s ts =
-      picked (nodeAt w s at) (allowedAt place (classOf (nodeAt w s at))) (defined (length ts) (nodeAt w s at) && leb 1 1) (pick true (suits ts (nodeAt w s at)) true) (at + sizeOf w (nodeAt w s at)) refl
+  then-ask four w s ts =
+      picked (nodeAt w s at) (allowedAt place (classOf (nodeAt w s at))) (defined (length ts) (nodeAt w s at) && leb 1 1) (pick four (suits ts (nodeAt w s at)) true) (at + sizeOf w (nodeAt w s at)) refl
 
-module _ (w : ℕ) (s : List ℕ) (ts : List Text) (at : ℕ) where
+module _ (four : Bool) (w : ℕ) (s : List ℕ) (ts : List Text) (at : ℕ) where
   only-argument : (n : Node) (e : ℕ) → allowedAt argumentsPlace (classOf n) ≡ true → stepOf (expectArgument at (λ a d. got (textOf ts (a .0)) d) n e) ≡ Step.Next e
   unfolding expectArgument stepOf allowedAt table classOf
   only-argument (Node.Text k) e h = absurd (false≢true h)
@@ -72,17 +75,17 @@ module _ (w : ℕ) (s : List ℕ) (ts : List Text) (at : ℕ) where
   only-condition (Node.Symbol p k) e h = absurd (false≢true h)
   only-condition Node.Unknown e h = absurd (false≢true h)
 
-  argument-step : stepOf (readArgument true w s ts at) ≡ stepOf (ask true w s ts argumentsPlace 1 at)
+  argument-step : stepOf (readArgument four w s ts at) ≡ stepOf (ask four w s ts argumentsPlace 1 at)
   unfolding readArgument
-  argument-step = then-ask argumentsPlace at _ only-argument w s ts
+  argument-step = then-ask argumentsPlace at _ only-argument four w s ts
 
-  attribute-step : stepOf (readAttribute true w s ts at) ≡ stepOf (ask true w s ts attributesPlace 1 at)
+  attribute-step : stepOf (readAttribute four w s ts at) ≡ stepOf (ask four w s ts attributesPlace 1 at)
   unfolding readAttribute
-  attribute-step = then-ask attributesPlace at _ only-attribute w s ts
+  attribute-step = then-ask attributesPlace at _ only-attribute four w s ts
 
-  condition-step : stepOf (readCondition true w s ts at) ≡ stepOf (ask true w s ts conditionsPlace 1 at)
+  condition-step : stepOf (readCondition four w s ts at) ≡ stepOf (ask four w s ts conditionsPlace 1 at)
   unfolding readCondition
-  condition-step = then-ask conditionsPlace at _ only-condition w s ts
+  condition-step = then-ask conditionsPlace at _ only-condition four w s ts
 
 -- ---- and so it is for several, one behind another
 module _ {A B C D : Type 0} where
@@ -95,7 +98,7 @@ module _ {A B C D : Type 0} where
       go : (y : Reading B) → Step.Next e ≡ stepOf y → stepOf (g a e) ≡ stepOf (then y h)
       go (got b d) z = let n : d ≡ e = cc in rw n (q a b e)
       go (refused k v) z = absurd (let n : _≡_ {A = ℕ} 0 1 = cc in omega arith)
-  then-alike (refused k v) y g h p q = cc (step-refused y k v p)
+  then-alike (refused k v) y g h p q = refuses-step (then y h) (refusalAt k v) (refuses-then y h (refusalAt k v) (step-refused y (refusalAt k v) p))
 
 module _ {A B : Type 0} (f : ℕ → Reading A) (g : ℕ → Reading B) (same : (p : ℕ) → stepOf (f p) ≡ stepOf (g p)) where
   pub times-alike : (n at : ℕ) → stepOf (times f n at) ≡ stepOf (times g n at)
@@ -105,12 +108,12 @@ module _ {A B : Type 0} (f : ℕ → Reading A) (g : ℕ → Reading B) (same : 
       then-alike (f at) (g at) _ _ (same at)
       (λ a b e. then-alike (times f n e) (times g n e) _ _ (times-alike n e) (λ xs ys d. refl))
 
-module _ (w : ℕ) (s : List ℕ) (ts : List Text) where
-  pub arguments-alike : (n at : ℕ) → stepOf (times (readArgument true w s ts) n at) ≡ stepOf (times (ask true w s ts argumentsPlace 1) n at)
-  arguments-alike n at = times-alike (readArgument true w s ts) (ask true w s ts argumentsPlace 1) (λ p. argument-step w s ts p) n at
+module _ (four : Bool) (w : ℕ) (s : List ℕ) (ts : List Text) where
+  pub arguments-alike : (n at : ℕ) → stepOf (times (readArgument four w s ts) n at) ≡ stepOf (times (ask four w s ts argumentsPlace 1) n at)
+  arguments-alike n at = times-alike (readArgument four w s ts) (ask four w s ts argumentsPlace 1) (λ p. argument-step four w s ts p) n at
 
-  pub attributes-alike : (n at : ℕ) → stepOf (times (readAttribute true w s ts) n at) ≡ stepOf (times (ask true w s ts attributesPlace 1) n at)
-  attributes-alike n at = times-alike (readAttribute true w s ts) (ask true w s ts attributesPlace 1) (λ p. attribute-step w s ts p) n at
+  pub attributes-alike : (n at : ℕ) → stepOf (times (readAttribute four w s ts) n at) ≡ stepOf (times (ask four w s ts attributesPlace 1) n at)
+  attributes-alike n at = times-alike (readAttribute four w s ts) (ask four w s ts attributesPlace 1) (λ p. attribute-step four w s ts p) n at
 
-  pub conditions-alike : (n at : ℕ) → stepOf (times (readCondition true w s ts) n at) ≡ stepOf (times (ask true w s ts conditionsPlace 1) n at)
-  conditions-alike n at = times-alike (readCondition true w s ts) (ask true w s ts conditionsPlace 1) (λ p. condition-step w s ts p) n at
+  pub conditions-alike : (n at : ℕ) → stepOf (times (readCondition four w s ts) n at) ≡ stepOf (times (ask four w s ts conditionsPlace 1) n at)
+  conditions-alike n at = times-alike (readCondition four w s ts) (ask four w s ts conditionsPlace 1) (λ p. condition-step four w s ts p) n at

@@ -1,5 +1,5 @@
 -- The ways out of `command`, and its answers taken apart. Assumes nothing.
-use mathlib.Core.Path.{_≡_, sym, ap, _∙_}
+use mathlib.Core.Path.{_≡_, refl, sym, ap, _∙_}
 use mathlib.Core.Bool.{Bool, true, false, not}
 use mathlib.Core.List.{List}
 use Prim.Native.Nat.{ℕ, _+_, _^_, _<_, _≤_}
@@ -15,52 +15,54 @@ use Rattle.parse_tree.specs.working.Places.{classOf, allowedAt}
 use Rattle.parse_tree.specs.working.Questions.{defined, suits}
 use Rattle.parse_tree.specs.plain.Reading.{Reading, got, refused}
 use Rattle.parse_tree.specs.working.Decode.{ask}
+use Rattle.parse_tree.specs.working.Refusals.{refusalAt}
+use Rattle.parse_tree.specs.declared.refusal.Refusal.{Refusal}
 use Rattle.parse_tree.specs.declared.syntax.Node.{Node}
 use Rattle.texts.specs.Atoms.{atomsOf}
 use Rattle.texts.proofs.Tabling.{length-atoms}
-use Rattle.validate.specs.Steps.{askedOf, stepOf}
+use Rattle.validate.specs.Steps.{askedOf, stepOf, Refuses}
 use Rattle.validate.specs.declared.Asked.{Asked}
 use Rattle.validate.specs.declared.Step.{Step}
 use Rattle.validate.proofs.Onward.{node-inside}
 
 -- ---- n is the command, c its class, o whether it may stand there
-module _ (s : List ℕ) (w atoms place left at : ℕ) (n : Node) (p : n ≡ nodeAt w s at) (c : ℕ) (q : c ≡ classOf n) (o : Bool) (r : o ≡ allowedAt place c) where
+module _ (four : Bool) (s : List ℕ) (w atoms place left at : ℕ) (n : Node) (p : n ≡ nodeAt w s at) (c : ℕ) (q : c ≡ classOf n) (o : Bool) (r : o ≡ allowedAt place c) where
   o-is : o ≡ allowedAt place (classOf (nodeAt w s at))
   o-is = r ∙ ap (allowedAt place) q ∙ ap (λ (x : Node). allowedAt place (classOf x)) p
 
-  pub not-allowed : not o ≡ true → Asked.Refused 2 at ≡ askedOf (ask true w s (atomsOf s atoms) place left at)
+  pub not-allowed : (z : Refusal) → z ≡ refusalAt 2 at → not o ≡ true → Asked.Refused z ≡ askedOf (ask four w s (atomsOf s atoms) place left at)
   unfolding ask pick askedOf
-  not-allowed h = simp (← o-is, not-true o h)
+  not-allowed z e h = ap Asked.Refused e ∙ simp (← o-is, not-true o h)
 
   -- d is whether its operands are defined
   module _ (h : not o ≡ false) (d : Bool) (x : d ≡ defined atoms n) where
     d-is : d ≡ defined (length (atomsOf s atoms)) (nodeAt w s at)
     d-is = x ∙ ap (defined atoms) p ∙ ap (λ (k : ℕ). defined k (nodeAt w s at)) (sym (length-atoms s atoms))
 
-    pub not-defined : not d ≡ true → Asked.Refused 3 at ≡ askedOf (ask true w s (atomsOf s atoms) place left at)
+    pub not-defined : (z : Refusal) → z ≡ refusalAt 3 at → not d ≡ true → Asked.Refused z ≡ askedOf (ask four w s (atomsOf s atoms) place left at)
     unfolding ask pick askedOf
-    not-defined g = simp (← o-is, not-false o h, ← d-is, not-true d g)
+    not-defined z e g = ap Asked.Refused e ∙ simp (← o-is, not-false o h, ← d-is, not-true d g)
 
-    pub too-deep : not d ≡ false → left < 1 → Asked.Refused 3 at ≡ askedOf (ask true w s (atomsOf s atoms) place left at)
+    pub too-deep : (z : Refusal) → z ≡ refusalAt 3 at → not d ≡ false → left < 1 → Asked.Refused z ≡ askedOf (ask four w s (atomsOf s atoms) place left at)
     unfolding ask pick askedOf
-    too-deep g k = simp (← o-is, not-false o h, ← d-is, not-false d g, lt-leb 1 left k)
+    too-deep z e g k = ap Asked.Refused e ∙ simp (← o-is, not-false o h, ← d-is, not-false d g, lt-leb 1 left k)
 
     -- u is whether its texts suit
-    module _ (g : not d ≡ false) (k : 1 ≤ left) (u : Bool) (y : u ≡ suits (atomsOf s atoms) n) where
-      u-is : u ≡ suits (atomsOf s atoms) (nodeAt w s at)
-      u-is = y ∙ ap (suits (atomsOf s atoms)) p
+    module _ (g : not d ≡ false) (k : 1 ≤ left) (u : Bool) (y : u ≡ pick four (suits (atomsOf s atoms) n) true) where
+      u-is : u ≡ pick four (suits (atomsOf s atoms) (nodeAt w s at)) true
+      u-is = y ∙ ap (λ (x : Node). pick four (suits (atomsOf s atoms) x) true) p
 
-      pub not-suited : not u ≡ true → Asked.Refused 4 at ≡ askedOf (ask true w s (atomsOf s atoms) place left at)
+      pub not-suited : (z : Refusal) → z ≡ refusalAt 4 at → not u ≡ true → Asked.Refused z ≡ askedOf (ask four w s (atomsOf s atoms) place left at)
       unfolding ask pick askedOf
-      not-suited f = simp (← o-is, not-false o h, ← d-is, not-false d g, le-leb 1 left k, ← u-is, not-true u f)
+      not-suited z e f = ap Asked.Refused e ∙ simp (← o-is, not-false o h, ← d-is, not-false d g, le-leb 1 left k, ← u-is, not-true u f)
 
-      ask-is : not u ≡ false → ask true w s (atomsOf s atoms) place left at ≡ got n (at + sizeOf w n)
+      ask-is : not u ≡ false → ask four w s (atomsOf s atoms) place left at ≡ got n (at + sizeOf w n)
       unfolding ask pick
       ask-is f =
-          let here : ask true w s (atomsOf s atoms) place left at ≡ got (nodeAt w s at) (at + sizeOf w (nodeAt w s at)) = simp (← o-is, not-false o h, ← d-is, not-false d g, le-leb 1 left k, ← u-is, not-false u f) in
+          let here : ask four w s (atomsOf s atoms) place left at ≡ got (nodeAt w s at) (at + sizeOf w (nodeAt w s at)) = simp (← o-is, not-false o h, ← d-is, not-false d g, le-leb 1 left k, ← u-is, not-false u f) in
           here ∙ ap (λ (x : Node). got x (at + sizeOf w x)) (sym p)
 
-      pub asked-is : (z : ℕ) → not u ≡ false → z ≡ sizeOf w n → Asked.Is n (at + z) ≡ askedOf (ask true w s (atomsOf s atoms) place left at)
+      pub asked-is : (z : ℕ) → not u ≡ false → z ≡ sizeOf w n → Asked.Is n (at + z) ≡ askedOf (ask four w s (atomsOf s atoms) place left at)
       unfolding askedOf
       asked-is z f e = rw (e, ask-is f)
 
@@ -77,15 +79,24 @@ unfolding askedOf
 asked-got (got m d) n e h = cc
 asked-got (refused k p) n e h = absurd (let z : _≡_ {A = ℕ} 0 1 = cc in omega arith)
 
-pub asked-refused : (r : Reading Node) (k p : ℕ) → Asked.Refused k p ≡ askedOf r → r ≡ refused k p
-unfolding askedOf
-asked-refused (got m d) k p h = absurd (let z : _≡_ {A = ℕ} 0 1 = cc in omega arith)
-asked-refused (refused j q) k p h = cc
+pub refuses-as : {A : Type 0} (r : Reading A) (k p : ℕ) (z : Refusal) → z ≡ refusalAt k p → r ≡ refused k p → Refuses r z
+unfolding refusalAt
+refuses-as r k p z e h = record { is = h ∙ ap (λ (y : Refusal). refused (y .number) (y .from)) (sym e); twice = ap (λ (y : Refusal). y .to) e ∙ sym (ap (λ (y : Refusal). y .from) e) }
 
-pub step-refused : {A : Type 0} (r : Reading A) (k p : ℕ) → Step.Refused k p ≡ stepOf r → r ≡ refused k p
+pub asked-refused : (r : Reading Node) (z : Refusal) → Asked.Refused z ≡ askedOf r → Refuses r z
+unfolding askedOf
+asked-refused (got m d) z h = absurd (let n : _≡_ {A = ℕ} 0 1 = cc in omega arith)
+asked-refused (refused k p) z h = let e : z ≡ refusalAt k p = cc in refuses-as (refused k p) k p z e refl
+
+pub step-refused : {A : Type 0} (r : Reading A) (z : Refusal) → Step.Refused z ≡ stepOf r → Refuses r z
 unfolding stepOf
-step-refused (got m d) k p h = absurd (let z : _≡_ {A = ℕ} 0 1 = cc in omega arith)
-step-refused (refused j q) k p h = cc
+step-refused (got m d) z h = absurd (let n : _≡_ {A = ℕ} 0 1 = cc in omega arith)
+step-refused (refused k p) z h = let e : z ≡ refusalAt k p = cc in refuses-as (refused k p) k p z e refl
+
+-- and put together again
+pub refuses-step : {A : Type 0} (r : Reading A) (z : Refusal) → Refuses r z → Step.Refused z ≡ stepOf r
+unfolding stepOf refusalAt
+refuses-step r z h = ap (λ (n : ℕ). Step.Refused (record { number = z .number; from = z .from; to = n })) (h .twice) ∙ sym (ap stepOf (h .is))
 
 -- what was read, where it is not told
 pub record Read {A : Type 0} (r : Reading A) (e : ℕ) : Type 0 where

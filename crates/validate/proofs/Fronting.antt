@@ -48,8 +48,8 @@ unfolding placeOf
 placed s k = rw (add-one k)
 
 -- ---- the reading
-module _ (s : List ℕ) (w : ℕ) (ts : List Text) (at m : ℕ) where
-  ends-at : (n : Node) → nodeAt w s at ≡ n → OneOf (1 ∷ 2 ∷ 3 ∷ 4 ∷ 5 ∷ 6 ∷ 7 ∷ 8 ∷ []) (tagOf the-type n) → readAtoms true w s (suc m) ts at ≡ got ts at
+module _ (four : Bool) (s : List ℕ) (w : ℕ) (ts : List Text) (at m : ℕ) where
+  ends-at : (n : Node) → nodeAt w s at ≡ n → OneOf (1 ∷ 2 ∷ 3 ∷ 4 ∷ 5 ∷ 6 ∷ 7 ∷ 8 ∷ []) (tagOf the-type n) → readAtoms four w s (suc m) ts at ≡ got ts at
   unfolding readAtoms
   ends-at (Node.Text k) e h = absurd (miss (1 ∷ 2 ∷ 3 ∷ 4 ∷ 5 ∷ 6 ∷ 7 ∷ 8 ∷ []) 0 tt h)
   ends-at (Node.Nonterminal d) e h = cc
@@ -62,7 +62,7 @@ module _ (s : List ℕ) (w : ℕ) (ts : List Text) (at m : ℕ) where
   ends-at Node.Unknown e h = cc
 
   -- what may not stand among the atoms ends them
-  stops-at : (n : Node) → nodeAt w s at ≡ n → allowedAt 0 (classOf n) ≡ false → readAtoms true w s (suc m) ts at ≡ got ts at
+  stops-at : (n : Node) → nodeAt w s at ≡ n → allowedAt 0 (classOf n) ≡ false → readAtoms four w s (suc m) ts at ≡ got ts at
   unfolding readAtoms allowedAt table classOf
   stops-at (Node.Text k) e h = absurd (false≢true (sym h))
   stops-at (Node.Nonterminal d) e h = cc
@@ -74,12 +74,12 @@ module _ (s : List ℕ) (w : ℕ) (ts : List Text) (at m : ℕ) where
   stops-at (Node.Symbol sp k) e h = cc
   stops-at Node.Unknown e h = cc
 
-  known-at : (l : ℕ) → nodeAt w s at ≡ Node.Text l → has (part (at + 3) (at + 3 + l) s) ts ≡ true → readAtoms true w s (suc m) ts at ≡ refused 3 at
+  known-at : (l : ℕ) → nodeAt w s at ≡ Node.Text l → has (part (at + 3) (at + 3 + l) s) ts ≡ true → readAtoms four w s (suc m) ts at ≡ refused 3 at
   unfolding readAtoms
   known-at l e h = cc
 
   goes-on : (l : ℕ) → nodeAt w s at ≡ Node.Text l → has (part (at + 3) (at + 3 + l) s) ts ≡ false
-      → readAtoms true w s (suc m) ts at ≡ readAtoms true w s m (ts ++ (part (at + 3) (at + 3 + l) s ∷ [])) (at + 3 + l)
+      → readAtoms four w s (suc m) ts at ≡ readAtoms four w s m (ts ++ (part (at + 3) (at + 3 + l) s ∷ [])) (at + 3 + l)
   unfolding readAtoms
   goes-on l e h = cc
 
@@ -87,11 +87,11 @@ module _ (s : List ℕ) (w : ℕ) (ts : List Text) (at m : ℕ) where
 module _ (s w : List ℕ) (c k at width : ℕ) (g : Front s w c k at width) (n : Node) (p : n ≡ nodeAt width s at) where
   pub next-stops : (x : ℕ) (o : Bool) → x ≡ classOf n → o ≡ allowedAt 0 x → not o ≡ true → Nexts s c k at width Next.End w
   unfolding Nexts
-  next-stops x o q r h = record { front = g; read = λ m. stops-at s width (atomsOf s k) at m n (sym p) (sym (r ∙ ap (allowedAt 0) q) ∙ not-true o h) }
+  next-stops x o q r h = record { front = g; read = λ four m. stops-at four s width (atomsOf s k) at m n (sym p) (sym (r ∙ ap (allowedAt 0) q) ∙ not-true o h) }
 
   pub next-ends : OneOf (1 ∷ 2 ∷ 3 ∷ 4 ∷ 5 ∷ 6 ∷ 7 ∷ 8 ∷ []) (tagOf the-type n) → Nexts s c k at width Next.End w
   unfolding Nexts
-  next-ends h = record { front = g; read = λ m. ends-at s width (atomsOf s k) at m n (sym p) h }
+  next-ends h = record { front = g; read = λ four m. ends-at four s width (atomsOf s k) at m n (sym p) h }
 
   -- l is the length of an atom's text, and j the same as a place is counted
   module _ (l j : ℕ) (q : n ≡ Node.Text l) (y : j ≡ l) where
@@ -100,7 +100,7 @@ module _ (s w : List ℕ) (c k at width : ℕ) (g : Front s w c k at width) (n :
 
     pub next-known : (r : Bool) → r ≡ has (part (at + 3) (at + 3 + j) s) (atomsOf s k) → r ≡ true → Nexts s c k at width Next.Known w
     unfolding Nexts
-    next-known r u v m = known-at s width (atomsOf s k) at m j text-at (sym u ∙ v)
+    next-known r u v four m = known-at four s width (atomsOf s k) at m j text-at (sym u ∙ v)
 
     module _ (b : (i : ℕ) → Fits w8 (getD s i 0)) where
       here : Atomic s at j
@@ -152,7 +152,7 @@ module _ (s w : List ℕ) (c k at width : ℕ) (g : Front s w c k at width) (n :
               apart = sym (ap distinct atoms-more) ∙ d;
             };
             on = omega arith;
-            read = λ m. goes-on s width (atomsOf s k) at m j text-at (sym u ∙ v) ∙ ap (λ (ts : List Text). readAtoms true width s m ts (at + 3 + j)) atoms-more;
+            read = λ four m. goes-on four s width (atomsOf s k) at m j text-at (sym u ∙ v) ∙ ap (λ (ts : List Text). readAtoms four width s m ts (at + 3 + j)) atoms-more;
           }
 
 pub ruleset nexts = (needs, next-stops, next-ends, next-known, text-inside, some-room, next-enters, next-atom)

@@ -1,6 +1,6 @@
 -- What was read lies in the tape, behind its place. Assumes nothing.
 use mathlib.Core.Path.{_≡_}
-use mathlib.Core.Bool.{true}
+use mathlib.Core.Bool.{Bool, true}
 use mathlib.Core.List.{List}
 use Prim.Native.Nat.{ℕ, _+_, _<_, _≤_}
 use native.Mathlib.Omega.{arith}
@@ -29,8 +29,8 @@ node-inside w s b k a n e d =
     lies-inside s a (a + sizeOf w n) (nodeBytes w n) (node-positive w k n d) (h .lies)
 
 -- where an item that was read ends
-pub item-inside : (w : ℕ) (s : List ℕ) → Bytes s → (ts : List Text) → distinct ts ≡ true → (a : ℕ) (i : Item) (e : ℕ) → readItem true w s ts a ≡ got i e → (a < e) × (e ≤ length s)
-item-inside w s b ts d a i e q =
-    let f = item-finds true w s ts b d a i e q in
+pub item-inside : (four : Bool) (w : ℕ) (s : List ℕ) → Bytes s → (ts : List Text) → distinct ts ≡ true → (a : ℕ) (i : Item) (e : ℕ) → readItem four w s ts a ≡ got i e → (a < e) × (e ≤ length s)
+item-inside four w s b ts d a i e q =
+    let f = item-finds four w s ts b d a i e q in
     let p = item-size w ts i in
     (omega (arith, f .lies .end, p), lies-inside s a e (itemBytes w ts i) p (f .lies))

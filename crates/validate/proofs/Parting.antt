@@ -1,6 +1,6 @@
 -- The ways out of `alternative_parts`, `alternative` and `alternatives`. Assumes nothing.
 use mathlib.Core.Path.{_≡_, sym, ap, _∙_}
-use mathlib.Core.Bool.{true}
+use mathlib.Core.Bool.{Bool}
 use mathlib.Core.List.{List, [], _∷_}
 use Prim.Native.Nat.{ℕ, _-_, _<_, _≤_}
 use borrow.Author.Needs.{needs}
@@ -15,6 +15,8 @@ use Rattle.parse_tree.specs.working.Operands.{alternativeOf}
 use Rattle.parse_tree.specs.working.Decode.{ask, readSym, readAttribute, readCondition, readAlternative, alternativeParts}
 use Rattle.parse_tree.specs.plain.ReadTape.{firstOf}
 use Rattle.parse_tree.specs.declared.syntax.Alternative.{Alternative as AlternativeNode}
+use Rattle.parse_tree.specs.working.Refusals.{refusalAt}
+use Rattle.parse_tree.specs.declared.refusal.Refusal.{Refusal}
 use Rattle.parse_tree.specs.declared.syntax.Node.{Node}
 use Rattle.texts.specs.Atoms.{atomsOf}
 use Rattle.validate.specs.Steps.{askedOf, stepOf}
@@ -22,77 +24,76 @@ use Rattle.validate.specs.declared.Asked.{Asked}
 use Rattle.validate.specs.declared.Step.{Step}
 use Rattle.validate.proofs.Others.{no-alternative}
 use Rattle.validate.proofs.Alike.{attributes-alike, conditions-alike}
-use Rattle.validate.proofs.Commanding.{asked-got, asked-refused, step-got, step-refused}
-use Rattle.validate.proofs.Walking.{then-is, then-no, step-then, times-none, times-next, times-stop}
+use Rattle.validate.proofs.Commanding.{asked-got, asked-refused, step-got, step-refused, refuses-step}
+use Rattle.validate.proofs.Walking.{then-is, refuses-then, step-then, times-none, times-next, times-stop}
 
 -- ---- the step of one reading behind another
 pub step-on : {A B : Type 0} (m : Reading A) (f : A → ℕ → Reading B) (e : ℕ) (y : Step) → Step.Next e ≡ stepOf m → ((x : A) → y ≡ stepOf (f x e)) → y ≡ stepOf (then m f)
 step-on m f e y p q = let r = step-got m e p in q (r .value) ∙ sym (ap stepOf (then-is m f (r .value) e (r .is)))
 
-pub step-off : {A B : Type 0} (m : Reading A) (f : A → ℕ → Reading B) (k p : ℕ) → Step.Refused k p ≡ stepOf m → Step.Refused k p ≡ stepOf (then m f)
-unfolding stepOf
-step-off m f k p q = sym (ap stepOf (then-no m f k p (step-refused m k p q)))
+pub step-off : {A B : Type 0} (m : Reading A) (f : A → ℕ → Reading B) (z : Refusal) → Step.Refused z ≡ stepOf m → Step.Refused z ≡ stepOf (then m f)
+step-off m f z q = refuses-step _ z (refuses-then m f z (step-refused m z q))
 
 -- ---- `alternative_parts`: r is the step over the attributes
-module _ (s : List ℕ) (w atoms : ℕ) (a : AlternativeNode) (at n : ℕ) (r : Step) (i : r ≡ stepOf (times (ask true w s (atomsOf s atoms) attributesPlace 1) n at)) (j : n ≡ a .attributes) where
-  attributes-are : r ≡ stepOf (times (readAttribute true w s (atomsOf s atoms)) (a .attributes) at)
-  attributes-are = i ∙ ap (λ (c : ℕ). stepOf (times (ask true w s (atomsOf s atoms) attributesPlace 1) c at)) j ∙ sym (attributes-alike w s (atomsOf s atoms) (a .attributes) at)
+module _ (four : Bool) (s : List ℕ) (w atoms : ℕ) (a : AlternativeNode) (at n : ℕ) (r : Step) (i : r ≡ stepOf (times (ask four w s (atomsOf s atoms) attributesPlace 1) n at)) (j : n ≡ a .attributes) where
+  attributes-are : r ≡ stepOf (times (readAttribute four w s (atomsOf s atoms)) (a .attributes) at)
+  attributes-are = i ∙ ap (λ (c : ℕ). stepOf (times (ask four w s (atomsOf s atoms) attributesPlace 1) c at)) j ∙ sym (attributes-alike four w s (atomsOf s atoms) (a .attributes) at)
 
-  pub parts-attributes : (q p : ℕ) → r ≡ Step.Refused q p → Step.Refused q p ≡ stepOf (alternativeParts true w s (atomsOf s atoms) a at)
+  pub parts-attributes : (z : Refusal) → r ≡ Step.Refused z → Step.Refused z ≡ stepOf (alternativeParts four w s (atomsOf s atoms) a at)
   unfolding alternativeParts
-  parts-attributes q p u = step-off (times (readAttribute true w s (atomsOf s atoms)) (a .attributes) at) _ q p (sym u ∙ attributes-are)
+  parts-attributes z u = step-off (times (readAttribute four w s (atomsOf s atoms)) (a .attributes) at) _ z (sym u ∙ attributes-are)
 
   -- t is the step over the conditions
-  module _ (e k : ℕ) (u : r ≡ Step.Next e) (t : Step) (l : t ≡ stepOf (times (ask true w s (atomsOf s atoms) conditionsPlace 1) k e)) (h : k ≡ a .conditions) where
-    conditions-are : t ≡ stepOf (times (readCondition true w s (atomsOf s atoms)) (a .conditions) e)
-    conditions-are = l ∙ ap (λ (c : ℕ). stepOf (times (ask true w s (atomsOf s atoms) conditionsPlace 1) c e)) h ∙ sym (conditions-alike w s (atomsOf s atoms) (a .conditions) e)
+  module _ (e k : ℕ) (u : r ≡ Step.Next e) (t : Step) (l : t ≡ stepOf (times (ask four w s (atomsOf s atoms) conditionsPlace 1) k e)) (h : k ≡ a .conditions) where
+    conditions-are : t ≡ stepOf (times (readCondition four w s (atomsOf s atoms)) (a .conditions) e)
+    conditions-are = l ∙ ap (λ (c : ℕ). stepOf (times (ask four w s (atomsOf s atoms) conditionsPlace 1) c e)) h ∙ sym (conditions-alike four w s (atomsOf s atoms) (a .conditions) e)
 
-    pub parts-conditions : (q p : ℕ) → t ≡ Step.Refused q p → Step.Refused q p ≡ stepOf (alternativeParts true w s (atomsOf s atoms) a at)
+    pub parts-conditions : (z : Refusal) → t ≡ Step.Refused z → Step.Refused z ≡ stepOf (alternativeParts four w s (atomsOf s atoms) a at)
     unfolding alternativeParts
-    parts-conditions q p v =
-        step-on (times (readAttribute true w s (atomsOf s atoms)) (a .attributes) at) _ e (Step.Refused q p) (sym u ∙ attributes-are)
-        (λ attrs. step-off (times (readCondition true w s (atomsOf s atoms)) (a .conditions) e) _ q p (sym v ∙ conditions-are))
+    parts-conditions z v =
+        step-on (times (readAttribute four w s (atomsOf s atoms)) (a .attributes) at) _ e (Step.Refused z) (sym u ∙ attributes-are)
+        (λ attrs. step-off (times (readCondition four w s (atomsOf s atoms)) (a .conditions) e) _ z (sym v ∙ conditions-are))
 
-    pub parts-symbols : (d c : ℕ) (y : Step) → t ≡ Step.Next d → y ≡ stepOf (times (readSym true w s (atomsOf s atoms) 64) c d) → c ≡ a .symbols → y ≡ stepOf (alternativeParts true w s (atomsOf s atoms) a at)
+    pub parts-symbols : (d c : ℕ) (y : Step) → t ≡ Step.Next d → y ≡ stepOf (times (readSym four w s (atomsOf s atoms) 64) c d) → c ≡ a .symbols → y ≡ stepOf (alternativeParts four w s (atomsOf s atoms) a at)
     unfolding alternativeParts
     parts-symbols d c y v o g =
-        step-on (times (readAttribute true w s (atomsOf s atoms)) (a .attributes) at) _ e y (sym u ∙ attributes-are)
-        (λ attrs. step-on (times (readCondition true w s (atomsOf s atoms)) (a .conditions) e) _ d y (sym v ∙ conditions-are)
-        (λ conds. o ∙ ap (λ (x : ℕ). stepOf (times (readSym true w s (atomsOf s atoms) 64) x d)) g
-        ∙ sym (step-then (times (readSym true w s (atomsOf s atoms) 64) (a .symbols) d) (λ syms. alternativeOf (atomsOf s atoms) a attrs (firstOf conds) (symsOf syms)))))
+        step-on (times (readAttribute four w s (atomsOf s atoms)) (a .attributes) at) _ e y (sym u ∙ attributes-are)
+        (λ attrs. step-on (times (readCondition four w s (atomsOf s atoms)) (a .conditions) e) _ d y (sym v ∙ conditions-are)
+        (λ conds. o ∙ ap (λ (x : ℕ). stepOf (times (readSym four w s (atomsOf s atoms) 64) x d)) g
+        ∙ sym (step-then (times (readSym four w s (atomsOf s atoms) 64) (a .symbols) d) (λ syms. alternativeOf (atomsOf s atoms) a attrs (firstOf conds) (symsOf syms)))))
 
 pub ruleset alternative-parts = (needs, parts-attributes, parts-conditions, parts-symbols)
 
 -- ---- `alternative`: r is what `command` answered
-module _ (s : List ℕ) (w atoms at : ℕ) (r : Asked) (i : r ≡ askedOf (ask true w s (atomsOf s atoms) alternativesPlace 1 at)) where
-  pub alternative-refused : (q p : ℕ) → r ≡ Asked.Refused q p → Step.Refused q p ≡ stepOf (readAlternative true w s (atomsOf s atoms) at)
+module _ (four : Bool) (s : List ℕ) (w atoms at : ℕ) (r : Asked) (i : r ≡ askedOf (ask four w s (atomsOf s atoms) alternativesPlace 1 at)) where
+  pub alternative-refused : (z : Refusal) → r ≡ Asked.Refused z → Step.Refused z ≡ stepOf (readAlternative four w s (atomsOf s atoms) at)
   unfolding readAlternative stepOf
-  alternative-refused q p u = sym (ap stepOf (then-no (ask true w s (atomsOf s atoms) alternativesPlace 1 at) _ q p (asked-refused (ask true w s (atomsOf s atoms) alternativesPlace 1 at) q p (sym u ∙ i))))
+  alternative-refused z u = refuses-step _ z (refuses-then (ask four w s (atomsOf s atoms) alternativesPlace 1 at) _ z (asked-refused (ask four w s (atomsOf s atoms) alternativesPlace 1 at) z (sym u ∙ i)))
 
   module _ (n : Node) (e : ℕ) (u : r ≡ Asked.Is n e) where
-    wanted : readAlternative true w s (atomsOf s atoms) at ≡ expectAlternative at (alternativeParts true w s (atomsOf s atoms)) n e
+    wanted : readAlternative four w s (atomsOf s atoms) at ≡ expectAlternative at (alternativeParts four w s (atomsOf s atoms)) n e
     unfolding readAlternative alternativeParts
-    wanted = then-is (ask true w s (atomsOf s atoms) alternativesPlace 1 at) _ n e (asked-got (ask true w s (atomsOf s atoms) alternativesPlace 1 at) n e (sym u ∙ i))
+    wanted = then-is (ask four w s (atomsOf s atoms) alternativesPlace 1 at) _ n e (asked-got (ask four w s (atomsOf s atoms) alternativesPlace 1 at) n e (sym u ∙ i))
 
-    pub alternative-other : OneOf (0 ∷ 1 ∷ 2 ∷ 3 ∷ 5 ∷ 6 ∷ 7 ∷ 8 ∷ []) (tagOf the-type n) → Step.Refused 2 at ≡ stepOf (readAlternative true w s (atomsOf s atoms) at)
+    pub alternative-other : OneOf (0 ∷ 1 ∷ 2 ∷ 3 ∷ 5 ∷ 6 ∷ 7 ∷ 8 ∷ []) (tagOf the-type n) → (z : Refusal) → z ≡ refusalAt 2 at → Step.Refused z ≡ stepOf (readAlternative four w s (atomsOf s atoms) at)
     unfolding stepOf
-    alternative-other o = sym (ap stepOf (wanted ∙ no-alternative at e (alternativeParts true w s (atomsOf s atoms)) n o))
+    alternative-other o z h = ap Step.Refused h ∙ sym (ap stepOf (wanted ∙ no-alternative at e (alternativeParts four w s (atomsOf s atoms)) n o))
 
-    pub alternative-whole : (a : AlternativeNode) (y : Step) → n ≡ Node.Alternative a → y ≡ stepOf (alternativeParts true w s (atomsOf s atoms) a e) → y ≡ stepOf (readAlternative true w s (atomsOf s atoms) at)
+    pub alternative-whole : (a : AlternativeNode) (y : Step) → n ≡ Node.Alternative a → y ≡ stepOf (alternativeParts four w s (atomsOf s atoms) a e) → y ≡ stepOf (readAlternative four w s (atomsOf s atoms) at)
     unfolding expectAlternative
-    alternative-whole a y v o = o ∙ sym (ap stepOf (wanted ∙ ap (λ (x : Node). expectAlternative at (alternativeParts true w s (atomsOf s atoms)) x e) v))
+    alternative-whole a y v o = o ∙ sym (ap stepOf (wanted ∙ ap (λ (x : Node). expectAlternative at (alternativeParts four w s (atomsOf s atoms)) x e) v))
 
 pub ruleset alternative = (needs, alternative-refused, alternative-other, alternative-whole)
 
 -- ---- `alternatives`
-module _ (s : List ℕ) (w atoms k p : ℕ) (x : Step) (inv : stepOf (times (readAlternative true w s (atomsOf s atoms)) k p) ≡ x) (r : Step) (i : r ≡ stepOf (readAlternative true w s (atomsOf s atoms) p)) (h : 0 < k) where
-  pub alternatives-next : (e : ℕ) → r ≡ Step.Next e → stepOf (times (readAlternative true w s (atomsOf s atoms)) (k - 1) e) ≡ x
-  alternatives-next e q = times-next (readAlternative true w s (atomsOf s atoms)) k p x inv e (sym q ∙ i) h
+module _ (four : Bool) (s : List ℕ) (w atoms k p : ℕ) (x : Step) (inv : stepOf (times (readAlternative four w s (atomsOf s atoms)) k p) ≡ x) (r : Step) (i : r ≡ stepOf (readAlternative four w s (atomsOf s atoms) p)) (h : 0 < k) where
+  pub alternatives-next : (e : ℕ) → r ≡ Step.Next e → stepOf (times (readAlternative four w s (atomsOf s atoms)) (k - 1) e) ≡ x
+  alternatives-next e q = times-next (readAlternative four w s (atomsOf s atoms)) k p x inv e (sym q ∙ i) h
 
-  pub alternatives-stop : (q v : ℕ) → r ≡ Step.Refused q v → Step.Refused q v ≡ x
-  alternatives-stop q v u = times-stop (readAlternative true w s (atomsOf s atoms)) k p x inv q v (sym u ∙ i) h
+  pub alternatives-stop : (z : Refusal) → r ≡ Step.Refused z → Step.Refused z ≡ x
+  alternatives-stop z u = times-stop (readAlternative four w s (atomsOf s atoms)) k p x inv z (sym u ∙ i) h
 
-pub alternatives-none : (s : List ℕ) (w atoms k p : ℕ) (x : Step) → stepOf (times (readAlternative true w s (atomsOf s atoms)) k p) ≡ x → k ≤ 0 → Step.Next p ≡ x
-alternatives-none s w atoms k p x inv h = times-none (readAlternative true w s (atomsOf s atoms)) k p x inv h
+pub alternatives-none : (four : Bool) (s : List ℕ) (w atoms k p : ℕ) (x : Step) → stepOf (times (readAlternative four w s (atomsOf s atoms)) k p) ≡ x → k ≤ 0 → Step.Next p ≡ x
+alternatives-none four s w atoms k p x inv h = times-none (readAlternative four w s (atomsOf s atoms)) k p x inv h
 
 pub ruleset alternatives = (needs, alternatives-next, alternatives-stop, alternatives-none)

@@ -192,3 +192,14 @@ module _ (ts : List Text) (x : Node) where
     node-symbol s k e p = rw e p
 
 pub ruleset nodes = (needs, node-text, node-unknown, node-nonterminal, node-terminal, node-argument, node-alternative, node-attribute, node-condition, node-symbol)
+
+-- ---- `is_apt`: four says whether question 4 is asked
+pub apt-unasked : (four : Bool) (ts : List Text) (x : Node) → not four ≡ true → true ≡ pick four (suits ts x) true
+unfolding pick
+apt-unasked four ts x h = rw (not-true four h)
+
+pub apt-asked : (four : Bool) (ts : List Text) (x : Node) (r : Bool) → not four ≡ false → r ≡ suits ts x → r ≡ pick four (suits ts x) true
+unfolding pick
+apt-asked four ts x r h e = rw (not-false four h) e
+
+pub ruleset apt = (needs, apt-unasked, apt-asked)

@@ -6,6 +6,8 @@ use Prim.Native.Nat.{ℕ, _≤_}
 use lib.ListN.{length}
 use Rattle.parse_tree.specs.plain.Texts.{distinct}
 use Rattle.parse_tree.specs.plain.Reading.{Reading, got, refused}
+use Rattle.parse_tree.specs.working.Refusals.{refusalAt}
+use Rattle.parse_tree.specs.declared.refusal.Refusal.{Refusal}
 use Rattle.parse_tree.specs.declared.syntax.Node.{Node}
 use Rattle.texts.specs.Atoms.{atomsOf}
 use Rattle.texts.specs.Table.{Table}
@@ -22,11 +24,16 @@ pub record Ready (s w : List ℕ) (m : Atoms) : Type 0 where
 -- a reading's answer, without what was read
 unfoldable pub stepOf : {A : Type 0} → Reading A → Step
 stepOf (got x e) = Step.Next e
-stepOf (refused k p) = Step.Refused k p
+stepOf (refused k p) = Step.Refused (refusalAt k p)
 
 unfoldable pub askedOf : Reading Node → Asked
 askedOf (got n e) = Asked.Is n e
-askedOf (refused k p) = Asked.Refused k p
+askedOf (refused k p) = Asked.Refused (refusalAt k p)
+
+-- a reading refuses so: the place is an offset, twice
+pub record Refuses {A : Type 0} (r : Reading A) (z : Refusal) : Type 0 where
+  pub is : r ≡ refused (z .number) (z .from)
+  pub twice : z .to ≡ z .from
 
 -- where the items are read from: behind atoms of which no two are equal
 pub record Itemed (s w : List ℕ) (m : Atoms) (at : ℕ) : Type 0 where

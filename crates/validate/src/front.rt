@@ -6,6 +6,7 @@ use parse_tree::node::node;
 use parse_tree::places::ATOMS;
 use parse_tree::places::allowed;
 use parse_tree::places::class;
+use parse_tree::refusal;
 use parse_tree::syntax::Node;
 use texts::table::enter;
 use texts::table::known;
@@ -53,7 +54,7 @@ pub fn atoms(tape: &[u8], work: &mut [u8], c: usize, width: usize) -> Entered
                 return Entered::All(k, at);
             }
             Next::Known => {
-                return Entered::Refused(3, at);
+                return Entered::Refused(refusal::at(3, at));
             }
         }
     }

@@ -12,11 +12,11 @@ use parse_tree::places::ARGUMENTS;
 use parse_tree::places::ATTRIBUTES;
 use parse_tree::places::CONDITIONS;
 use parse_tree::places::ITEMS;
+use parse_tree::refusal;
 use parse_tree::syntax::Alternative;
 use parse_tree::syntax::Node;
 use parse_tree::syntax::NonterminalData;
 ghost use mathlib.Core.Path.{_≡_};
-ghost use mathlib.Core.Bool.{true};
 ghost use lib.ListN.{length};
 ghost use Rattle.parse_tree.specs.working.Decode.{alternativeParts, nonterminalParts, readAlternative, readItem, readItems};
 ghost use Rattle.parse_tree.specs.plain.Reading.{times};
@@ -26,12 +26,12 @@ ghost use Rattle.validate.specs.Steps.{Itemed, Ready, stepOf};
 // What stands behind the command of an alternative: attributes, condition, symbols.
 fn alternative_parts(tape: &[u8], work: &[u8], m: Atoms, a: Alternative, at: usize) -> Step
     requires { ⌜ Ready (now tape) (now work) m ⌝ }
-    ensures { λ r. ⌜ r ≡ stepOf (alternativeParts true (m .width) (now (tape .entry)) (atomsOf (now (tape .entry)) (m .count)) a at) ⌝ }
+    ensures { λ r. ⌜ r ≡ stepOf (alternativeParts (m .four) (m .width) (now (tape .entry)) (atomsOf (now (tape .entry)) (m .count)) a at) ⌝ }
 {
     match commands(tape, work, m, ATTRIBUTES, from8(a.attributes), at) {
-        Step::Refused(q, p) => Step::Refused(q, p),
+        Step::Refused(why) => Step::Refused(why),
         Step::Next(e) => match commands(tape, work, m, CONDITIONS, from8(a.conditions), e) {
-            Step::Refused(q, p) => Step::Refused(q, p),
+            Step::Refused(why) => Step::Refused(why),
             Step::Next(d) => symbols(tape, work, m, d, from16(a.symbols), 64),
         },
     }
@@ -40,13 +40,13 @@ fn alternative_parts(tape: &[u8], work: &[u8], m: Atoms, a: Alternative, at: usi
 // The alternative at a place.
 fn alternative(tape: &[u8], work: &[u8], m: Atoms, at: usize) -> Step
     requires { ⌜ Ready (now tape) (now work) m ⌝ }
-    ensures { λ r. ⌜ r ≡ stepOf (readAlternative true (m .width) (now (tape .entry)) (atomsOf (now (tape .entry)) (m .count)) at) ⌝ }
+    ensures { λ r. ⌜ r ≡ stepOf (readAlternative (m .four) (m .width) (now (tape .entry)) (atomsOf (now (tape .entry)) (m .count)) at) ⌝ }
 {
     match command(tape, work, m, ALTERNATIVES, 1, at) {
-        Asked::Refused(q, p) => Step::Refused(q, p),
+        Asked::Refused(why) => Step::Refused(why),
         Asked::Is(n, e) => {
             let Node::Alternative(a) = n else {
-                return Step::Refused(2, at);
+                return Step::Refused(refusal::at(2, at));
             };
             alternative_parts(tape, work, m, a, e)
         }
@@ -56,7 +56,7 @@ fn alternative(tape: &[u8], work: &[u8], m: Atoms, at: usize) -> Step
 // n alternatives, one behind another.
 fn alternatives(tape: &[u8], work: &[u8], m: Atoms, n: usize, at: usize) -> Step
     requires { ⌜ Ready (now tape) (now work) m ⌝ }
-    ensures { λ r. ⌜ r ≡ stepOf (times (readAlternative true (m .width) (now (tape .entry)) (atomsOf (now (tape .entry)) (m .count))) n at) ⌝ }
+    ensures { λ r. ⌜ r ≡ stepOf (times (readAlternative (m .four) (m .width) (now (tape .entry)) (atomsOf (now (tape .entry)) (m .count))) n at) ⌝ }
 {
     let mut p = at;
     let mut k = n;
@@ -66,8 +66,8 @@ fn alternatives(tape: &[u8], work: &[u8], m: Atoms, n: usize, at: usize) -> Step
                 p = e;
                 k -= 1;
             }
-            Step::Refused(q, w) => {
-                return Step::Refused(q, w);
+            Step::Refused(why) => {
+                return Step::Refused(why);
             }
         }
     }
@@ -77,10 +77,10 @@ fn alternatives(tape: &[u8], work: &[u8], m: Atoms, n: usize, at: usize) -> Step
 // What stands behind the command of a nonterminal: arguments, alternatives.
 fn nonterminal_parts(tape: &[u8], work: &[u8], m: Atoms, d: NonterminalData, at: usize) -> Step
     requires { ⌜ Ready (now tape) (now work) m ⌝ }
-    ensures { λ r. ⌜ r ≡ stepOf (nonterminalParts true (m .width) (now (tape .entry)) (atomsOf (now (tape .entry)) (m .count)) d at) ⌝ }
+    ensures { λ r. ⌜ r ≡ stepOf (nonterminalParts (m .four) (m .width) (now (tape .entry)) (atomsOf (now (tape .entry)) (m .count)) d at) ⌝ }
 {
     match commands(tape, work, m, ARGUMENTS, from8(d.args), at) {
-        Step::Refused(q, p) => Step::Refused(q, p),
+        Step::Refused(why) => Step::Refused(why),
         Step::Next(e) => alternatives(tape, work, m, from16(d.alternatives), e),
     }
 }
@@ -88,14 +88,14 @@ fn nonterminal_parts(tape: &[u8], work: &[u8], m: Atoms, d: NonterminalData, at:
 // The item at a place.
 fn item(tape: &[u8], work: &[u8], m: Atoms, at: usize) -> Step
     requires { ⌜ Ready (now tape) (now work) m ⌝ }
-    ensures { λ r. ⌜ r ≡ stepOf (readItem true (m .width) (now (tape .entry)) (atomsOf (now (tape .entry)) (m .count)) at) ⌝ }
+    ensures { λ r. ⌜ r ≡ stepOf (readItem (m .four) (m .width) (now (tape .entry)) (atomsOf (now (tape .entry)) (m .count)) at) ⌝ }
 {
     match command(tape, work, m, ITEMS, 1, at) {
-        Asked::Refused(q, p) => Step::Refused(q, p),
+        Asked::Refused(why) => Step::Refused(why),
         Asked::Is(n, e) => match n {
             Node::Terminal(_) => Step::Next(e),
             Node::Nonterminal(d) => nonterminal_parts(tape, work, m, d, e),
-            _ => Step::Refused(2, at),
+            _ => Step::Refused(refusal::at(2, at)),
         },
     }
 }
@@ -103,7 +103,7 @@ fn item(tape: &[u8], work: &[u8], m: Atoms, at: usize) -> Step
 // The items from a place to the tape's end.
 pub fn items(tape: &[u8], work: &[u8], m: Atoms, at: usize) -> Step
     requires { ⌜ Itemed (now tape) (now work) m at ⌝ }
-    ensures { λ r. ⌜ r ≡ stepOf (readItems true (m .width) (now (tape .entry)) (atomsOf (now (tape .entry)) (m .count)) (length (now (tape .entry))) at) ⌝ }
+    ensures { λ r. ⌜ r ≡ stepOf (readItems (m .four) (m .width) (now (tape .entry)) (atomsOf (now (tape .entry)) (m .count)) (length (now (tape .entry))) at) ⌝ }
 {
     let mut p = at;
     while p < tape.len() {
@@ -111,8 +111,8 @@ pub fn items(tape: &[u8], work: &[u8], m: Atoms, at: usize) -> Step
             Step::Next(e) => {
                 p = e;
             }
-            Step::Refused(q, w) => {
-                return Step::Refused(q, w);
+            Step::Refused(why) => {
+                return Step::Refused(why);
             }
         }
     }

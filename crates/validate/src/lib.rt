@@ -1,32 +1,34 @@
 // Questions 2, 3 and 4 of every command of a tape, in one pass. Touches the work buffer only, for the table of atoms.
+use parse_tree::refusal::Refusal;
 use parse_tree::syntax::Node;
 
 pub mod command;
 pub mod entry;
-pub mod export;
 pub mod front;
 pub mod items;
 pub mod questions;
 pub mod suits;
 pub mod symbols;
 
-// The table of a tape's atoms: how many it has room for, how many there are, and the width of their numbers in bytes.
+// The table of a tape's atoms: how many it has room for, how many there are, and the width of their numbers in bytes; and whether question 4
+// is asked of what names them.
 pub struct Atoms {
     pub room: usize,
     pub count: usize,
     pub width: usize,
+    pub four: bool,
 }
 
-// A command and the place behind it, or a refusal: the question's number and the place.
+// A command and the place behind it, or a refusal.
 pub enum Asked {
     Is(Node, usize),
-    Refused(u8, usize),
+    Refused(Refusal),
 }
 
 // The place behind what was read, or a refusal.
 pub enum Step {
     Next(usize),
-    Refused(u8, usize),
+    Refused(Refusal),
 }
 
 // Another atom and the place behind it, the end of the atoms, or one that was there before.
@@ -39,17 +41,11 @@ pub enum Next {
 // How many atoms there are and the place behind them, or a refusal.
 pub enum Entered {
     All(usize, usize),
-    Refused(u8, usize),
+    Refused(Refusal),
 }
 
 // The table of the atoms and the place of the first item, or a refusal.
 pub enum Validated {
     Valid(Atoms, usize),
-    Refused(u8, usize),
-}
-
-// The tape's length, or the number of the question that it fails and the place.
-pub enum Answer {
-    Yes(usize),
-    No(u8, usize, usize),
+    Refused(Refusal),
 }

@@ -11,8 +11,10 @@ use parse_tree::syntax::Over;
 use parse_tree::syntax::SymbolKind;
 use texts::table::class;
 ghost use mathlib.Core.Path.{_≡_};
+ghost use mathlib.Core.Bool.{true};
 ghost use mathlib.Core.List.{[]};
 ghost use lib.ListN.{getD};
+ghost use Rattle.octets.specs.working.Choice.{pick};
 ghost use Rattle.parse_tree.specs.plain.Texts.{isName, isLiteral, isAscii};
 ghost use Rattle.parse_tree.specs.working.Questions.{suits, leafSuits, symbolSuits};
 ghost use Rattle.texts.specs.Atoms.{atomsOf};
@@ -119,7 +121,7 @@ fn condition_suits(tape: &[u8], work: &[u8], m: Atoms, c: Condition) -> bool
 }
 
 // Whether every text that a command uses suits its use.
-pub fn is_suited(tape: &[u8], work: &[u8], m: Atoms, n: Node) -> bool
+fn is_suited(tape: &[u8], work: &[u8], m: Atoms, n: Node) -> bool
     requires { ⌜ Ready (now tape) (now work) m ⌝ }
     ensures { λ r. ⌜ r ≡ suits (atomsOf (now (tape .entry)) (m .count)) n ⌝ }
 {
@@ -140,4 +142,15 @@ pub fn is_suited(tape: &[u8], work: &[u8], m: Atoms, n: Node) -> bool
         Node::Symbol(_, k) => symbol_suits(tape, work, m, k),
         Node::Unknown => true,
     }
+}
+
+// The same where question 4 is asked; else all suits.
+pub fn is_apt(tape: &[u8], work: &[u8], m: Atoms, n: Node) -> bool
+    requires { ⌜ Ready (now tape) (now work) m ⌝ }
+    ensures { λ r. ⌜ r ≡ pick (m .four) (suits (atomsOf (now (tape .entry)) (m .count)) n) true ⌝ }
+{
+    if !m.four {
+        return true;
+    }
+    is_suited(tape, work, m, n)
 }

@@ -6,11 +6,11 @@ use crate::command::command;
 use octets::wide::from8;
 use octets::wide::from16;
 use parse_tree::places::SYMBOLS;
+use parse_tree::refusal;
 use parse_tree::syntax::Node;
 use parse_tree::syntax::Over;
 use parse_tree::syntax::SymbolKind;
 ghost use mathlib.Core.Path.{_≡_};
-ghost use mathlib.Core.Bool.{true};
 ghost use Rattle.parse_tree.specs.working.Decode.{readSym};
 ghost use Rattle.parse_tree.specs.working.Operands.{insideOf};
 ghost use Rattle.parse_tree.specs.plain.Reading.{times};
@@ -30,16 +30,16 @@ pub fn inside(o: Over) -> usize
 // The symbol at a place, with `left` levels of nesting left.
 pub fn symbol(tape: &[u8], work: &[u8], m: Atoms, at: usize, left: usize) -> Step
     requires { ⌜ Ready (now tape) (now work) m ⌝ }
-    ensures { λ r. ⌜ r ≡ stepOf (readSym true (m .width) (now (tape .entry)) (atomsOf (now (tape .entry)) (m .count)) left at) ⌝ }
+    ensures { λ r. ⌜ r ≡ stepOf (readSym (m .four) (m .width) (now (tape .entry)) (atomsOf (now (tape .entry)) (m .count)) left at) ⌝ }
 {
     match command(tape, work, m, SYMBOLS, left, at) {
-        Asked::Refused(q, p) => Step::Refused(q, p),
+        Asked::Refused(why) => Step::Refused(why),
         Asked::Is(n, e) => {
             if left == 0 {
-                return Step::Refused(3, at);
+                return Step::Refused(refusal::at(3, at));
             }
             let Node::Symbol(_, k) = n else {
-                return Step::Refused(2, at);
+                return Step::Refused(refusal::at(2, at));
             };
             match k {
                 SymbolKind::Leaf(_) => Step::Next(e),
@@ -53,7 +53,7 @@ pub fn symbol(tape: &[u8], work: &[u8], m: Atoms, at: usize, left: usize) -> Ste
 // n symbols, one behind another.
 pub fn symbols(tape: &[u8], work: &[u8], m: Atoms, at: usize, n: usize, left: usize) -> Step
     requires { ⌜ Ready (now tape) (now work) m ⌝ }
-    ensures { λ r. ⌜ r ≡ stepOf (times (readSym true (m .width) (now (tape .entry)) (atomsOf (now (tape .entry)) (m .count)) left) n at) ⌝ }
+    ensures { λ r. ⌜ r ≡ stepOf (times (readSym (m .four) (m .width) (now (tape .entry)) (atomsOf (now (tape .entry)) (m .count)) left) n at) ⌝ }
 {
     let mut p = at;
     let mut k = n;
@@ -63,8 +63,8 @@ pub fn symbols(tape: &[u8], work: &[u8], m: Atoms, at: usize, n: usize, left: us
                 p = e;
                 k -= 1;
             }
-            Step::Refused(q, w) => {
-                return Step::Refused(q, w);
+            Step::Refused(why) => {
+                return Step::Refused(why);
             }
         }
     }

@@ -2,9 +2,6 @@ use Rattle.normalize.proofs.Handing.{handing}
 use borrow.Author.Needs.{needs}
 use Rattle.normalize.proofs.calls.hand_over.Statement.{statement}
 use Rattle.normalize.proofs.calls.hand_over.Tie as tie
-use Rattle.normalize.proofs.calls.hand_over.Reads as reads
-use Rattle.normalize.proofs.calls.hand_over.Lts as lts
-use Rattle.octets.proofs.sink.put_run.Reads as put-run-reads
 
 enum-told : tie.Need-enum-told
 enum-told c = search needs

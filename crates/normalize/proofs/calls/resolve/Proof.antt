@@ -2,12 +2,6 @@ use Rattle.normalize.proofs.Calling.{calling}
 use borrow.Author.Needs.{needs}
 use Rattle.normalize.proofs.calls.resolve.Statement.{statement}
 use Rattle.normalize.proofs.calls.resolve.Tie as tie
-use Rattle.normalize.proofs.calls.resolve.Reads as reads
-use Rattle.normalize.proofs.calls.resolve.Lts as lts
-use Rattle.normalize.proofs.calls.hand_over.Reads as hand-over-reads
-use Rattle.normalize.proofs.resolving.resolve_stage.Reads as resolve-stage-reads
-use Rattle.normalize.proofs.room.enough.Reads as enough-reads
-use Rattle.octets.proofs.runs.clear.Reads as clear-reads
 
 enough-requires : tie.Need-enough-requires
 enough-requires c κs = search needs
@@ -23,6 +17,9 @@ hand-over-requires c κs = search calling
 
 clear-requires : tie.Need-clear-requires
 clear-requires c κs = search needs
+
+at-requires : tie.Need-at-requires
+at-requires c κs = search calling
 
 same-length : tie.Need-same-length
 same-length c = search needs
@@ -45,6 +42,7 @@ resolve-spec =
     mul-hand-over
     hand-over-requires
     clear-requires
+    at-requires
     same-length
     same-length-2
     returns

@@ -2,16 +2,12 @@ use Rattle.normalize.proofs.ResolvedStage.{stages}
 use borrow.Author.Needs.{needs}
 use Rattle.normalize.proofs.resolving.resolve_stage.Statement.{statement}
 use Rattle.normalize.proofs.resolving.resolve_stage.Tie as tie
-use Rattle.normalize.proofs.resolving.resolve_stage.Reads as reads
-use Rattle.normalize.proofs.resolving.resolve_stage.Lts as lts
-use Rattle.normalize.proofs.resolving.resolve_valid.Reads as resolve-valid-reads
-use Rattle.validate.proofs.entry.validate.Reads as validate-reads
 
 validate-requires : tie.Need-validate-requires
 validate-requires c κs = search needs
 
-enum-known-q : tie.Need-enum-known-q
-enum-known-q c = search needs
+enum-known-why : tie.Need-enum-known-why
+enum-known-why c = search stages
 
 enum-known-a : tie.Need-enum-known-a
 enum-known-a c = search needs
@@ -36,7 +32,7 @@ resolve-stage-spec =
     tie.close
     (tie.spec
     validate-requires
-    enum-known-q
+    enum-known-why
     enum-known-a
     resolve-valid-requires
     same-length

@@ -2,29 +2,18 @@ use Rattle.normalize.proofs.ResolvedStage.{validated}
 use borrow.Author.Needs.{needs}
 use Rattle.normalize.proofs.resolving.resolve_valid.Statement.{statement}
 use Rattle.normalize.proofs.resolving.resolve_valid.Tie as tie
-use Rattle.normalize.proofs.resolving.resolve_valid.Reads as reads
-use Rattle.normalize.proofs.resolving.resolve_valid.Lts as lts
-use Rattle.resolve.proofs.whole.resolve.Reads as resolve-reads
-use Rattle.normalize.proofs.room.judge.Reads as judge-reads
-use Rattle.octets.proofs.wide.from32.Reads as from32-reads
 
 mul-to : tie.Need-mul-to
 mul-to c = search needs
 
-add-t11 : tie.Need-add-t11
-add-t11 c = search needs
+add-t10 : tie.Need-add-t10
+add-t10 c = search validated
 
 resolve-requires : tie.Need-resolve-requires
 resolve-requires c κs = search validated
 
-enum-known-q : tie.Need-enum-known-q
-enum-known-q c = search needs
-
-from32-requires : tie.Need-from32-requires
-from32-requires c κs = search needs
-
-from32-requires-2 : tie.Need-from32-requires-2
-from32-requires-2 c κs = search needs
+enum-known-why : tie.Need-enum-known-why
+enum-known-why c = search validated
 
 enum-known-e : tie.Need-enum-known-e
 enum-known-e c = search needs
@@ -49,11 +38,9 @@ resolve-valid-spec =
     tie.close
     (tie.spec
     mul-to
-    add-t11
+    add-t10
     resolve-requires
-    enum-known-q
-    from32-requires
-    from32-requires-2
+    enum-known-why
     enum-known-e
     judge-requires
     same-length

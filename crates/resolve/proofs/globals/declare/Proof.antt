@@ -2,14 +2,6 @@ use Rattle.resolve.proofs.Declaring.{declaring}
 use borrow.Author.Needs.{needs}
 use Rattle.resolve.proofs.globals.declare.Statement.{statement}
 use Rattle.resolve.proofs.globals.declare.Tie as tie
-use Rattle.resolve.proofs.globals.declare.Reads as reads
-use Rattle.resolve.proofs.globals.declare.Lts as lts
-use Rattle.octets.proofs.wide.from32.Reads as from32-reads
-use Rattle.resolve.proofs.globals.description.Reads as description-reads
-use Rattle.resolve.proofs.scopes.by_code.Reads as by-code-reads
-use Rattle.resolve.proofs.scopes.code.Reads as code-reads
-use Rattle.texts.proofs.entries.get.Reads as get-reads
-use Rattle.texts.proofs.entries.put.Reads as put-reads
 
 from32-requires : tie.Need-from32-requires
 from32-requires c κs = search needs
@@ -53,11 +45,17 @@ description-requires c κs = search needs
 description-requires-2 : tie.Need-description-requires-2
 description-requires-2 c κs = search needs
 
+over-requires : tie.Need-over-requires
+over-requires c κs = search needs
+
 same-length-2 : tie.Need-same-length-2
 same-length-2 c = search needs
 
 returns-3 : tie.Need-returns-3
 returns-3 c = search declaring
+
+over-requires-2 : tie.Need-over-requires-2
+over-requires-2 c κs = search needs
 
 same-length-3 : tie.Need-same-length-3
 same-length-3 c = search needs
@@ -83,7 +81,9 @@ declare-spec =
     returns-2
     description-requires
     description-requires-2
+    over-requires
     same-length-2
     returns-3
+    over-requires-2
     same-length-3
     returns-4)

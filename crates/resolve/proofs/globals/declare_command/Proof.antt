@@ -2,12 +2,6 @@ use Rattle.resolve.proofs.Declaring.{commanding}
 use borrow.Author.Needs.{needs}
 use Rattle.resolve.proofs.globals.declare_command.Statement.{statement}
 use Rattle.resolve.proofs.globals.declare_command.Tie as tie
-use Rattle.resolve.proofs.globals.declare_command.Reads as reads
-use Rattle.resolve.proofs.globals.declare_command.Lts as lts
-use Rattle.parse_tree.proofs.node.node.Reads as node-reads
-use Rattle.parse_tree.proofs.size.size.Reads as size-reads
-use Rattle.resolve.proofs.globals.declare.Reads as declare-reads
-use Rattle.resolve.proofs.globals.global.Reads as global-reads
 
 node-requires : tie.Need-node-requires
 node-requires c κs = search needs
@@ -36,8 +30,8 @@ declare-requires c κs = search commanding
 enum-told-2 : tie.Need-enum-told-2
 enum-told-2 c = search needs
 
-enum-known-q : tie.Need-enum-known-q
-enum-known-q c = search needs
+enum-known-why : tie.Need-enum-known-why
+enum-known-why c = search needs
 
 same-length : tie.Need-same-length
 same-length c = search needs
@@ -64,7 +58,7 @@ declare-command-spec =
     returns
     declare-requires
     enum-told-2
-    enum-known-q
+    enum-known-why
     same-length
     returns-2
     same-length-2

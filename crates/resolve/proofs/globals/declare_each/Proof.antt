@@ -3,9 +3,6 @@ use Prim.Native.Nat.{_-_}
 use Rattle.resolve.proofs.Declaring.{Scanning, scanning}
 use Rattle.resolve.proofs.globals.declare_each.Statement.{statement}
 use Rattle.resolve.proofs.globals.declare_each.Tie as tie
-use Rattle.resolve.proofs.globals.declare_each.Reads as reads
-use Rattle.resolve.proofs.globals.declare_each.Lts as lts
-use Rattle.resolve.proofs.globals.declare_command.Reads as declare-command-reads
 
 abbrev Inv-loop : tie.InvT-loop
 Inv-loop tape work₀ m which at p₀ work p = Scanning m tape work₀ which at work p
@@ -19,8 +16,8 @@ loop-holds c = search scanning
 declare-command-requires : tie.Need-declare-command-requires Inv-loop μ-loop
 declare-command-requires c κs = search scanning
 
-enum-known-q : tie.Need-enum-known-q Inv-loop μ-loop
-enum-known-q c = search scanning
+enum-known-why : tie.Need-enum-known-why Inv-loop μ-loop
+enum-known-why c = search scanning
 
 same-length : tie.Need-same-length Inv-loop μ-loop
 same-length c = search scanning
@@ -57,7 +54,7 @@ declare-each-spec =
     μ-loop
     loop-holds
     declare-command-requires
-    enum-known-q
+    enum-known-why
     same-length
     returns
     enum-known-e

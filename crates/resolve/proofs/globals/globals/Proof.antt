@@ -2,10 +2,6 @@ use Rattle.resolve.proofs.Declaring.{tabulating}
 use borrow.Author.Needs.{needs}
 use Rattle.resolve.proofs.globals.globals.Statement.{statement}
 use Rattle.resolve.proofs.globals.globals.Tie as tie
-use Rattle.resolve.proofs.globals.globals.Reads as reads
-use Rattle.resolve.proofs.globals.globals.Lts as lts
-use Rattle.octets.proofs.runs.clear.Reads as clear-reads
-use Rattle.resolve.proofs.globals.declare_each.Reads as declare-each-reads
 
 mul-a : tie.Need-mul-a
 mul-a c = search needs
@@ -31,8 +27,8 @@ clear-requires c κs = search needs
 declare-each-requires : tie.Need-declare-each-requires
 declare-each-requires c κs = search needs
 
-enum-known-q : tie.Need-enum-known-q
-enum-known-q c = search needs
+enum-known-why : tie.Need-enum-known-why
+enum-known-why c = search needs
 
 enum-told : tie.Need-enum-told
 enum-told c = search needs
@@ -40,8 +36,8 @@ enum-told c = search needs
 declare-each-requires-2 : tie.Need-declare-each-requires-2
 declare-each-requires-2 c κs = search needs
 
-enum-known-q-2 : tie.Need-enum-known-q-2
-enum-known-q-2 c = search needs
+enum-known-why-2 : tie.Need-enum-known-why-2
+enum-known-why-2 c = search needs
 
 enum-told-2 : tie.Need-enum-told-2
 enum-told-2 c = search needs
@@ -79,10 +75,10 @@ globals-spec =
     part-clear-end
     clear-requires
     declare-each-requires
-    enum-known-q
+    enum-known-why
     enum-told
     declare-each-requires-2
-    enum-known-q-2
+    enum-known-why-2
     enum-told-2
     declare-each-requires-3
     same-length

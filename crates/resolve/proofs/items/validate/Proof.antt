@@ -3,9 +3,6 @@ use lib.ListN.{length}
 use Prim.Native.Nat.{_-_}
 use Rattle.resolve.proofs.items.validate.Statement.{statement}
 use Rattle.resolve.proofs.items.validate.Tie as tie
-use Rattle.resolve.proofs.items.validate.Reads as reads
-use Rattle.resolve.proofs.items.validate.Lts as lts
-use Rattle.resolve.proofs.items.validate_item.Reads as validate-item-reads
 
 abbrev Inv-loop : tie.InvT-loop
 Inv-loop tape work₀ m at to p₀ q₀ work p q = Placing m tape at work₀ to work p q
@@ -19,8 +16,8 @@ loop-holds c = search placing
 validate-item-requires : tie.Need-validate-item-requires Inv-loop μ-loop
 validate-item-requires c κs = search placing
 
-enum-known-c : tie.Need-enum-known-c Inv-loop μ-loop
-enum-known-c c = search placing
+enum-known-why : tie.Need-enum-known-why Inv-loop μ-loop
+enum-known-why c = search placing
 
 same-length : tie.Need-same-length Inv-loop μ-loop
 same-length c = search placing
@@ -30,6 +27,9 @@ returns c = search placing
 
 enum-known-e : tie.Need-enum-known-e Inv-loop μ-loop
 enum-known-e c = search placing
+
+at-requires : tie.Need-at-requires Inv-loop μ-loop
+at-requires c κs = search placing
 
 same-length-2 : tie.Need-same-length-2 Inv-loop μ-loop
 same-length-2 c = search placing
@@ -57,10 +57,11 @@ validate-spec =
     μ-loop
     loop-holds
     validate-item-requires
-    enum-known-c
+    enum-known-why
     same-length
     returns
     enum-known-e
+    at-requires
     same-length-2
     returns-2
     loop-less

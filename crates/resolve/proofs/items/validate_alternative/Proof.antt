@@ -1,22 +1,16 @@
-use Rattle.resolve.proofs.Alternating.{alternative-from, alternative-upto}
-use Rattle.resolve.proofs.Alternating.{alternating}
+use Rattle.resolve.proofs.Alternating.{alternative-from, alternative-upto, alternating}
 use borrow.Author.Needs.{needs}
 use Rattle.resolve.proofs.items.validate_alternative.Statement.{statement}
 use Rattle.resolve.proofs.items.validate_alternative.Tie as tie
-use Rattle.resolve.proofs.items.validate_alternative.Reads as reads
-use Rattle.resolve.proofs.items.validate_alternative.Lts as lts
-use Rattle.octets.proofs.sink.put_run.Reads as put-run-reads
-use Rattle.octets.proofs.wide.from16.Reads as from16-reads
-use Rattle.parse_tree.proofs.node.node.Reads as node-reads
-use Rattle.parse_tree.proofs.size.size.Reads as size-reads
-use Rattle.resolve.proofs.items.symbols_from.Reads as symbols-from-reads
-use Rattle.resolve.proofs.symbols.validate_expr.Reads as validate-expr-reads
 
 node-requires : tie.Need-node-requires
 node-requires c κs = search needs
 
 enum-known-n : tie.Need-enum-known-n
 enum-known-n c = search needs
+
+at-requires : tie.Need-at-requires
+at-requires c κs = search needs
 
 returns : tie.Need-returns
 returns c = search alternating
@@ -30,8 +24,8 @@ add-symbols-from c = search alternating
 symbols-from-requires : tie.Need-symbols-from-requires
 symbols-from-requires c κs = search alternating
 
-enum-known-q : tie.Need-enum-known-q
-enum-known-q c = search needs
+enum-known-why : tie.Need-enum-known-why
+enum-known-why c = search needs
 
 enum-known-p : tie.Need-enum-known-p
 enum-known-p c = search needs
@@ -63,11 +57,12 @@ validate-alternative-spec =
     (tie.spec
     node-requires
     enum-known-n
+    at-requires
     returns
     size-requires
     add-symbols-from
     symbols-from-requires
-    enum-known-q
+    enum-known-why
     enum-known-p
     put-run-requires
     from16-requires

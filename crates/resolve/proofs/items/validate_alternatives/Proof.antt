@@ -4,9 +4,6 @@ use Rattle.resolve.proofs.Staging.{Carrying}
 use Rattle.resolve.proofs.Alternating.{alternatives}
 use Rattle.resolve.proofs.items.validate_alternatives.Statement.{statement}
 use Rattle.resolve.proofs.items.validate_alternatives.Tie as tie
-use Rattle.resolve.proofs.items.validate_alternatives.Reads as reads
-use Rattle.resolve.proofs.items.validate_alternatives.Lts as lts
-use Rattle.resolve.proofs.items.validate_alternative.Reads as validate-alternative-reads
 
 abbrev Inv-loop : tie.InvT-loop
 Inv-loop tape work₀ m n at to p₀ q₀ k₀ work p q k = Carrying m (alternativeOut m (tables m work₀) tape) n at work₀ to k p q work
@@ -32,8 +29,8 @@ loop-less c = search alternatives
 loop-again : tie.Need-loop-again Inv-loop μ-loop
 loop-again c = search alternatives
 
-enum-known-c : tie.Need-enum-known-c Inv-loop μ-loop
-enum-known-c c = search alternatives
+enum-known-why : tie.Need-enum-known-why Inv-loop μ-loop
+enum-known-why c = search alternatives
 
 same-length : tie.Need-same-length Inv-loop μ-loop
 same-length c = search alternatives
@@ -59,7 +56,7 @@ validate-alternatives-spec =
     sub-k
     loop-less
     loop-again
-    enum-known-c
+    enum-known-why
     same-length
     returns
     same-length-2

@@ -2,11 +2,6 @@ use Rattle.resolve.proofs.Alternating.{conditions}
 use borrow.Author.Needs.{needs}
 use Rattle.resolve.proofs.items.validate_conditions.Statement.{statement}
 use Rattle.resolve.proofs.items.validate_conditions.Tie as tie
-use Rattle.resolve.proofs.items.validate_conditions.Reads as reads
-use Rattle.resolve.proofs.items.validate_conditions.Lts as lts
-use Rattle.parse_tree.proofs.node.node.Reads as node-reads
-use Rattle.parse_tree.proofs.size.size.Reads as size-reads
-use Rattle.resolve.proofs.names.validate_condition.Reads as validate-condition-reads
 
 returns : tie.Need-returns
 returns c = search conditions
@@ -17,14 +12,17 @@ node-requires c κs = search needs
 enum-known-x : tie.Need-enum-known-x
 enum-known-x c = search needs
 
+at-requires : tie.Need-at-requires
+at-requires c κs = search needs
+
 returns-2 : tie.Need-returns-2
 returns-2 c = search conditions
 
 validate-condition-requires : tie.Need-validate-condition-requires
 validate-condition-requires c κs = search needs
 
-enum-known-q : tie.Need-enum-known-q
-enum-known-q c = search needs
+enum-known-why : tie.Need-enum-known-why
+enum-known-why c = search needs
 
 enum-told : tie.Need-enum-told
 enum-told c = search needs
@@ -32,8 +30,8 @@ enum-told c = search needs
 size-requires : tie.Need-size-requires
 size-requires c κs = search needs
 
-add-t15 : tie.Need-add-t15
-add-t15 c = search conditions
+add-t14 : tie.Need-add-t14
+add-t14 c = search conditions
 
 returns-3 : tie.Need-returns-3
 returns-3 c = search conditions
@@ -48,11 +46,12 @@ validate-conditions-spec =
     returns
     node-requires
     enum-known-x
+    at-requires
     returns-2
     validate-condition-requires
-    enum-known-q
+    enum-known-why
     enum-told
     size-requires
-    add-t15
+    add-t14
     returns-3
     returns-4)

@@ -2,12 +2,6 @@ use Rattle.resolve.proofs.Replacing.{replacing}
 use borrow.Author.Needs.{needs}
 use Rattle.resolve.proofs.items.validate_data.Statement.{statement}
 use Rattle.resolve.proofs.items.validate_data.Tie as tie
-use Rattle.resolve.proofs.items.validate_data.Reads as reads
-use Rattle.resolve.proofs.items.validate_data.Lts as lts
-use Rattle.octets.proofs.wide.from16.Reads as from16-reads
-use Rattle.octets.proofs.wide.from8.Reads as from8-reads
-use Rattle.resolve.proofs.items.put_alternatives.Reads as put-alternatives-reads
-use Rattle.resolve.proofs.items.validate_macro_args.Reads as validate-macro-args-reads
 
 from8-requires : tie.Need-from8-requires
 from8-requires c κs = search needs
@@ -15,8 +9,8 @@ from8-requires c κs = search needs
 validate-macro-args-requires : tie.Need-validate-macro-args-requires
 validate-macro-args-requires c κs = search needs
 
-enum-known-q : tie.Need-enum-known-q
-enum-known-q c = search needs
+enum-known-why : tie.Need-enum-known-why
+enum-known-why c = search needs
 
 enum-known-p : tie.Need-enum-known-p
 enum-known-p c = search needs
@@ -45,7 +39,7 @@ validate-data-spec =
     (tie.spec
     from8-requires
     validate-macro-args-requires
-    enum-known-q
+    enum-known-why
     enum-known-p
     from16-requires
     put-alternatives-requires

@@ -2,12 +2,6 @@ use Rattle.resolve.proofs.Replacing.{itemizing}
 use borrow.Author.Needs.{needs}
 use Rattle.resolve.proofs.items.validate_item.Statement.{statement}
 use Rattle.resolve.proofs.items.validate_item.Tie as tie
-use Rattle.resolve.proofs.items.validate_item.Reads as reads
-use Rattle.resolve.proofs.items.validate_item.Lts as lts
-use Rattle.octets.proofs.sink.put_run.Reads as put-run-reads
-use Rattle.parse_tree.proofs.node.node.Reads as node-reads
-use Rattle.parse_tree.proofs.size.size.Reads as size-reads
-use Rattle.resolve.proofs.items.validate_data.Reads as validate-data-reads
 
 node-requires : tie.Need-node-requires
 node-requires c κs = search needs
@@ -29,6 +23,9 @@ enum-known-n c = search needs
 
 validate-data-requires : tie.Need-validate-data-requires
 validate-data-requires c κs = search itemizing
+
+at-requires : tie.Need-at-requires
+at-requires c κs = search needs
 
 same-length : tie.Need-same-length
 same-length c = search needs
@@ -56,6 +53,7 @@ validate-item-spec =
     put-run-requires
     enum-known-n
     validate-data-requires
+    at-requires
     same-length
     returns
     same-length-2

@@ -1,13 +1,6 @@
 use Rattle.resolve.proofs.Stamping.{Marking, marking}
 use Rattle.resolve.proofs.items.validate_macro_args.Statement.{statement}
 use Rattle.resolve.proofs.items.validate_macro_args.Tie as tie
-use Rattle.resolve.proofs.items.validate_macro_args.Reads as reads
-use Rattle.resolve.proofs.items.validate_macro_args.Lts as lts
-use Rattle.octets.proofs.wide.from32.Reads as from32-reads
-use Rattle.parse_tree.proofs.node.node.Reads as node-reads
-use Rattle.parse_tree.proofs.size.size.Reads as size-reads
-use Rattle.resolve.proofs.items.marked.Reads as marked-reads
-use Rattle.texts.proofs.entries.put.Reads as put-reads
 
 abbrev Inv-loop : tie.InvT-loop
 Inv-loop tape work₀ m s n at p₀ k₀ work p k = Marking m tape s n at work₀ work p k
@@ -24,6 +17,9 @@ node-requires c κs = search marking
 enum-known-x : tie.Need-enum-known-x Inv-loop μ-loop
 enum-known-x c = search marking
 
+at-requires : tie.Need-at-requires Inv-loop μ-loop
+at-requires c κs = search marking
+
 same-length : tie.Need-same-length Inv-loop μ-loop
 same-length c = search marking
 
@@ -33,6 +29,9 @@ returns c = search marking
 from32-requires : tie.Need-from32-requires Inv-loop μ-loop
 from32-requires c κs = search marking
 
+at-requires-2 : tie.Need-at-requires-2 Inv-loop μ-loop
+at-requires-2 c κs = search marking
+
 same-length-2 : tie.Need-same-length-2 Inv-loop μ-loop
 same-length-2 c = search marking
 
@@ -41,6 +40,9 @@ returns-2 c = search marking
 
 marked-requires : tie.Need-marked-requires Inv-loop μ-loop
 marked-requires c κs = search marking
+
+over-requires : tie.Need-over-requires Inv-loop μ-loop
+over-requires c κs = search marking
 
 same-length-3 : tie.Need-same-length-3 Inv-loop μ-loop
 same-length-3 c = search marking
@@ -87,12 +89,15 @@ validate-macro-args-spec =
     loop-holds
     node-requires
     enum-known-x
+    at-requires
     same-length
     returns
     from32-requires
+    at-requires-2
     same-length-2
     returns-2
     marked-requires
+    over-requires
     same-length-3
     returns-3
     add-put

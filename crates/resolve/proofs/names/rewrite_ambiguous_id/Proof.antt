@@ -2,15 +2,12 @@ use Rattle.resolve.proofs.Naming.{naming}
 use borrow.Author.Needs.{needs}
 use Rattle.resolve.proofs.names.rewrite_ambiguous_id.Statement.{statement}
 use Rattle.resolve.proofs.names.rewrite_ambiguous_id.Tie as tie
-use Rattle.resolve.proofs.names.rewrite_ambiguous_id.Reads as reads
-use Rattle.resolve.proofs.names.rewrite_ambiguous_id.Lts as lts
-use Rattle.resolve.proofs.names.validate_id.Reads as validate-id-reads
 
 validate-id-requires : tie.Need-validate-id-requires
 validate-id-requires c κs = search needs
 
-enum-known-q : tie.Need-enum-known-q
-enum-known-q c = search needs
+enum-known-why : tie.Need-enum-known-why
+enum-known-why c = search needs
 
 enum-known-d : tie.Need-enum-known-d
 enum-known-d c = search needs
@@ -23,6 +20,9 @@ enum-told-2 c = search needs
 
 enum-known-d-2 : tie.Need-enum-known-d-2
 enum-known-d-2 c = search needs
+
+over-requires : tie.Need-over-requires
+over-requires c κs = search needs
 
 returns : tie.Need-returns
 returns c = search naming
@@ -44,11 +44,12 @@ rewrite-ambiguous-id-spec =
     tie.close
     (tie.spec
     validate-id-requires
-    enum-known-q
+    enum-known-why
     enum-known-d
     enum-told
     enum-told-2
     enum-known-d-2
+    over-requires
     returns
     returns-2
     returns-3

@@ -2,16 +2,12 @@ use Rattle.resolve.proofs.Naming.{naming}
 use borrow.Author.Needs.{needs}
 use Rattle.resolve.proofs.names.validate_macro.Statement.{statement}
 use Rattle.resolve.proofs.names.validate_macro.Tie as tie
-use Rattle.resolve.proofs.names.validate_macro.Reads as reads
-use Rattle.resolve.proofs.names.validate_macro.Lts as lts
-use Rattle.octets.proofs.wide.from8.Reads as from8-reads
-use Rattle.resolve.proofs.names.validate_id.Reads as validate-id-reads
 
 validate-id-requires : tie.Need-validate-id-requires
 validate-id-requires c κs = search needs
 
-enum-known-q : tie.Need-enum-known-q
-enum-known-q c = search needs
+enum-known-why : tie.Need-enum-known-why
+enum-known-why c = search needs
 
 enum-known-d : tie.Need-enum-known-d
 enum-known-d c = search needs
@@ -19,14 +15,23 @@ enum-known-d c = search needs
 enum-known-d-2 : tie.Need-enum-known-d-2
 enum-known-d-2 c = search needs
 
+over-requires : tie.Need-over-requires
+over-requires c κs = search needs
+
 returns : tie.Need-returns
 returns c = search naming
 
 from8-requires : tie.Need-from8-requires
 from8-requires c κs = search needs
 
+over-requires-2 : tie.Need-over-requires-2
+over-requires-2 c κs = search needs
+
 returns-2 : tie.Need-returns-2
 returns-2 c = search naming
+
+over-requires-3 : tie.Need-over-requires-3
+over-requires-3 c κs = search needs
 
 returns-3 : tie.Need-returns-3
 returns-3 c = search naming
@@ -42,12 +47,15 @@ validate-macro-spec =
     tie.close
     (tie.spec
     validate-id-requires
-    enum-known-q
+    enum-known-why
     enum-known-d
     enum-known-d-2
+    over-requires
     returns
     from8-requires
+    over-requires-2
     returns-2
+    over-requires-3
     returns-3
     returns-4
     returns-5)

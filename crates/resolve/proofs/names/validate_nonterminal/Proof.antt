@@ -2,15 +2,12 @@ use Rattle.resolve.proofs.Naming.{naming}
 use borrow.Author.Needs.{needs}
 use Rattle.resolve.proofs.names.validate_nonterminal.Statement.{statement}
 use Rattle.resolve.proofs.names.validate_nonterminal.Tie as tie
-use Rattle.resolve.proofs.names.validate_nonterminal.Reads as reads
-use Rattle.resolve.proofs.names.validate_nonterminal.Lts as lts
-use Rattle.resolve.proofs.names.validate_id.Reads as validate-id-reads
 
 validate-id-requires : tie.Need-validate-id-requires
 validate-id-requires c κs = search needs
 
-enum-known-q : tie.Need-enum-known-q
-enum-known-q c = search needs
+enum-known-why : tie.Need-enum-known-why
+enum-known-why c = search needs
 
 enum-known-d : tie.Need-enum-known-d
 enum-known-d c = search needs
@@ -18,11 +15,17 @@ enum-known-d c = search needs
 enum-told : tie.Need-enum-told
 enum-told c = search needs
 
+over-requires : tie.Need-over-requires
+over-requires c κs = search needs
+
 enum-told-2 : tie.Need-enum-told-2
 enum-told-2 c = search needs
 
 enum-known-d-2 : tie.Need-enum-known-d-2
 enum-known-d-2 c = search needs
+
+over-requires-2 : tie.Need-over-requires-2
+over-requires-2 c κs = search needs
 
 returns : tie.Need-returns
 returns c = search naming
@@ -44,11 +47,13 @@ validate-nonterminal-spec =
     tie.close
     (tie.spec
     validate-id-requires
-    enum-known-q
+    enum-known-why
     enum-known-d
     enum-told
+    over-requires
     enum-told-2
     enum-known-d-2
+    over-requires-2
     returns
     returns-2
     returns-3

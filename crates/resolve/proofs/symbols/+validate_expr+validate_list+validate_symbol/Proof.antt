@@ -1,8 +1,7 @@
-use Prim.Native.Nat.{_*_, _+_}
+use Prim.Native.Nat.{_*_, _+_, ℕ, _<_}
 use Rattle.resolve.specs.Scopes.{tables}
 use Rattle.resolve.specs.Walks.{symOut}
 use Rattle.resolve.proofs.Staging.{staging, Carrying}
-use Prim.Native.Nat.{ℕ, _<_}
 use borrow.Fn.Kinds.{In}
 use borrow.Fn.PlainCycle.{Measures, is, falls, and}
 use Rattle.resolve.proofs.symbols.validate_expr.Reads as validate-expr
@@ -15,6 +14,7 @@ use Rattle.resolve.proofs.symbols.validate_symbol.Reads as validate-sym
 use Rattle.resolve.proofs.symbols.validate_symbol.Kinds as validate-symbol-kinds
 use Rattle.resolve.proofs.symbols.+validate_expr+validate_list+validate_symbol.Lts-validate_symbol as validate-symbol-lts
 use Rattle.parse_tree.proofs.put.put_node.Reads as put-node-reads
+use Rattle.parse_tree.proofs.refusal.at.Reads as at-reads
 use Rattle.resolve.proofs.names.validate_over.Reads as validate-over-reads
 use Rattle.resolve.proofs.symbols.put_leaf.Reads as put-leaf-reads
 use Rattle.resolve.proofs.symbols.symbol_at.Reads as symbol-at-reads
@@ -84,7 +84,7 @@ abbrev validate-list-calls : ℕ → validate-list-lts.Claims
 validate-list-calls t = (validate-over-reads.Asked, validate-over-reads.Learnt, put-node-reads.Asked, put-node-reads.Learnt, inside-reads.Asked, inside-reads.Learnt, validate-expr-below t, validate-expr.Post)
 
 abbrev validate-symbol-calls : ℕ → validate-symbol-lts.Claims
-validate-symbol-calls t = (symbol-at-reads.Asked, symbol-at-reads.Learnt, put-leaf-reads.Asked, put-leaf-reads.Learnt, put-node-reads.Asked, put-node-reads.Learnt, validate-symbol-below t, validate-symbol.Post, validate-list-below t, validate-list.Post)
+validate-symbol-calls t = (at-reads.Asked, at-reads.Learnt, symbol-at-reads.Asked, symbol-at-reads.Learnt, put-leaf-reads.Asked, put-leaf-reads.Learnt, put-node-reads.Asked, put-node-reads.Learnt, validate-symbol-below t, validate-symbol.Post, validate-list-below t, validate-list.Post)
 
 validate-expr-loop-holds : (t : ℕ) → validate-expr-lts.Need-loop-holds (validate-expr-calls t) (validate-expr-at t) validate-expr.Post validate-expr-Inv-loop validate-expr-μ-loop
 validate-expr-loop-holds t c = search staging
@@ -104,8 +104,8 @@ validate-expr-loop-less t c = search staging
 validate-expr-loop-again : (t : ℕ) → validate-expr-lts.Need-loop-again (validate-expr-calls t) (validate-expr-at t) validate-expr.Post validate-expr-Inv-loop validate-expr-μ-loop
 validate-expr-loop-again t c = search staging
 
-validate-expr-enum-known-c : (t : ℕ) → validate-expr-lts.Need-enum-known-c (validate-expr-calls t) (validate-expr-at t) validate-expr.Post validate-expr-Inv-loop validate-expr-μ-loop
-validate-expr-enum-known-c t c = search staging
+validate-expr-enum-known-why : (t : ℕ) → validate-expr-lts.Need-enum-known-why (validate-expr-calls t) (validate-expr-at t) validate-expr.Post validate-expr-Inv-loop validate-expr-μ-loop
+validate-expr-enum-known-why t c = search staging
 
 validate-expr-same-length : (t : ℕ) → validate-expr-lts.Need-same-length (validate-expr-calls t) (validate-expr-at t) validate-expr.Post validate-expr-Inv-loop validate-expr-μ-loop
 validate-expr-same-length t c = search staging
@@ -122,8 +122,8 @@ validate-expr-returns-2 t c = search staging
 validate-list-validate-over-requires : (t : ℕ) → validate-list-lts.Need-validate-over-requires (validate-list-calls t) (validate-list-at t) validate-list.Post
 validate-list-validate-over-requires t c κs = search staging
 
-validate-list-enum-known-q : (t : ℕ) → validate-list-lts.Need-enum-known-q (validate-list-calls t) (validate-list-at t) validate-list.Post
-validate-list-enum-known-q t c = search staging
+validate-list-enum-known-why : (t : ℕ) → validate-list-lts.Need-enum-known-why (validate-list-calls t) (validate-list-at t) validate-list.Post
+validate-list-enum-known-why t c = search staging
 
 validate-list-enum-told : (t : ℕ) → validate-list-lts.Need-enum-told (validate-list-calls t) (validate-list-at t) validate-list.Post
 validate-list-enum-told t c = search staging
@@ -149,6 +149,9 @@ validate-list-same-length-2 t c = search staging
 validate-list-returns-2 : (t : ℕ) → validate-list-lts.Need-returns-2 (validate-list-calls t) (validate-list-at t) validate-list.Post
 validate-list-returns-2 t c = search staging
 
+validate-symbol-at-requires : (t : ℕ) → validate-symbol-lts.Need-at-requires (validate-symbol-calls t) (validate-symbol-at t) validate-symbol.Post
+validate-symbol-at-requires t c κs = search staging
+
 validate-symbol-returns : (t : ℕ) → validate-symbol-lts.Need-returns (validate-symbol-calls t) (validate-symbol-at t) validate-symbol.Post
 validate-symbol-returns t c = search staging
 
@@ -160,6 +163,9 @@ validate-symbol-enum-known-s t c = search staging
 
 validate-symbol-enum-told : (t : ℕ) → validate-symbol-lts.Need-enum-told (validate-symbol-calls t) (validate-symbol-at t) validate-symbol.Post
 validate-symbol-enum-told t c = search staging
+
+validate-symbol-at-requires-2 : (t : ℕ) → validate-symbol-lts.Need-at-requires-2 (validate-symbol-calls t) (validate-symbol-at t) validate-symbol.Post
+validate-symbol-at-requires-2 t c κs = search staging
 
 validate-symbol-returns-2 : (t : ℕ) → validate-symbol-lts.Need-returns-2 (validate-symbol-calls t) (validate-symbol-at t) validate-symbol.Post
 validate-symbol-returns-2 t c = search staging
@@ -179,8 +185,7 @@ validate-symbol-put-node-requires t c κs = search staging
 validate-symbol-sub-validate-symbol : (t : ℕ) → validate-symbol-lts.Need-sub-validate-symbol (validate-symbol-calls t) (validate-symbol-at t) validate-symbol.Post
 validate-symbol-sub-validate-symbol t c = search staging
 
-validate-symbol-validate-symbol-requires :
-    (t : ℕ) → validate-symbol-lts.Need-validate-symbol-requires (validate-symbol-calls t) (validate-symbol-at t) validate-symbol.Post
+validate-symbol-validate-symbol-requires : (t : ℕ) → validate-symbol-lts.Need-validate-symbol-requires (validate-symbol-calls t) (validate-symbol-at t) validate-symbol.Post
 validate-symbol-validate-symbol-requires t c κs = search staging
 
 validate-symbol-enum-known-k-2 : (t : ℕ) → validate-symbol-lts.Need-enum-known-k-2 (validate-symbol-calls t) (validate-symbol-at t) validate-symbol.Post
@@ -212,6 +217,6 @@ validate-symbol-returns-5 t c = search staging
 
 pub +validate-expr+validate-list+validate-symbol-spec : {M : Type 1} → statement M
 +validate-expr+validate-list+validate-symbol-spec = close μ-validate-expr μ-validate-list μ-validate-symbol
-    (λ t. validate-expr-lts.spec (validate-expr-calls t) (validate-expr-at t) validate-expr.Post validate-expr-Inv-loop validate-expr-μ-loop (validate-expr-loop-holds t) (validate-expr-validate-symbol-requires t) (validate-expr-enum-known-e t) (validate-expr-sub-k t) (validate-expr-loop-less t) (validate-expr-loop-again t) (validate-expr-enum-known-c t) (validate-expr-same-length t) (validate-expr-returns t) (validate-expr-same-length-2 t) (validate-expr-returns-2 t))
-    (λ t. validate-list-lts.spec (validate-list-calls t) (validate-list-at t) validate-list.Post (validate-list-validate-over-requires t) (validate-list-enum-known-q t) (validate-list-enum-told t) (validate-list-put-node-requires t) (validate-list-inside-requires t) (validate-list-validate-expr-requires t) (validate-list-same-length t) (validate-list-returns t) (validate-list-same-length-2 t) (validate-list-returns-2 t))
-    λ t. validate-symbol-lts.spec (validate-symbol-calls t) (validate-symbol-at t) validate-symbol.Post (validate-symbol-returns t) (validate-symbol-symbol-at-requires t) (validate-symbol-enum-known-s t) (validate-symbol-enum-told t) (validate-symbol-returns-2 t) (validate-symbol-enum-known-k t) (validate-symbol-put-leaf-requires t) (validate-symbol-enum-told-2 t) (validate-symbol-put-node-requires t) (validate-symbol-sub-validate-symbol t) (validate-symbol-validate-symbol-requires t) (validate-symbol-enum-known-k-2 t) (validate-symbol-sub-validate-list t) (validate-symbol-validate-list-requires t) (validate-symbol-same-length t) (validate-symbol-returns-3 t) (validate-symbol-same-length-2 t) (validate-symbol-returns-4 t) (validate-symbol-same-length-3 t) (validate-symbol-returns-5 t)
+    (λ t. validate-expr-lts.spec (validate-expr-calls t) (validate-expr-at t) validate-expr.Post validate-expr-Inv-loop validate-expr-μ-loop (validate-expr-loop-holds t) (validate-expr-validate-symbol-requires t) (validate-expr-enum-known-e t) (validate-expr-sub-k t) (validate-expr-loop-less t) (validate-expr-loop-again t) (validate-expr-enum-known-why t) (validate-expr-same-length t) (validate-expr-returns t) (validate-expr-same-length-2 t) (validate-expr-returns-2 t))
+    (λ t. validate-list-lts.spec (validate-list-calls t) (validate-list-at t) validate-list.Post (validate-list-validate-over-requires t) (validate-list-enum-known-why t) (validate-list-enum-told t) (validate-list-put-node-requires t) (validate-list-inside-requires t) (validate-list-validate-expr-requires t) (validate-list-same-length t) (validate-list-returns t) (validate-list-same-length-2 t) (validate-list-returns-2 t))
+    λ t. validate-symbol-lts.spec (validate-symbol-calls t) (validate-symbol-at t) validate-symbol.Post (validate-symbol-at-requires t) (validate-symbol-returns t) (validate-symbol-symbol-at-requires t) (validate-symbol-enum-known-s t) (validate-symbol-enum-told t) (validate-symbol-at-requires-2 t) (validate-symbol-returns-2 t) (validate-symbol-enum-known-k t) (validate-symbol-put-leaf-requires t) (validate-symbol-enum-told-2 t) (validate-symbol-put-node-requires t) (validate-symbol-sub-validate-symbol t) (validate-symbol-validate-symbol-requires t) (validate-symbol-enum-known-k-2 t) (validate-symbol-sub-validate-list t) (validate-symbol-validate-list-requires t) (validate-symbol-same-length t) (validate-symbol-returns-3 t) (validate-symbol-same-length-2 t) (validate-symbol-returns-4 t) (validate-symbol-same-length-3 t) (validate-symbol-returns-5 t)

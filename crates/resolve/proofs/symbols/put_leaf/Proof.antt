@@ -2,16 +2,12 @@ use Rattle.resolve.proofs.Staging.{staging}
 use borrow.Author.Needs.{needs}
 use Rattle.resolve.proofs.symbols.put_leaf.Statement.{statement}
 use Rattle.resolve.proofs.symbols.put_leaf.Tie as tie
-use Rattle.resolve.proofs.symbols.put_leaf.Reads as reads
-use Rattle.resolve.proofs.symbols.put_leaf.Lts as lts
-use Rattle.parse_tree.proofs.put.put_node.Reads as put-node-reads
-use Rattle.resolve.proofs.names.validate_leaf.Reads as validate-leaf-reads
 
 validate-leaf-requires : tie.Need-validate-leaf-requires
 validate-leaf-requires c κs = search needs
 
-enum-known-q : tie.Need-enum-known-q
-enum-known-q c = search needs
+enum-known-why : tie.Need-enum-known-why
+enum-known-why c = search needs
 
 enum-known-x : tie.Need-enum-known-x
 enum-known-x c = search needs
@@ -36,7 +32,7 @@ put-leaf-spec =
     tie.close
     (tie.spec
     validate-leaf-requires
-    enum-known-q
+    enum-known-why
     enum-known-x
     put-node-requires
     same-length

@@ -2,16 +2,12 @@ use Rattle.resolve.proofs.Resolving.{resolving}
 use borrow.Author.Needs.{needs}
 use Rattle.resolve.proofs.whole.resolve.Statement.{statement}
 use Rattle.resolve.proofs.whole.resolve.Tie as tie
-use Rattle.resolve.proofs.whole.resolve.Reads as reads
-use Rattle.resolve.proofs.whole.resolve.Lts as lts
-use Rattle.resolve.proofs.globals.globals.Reads as globals-reads
-use Rattle.resolve.proofs.whole.put_tree.Reads as put-tree-reads
 
 globals-requires : tie.Need-globals-requires
 globals-requires c κs = search needs
 
-enum-known-q : tie.Need-enum-known-q
-enum-known-q c = search needs
+enum-known-why : tie.Need-enum-known-why
+enum-known-why c = search needs
 
 enum-told : tie.Need-enum-told
 enum-told c = search needs
@@ -36,7 +32,7 @@ resolve-spec =
     tie.close
     (tie.spec
     globals-requires
-    enum-known-q
+    enum-known-why
     enum-told
     put-tree-requires
     same-length

@@ -2,17 +2,13 @@ use Rattle.validate.specs.Steps.{stepOf}
 use Rattle.texts.specs.Atoms.{atomsOf}
 use Rattle.parse_tree.specs.plain.Reading.{times}
 use Rattle.parse_tree.specs.working.Decode.{ask}
-use mathlib.Core.Bool.{true}
 use mathlib.Core.Path.{_≡_}
 use Rattle.validate.proofs.Walking.{commands}
 use Rattle.validate.proofs.command.commands.Statement.{statement}
 use Rattle.validate.proofs.command.commands.Tie as tie
-use Rattle.validate.proofs.command.commands.Reads as reads
-use Rattle.validate.proofs.command.commands.Lts as lts
-use Rattle.validate.proofs.command.command.Reads as command-reads
 
 abbrev Inv-loop : tie.InvT-loop
-Inv-loop tape work m place n at p₀ k₀ p k = stepOf (times (ask true (m .width) tape (atomsOf tape (m .count)) place 1) k p) ≡ stepOf (times (ask true (m .width) tape (atomsOf tape (m .count)) place 1) n at)
+Inv-loop tape work m place n at p₀ k₀ p k = stepOf (times (ask (m .four) (m .width) tape (atomsOf tape (m .count)) place 1) k p) ≡ stepOf (times (ask (m .four) (m .width) tape (atomsOf tape (m .count)) place 1) n at)
 
 abbrev μ-loop : tie.MeasureT-loop
 μ-loop tape work m place n at p₀ k₀ p k = k
@@ -35,8 +31,8 @@ loop-less c = search commands
 loop-again : tie.Need-loop-again Inv-loop μ-loop
 loop-again c = search commands
 
-enum-known-q : tie.Need-enum-known-q Inv-loop μ-loop
-enum-known-q c = search commands
+enum-known-why : tie.Need-enum-known-why Inv-loop μ-loop
+enum-known-why c = search commands
 
 returns : tie.Need-returns Inv-loop μ-loop
 returns c = search commands
@@ -56,6 +52,6 @@ commands-spec =
     sub-k
     loop-less
     loop-again
-    enum-known-q
+    enum-known-why
     returns
     returns-2)

@@ -2,16 +2,12 @@ use Rattle.validate.proofs.Wholes.{wholes}
 use borrow.Author.Needs.{needs}
 use Rattle.validate.proofs.entry.validate.Statement.{statement}
 use Rattle.validate.proofs.entry.validate.Tie as tie
-use Rattle.validate.proofs.entry.validate.Reads as reads
-use Rattle.validate.proofs.entry.validate.Lts as lts
-use Rattle.validate.proofs.front.atoms.Reads as atoms-reads
-use Rattle.validate.proofs.items.items.Reads as items-reads
 
 atoms-requires : tie.Need-atoms-requires
 atoms-requires c κs = search needs
 
-enum-known-q : tie.Need-enum-known-q
-enum-known-q c = search needs
+enum-known-why : tie.Need-enum-known-why
+enum-known-why c = search needs
 
 enum-known-k : tie.Need-enum-known-k
 enum-known-k c = search needs
@@ -19,8 +15,8 @@ enum-known-k c = search needs
 items-requires : tie.Need-items-requires
 items-requires c κs = search wholes
 
-enum-known-q-2 : tie.Need-enum-known-q-2
-enum-known-q-2 c = search needs
+enum-known-why-2 : tie.Need-enum-known-why-2
+enum-known-why-2 c = search needs
 
 enum-told : tie.Need-enum-told
 enum-told c = search needs
@@ -48,10 +44,10 @@ validate-spec =
     tie.close
     (tie.spec
     atoms-requires
-    enum-known-q
+    enum-known-why
     enum-known-k
     items-requires
-    enum-known-q-2
+    enum-known-why-2
     enum-told
     same-length
     returns

@@ -3,10 +3,6 @@ use lib.ListN.{length}
 use Rattle.validate.proofs.Gathering.{Gathering, gathering}
 use Rattle.validate.proofs.front.atoms.Statement.{statement}
 use Rattle.validate.proofs.front.atoms.Tie as tie
-use Rattle.validate.proofs.front.atoms.Reads as reads
-use Rattle.validate.proofs.front.atoms.Lts as lts
-use Rattle.texts.proofs.table.start.Reads as start-reads
-use Rattle.validate.proofs.front.next.Reads as next-reads
 
 abbrev Inv-loop : tie.InvT-loop
 Inv-loop tape work₀ c width k₀ at₀ work k at = Gathering tape work₀ work c width k at
@@ -47,6 +43,9 @@ returns c = search gathering
 enum-told-2 : tie.Need-enum-told-2 Inv-loop μ-loop
 enum-told-2 c = search gathering
 
+at-requires : tie.Need-at-requires Inv-loop μ-loop
+at-requires c κs = search gathering
+
 same-length-2 : tie.Need-same-length-2 Inv-loop μ-loop
 same-length-2 c = search gathering
 
@@ -76,6 +75,7 @@ atoms-spec =
     same-length
     returns
     enum-told-2
+    at-requires
     same-length-2
     returns-2
     same-length-3

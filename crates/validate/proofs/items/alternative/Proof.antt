@@ -2,22 +2,21 @@ use Rattle.validate.proofs.Parting.{alternative}
 use borrow.Author.Needs.{needs}
 use Rattle.validate.proofs.items.alternative.Statement.{statement}
 use Rattle.validate.proofs.items.alternative.Tie as tie
-use Rattle.validate.proofs.items.alternative.Reads as reads
-use Rattle.validate.proofs.items.alternative.Lts as lts
-use Rattle.validate.proofs.command.command.Reads as command-reads
-use Rattle.validate.proofs.items.alternative_parts.Reads as alternative-parts-reads
 
 command-requires : tie.Need-command-requires
 command-requires c κs = search needs
 
-enum-known-q : tie.Need-enum-known-q
-enum-known-q c = search needs
+enum-known-why : tie.Need-enum-known-why
+enum-known-why c = search needs
 
 enum-known-n : tie.Need-enum-known-n
 enum-known-n c = search needs
 
 enum-known-n-2 : tie.Need-enum-known-n-2
 enum-known-n-2 c = search needs
+
+at-requires : tie.Need-at-requires
+at-requires c κs = search needs
 
 returns : tie.Need-returns
 returns c = search alternative
@@ -36,9 +35,10 @@ alternative-spec =
     tie.close
     (tie.spec
     command-requires
-    enum-known-q
+    enum-known-why
     enum-known-n
     enum-known-n-2
+    at-requires
     returns
     alternative-parts-requires
     returns-2

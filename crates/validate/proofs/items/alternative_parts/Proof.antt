@@ -2,12 +2,6 @@ use Rattle.validate.proofs.Parting.{alternative-parts}
 use borrow.Author.Needs.{needs}
 use Rattle.validate.proofs.items.alternative_parts.Statement.{statement}
 use Rattle.validate.proofs.items.alternative_parts.Tie as tie
-use Rattle.validate.proofs.items.alternative_parts.Reads as reads
-use Rattle.validate.proofs.items.alternative_parts.Lts as lts
-use Rattle.validate.proofs.command.commands.Reads as commands-reads
-use Rattle.octets.proofs.wide.from16.Reads as from16-reads
-use Rattle.octets.proofs.wide.from8.Reads as from8-reads
-use Rattle.validate.proofs.symbols.symbols.Reads as symbols-reads
 
 from8-requires : tie.Need-from8-requires
 from8-requires c κs = search needs
@@ -15,8 +9,8 @@ from8-requires c κs = search needs
 commands-requires : tie.Need-commands-requires
 commands-requires c κs = search needs
 
-enum-known-q : tie.Need-enum-known-q
-enum-known-q c = search needs
+enum-known-why : tie.Need-enum-known-why
+enum-known-why c = search needs
 
 enum-known-e : tie.Need-enum-known-e
 enum-known-e c = search needs
@@ -27,8 +21,8 @@ from8-requires-2 c κs = search needs
 commands-requires-2 : tie.Need-commands-requires-2
 commands-requires-2 c κs = search needs
 
-enum-known-q-2 : tie.Need-enum-known-q-2
-enum-known-q-2 c = search needs
+enum-known-why-2 : tie.Need-enum-known-why-2
+enum-known-why-2 c = search needs
 
 enum-known-d : tie.Need-enum-known-d
 enum-known-d c = search needs
@@ -54,11 +48,11 @@ alternative-parts-spec =
     (tie.spec
     from8-requires
     commands-requires
-    enum-known-q
+    enum-known-why
     enum-known-e
     from8-requires-2
     commands-requires-2
-    enum-known-q-2
+    enum-known-why-2
     enum-known-d
     from16-requires
     symbols-requires

@@ -2,17 +2,13 @@ use Rattle.validate.specs.Steps.{stepOf}
 use Rattle.texts.specs.Atoms.{atomsOf}
 use Rattle.parse_tree.specs.working.Decode.{readAlternative}
 use Rattle.parse_tree.specs.plain.Reading.{times}
-use mathlib.Core.Bool.{true}
 use mathlib.Core.Path.{_≡_}
 use Rattle.validate.proofs.Parting.{alternatives}
 use Rattle.validate.proofs.items.alternatives.Statement.{statement}
 use Rattle.validate.proofs.items.alternatives.Tie as tie
-use Rattle.validate.proofs.items.alternatives.Reads as reads
-use Rattle.validate.proofs.items.alternatives.Lts as lts
-use Rattle.validate.proofs.items.alternative.Reads as alternative-reads
 
 abbrev Inv-loop : tie.InvT-loop
-Inv-loop tape work m n at p₀ k₀ p k = stepOf (times (readAlternative true (m .width) tape (atomsOf tape (m .count))) k p) ≡ stepOf (times (readAlternative true (m .width) tape (atomsOf tape (m .count))) n at)
+Inv-loop tape work m n at p₀ k₀ p k = stepOf (times (readAlternative (m .four) (m .width) tape (atomsOf tape (m .count))) k p) ≡ stepOf (times (readAlternative (m .four) (m .width) tape (atomsOf tape (m .count))) n at)
 
 abbrev μ-loop : tie.MeasureT-loop
 μ-loop tape work m n at p₀ k₀ p k = k
@@ -35,8 +31,8 @@ loop-less c = search alternatives
 loop-again : tie.Need-loop-again Inv-loop μ-loop
 loop-again c = search alternatives
 
-enum-known-q : tie.Need-enum-known-q Inv-loop μ-loop
-enum-known-q c = search alternatives
+enum-known-why : tie.Need-enum-known-why Inv-loop μ-loop
+enum-known-why c = search alternatives
 
 returns : tie.Need-returns Inv-loop μ-loop
 returns c = search alternatives
@@ -56,6 +52,6 @@ alternatives-spec =
     sub-k
     loop-less
     loop-again
-    enum-known-q
+    enum-known-why
     returns
     returns-2)

@@ -2,16 +2,12 @@ use Rattle.validate.proofs.Itemizing.{item}
 use borrow.Author.Needs.{needs}
 use Rattle.validate.proofs.items.item.Statement.{statement}
 use Rattle.validate.proofs.items.item.Tie as tie
-use Rattle.validate.proofs.items.item.Reads as reads
-use Rattle.validate.proofs.items.item.Lts as lts
-use Rattle.validate.proofs.command.command.Reads as command-reads
-use Rattle.validate.proofs.items.nonterminal_parts.Reads as nonterminal-parts-reads
 
 command-requires : tie.Need-command-requires
 command-requires c κs = search needs
 
-enum-known-q : tie.Need-enum-known-q
-enum-known-q c = search needs
+enum-known-why : tie.Need-enum-known-why
+enum-known-why c = search needs
 
 enum-known-n : tie.Need-enum-known-n
 enum-known-n c = search needs
@@ -24,6 +20,9 @@ enum-known-n-2 c = search needs
 
 nonterminal-parts-requires : tie.Need-nonterminal-parts-requires
 nonterminal-parts-requires c κs = search needs
+
+at-requires : tie.Need-at-requires
+at-requires c κs = search needs
 
 returns : tie.Need-returns
 returns c = search item
@@ -42,11 +41,12 @@ item-spec =
     tie.close
     (tie.spec
     command-requires
-    enum-known-q
+    enum-known-why
     enum-known-n
     enum-told
     enum-known-n-2
     nonterminal-parts-requires
+    at-requires
     returns
     returns-2
     returns-3

@@ -1,18 +1,14 @@
 use Rattle.validate.specs.Steps.{stepOf}
 use Rattle.texts.specs.Atoms.{atomsOf}
 use Rattle.parse_tree.specs.working.Decode.{readItems}
-use mathlib.Core.Bool.{true}
 use lib.ListN.{length}
 use Prim.Native.Nat.{_-_}
 use Rattle.validate.proofs.Itemizing.{Left, items}
 use Rattle.validate.proofs.items.items.Statement.{statement}
 use Rattle.validate.proofs.items.items.Tie as tie
-use Rattle.validate.proofs.items.items.Reads as reads
-use Rattle.validate.proofs.items.items.Lts as lts
-use Rattle.validate.proofs.items.item.Reads as item-reads
 
 abbrev Inv-loop : tie.InvT-loop
-Inv-loop tape work m at p₀ p = Left tape (m .width) (m .count) p (stepOf (readItems true (m .width) tape (atomsOf tape (m .count)) (length tape) at))
+Inv-loop tape work m at p₀ p = Left (m .four) tape (m .width) (m .count) p (stepOf (readItems (m .four) (m .width) tape (atomsOf tape (m .count)) (length tape) at))
 
 abbrev μ-loop : tie.MeasureT-loop
 μ-loop tape work m at p₀ p = length tape - p
@@ -32,8 +28,8 @@ loop-less c = search items
 loop-again : tie.Need-loop-again Inv-loop μ-loop
 loop-again c = search items
 
-enum-known-q : tie.Need-enum-known-q Inv-loop μ-loop
-enum-known-q c = search items
+enum-known-why : tie.Need-enum-known-why Inv-loop μ-loop
+enum-known-why c = search items
 
 returns : tie.Need-returns Inv-loop μ-loop
 returns c = search items
@@ -52,6 +48,6 @@ items-spec =
     enum-known-e
     loop-less
     loop-again
-    enum-known-q
+    enum-known-why
     returns
     returns-2)

@@ -2,12 +2,6 @@ use Rattle.validate.proofs.Itemizing.{nonterminal-parts}
 use borrow.Author.Needs.{needs}
 use Rattle.validate.proofs.items.nonterminal_parts.Statement.{statement}
 use Rattle.validate.proofs.items.nonterminal_parts.Tie as tie
-use Rattle.validate.proofs.items.nonterminal_parts.Reads as reads
-use Rattle.validate.proofs.items.nonterminal_parts.Lts as lts
-use Rattle.validate.proofs.command.commands.Reads as commands-reads
-use Rattle.validate.proofs.items.alternatives.Reads as alternatives-reads
-use Rattle.octets.proofs.wide.from16.Reads as from16-reads
-use Rattle.octets.proofs.wide.from8.Reads as from8-reads
 
 from8-requires : tie.Need-from8-requires
 from8-requires c κs = search needs
@@ -15,8 +9,8 @@ from8-requires c κs = search needs
 commands-requires : tie.Need-commands-requires
 commands-requires c κs = search needs
 
-enum-known-q : tie.Need-enum-known-q
-enum-known-q c = search needs
+enum-known-why : tie.Need-enum-known-why
+enum-known-why c = search needs
 
 enum-known-e : tie.Need-enum-known-e
 enum-known-e c = search needs
@@ -39,7 +33,7 @@ nonterminal-parts-spec =
     (tie.spec
     from8-requires
     commands-requires
-    enum-known-q
+    enum-known-why
     enum-known-e
     from16-requires
     alternatives-requires

@@ -2,7 +2,6 @@ use Rattle.validate.specs.Steps.{stepOf}
 use Rattle.texts.specs.Atoms.{atomsOf}
 use Rattle.parse_tree.specs.plain.Reading.{times}
 use Rattle.parse_tree.specs.working.Decode.{readSym}
-use mathlib.Core.Bool.{true}
 use mathlib.Core.Path.{_≡_}
 use Rattle.validate.proofs.Walking.{walking}
 use Prim.Native.Nat.{ℕ, _<_, _*_, _+_}
@@ -14,6 +13,7 @@ use Rattle.validate.proofs.symbols.+symbol+symbols.Lts-symbol as symbol
 use Rattle.validate.proofs.symbols.symbols.Reads as symbols
 use Rattle.validate.proofs.symbols.symbols.Kinds as symbols-kinds
 use Rattle.validate.proofs.symbols.+symbol+symbols.Lts-symbols as symbols-lts
+use Rattle.parse_tree.proofs.refusal.at.Reads as at-reads
 use Rattle.validate.proofs.command.command.Reads as command-reads
 use Rattle.validate.proofs.symbols.inside.Reads as inside-reads
 use Rattle.validate.proofs.symbols.+symbol+symbols.{statement}
@@ -38,7 +38,7 @@ abbrev symbols-below : ℕ → In 2 symbols-kinds.ps
 symbols-below t = and 2 symbols-kinds.ps (falls 2 symbols-kinds.ps _<_ μ-symbols t) symbols.Pre
 
 abbrev symbol-calls : ℕ → symbol-lts.Claims
-symbol-calls t = (command-reads.Asked, command-reads.Learnt, symbol-below t, symbol.Post, inside-reads.Asked, inside-reads.Learnt, symbols-below t, symbols.Post)
+symbol-calls t = (command-reads.Asked, command-reads.Learnt, at-reads.Asked, at-reads.Learnt, symbol-below t, symbol.Post, inside-reads.Asked, inside-reads.Learnt, symbols-below t, symbols.Post)
 
 abbrev symbols-calls : ℕ → symbols-lts.Claims
 symbols-calls t = (symbol-below t, symbol.Post)
@@ -46,17 +46,23 @@ symbols-calls t = (symbol-below t, symbol.Post)
 symbol-command-requires : (t : ℕ) → symbol-lts.Need-command-requires (symbol-calls t) (symbol-at t) symbol.Post
 symbol-command-requires t c κs = search walking
 
-symbol-enum-known-q : (t : ℕ) → symbol-lts.Need-enum-known-q (symbol-calls t) (symbol-at t) symbol.Post
-symbol-enum-known-q t c = search walking
+symbol-enum-known-why : (t : ℕ) → symbol-lts.Need-enum-known-why (symbol-calls t) (symbol-at t) symbol.Post
+symbol-enum-known-why t c = search walking
 
 symbol-enum-known-n : (t : ℕ) → symbol-lts.Need-enum-known-n (symbol-calls t) (symbol-at t) symbol.Post
 symbol-enum-known-n t c = search walking
+
+symbol-at-requires : (t : ℕ) → symbol-lts.Need-at-requires (symbol-calls t) (symbol-at t) symbol.Post
+symbol-at-requires t c κs = search walking
 
 symbol-returns : (t : ℕ) → symbol-lts.Need-returns (symbol-calls t) (symbol-at t) symbol.Post
 symbol-returns t c = search walking
 
 symbol-enum-known-n-2 : (t : ℕ) → symbol-lts.Need-enum-known-n-2 (symbol-calls t) (symbol-at t) symbol.Post
 symbol-enum-known-n-2 t c = search walking
+
+symbol-at-requires-2 : (t : ℕ) → symbol-lts.Need-at-requires-2 (symbol-calls t) (symbol-at t) symbol.Post
+symbol-at-requires-2 t c κs = search walking
 
 symbol-returns-2 : (t : ℕ) → symbol-lts.Need-returns-2 (symbol-calls t) (symbol-at t) symbol.Post
 symbol-returns-2 t c = search walking
@@ -98,7 +104,7 @@ symbol-returns-6 : (t : ℕ) → symbol-lts.Need-returns-6 (symbol-calls t) (sym
 symbol-returns-6 t c = search walking
 
 abbrev symbols-Inv-loop : symbols-lts.InvT-loop
-symbols-Inv-loop tape work m at n left p₀ k₀ p k = stepOf (times (readSym true (m .width) tape (atomsOf tape (m .count)) left) k p) ≡ stepOf (times (readSym true (m .width) tape (atomsOf tape (m .count)) left) n at)
+symbols-Inv-loop tape work m at n left p₀ k₀ p k = stepOf (times (readSym (m .four) (m .width) tape (atomsOf tape (m .count)) left) k p) ≡ stepOf (times (readSym (m .four) (m .width) tape (atomsOf tape (m .count)) left) n at)
 
 abbrev symbols-μ-loop : symbols-lts.MeasureT-loop
 symbols-μ-loop tape work m at n left p₀ k₀ p k = k
@@ -121,8 +127,8 @@ symbols-loop-less t c = search walking
 symbols-loop-again : (t : ℕ) → symbols-lts.Need-loop-again (symbols-calls t) (symbols-at t) symbols.Post symbols-Inv-loop symbols-μ-loop
 symbols-loop-again t c = search walking
 
-symbols-enum-known-q : (t : ℕ) → symbols-lts.Need-enum-known-q (symbols-calls t) (symbols-at t) symbols.Post symbols-Inv-loop symbols-μ-loop
-symbols-enum-known-q t c = search walking
+symbols-enum-known-why : (t : ℕ) → symbols-lts.Need-enum-known-why (symbols-calls t) (symbols-at t) symbols.Post symbols-Inv-loop symbols-μ-loop
+symbols-enum-known-why t c = search walking
 
 symbols-returns : (t : ℕ) → symbols-lts.Need-returns (symbols-calls t) (symbols-at t) symbols.Post symbols-Inv-loop symbols-μ-loop
 symbols-returns t c = search walking
@@ -132,5 +138,5 @@ symbols-returns-2 t c = search walking
 
 pub +symbol+symbols-spec : {M : Type 1} → statement M
 +symbol+symbols-spec = close μ-symbol μ-symbols
-    (λ t. symbol-lts.spec (symbol-calls t) (symbol-at t) symbol.Post (symbol-command-requires t) (symbol-enum-known-q t) (symbol-enum-known-n t) (symbol-returns t) (symbol-enum-known-n-2 t) (symbol-returns-2 t) (symbol-enum-told t) (symbol-enum-told-2 t) (symbol-sub-symbol t) (symbol-symbol-requires t) (symbol-enum-known-k t) (symbol-inside-requires t) (symbol-sub-symbols t) (symbol-symbols-requires t) (symbol-returns-3 t) (symbol-returns-4 t) (symbol-returns-5 t) (symbol-returns-6 t))
-    λ t. symbols-lts.spec (symbols-calls t) (symbols-at t) symbols.Post symbols-Inv-loop symbols-μ-loop (symbols-loop-holds t) (symbols-symbol-requires t) (symbols-enum-known-e t) (symbols-sub-k t) (symbols-loop-less t) (symbols-loop-again t) (symbols-enum-known-q t) (symbols-returns t) (symbols-returns-2 t)
+    (λ t. symbol-lts.spec (symbol-calls t) (symbol-at t) symbol.Post (symbol-command-requires t) (symbol-enum-known-why t) (symbol-enum-known-n t) (symbol-at-requires t) (symbol-returns t) (symbol-enum-known-n-2 t) (symbol-at-requires-2 t) (symbol-returns-2 t) (symbol-enum-told t) (symbol-enum-told-2 t) (symbol-sub-symbol t) (symbol-symbol-requires t) (symbol-enum-known-k t) (symbol-inside-requires t) (symbol-sub-symbols t) (symbol-symbols-requires t) (symbol-returns-3 t) (symbol-returns-4 t) (symbol-returns-5 t) (symbol-returns-6 t))
+    λ t. symbols-lts.spec (symbols-calls t) (symbols-at t) symbols.Post symbols-Inv-loop symbols-μ-loop (symbols-loop-holds t) (symbols-symbol-requires t) (symbols-enum-known-e t) (symbols-sub-k t) (symbols-loop-less t) (symbols-loop-again t) (symbols-enum-known-why t) (symbols-returns t) (symbols-returns-2 t)

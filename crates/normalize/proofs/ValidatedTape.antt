@@ -1,0 +1,45 @@
+-- The ways out of `validate_tape`: a tape that is read is the tape of its tree, so it is as long. Assumes nothing.
+use mathlib.Core.Path.{_≡_, sym, ap, _∙_}
+use mathlib.Core.Bool.{true}
+use mathlib.Core.List.{List}
+use Prim.Native.Nat.{ℕ}
+use borrow.Author.Needs.{needs}
+use lib.ListN.{length, getD}
+use mir.Syntax.{w8}
+use mir.Val as Bound
+use Rattle.parse_tree.specs.plain.Tree.{Stage}
+use Rattle.parse_tree.specs.plain.Reading.{Reading}
+use Rattle.parse_tree.specs.plain.ReadTape.{readTape}
+use Rattle.parse_tree.specs.plain.WriteTape.{tapeOf}
+use Rattle.parse_tree.specs.working.Decode.{decodeBy}
+use Rattle.parse_tree.specs.declared.refusal.Refusal.{Refusal}
+use Rattle.parse_tree.proofs.ReadTapeIs.{read-is}
+use Rattle.parse_tree.proofs.WriteTapeIs.{tape-is}
+use Rattle.parse_tree.proofs.Written.{written}
+use Rattle.texts.specs.Atoms.{atomsOf}
+use Rattle.validate.specs.Steps.{Refuses}
+use Rattle.validate.specs.Whole.{Valid, Validates}
+use Rattle.validate.specs.declared.Atoms.{Atoms}
+use Rattle.validate.specs.declared.Validated.{Validated}
+use Rattle.passes.specs.Calls.{readAs}
+use Rattle.normalize.specs.plain.Answers.{answerOf}
+use Rattle.normalize.specs.declared.Answer.{Answer}
+
+-- x is what `validate` answered
+module _ (s w : List ℕ) (x : Validated) (i : Validates true 2 s x w) where
+  pub tape-refused : (why : Refusal) → x ≡ Validated.Refused why → Answer.No why ≡ answerOf (readAs (readTape true 2 s))
+  unfolding Validates answerOf
+  tape-refused why e =
+      let n : Refuses (decodeBy true 2 s) why = rw e at i in
+      ap (λ (k : ℕ). Answer.No (record { number = why .number; from = why .from; to = k })) (n .twice)
+      ∙ sym (ap (λ (r : Reading Stage). answerOf (readAs r)) (read-is true 2 s ∙ n .is))
+
+  pub tape-valid : (m : Atoms) (at : ℕ) → x ≡ Validated.Valid m at → ((j : ℕ) → Bound.Fits w8 (getD s j 0)) → Answer.Yes (length s) ≡ answerOf (readAs (readTape true 2 s))
+  unfolding Validates answerOf
+  tape-valid m at e b =
+      let v : Valid true 2 s w m at = rw e at i in
+      let g : Stage = record { atoms = atomsOf s (m .count); items = v .items } in
+      let t : tapeOf 2 g ≡ s = tape-is 2 g ∙ written true 2 s g (length s) (λ j. b j .fits) (v .decoded) .bytes in
+      ap (λ (y : List ℕ). Answer.Yes (length y)) (sym t) ∙ sym (ap (λ (r : Reading Stage). answerOf (readAs r)) (read-is true 2 s ∙ v .decoded))
+
+pub ruleset tapes = (needs, tape-refused, tape-valid)

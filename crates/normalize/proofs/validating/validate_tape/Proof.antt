@@ -1,0 +1,37 @@
+use Rattle.normalize.proofs.ValidatedTape.{tapes}
+use borrow.Author.Needs.{needs}
+use Rattle.normalize.proofs.validating.validate_tape.Statement.{statement}
+use Rattle.normalize.proofs.validating.validate_tape.Tie as tie
+
+validate-requires : tie.Need-validate-requires
+validate-requires c κs = search tapes
+
+enum-known-why : tie.Need-enum-known-why
+enum-known-why c = search tapes
+
+enum-told : tie.Need-enum-told
+enum-told c = search tapes
+
+same-length : tie.Need-same-length
+same-length c = search tapes
+
+returns : tie.Need-returns
+returns c = search tapes
+
+same-length-2 : tie.Need-same-length-2
+same-length-2 c = search tapes
+
+returns-2 : tie.Need-returns-2
+returns-2 c = search tapes
+
+pub validate-tape-spec : {M : Type 1} → statement M
+validate-tape-spec =
+    tie.close
+    (tie.spec
+    validate-requires
+    enum-known-why
+    enum-told
+    same-length
+    returns
+    same-length-2
+    returns-2)

@@ -1,0 +1,2 @@
+-- How an answer is given.
+pub mod Answers

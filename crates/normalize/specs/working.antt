@@ -1,0 +1,3 @@
+-- A stage on its way: made in work, judged, handed over.
+pub mod Stages
+pub mod Handing
