@@ -26,7 +26,6 @@ compare: need-rt
 	$(call cargo,run) --release -p compare --bin compare -- $(or $(SEED),1) $(or $(COUNT),200000)
 
 bench: need-rt
-	rt staticlib validate > /dev/null
 	rt staticlib normalize > /dev/null
 	$(call cargo,run) --release -p bench
 

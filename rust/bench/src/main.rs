@@ -1,22 +1,7 @@
 //! Nanoseconds per byte of validating and of resolving a tape, at four sizes, and of tapes of many atoms, items and arguments.
 //! Ends with status 1 where a figure grows by more than half from the smallest size to the largest.
-use normalize::{work_len, Words};
+use normalize::work_len;
 use std::time::Instant;
-
-extern "C" {
-    fn validate_check(tape: *const u8, tape_len: usize, work: *mut u8, work_len: usize, answer: *mut Words);
-}
-
-/// Questions 1 to 4 of a tape: its length, or the number and the place.
-fn check(tape: &[u8], work: &mut [u8]) -> Result<u64, (u64, u64, u64)> {
-    let mut answer = Words::default();
-    // SAFETY: the export takes two slices and an array, each by pointer and length, and asks nothing else of them.
-    unsafe { validate_check(tape.as_ptr(), tape.len(), work.as_mut_ptr(), work.len(), &mut answer) }
-    match answer {
-        [1, length, ..] => Ok(length),
-        [_, number, from, to, ..] => Err((number, from, to)),
-    }
-}
 
 fn atom(tape: &mut Vec<u8>, text: &[u8]) {
     tape.push(0x01);
@@ -141,7 +126,7 @@ fn measure(tape: &[u8], mut run: impl FnMut()) -> f64 {
 fn figures(name: &str, tape: &[u8]) -> [f64; 2] {
     let length = tape.len();
     let mut work = vec![0u8; 8 * length];
-    let validating = measure(tape, || assert_eq!(check(tape, &mut work), Ok(length as u64)));
+    let validating = measure(tape, || assert_eq!(normalize::validate(tape, &mut work), Ok(length)));
     let (mut output, mut work) = (vec![0u8; length], vec![0u8; work_len(length, length)]);
     let resolving = measure(tape, || assert_eq!(normalize::resolve(tape, &mut output, &mut work), Ok(length)));
     println!("{name:22} {length:8} bytes  validating {validating:6.2}  resolving {resolving:6.2} ns/byte");

@@ -16,6 +16,16 @@ pub fn work_len(tape: usize, output: usize) -> usize {
     tape.saturating_add(output).saturating_mul(8)
 }
 
+/// Validating alone: questions 1 to 4, with no output. At `Ok` it is the tape's length.
+pub fn validate(tape: &[u8], work: &mut [u8]) -> Result<usize, Refusal> {
+    let mut answer = Words::default();
+    // SAFETY: the export takes two slices, each by pointer and length, and an array, and asks nothing else of them.
+    unsafe {
+        archive::normalize_validate(tape.as_ptr(), tape.len(), work.as_mut_ptr(), work.len(), &mut answer);
+    }
+    answered(&answer)
+}
+
 /// Name resolution alone: questions 1 to 13, 20 and 21. At `Ok` the output begins with the tree, which has that length.
 pub fn resolve(tape: &[u8], output: &mut [u8], work: &mut [u8]) -> Result<usize, Refusal> {
     let mut answer = Words::default();
