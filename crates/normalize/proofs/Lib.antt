@@ -1,8 +1,8 @@
 -- Laws of the calls.
-mod Rooms
-mod Handing
-mod Calling
-mod Exporting
-mod Admitting
-mod ResolvedStage
-mod ValidatedTape
+mod RoomCode
+mod HandOverCode
+mod CallsCode
+mod ExportCode
+mod ResolvingMean
+mod ResolvingCode
+mod ValidatingCode

@@ -27,7 +27,7 @@ fn hand_over(r: Answer, work: &[u8], a: usize, output: &mut [u8])
     }
 }
 
-// Validating alone: questions 1 to 4. There is no output; the yes has the tape's length, since its tree is written as it was.
+// Validating alone: questions 1 to 4, with no output. A tape that is read is the tape of its tree, so a yes has its length.
 pub fn validate(tape: &[u8], work: &mut [u8]) -> Answer
     ensures { λ r. ⌜ Checked (validateCall true 2 (now (tape .entry)) 0 (length (now (work .entry)))) (now (tape .entry)) (now (work .entry)) r (now (work .exit)) ⌝ }
 {

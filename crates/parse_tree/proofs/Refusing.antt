@@ -3,7 +3,6 @@ use mathlib.Core.Path.{_≡_, refl, ap, _∙_}
 use Prim.Native.Nat.{ℕ}
 use borrow.Author.Needs.{needs}
 use Rattle.parse_tree.specs.working.Refusals.{refusalAt, refusalOver}
-use Rattle.parse_tree.specs.declared.refusal.Refusal.{Refusal}
 use Rattle.parse_tree.specs.declared.syntax.Span.{Span}
 
 pub at-is : (n p : ℕ) → record { number = n; from = p; to = p } ≡ refusalAt n p

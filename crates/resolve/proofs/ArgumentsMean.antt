@@ -37,8 +37,8 @@ use Rattle.resolve.specs.declared.Found.{Found}
 use Rattle.resolve.specs.declared.Scope.{Scope}
 use Rattle.resolve.specs.Scopes.{base, foundBy, found}
 use Rattle.resolve.specs.Items.{Stamped, stamped, against, argumentIn, argumentsOut}
-use Rattle.resolve.proofs.Stamping.{turn, arguments-turn}
-use Rattle.resolve.proofs.Coding.{codeOfOption, foundOf, Coded, Plain, def-found}
+use Rattle.resolve.proofs.ArgumentsCode.{turn, arguments-turn}
+use Rattle.resolve.proofs.GlobalsTable.{codeOfOption, foundOf, Coded, Plain, def-found}
 use Rattle.resolve.proofs.NamesMean.{Looks}
 use Rattle.resolve.proofs.Readings.{Standing, stands-then}
 

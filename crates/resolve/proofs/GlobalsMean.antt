@@ -26,7 +26,7 @@ use Rattle.parse_tree.specs.declared.syntax.Node.{Node}
 use Rattle.parse_tree.proofs.TextLaws.{both, has-text, number-text}
 use Rattle.parse_tree.proofs.ReadingLaws.{got-as, each-append}
 use Rattle.texts.specs.Table.{entry}
-use Rattle.validate.proofs.Onward.{item-inside}
+use Rattle.validate.proofs.CommandInside.{item-inside}
 use Rattle.passes.specs.Outcome.{Outcome}
 use Rattle.passes.specs.Resolve.{terminalDef, nonterminalDef, Global as Met, nonterminals, externs, matches, globals, checkGlobals}
 use Rattle.resolve.specs.Scopes.{base, codeOf}
@@ -34,10 +34,10 @@ use Rattle.resolve.specs.Globals.{Tabled, thenTabled, globalOf, globalOu
 use Rattle.resolve.specs.declared.Def.{Def}
 use Rattle.resolve.specs.declared.Global.{Global}
 use Rattle.resolve.specs.declared.Scope.{Scope}
-use Rattle.resolve.proofs.Declaring.{scan-end, turn, scan-turn}
+use Rattle.resolve.proofs.GlobalsCode.{scan-end, turn, scan-turn}
 use Rattle.resolve.proofs.Readings.{items-then}
-use Rattle.resolve.proofs.Passing.{Stands, standing-stands, Through, Passing, Begins, nonterminal, terminal, item-begins}
-use Rattle.resolve.proofs.Coding.{defOf, Proper, entered, then-same, then-tabled, entered-append, Tabular, Says, says-as, entered-says}
+use Rattle.resolve.proofs.GlobalsScan.{Stands, standing-stands, Through, Passing, Begins, nonterminal, terminal, item-begins}
+use Rattle.resolve.proofs.GlobalsTable.{defOf, Proper, entered, then-same, then-tabled, entered-append, Tabular, Says, says-as, entered-says}
 
 -- ---- the globals of one code
 abbrev metOf : Nonterminal → Met

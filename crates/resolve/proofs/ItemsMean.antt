@@ -33,14 +33,14 @@ use Rattle.parse_tree.proofs.Asking.{Passes}
 use Rattle.parse_tree.proofs.Expecting.{item-wanted, argument-wanted}
 use Rattle.parse_tree.proofs.FromCommands.{argument-within, terminal-within}
 use Rattle.parse_tree.proofs.ItemFound.{item-finds}
-use Rattle.validate.proofs.Onward.{item-inside}
+use Rattle.validate.proofs.CommandInside.{item-inside}
 use Rattle.passes.specs.Outcome.{Tree, Outcome, yes, no, after, withAlternatives}
 use Rattle.passes.specs.Resolve.{checkCondition, validateSymbols, validateAlternatives, validateMacroArgs, validateItems}
 use Rattle.resolve.specs.declared.Scope.{Scope}
 use Rattle.resolve.specs.Scopes.{base}
 use Rattle.resolve.specs.Walks.{prefix}
 use Rattle.resolve.specs.Items.{Put, put, unput, argumentsOut, putBy, stampedThen, prefixPut, putThen, within, dataOut, nowhere, itemIn, itemOut, itemsOut}
-use Rattle.resolve.proofs.Replacing.{turn, items-turn, items-end}
+use Rattle.resolve.proofs.ItemsCode.{turn, items-turn, items-end}
 use Rattle.resolve.proofs.NamesMean.{outOf}
 use Rattle.resolve.proofs.Readings.{Standing, standing-inside, stands-then, times-length, items-then}
 use Rattle.resolve.proofs.SymbolsMean.{after-yes, yes-as}

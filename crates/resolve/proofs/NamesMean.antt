@@ -33,7 +33,7 @@ use Rattle.resolve.specs.declared.Verdict.{Verdict}
 use Rattle.resolve.specs.Scopes.{found}
 use Rattle.resolve.specs.Names.{idBy, conditionBy, nonterminalBy, ambiguousBy, macroBy, idOf, conditionSays, nonterminalSays, macroSays, overSays, ambiguousSays, leafSays}
 use Rattle.resolve.specs.Walks.{Out, wrote, denied, leafBy}
-use Rattle.resolve.proofs.Coding.{foundOf}
+use Rattle.resolve.proofs.GlobalsTable.{foundOf}
 
 -- the tables answer each atom as the lookup does
 abbrev pub Looks : Scope → List ℕ → List Text → Tree → List Text → Type 0

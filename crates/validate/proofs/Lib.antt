@@ -1,13 +1,13 @@
 -- What the proofs of several functions, and of the crates above, use.
-mod Defining
-mod Suiting
-pub mod Onward
-pub mod Commanding
-mod Walking
-mod Others
-mod Fronting
-mod Gathering
-mod Wholes
-mod Alike
-mod Parting
-mod Itemizing
+mod QuestionsCode
+mod SuitsCode
+pub mod CommandInside
+pub mod CommandCode
+mod SymbolsCode
+mod CommandKinds
+mod FrontCode
+mod AtomsCode
+mod EntryCode
+mod CommandMean
+mod AlternativesCode
+mod ItemsCode

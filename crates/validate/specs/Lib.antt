@@ -1,4 +1,4 @@
--- What the contracts of validate cite. Whole has the entry's.
+-- What the contracts of validate cite. Whole has what the crates above ask of it.
 pub mod Steps
 pub mod Front
 pub mod Whole

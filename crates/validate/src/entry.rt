@@ -9,7 +9,7 @@ ghost use Prim.Native.Nat.{_*_, _≤_};
 ghost use lib.ListN.{length};
 ghost use Rattle.validate.specs.Whole.{Validates};
 
-// The tape's atoms and items; work is long enough for the table. Atoms' numbers have `width` bytes, and `four` says whether question 4 is asked.
+// The tape's atoms and items; work is long enough for the table. An atom's number has `width` bytes; `four` says whether question 4 is asked.
 pub fn validate(tape: &[u8], work: &mut [u8], width: usize, four: bool) -> Validated
     requires { ⌜ (8 * length (now tape) ≤ length (now work)) × (2 ≤ width) × (width ≤ 3) ⌝ }
     ensures { λ r. ⌜ Validates four width (now (tape .entry)) r (now (work .exit)) ⌝ }

@@ -10,8 +10,8 @@ pub mod questions;
 pub mod suits;
 pub mod symbols;
 
-// The table of a tape's atoms: how many it has room for, how many there are, and the width of their numbers in bytes; and whether question 4
-// is asked of what names them.
+// The table of a tape's atoms: how many it has room for, how many there are, and the width of their numbers in bytes.
+// `four` says whether question 4 is asked.
 pub struct Atoms {
     pub room: usize,
     pub count: usize,

@@ -1,4 +1,4 @@
-use Rattle.normalize.proofs.Handing.{handing}
+use Rattle.normalize.proofs.HandOverCode.{handing}
 use borrow.Author.Needs.{needs}
 use Rattle.normalize.proofs.calls.hand_over.Statement.{statement}
 use Rattle.normalize.proofs.calls.hand_over.Tie as tie

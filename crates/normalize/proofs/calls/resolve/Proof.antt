@@ -1,4 +1,4 @@
-use Rattle.normalize.proofs.Calling.{calling}
+use Rattle.normalize.proofs.CallsCode.{calling}
 use borrow.Author.Needs.{needs}
 use Rattle.normalize.proofs.calls.resolve.Statement.{statement}
 use Rattle.normalize.proofs.calls.resolve.Tie as tie

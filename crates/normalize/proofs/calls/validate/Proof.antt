@@ -1,5 +1,4 @@
-use Rattle.normalize.proofs.Calling.{checking}
-use borrow.Author.Needs.{needs}
+use Rattle.normalize.proofs.CallsCode.{checking}
 use Rattle.normalize.proofs.calls.validate.Statement.{statement}
 use Rattle.normalize.proofs.calls.validate.Tie as tie
 

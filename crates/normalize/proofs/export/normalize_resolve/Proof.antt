@@ -1,4 +1,4 @@
-use Rattle.normalize.proofs.Exporting.{exporting}
+use Rattle.normalize.proofs.ExportCode.{exporting}
 use borrow.Author.Needs.{needs}
 use Rattle.normalize.proofs.export.normalize_resolve.Statement.{statement}
 use Rattle.normalize.proofs.export.normalize_resolve.Tie as tie

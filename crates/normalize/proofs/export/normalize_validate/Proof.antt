@@ -1,5 +1,4 @@
-use Rattle.normalize.proofs.Exporting.{exporting}
-use borrow.Author.Needs.{needs}
+use Rattle.normalize.proofs.ExportCode.{exporting}
 use Rattle.normalize.proofs.export.normalize_validate.Statement.{statement}
 use Rattle.normalize.proofs.export.normalize_validate.Tie as tie
 

@@ -1,5 +1,4 @@
-use Rattle.normalize.proofs.Exporting.{wording}
-use borrow.Author.Needs.{needs}
+use Rattle.normalize.proofs.ExportCode.{wording}
 use Rattle.normalize.proofs.export.words.Statement.{statement}
 use Rattle.normalize.proofs.export.words.Tie as tie
 

@@ -1,4 +1,4 @@
-use Rattle.normalize.proofs.ResolvedStage.{stages}
+use Rattle.normalize.proofs.ResolvingCode.{stages}
 use borrow.Author.Needs.{needs}
 use Rattle.normalize.proofs.resolving.resolve_stage.Statement.{statement}
 use Rattle.normalize.proofs.resolving.resolve_stage.Tie as tie

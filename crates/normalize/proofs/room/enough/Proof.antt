@@ -1,4 +1,4 @@
-use Rattle.normalize.proofs.Rooms.{rooms}
+use Rattle.normalize.proofs.RoomCode.{rooms}
 use Rattle.normalize.proofs.room.enough.Statement.{statement}
 use Rattle.normalize.proofs.room.enough.Tie as tie
 use Rattle.normalize.proofs.room.enough.Reads as reads

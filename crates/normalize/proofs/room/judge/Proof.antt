@@ -1,5 +1,4 @@
-use Rattle.normalize.proofs.Rooms.{rooms}
-use borrow.Author.Needs.{needs}
+use Rattle.normalize.proofs.RoomCode.{rooms}
 use Rattle.normalize.proofs.room.judge.Statement.{statement}
 use Rattle.normalize.proofs.room.judge.Tie as tie
 

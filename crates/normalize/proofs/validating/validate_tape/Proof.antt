@@ -1,5 +1,4 @@
-use Rattle.normalize.proofs.ValidatedTape.{tapes}
-use borrow.Author.Needs.{needs}
+use Rattle.normalize.proofs.ValidatingCode.{tapes}
 use Rattle.normalize.proofs.validating.validate_tape.Statement.{statement}
 use Rattle.normalize.proofs.validating.validate_tape.Tie as tie
 

@@ -1,4 +1,4 @@
-use Rattle.resolve.proofs.Declaring.{declaring}
+use Rattle.resolve.proofs.GlobalsCode.{declaring}
 use borrow.Author.Needs.{needs}
 use Rattle.resolve.proofs.globals.declare.Statement.{statement}
 use Rattle.resolve.proofs.globals.declare.Tie as tie

@@ -1,4 +1,4 @@
-use Rattle.resolve.proofs.Declaring.{commanding}
+use Rattle.resolve.proofs.GlobalsCode.{commanding}
 use borrow.Author.Needs.{needs}
 use Rattle.resolve.proofs.globals.declare_command.Statement.{statement}
 use Rattle.resolve.proofs.globals.declare_command.Tie as tie

@@ -1,6 +1,6 @@
 use lib.ListN.{length}
 use Prim.Native.Nat.{_-_}
-use Rattle.resolve.proofs.Declaring.{Scanning, scanning}
+use Rattle.resolve.proofs.GlobalsCode.{Scanning, scanning}
 use Rattle.resolve.proofs.globals.declare_each.Statement.{statement}
 use Rattle.resolve.proofs.globals.declare_each.Tie as tie
 

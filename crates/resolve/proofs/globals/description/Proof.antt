@@ -1,4 +1,4 @@
-use Rattle.resolve.proofs.Declaring.{describing}
+use Rattle.resolve.proofs.GlobalsCode.{describing}
 use borrow.Author.Needs.{needs}
 use Rattle.resolve.proofs.globals.description.Statement.{statement}
 use Rattle.resolve.proofs.globals.description.Tie as tie

@@ -1,4 +1,4 @@
-use Rattle.resolve.proofs.Declaring.{declared}
+use Rattle.resolve.proofs.GlobalsCode.{declared}
 use borrow.Author.Needs.{needs}
 use Rattle.resolve.proofs.globals.global.Statement.{statement}
 use Rattle.resolve.proofs.globals.global.Tie as tie

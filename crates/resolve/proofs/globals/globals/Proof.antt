@@ -1,4 +1,4 @@
-use Rattle.resolve.proofs.Declaring.{tabulating}
+use Rattle.resolve.proofs.GlobalsCode.{tabulating}
 use borrow.Author.Needs.{needs}
 use Rattle.resolve.proofs.globals.globals.Statement.{statement}
 use Rattle.resolve.proofs.globals.globals.Tie as tie

@@ -1,4 +1,4 @@
-use Rattle.resolve.proofs.Stamping.{marking}
+use Rattle.resolve.proofs.ArgumentsCode.{marking}
 use borrow.Author.Needs.{needs}
 use Rattle.resolve.proofs.items.marked.Statement.{statement}
 use Rattle.resolve.proofs.items.marked.Tie as tie

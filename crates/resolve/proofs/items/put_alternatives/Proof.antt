@@ -1,4 +1,4 @@
-use Rattle.resolve.proofs.Replacing.{listing}
+use Rattle.resolve.proofs.ItemsCode.{listing}
 use borrow.Author.Needs.{needs}
 use Rattle.resolve.proofs.items.put_alternatives.Statement.{statement}
 use Rattle.resolve.proofs.items.put_alternatives.Tie as tie

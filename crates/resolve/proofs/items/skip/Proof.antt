@@ -1,4 +1,4 @@
-use Rattle.resolve.proofs.Alternating.{skipping, Skips}
+use Rattle.resolve.proofs.AlternativesCode.{skipping, Skips}
 use Rattle.resolve.proofs.items.skip.Statement.{statement}
 use Rattle.resolve.proofs.items.skip.Tie as tie
 use Rattle.resolve.proofs.items.skip.Reads as reads

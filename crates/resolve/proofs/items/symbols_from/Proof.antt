@@ -1,4 +1,4 @@
-use Rattle.resolve.proofs.Alternating.{starting}
+use Rattle.resolve.proofs.AlternativesCode.{starting}
 use borrow.Author.Needs.{needs}
 use Rattle.resolve.proofs.items.symbols_from.Statement.{statement}
 use Rattle.resolve.proofs.items.symbols_from.Tie as tie

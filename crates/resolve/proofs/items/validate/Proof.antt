@@ -1,4 +1,4 @@
-use Rattle.resolve.proofs.Replacing.{Placing, placing}
+use Rattle.resolve.proofs.ItemsCode.{Placing, placing}
 use lib.ListN.{length}
 use Prim.Native.Nat.{_-_}
 use Rattle.resolve.proofs.items.validate.Statement.{statement}

@@ -1,4 +1,4 @@
-use Rattle.resolve.proofs.Alternating.{alternative-from, alternative-upto, alternating}
+use Rattle.resolve.proofs.AlternativesCode.{alternative-from, alternative-upto, alternating}
 use borrow.Author.Needs.{needs}
 use Rattle.resolve.proofs.items.validate_alternative.Statement.{statement}
 use Rattle.resolve.proofs.items.validate_alternative.Tie as tie

@@ -1,7 +1,7 @@
 use Rattle.resolve.specs.Scopes.{tables}
 use Rattle.resolve.specs.Items.{alternativeOut}
-use Rattle.resolve.proofs.Staging.{Carrying}
-use Rattle.resolve.proofs.Alternating.{alternatives}
+use Rattle.resolve.proofs.SymbolsCode.{Carrying}
+use Rattle.resolve.proofs.AlternativesCode.{alternatives}
 use Rattle.resolve.proofs.items.validate_alternatives.Statement.{statement}
 use Rattle.resolve.proofs.items.validate_alternatives.Tie as tie
 

@@ -1,4 +1,4 @@
-use Rattle.resolve.proofs.Alternating.{conditions}
+use Rattle.resolve.proofs.AlternativesCode.{conditions}
 use borrow.Author.Needs.{needs}
 use Rattle.resolve.proofs.items.validate_conditions.Statement.{statement}
 use Rattle.resolve.proofs.items.validate_conditions.Tie as tie

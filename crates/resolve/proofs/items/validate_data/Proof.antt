@@ -1,4 +1,4 @@
-use Rattle.resolve.proofs.Replacing.{replacing}
+use Rattle.resolve.proofs.ItemsCode.{replacing}
 use borrow.Author.Needs.{needs}
 use Rattle.resolve.proofs.items.validate_data.Statement.{statement}
 use Rattle.resolve.proofs.items.validate_data.Tie as tie

@@ -1,4 +1,4 @@
-use Rattle.resolve.proofs.Replacing.{itemizing}
+use Rattle.resolve.proofs.ItemsCode.{itemizing}
 use borrow.Author.Needs.{needs}
 use Rattle.resolve.proofs.items.validate_item.Statement.{statement}
 use Rattle.resolve.proofs.items.validate_item.Tie as tie

@@ -1,4 +1,4 @@
-use Rattle.resolve.proofs.Stamping.{Marking, marking}
+use Rattle.resolve.proofs.ArgumentsCode.{Marking, marking}
 use Rattle.resolve.proofs.items.validate_macro_args.Statement.{statement}
 use Rattle.resolve.proofs.items.validate_macro_args.Tie as tie
 

@@ -1,4 +1,4 @@
-use Rattle.resolve.proofs.Naming.{naming}
+use Rattle.resolve.proofs.NamesCode.{naming}
 use borrow.Author.Needs.{needs}
 use Rattle.resolve.proofs.names.validate_leaf.Statement.{statement}
 use Rattle.resolve.proofs.names.validate_leaf.Tie as tie

@@ -1,4 +1,4 @@
-use Rattle.resolve.proofs.Scoping.{coding}
+use Rattle.resolve.proofs.ScopesCode.{coding}
 use borrow.Author.Needs.{needs}
 use Rattle.resolve.proofs.scopes.code.Statement.{statement}
 use Rattle.resolve.proofs.scopes.code.Tie as tie

@@ -1,4 +1,4 @@
-use Rattle.resolve.proofs.Scoping.{scoping}
+use Rattle.resolve.proofs.ScopesCode.{scoping}
 use borrow.Author.Needs.{needs}
 use Rattle.resolve.proofs.scopes.def.Statement.{statement}
 use Rattle.resolve.proofs.scopes.def.Tie as tie

@@ -1,7 +1,7 @@
 use Prim.Native.Nat.{_*_, _+_, ℕ, _<_}
 use Rattle.resolve.specs.Scopes.{tables}
 use Rattle.resolve.specs.Walks.{symOut}
-use Rattle.resolve.proofs.Staging.{staging, Carrying}
+use Rattle.resolve.proofs.SymbolsCode.{staging, Carrying}
 use borrow.Fn.Kinds.{In}
 use borrow.Fn.PlainCycle.{Measures, is, falls, and}
 use Rattle.resolve.proofs.symbols.validate_expr.Reads as validate-expr

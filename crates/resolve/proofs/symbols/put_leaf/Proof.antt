@@ -1,4 +1,4 @@
-use Rattle.resolve.proofs.Staging.{staging}
+use Rattle.resolve.proofs.SymbolsCode.{staging}
 use borrow.Author.Needs.{needs}
 use Rattle.resolve.proofs.symbols.put_leaf.Statement.{statement}
 use Rattle.resolve.proofs.symbols.put_leaf.Tie as tie

@@ -1,4 +1,4 @@
-use Rattle.resolve.proofs.Staging.{staging}
+use Rattle.resolve.proofs.SymbolsCode.{staging}
 use borrow.Author.Needs.{needs}
 use Rattle.resolve.proofs.symbols.symbol_at.Statement.{statement}
 use Rattle.resolve.proofs.symbols.symbol_at.Tie as tie

@@ -1,4 +1,4 @@
-use Rattle.resolve.proofs.Resolving.{planting}
+use Rattle.resolve.proofs.WholeCode.{planting}
 use borrow.Author.Needs.{needs}
 use Rattle.resolve.proofs.whole.put_tree.Statement.{statement}
 use Rattle.resolve.proofs.whole.put_tree.Tie as tie

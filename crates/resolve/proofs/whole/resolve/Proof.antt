@@ -1,4 +1,4 @@
-use Rattle.resolve.proofs.Resolving.{resolving}
+use Rattle.resolve.proofs.WholeCode.{resolving}
 use borrow.Author.Needs.{needs}
 use Rattle.resolve.proofs.whole.resolve.Statement.{statement}
 use Rattle.resolve.proofs.whole.resolve.Tie as tie

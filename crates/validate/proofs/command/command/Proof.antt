@@ -1,4 +1,4 @@
-use Rattle.validate.proofs.Commanding.{asked-fits, commanding}
+use Rattle.validate.proofs.CommandCode.{asked-fits, commanding}
 use borrow.Author.Needs.{needs}
 use Rattle.validate.proofs.command.command.Statement.{statement}
 use Rattle.validate.proofs.command.command.Tie as tie

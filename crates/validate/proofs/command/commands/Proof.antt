@@ -3,7 +3,7 @@ use Rattle.texts.specs.Atoms.{atomsOf}
 use Rattle.parse_tree.specs.plain.Reading.{times}
 use Rattle.parse_tree.specs.working.Decode.{ask}
 use mathlib.Core.Path.{_≡_}
-use Rattle.validate.proofs.Walking.{commands}
+use Rattle.validate.proofs.CommandCode.{commands}
 use Rattle.validate.proofs.command.commands.Statement.{statement}
 use Rattle.validate.proofs.command.commands.Tie as tie
 

@@ -1,4 +1,4 @@
-use Rattle.validate.proofs.Wholes.{wholes}
+use Rattle.validate.proofs.EntryCode.{wholes}
 use borrow.Author.Needs.{needs}
 use Rattle.validate.proofs.entry.validate.Statement.{statement}
 use Rattle.validate.proofs.entry.validate.Tie as tie

@@ -1,6 +1,6 @@
 use Prim.Native.Nat.{_-_}
 use lib.ListN.{length}
-use Rattle.validate.proofs.Gathering.{Gathering, gathering}
+use Rattle.validate.proofs.AtomsCode.{Gathering, gathering}
 use Rattle.validate.proofs.front.atoms.Statement.{statement}
 use Rattle.validate.proofs.front.atoms.Tie as tie
 

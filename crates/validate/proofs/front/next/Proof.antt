@@ -1,4 +1,4 @@
-use Rattle.validate.proofs.Fronting.{nexts}
+use Rattle.validate.proofs.FrontCode.{nexts}
 use borrow.Author.Needs.{needs}
 use Rattle.validate.proofs.front.next.Statement.{statement}
 use Rattle.validate.proofs.front.next.Tie as tie

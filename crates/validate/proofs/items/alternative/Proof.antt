@@ -1,4 +1,4 @@
-use Rattle.validate.proofs.Parting.{alternative}
+use Rattle.validate.proofs.AlternativesCode.{alternative}
 use borrow.Author.Needs.{needs}
 use Rattle.validate.proofs.items.alternative.Statement.{statement}
 use Rattle.validate.proofs.items.alternative.Tie as tie

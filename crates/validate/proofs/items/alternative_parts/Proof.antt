@@ -1,4 +1,4 @@
-use Rattle.validate.proofs.Parting.{alternative-parts}
+use Rattle.validate.proofs.AlternativesCode.{alternative-parts}
 use borrow.Author.Needs.{needs}
 use Rattle.validate.proofs.items.alternative_parts.Statement.{statement}
 use Rattle.validate.proofs.items.alternative_parts.Tie as tie

@@ -3,7 +3,7 @@ use Rattle.texts.specs.Atoms.{atomsOf}
 use Rattle.parse_tree.specs.working.Decode.{readAlternative}
 use Rattle.parse_tree.specs.plain.Reading.{times}
 use mathlib.Core.Path.{_≡_}
-use Rattle.validate.proofs.Parting.{alternatives}
+use Rattle.validate.proofs.AlternativesCode.{alternatives}
 use Rattle.validate.proofs.items.alternatives.Statement.{statement}
 use Rattle.validate.proofs.items.alternatives.Tie as tie
 

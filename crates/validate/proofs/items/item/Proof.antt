@@ -1,4 +1,4 @@
-use Rattle.validate.proofs.Itemizing.{item}
+use Rattle.validate.proofs.ItemsCode.{item}
 use borrow.Author.Needs.{needs}
 use Rattle.validate.proofs.items.item.Statement.{statement}
 use Rattle.validate.proofs.items.item.Tie as tie

@@ -3,7 +3,7 @@ use Rattle.texts.specs.Atoms.{atomsOf}
 use Rattle.parse_tree.specs.working.Decode.{readItems}
 use lib.ListN.{length}
 use Prim.Native.Nat.{_-_}
-use Rattle.validate.proofs.Itemizing.{Left, items}
+use Rattle.validate.proofs.ItemsCode.{Left, items}
 use Rattle.validate.proofs.items.items.Statement.{statement}
 use Rattle.validate.proofs.items.items.Tie as tie
 

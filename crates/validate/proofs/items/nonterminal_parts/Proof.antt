@@ -1,4 +1,4 @@
-use Rattle.validate.proofs.Itemizing.{nonterminal-parts}
+use Rattle.validate.proofs.ItemsCode.{nonterminal-parts}
 use borrow.Author.Needs.{needs}
 use Rattle.validate.proofs.items.nonterminal_parts.Statement.{statement}
 use Rattle.validate.proofs.items.nonterminal_parts.Tie as tie

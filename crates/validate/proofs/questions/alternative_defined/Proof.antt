@@ -1,4 +1,4 @@
-use Rattle.validate.proofs.Defining.{alternatives}
+use Rattle.validate.proofs.QuestionsCode.{alternatives}
 use borrow.Author.Needs.{needs}
 use Rattle.validate.proofs.questions.alternative_defined.Statement.{statement}
 use Rattle.validate.proofs.questions.alternative_defined.Tie as tie

@@ -1,4 +1,4 @@
-use Rattle.validate.proofs.Defining.{attributes}
+use Rattle.validate.proofs.QuestionsCode.{attributes}
 use borrow.Author.Needs.{needs}
 use Rattle.validate.proofs.questions.attribute_defined.Statement.{statement}
 use Rattle.validate.proofs.questions.attribute_defined.Tie as tie

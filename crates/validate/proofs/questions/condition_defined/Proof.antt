@@ -1,4 +1,4 @@
-use Rattle.validate.proofs.Defining.{conditions}
+use Rattle.validate.proofs.QuestionsCode.{conditions}
 use borrow.Author.Needs.{needs}
 use Rattle.validate.proofs.questions.condition_defined.Statement.{statement}
 use Rattle.validate.proofs.questions.condition_defined.Tie as tie

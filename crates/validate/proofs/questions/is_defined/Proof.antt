@@ -1,4 +1,4 @@
-use Rattle.validate.proofs.Defining.{nodes}
+use Rattle.validate.proofs.QuestionsCode.{nodes}
 use borrow.Author.Needs.{needs}
 use Rattle.validate.proofs.questions.is_defined.Statement.{statement}
 use Rattle.validate.proofs.questions.is_defined.Tie as tie

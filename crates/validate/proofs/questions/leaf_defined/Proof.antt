@@ -1,4 +1,4 @@
-use Rattle.validate.proofs.Defining.{leaves}
+use Rattle.validate.proofs.QuestionsCode.{leaves}
 use borrow.Author.Needs.{needs}
 use Rattle.validate.proofs.questions.leaf_defined.Statement.{statement}
 use Rattle.validate.proofs.questions.leaf_defined.Tie as tie

@@ -1,4 +1,4 @@
-use Rattle.validate.proofs.Defining.{symbols}
+use Rattle.validate.proofs.QuestionsCode.{symbols}
 use borrow.Author.Needs.{needs}
 use Rattle.validate.proofs.questions.over_defined.Statement.{statement}
 use Rattle.validate.proofs.questions.over_defined.Tie as tie

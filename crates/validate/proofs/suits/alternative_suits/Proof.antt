@@ -1,4 +1,4 @@
-use Rattle.validate.proofs.Suiting.{parts}
+use Rattle.validate.proofs.SuitsCode.{parts}
 use borrow.Author.Needs.{needs}
 use Rattle.validate.proofs.suits.alternative_suits.Statement.{statement}
 use Rattle.validate.proofs.suits.alternative_suits.Tie as tie

@@ -1,4 +1,4 @@
-use Rattle.validate.proofs.Suiting.{apt}
+use Rattle.validate.proofs.SuitsCode.{apt}
 use borrow.Author.Needs.{needs}
 use Rattle.validate.proofs.suits.is_apt.Statement.{statement}
 use Rattle.validate.proofs.suits.is_apt.Tie as tie

@@ -1,4 +1,4 @@
-use Rattle.validate.proofs.Suiting.{texts}
+use Rattle.validate.proofs.SuitsCode.{texts}
 use borrow.Author.Needs.{needs}
 use Rattle.validate.proofs.suits.is_name.Statement.{statement}
 use Rattle.validate.proofs.suits.is_name.Tie as tie

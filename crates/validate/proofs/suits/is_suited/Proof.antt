@@ -1,4 +1,4 @@
-use Rattle.validate.proofs.Suiting.{nodes}
+use Rattle.validate.proofs.SuitsCode.{nodes}
 use borrow.Author.Needs.{needs}
 use Rattle.validate.proofs.suits.is_suited.Statement.{statement}
 use Rattle.validate.proofs.suits.is_suited.Tie as tie

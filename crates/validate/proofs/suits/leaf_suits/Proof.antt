@@ -1,4 +1,4 @@
-use Rattle.validate.proofs.Suiting.{leaves}
+use Rattle.validate.proofs.SuitsCode.{leaves}
 use borrow.Author.Needs.{needs}
 use Rattle.validate.proofs.suits.leaf_suits.Statement.{statement}
 use Rattle.validate.proofs.suits.leaf_suits.Tie as tie

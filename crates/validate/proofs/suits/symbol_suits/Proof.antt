@@ -1,4 +1,4 @@
-use Rattle.validate.proofs.Suiting.{symbols}
+use Rattle.validate.proofs.SuitsCode.{symbols}
 use borrow.Author.Needs.{needs}
 use Rattle.validate.proofs.suits.symbol_suits.Statement.{statement}
 use Rattle.validate.proofs.suits.symbol_suits.Tie as tie

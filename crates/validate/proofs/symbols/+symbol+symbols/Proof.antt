@@ -3,7 +3,7 @@ use Rattle.texts.specs.Atoms.{atomsOf}
 use Rattle.parse_tree.specs.plain.Reading.{times}
 use Rattle.parse_tree.specs.working.Decode.{readSym}
 use mathlib.Core.Path.{_≡_}
-use Rattle.validate.proofs.Walking.{walking}
+use Rattle.validate.proofs.SymbolsCode.{walking}
 use Prim.Native.Nat.{ℕ, _<_, _*_, _+_}
 use borrow.Fn.Kinds.{In}
 use borrow.Fn.PlainCycle.{Measures, is, falls, and}

@@ -1,4 +1,4 @@
-use Rattle.validate.proofs.Walking.{insides}
+use Rattle.validate.proofs.SymbolsCode.{insides}
 use borrow.Author.Needs.{needs}
 use Rattle.validate.proofs.symbols.inside.Statement.{statement}
 use Rattle.validate.proofs.symbols.inside.Tie as tie

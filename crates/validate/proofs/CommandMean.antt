@@ -16,12 +16,10 @@ use Rattle.parse_tree.specs.working.Expect.{expectArgument, expectAttribute, ex
 use Rattle.parse_tree.specs.working.Operands.{textOf, attributeOf, conditionOf}
 use Rattle.parse_tree.specs.working.Decode.{ask, readArgument, readAttribute, readCondition}
 use Rattle.parse_tree.specs.working.Refusals.{refusalAt}
-use Rattle.parse_tree.specs.declared.refusal.Refusal.{Refusal}
 use Rattle.parse_tree.specs.declared.syntax.Node.{Node}
 use Rattle.validate.specs.Steps.{stepOf}
 use Rattle.validate.specs.declared.Step.{Step}
-use Rattle.validate.proofs.Commanding.{step-refused, refuses-step}
-use Rattle.validate.proofs.Walking.{refuses-then}
+use Rattle.validate.proofs.CommandCode.{step-refused, refuses-step, refuses-then}
 
 -- what is read behind a command goes on from it, if it is of a kind that may stand at its place
 module _ {B : Type 0} (place at : ℕ) (f : Node → ℕ → Reading B) (on : (n : Node) (e : ℕ) → allowedAt place (classOf n) ≡ true → stepOf (f n e) ≡ Step.Next e) where

@@ -31,8 +31,8 @@ use Rattle.resolve.specs.Names.{conditionSays}
 use Rattle.resolve.specs.Walks.{Out, denied, prefix, many, Staged, astray, symOut}
 use Rattle.resolve.specs.Items.{skipTo, stray, passedBy, conditionIn, alternativeIn, passedThen, conditionOut, alternativeOut}
 use Rattle.resolve.proofs.Inside.{command-inside, known-fits, alternative-below}
-use Rattle.resolve.proofs.Declaring.{next-not}
-use Rattle.resolve.proofs.Staging.{staged-prefix, staged-denied, staged-as, area-next, tables-laid, Carrying, carry-start, carry-end, step-next, step-stop}
+use Rattle.resolve.proofs.GlobalsCode.{next-not}
+use Rattle.resolve.proofs.SymbolsCode.{staged-prefix, staged-denied, staged-as, area-next, tables-laid, Carrying, carry-start, carry-end, step-next, step-stop}
 
 -- ---- skip: k commands are to come from p on
 pub record Skips (w : ℕ) (s : List ℕ) (n at k p : ℕ) : Type 0 where

@@ -44,7 +44,7 @@ use Rattle.resolve.specs.declared.Walked.{Walked}
 use Rattle.normalize.specs.plain.Answers.{answerOf}
 use Rattle.normalize.specs.working.Stages.{sized, staged, Holds, Resolved}
 use Rattle.normalize.specs.declared.Answer.{Answer}
-use Rattle.normalize.proofs.Admitting.{admit-many, admit-long, admit-done}
+use Rattle.normalize.proofs.ResolvingMean.{admit-many, admit-long, admit-done}
 
 -- the tables of a tape of n bytes, and behind them cap bytes for the tree
 abbrev scopeOf : Atoms → ℕ → ℕ → Scope

@@ -36,10 +36,10 @@ use Rattle.resolve.specs.Items.{Put, prefixPut, behind, Laying, Replaced
 use Rattle.resolve.specs.Whole.{Resolving, treeOut, Written, Answers, ResolvesRead, Resolves}
 use Rattle.resolve.proofs.Regions.{behind-lay}
 use Rattle.resolve.proofs.Readings.{items-then}
-use Rattle.resolve.proofs.Staging.{area-next, tables-laid}
-use Rattle.resolve.proofs.Declaring.{fine-not}
-use Rattle.resolve.proofs.Replacing.{replaced-prefix}
-use Rattle.resolve.proofs.Coding.{Tabular}
+use Rattle.resolve.proofs.SymbolsCode.{area-next, tables-laid}
+use Rattle.resolve.proofs.GlobalsCode.{fine-not}
+use Rattle.resolve.proofs.ItemsCode.{replaced-prefix}
+use Rattle.resolve.proofs.GlobalsTable.{Tabular}
 use Rattle.resolve.proofs.GlobalsMean.{GlobalsSay, globals-mean}
 use Rattle.resolve.proofs.ArgumentsMean.{Scoped}
 use Rattle.resolve.proofs.ItemsMean.{Puts, items-mean}

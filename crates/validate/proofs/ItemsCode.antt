@@ -29,12 +29,11 @@ use Rattle.validate.specs.Steps.{Itemed, askedOf, stepOf}
 use Rattle.validate.specs.declared.Atoms.{Atoms}
 use Rattle.validate.specs.declared.Asked.{Asked}
 use Rattle.validate.specs.declared.Step.{Step}
-use Rattle.validate.proofs.Others.{no-item}
-use Rattle.validate.proofs.Onward.{item-inside}
-use Rattle.validate.proofs.Alike.{arguments-alike}
-use Rattle.validate.proofs.Commanding.{asked-got, asked-refused, step-got, refuses-step}
-use Rattle.validate.proofs.Walking.{then-is, refuses-then, step-then}
-use Rattle.validate.proofs.Parting.{step-on, step-off}
+use Rattle.validate.proofs.CommandKinds.{no-item}
+use Rattle.validate.proofs.CommandInside.{item-inside}
+use Rattle.validate.proofs.CommandMean.{arguments-alike}
+use Rattle.validate.proofs.CommandCode.{asked-got, asked-refused, step-got, refuses-step, then-is, refuses-then, step-then}
+use Rattle.validate.proofs.AlternativesCode.{step-on, step-off}
 
 -- ---- `nonterminal_parts`: r is the step over the arguments
 module _ (four : Bool) (s : List ℕ) (w atoms : ℕ) (d : NonterminalData) (at n : ℕ) (r : Step) (i : r ≡ stepOf (times (ask four w s (atomsOf s atoms) argumentsPlace 1) n at)) (j : n ≡ d .args) where

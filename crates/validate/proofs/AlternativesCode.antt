@@ -22,10 +22,9 @@ use Rattle.texts.specs.Atoms.{atomsOf}
 use Rattle.validate.specs.Steps.{askedOf, stepOf}
 use Rattle.validate.specs.declared.Asked.{Asked}
 use Rattle.validate.specs.declared.Step.{Step}
-use Rattle.validate.proofs.Others.{no-alternative}
-use Rattle.validate.proofs.Alike.{attributes-alike, conditions-alike}
-use Rattle.validate.proofs.Commanding.{asked-got, asked-refused, step-got, step-refused, refuses-step}
-use Rattle.validate.proofs.Walking.{then-is, refuses-then, step-then, times-none, times-next, times-stop}
+use Rattle.validate.proofs.CommandKinds.{no-alternative}
+use Rattle.validate.proofs.CommandMean.{attributes-alike, conditions-alike}
+use Rattle.validate.proofs.CommandCode.{asked-got, asked-refused, step-got, step-refused, refuses-step, then-is, refuses-then, step-then, times-none, times-next, times-stop}
 
 -- ---- the step of one reading behind another
 pub step-on : {A B : Type 0} (m : Reading A) (f : A → ℕ → Reading B) (e : ℕ) (y : Step) → Step.Next e ≡ stepOf m → ((x : A) → y ≡ stepOf (f x e)) → y ≡ stepOf (then m f)

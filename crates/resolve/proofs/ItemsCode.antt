@@ -32,9 +32,9 @@ use Rattle.resolve.specs.Walks.{Out, wrote, denied, prefix, many, Staged
 use Rattle.resolve.specs.Items.{Stamped, stamped, against, Stamping, argumentsOut, alternativeOut, Put, put, unput, behind, Replaced, putBy, stampedThen, prefixPut, putThen, within, dataOut, nowhere, itemIn, itemOut, itemsOut}
 use Rattle.resolve.proofs.Regions.{tables-lay, behind-lay}
 use Rattle.resolve.proofs.Inside.{command-inside}
-use Rattle.resolve.proofs.Declaring.{noItem, next-not}
-use Rattle.resolve.proofs.Staging.{staged-prefix, area-next, tables-laid}
-use Rattle.resolve.proofs.Stamping.{Ends, arguments-end}
+use Rattle.resolve.proofs.GlobalsCode.{noItem, next-not}
+use Rattle.resolve.proofs.SymbolsCode.{staged-prefix, area-next, tables-laid}
+use Rattle.resolve.proofs.ArgumentsCode.{Ends, arguments-end}
 
 -- ---- answers
 walked-not : {e t : ℕ} {why : Refusal} → Walked.Next e t ≡ Walked.Refused why → ⊥

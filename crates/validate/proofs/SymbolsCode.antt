@@ -1,5 +1,5 @@
--- The loops over commands and symbols, and the ways out of `symbol`. Assumes nothing.
-use mathlib.Core.Path.{_≡_, refl, sym, ap, _∙_}
+-- The loop of `symbols`, and the ways out of `symbol`. Assumes nothing.
+use mathlib.Core.Path.{_≡_, sym, ap, _∙_}
 use mathlib.Core.Bool.{Bool}
 use mathlib.Core.List.{List, [], _∷_}
 use Prim.Native.Nat.{ℕ, zero, suc, _-_, _<_, _≤_}
@@ -10,7 +10,7 @@ use types.Run.{OneOf}
 use Rattle.parse_tree.proofs.syntax.Node.{the-type}
 use Rattle.parse_tree.specs.plain.Tree.{Text, Sym, symsOf}
 use Rattle.parse_tree.specs.working.Places.{symbolsPlace}
-use Rattle.parse_tree.specs.plain.Reading.{Reading, got, refused, then, times}
+use Rattle.parse_tree.specs.plain.Reading.{Reading, got, then, times}
 use Rattle.parse_tree.specs.working.Expect.{expectSymbol}
 use Rattle.parse_tree.specs.working.Operands.{leafOf, aroundOf, overOf, insideOf}
 use Rattle.parse_tree.specs.working.Decode.{ask, readSym}
@@ -27,68 +27,8 @@ use Rattle.texts.specs.Atoms.{atomsOf}
 use Rattle.validate.specs.Steps.{askedOf, stepOf, Refuses}
 use Rattle.validate.specs.declared.Asked.{Asked}
 use Rattle.validate.specs.declared.Step.{Step}
-use Rattle.validate.proofs.Others.{no-symbol}
-use Rattle.validate.proofs.Commanding.{asked-got, asked-refused, step-got, step-refused, refuses-step}
-
--- ---- one reading behind another
-pub then-is : {A B : Type 0} (m : Reading A) (f : A → ℕ → Reading B) (x : A) (e : ℕ) → m ≡ got x e → then m f ≡ f x e
-unfolding then
-then-is {A = A} m f x e q = ap (λ (r : Reading A). then r f) q
-
-pub then-no : {A B : Type 0} (m : Reading A) (f : A → ℕ → Reading B) (k p : ℕ) → m ≡ refused k p → then m f ≡ refused k p
-unfolding then
-then-no {A = A} m f k p q = ap (λ (r : Reading A). then r f) q
-
-pub refuses-then : {A B : Type 0} (m : Reading A) (f : A → ℕ → Reading B) (z : Refusal) → Refuses m z → Refuses (then m f) z
-refuses-then m f z h = record { is = then-no m f (z .number) (z .from) (h .is); twice = h .twice }
-
-pub step-then : {A B : Type 0} (t : Reading A) (g : A → B) → stepOf (then t (λ y e. got (g y) e)) ≡ stepOf t
-unfolding then stepOf
-step-then (got y e) g = refl
-step-then (refused k p) g = refl
-
--- ---- readings in turn: k are to come from p on, and x is what all of them say
-module _ {A : Type 0} (f : ℕ → Reading A) (k p : ℕ) (x : Step) (inv : stepOf (times f k p) ≡ x) where
-  pub times-none : k ≤ 0 → Step.Next p ≡ x
-  unfolding times stepOf
-  times-none h = let z : k ≡ 0 = omega arith in rw z at inv
-
-  opened : 0 < k → times f k p ≡ then (f p) (λ y e. then (times f (k - 1) e) (λ ys e′. got (y ∷ ys) e′))
-  unfolding times
-  opened h = go k refl
-    where
-      go : (j : ℕ) → k ≡ j → times f j p ≡ then (f p) (λ y e. then (times f (k - 1) e) (λ ys e′. got (y ∷ ys) e′))
-      go zero e = absurd (omega arith)
-      go (suc j) e = let z : j ≡ k - 1 = omega arith in rw z
-
-  pub times-next : (e : ℕ) → Step.Next e ≡ stepOf (f p) → 0 < k → stepOf (times f (k - 1) e) ≡ x
-  times-next e q h =
-      let r = step-got (f p) e q in
-      let o = opened h ∙ then-is (f p) (λ y e. then (times f (k - 1) e) (λ ys e′. got (y ∷ ys) e′)) (r .value) e (r .is) in
-      sym (step-then (times f (k - 1) e) (λ ys. r .value ∷ ys)) ∙ sym (ap stepOf o) ∙ inv
-
-  pub times-stop : (z : Refusal) → Step.Refused z ≡ stepOf (f p) → 0 < k → Step.Refused z ≡ x
-  times-stop z r h =
-      let o = refuses-then (f p) (λ y e. then (times f (k - 1) e) (λ ys e′. got (y ∷ ys) e′)) z (step-refused (f p) z r) in
-      refuses-step _ z o ∙ sym (ap stepOf (opened h)) ∙ inv
-
--- ---- `commands`
-module _ (four : Bool) (s : List ℕ) (w atoms place k p : ℕ) (x : Step) (inv : stepOf (times (ask four w s (atomsOf s atoms) place 1) k p) ≡ x) (r : Asked) (i : r ≡ askedOf (ask four w s (atomsOf s atoms) place 1 p)) (h : 0 < k) where
-  pub commands-next : (n : Node) (e : ℕ) → r ≡ Asked.Is n e → stepOf (times (ask four w s (atomsOf s atoms) place 1) (k - 1) e) ≡ x
-  unfolding stepOf
-  commands-next n e q =
-      let z = asked-got (ask four w s (atomsOf s atoms) place 1 p) n e (sym q ∙ i) in
-      times-next (ask four w s (atomsOf s atoms) place 1) k p x inv e (rw z) h
-
-  pub commands-stop : (z : Refusal) → r ≡ Asked.Refused z → Step.Refused z ≡ x
-  commands-stop z u =
-      let n = asked-refused (ask four w s (atomsOf s atoms) place 1 p) z (sym u ∙ i) in
-      times-stop (ask four w s (atomsOf s atoms) place 1) k p x inv z (refuses-step _ z n) h
-
-pub commands-none : (four : Bool) (s : List ℕ) (w atoms place k p : ℕ) (x : Step) → stepOf (times (ask four w s (atomsOf s atoms) place 1) k p) ≡ x → k ≤ 0 → Step.Next p ≡ x
-commands-none four s w atoms place k p x inv h = times-none (ask four w s (atomsOf s atoms) place 1) k p x inv h
-
-pub ruleset commands = (needs, commands-next, commands-stop, commands-none)
+use Rattle.validate.proofs.CommandKinds.{no-symbol}
+use Rattle.validate.proofs.CommandCode.{asked-got, asked-refused, refuses-step, then-is, refuses-then, step-then, times-none, times-next, times-stop}
 
 -- ---- `symbols`
 module _ (four : Bool) (s : List ℕ) (w atoms left k p : ℕ) (x : Step) (inv : stepOf (times (readSym four w s (atomsOf s atoms) left) k p) ≡ x) (r : Step) (i : r ≡ stepOf (readSym four w s (atomsOf s atoms) left p)) (h : 0 < k) where
@@ -102,9 +42,6 @@ pub symbols-none : (four : Bool) (s : List ℕ) (w atoms left k p : ℕ) (x : St
 symbols-none four s w atoms left k p x inv h = times-none (readSym four w s (atomsOf s atoms) left) k p x inv h
 
 -- ---- `symbol`
-pred : (l : ℕ) → suc l - 1 ≡ l
-pred l = omega arith
-
 -- what stands behind a symbol's command, with l levels left inside
 unfoldable inSymbol : Bool → ℕ → List ℕ → List Text → ℕ → Span → SymbolKind → ℕ → Reading Sym
 inSymbol four w s ts l sp k e = elim k [

@@ -1,8 +1,8 @@
--- The ways out of `command`, and its answers taken apart. Assumes nothing.
+-- The ways out of `command`, its answers taken apart, and the loop of `commands`. Assumes nothing.
 use mathlib.Core.Path.{_≡_, refl, sym, ap, _∙_}
 use mathlib.Core.Bool.{Bool, true, false, not}
-use mathlib.Core.List.{List}
-use Prim.Native.Nat.{ℕ, _+_, _^_, _<_, _≤_}
+use mathlib.Core.List.{List, _∷_}
+use Prim.Native.Nat.{ℕ, _+_, _^_, _<_, _≤_, zero, suc, _-_}
 use native.Mathlib.Omega.{arith}
 use borrow.Author.Needs.{needs}
 use borrow.Author.Tests.{le-leb, lt-leb, not-true, not-false}
@@ -13,7 +13,7 @@ use Rattle.octets.specs.working.Choice.{pick}
 use Rattle.parse_tree.specs.working.Nodes.{nodeAt, sizeOf}
 use Rattle.parse_tree.specs.working.Places.{classOf, allowedAt}
 use Rattle.parse_tree.specs.working.Questions.{defined, suits}
-use Rattle.parse_tree.specs.plain.Reading.{Reading, got, refused}
+use Rattle.parse_tree.specs.plain.Reading.{Reading, got, refused, then, times}
 use Rattle.parse_tree.specs.working.Decode.{ask}
 use Rattle.parse_tree.specs.working.Refusals.{refusalAt}
 use Rattle.parse_tree.specs.declared.refusal.Refusal.{Refusal}
@@ -23,7 +23,7 @@ use Rattle.texts.proofs.Tabling.{length-atoms}
 use Rattle.validate.specs.Steps.{askedOf, stepOf, Refuses}
 use Rattle.validate.specs.declared.Asked.{Asked}
 use Rattle.validate.specs.declared.Step.{Step}
-use Rattle.validate.proofs.Onward.{node-inside}
+use Rattle.validate.proofs.CommandInside.{node-inside}
 
 -- ---- n is the command, c its class, o whether it may stand there
 module _ (four : Bool) (s : List ℕ) (w atoms place left at : ℕ) (n : Node) (p : n ≡ nodeAt w s at) (c : ℕ) (q : c ≡ classOf n) (o : Bool) (r : o ≡ allowedAt place c) where
@@ -107,3 +107,63 @@ pub step-got : {A : Type 0} (r : Reading A) (e : ℕ) → Step.Next e ≡ stepOf
 unfolding stepOf
 step-got (got m d) e h = record { value = m; is = cc }
 step-got (refused j q) e h = absurd (let z : _≡_ {A = ℕ} 0 1 = cc in omega arith)
+
+-- ---- one reading behind another
+pub then-is : {A B : Type 0} (m : Reading A) (f : A → ℕ → Reading B) (x : A) (e : ℕ) → m ≡ got x e → then m f ≡ f x e
+unfolding then
+then-is {A = A} m f x e q = ap (λ (r : Reading A). then r f) q
+
+pub then-no : {A B : Type 0} (m : Reading A) (f : A → ℕ → Reading B) (k p : ℕ) → m ≡ refused k p → then m f ≡ refused k p
+unfolding then
+then-no {A = A} m f k p q = ap (λ (r : Reading A). then r f) q
+
+pub refuses-then : {A B : Type 0} (m : Reading A) (f : A → ℕ → Reading B) (z : Refusal) → Refuses m z → Refuses (then m f) z
+refuses-then m f z h = record { is = then-no m f (z .number) (z .from) (h .is); twice = h .twice }
+
+pub step-then : {A B : Type 0} (t : Reading A) (g : A → B) → stepOf (then t (λ y e. got (g y) e)) ≡ stepOf t
+unfolding then stepOf
+step-then (got y e) g = refl
+step-then (refused k p) g = refl
+
+-- ---- readings in turn: k are to come from p on, and x is what all of them say
+module _ {A : Type 0} (f : ℕ → Reading A) (k p : ℕ) (x : Step) (inv : stepOf (times f k p) ≡ x) where
+  pub times-none : k ≤ 0 → Step.Next p ≡ x
+  unfolding times stepOf
+  times-none h = let z : k ≡ 0 = omega arith in rw z at inv
+
+  opened : 0 < k → times f k p ≡ then (f p) (λ y e. then (times f (k - 1) e) (λ ys e′. got (y ∷ ys) e′))
+  unfolding times
+  opened h = go k refl
+    where
+      go : (j : ℕ) → k ≡ j → times f j p ≡ then (f p) (λ y e. then (times f (k - 1) e) (λ ys e′. got (y ∷ ys) e′))
+      go zero e = absurd (omega arith)
+      go (suc j) e = let z : j ≡ k - 1 = omega arith in rw z
+
+  pub times-next : (e : ℕ) → Step.Next e ≡ stepOf (f p) → 0 < k → stepOf (times f (k - 1) e) ≡ x
+  times-next e q h =
+      let r = step-got (f p) e q in
+      let o = opened h ∙ then-is (f p) (λ y e. then (times f (k - 1) e) (λ ys e′. got (y ∷ ys) e′)) (r .value) e (r .is) in
+      sym (step-then (times f (k - 1) e) (λ ys. r .value ∷ ys)) ∙ sym (ap stepOf o) ∙ inv
+
+  pub times-stop : (z : Refusal) → Step.Refused z ≡ stepOf (f p) → 0 < k → Step.Refused z ≡ x
+  times-stop z r h =
+      let o = refuses-then (f p) (λ y e. then (times f (k - 1) e) (λ ys e′. got (y ∷ ys) e′)) z (step-refused (f p) z r) in
+      refuses-step _ z o ∙ sym (ap stepOf (opened h)) ∙ inv
+
+-- ---- `commands`
+module _ (four : Bool) (s : List ℕ) (w atoms place k p : ℕ) (x : Step) (inv : stepOf (times (ask four w s (atomsOf s atoms) place 1) k p) ≡ x) (r : Asked) (i : r ≡ askedOf (ask four w s (atomsOf s atoms) place 1 p)) (h : 0 < k) where
+  pub commands-next : (n : Node) (e : ℕ) → r ≡ Asked.Is n e → stepOf (times (ask four w s (atomsOf s atoms) place 1) (k - 1) e) ≡ x
+  unfolding stepOf
+  commands-next n e q =
+      let z = asked-got (ask four w s (atomsOf s atoms) place 1 p) n e (sym q ∙ i) in
+      times-next (ask four w s (atomsOf s atoms) place 1) k p x inv e (rw z) h
+
+  pub commands-stop : (z : Refusal) → r ≡ Asked.Refused z → Step.Refused z ≡ x
+  commands-stop z u =
+      let n = asked-refused (ask four w s (atomsOf s atoms) place 1 p) z (sym u ∙ i) in
+      times-stop (ask four w s (atomsOf s atoms) place 1) k p x inv z (refuses-step _ z n) h
+
+pub commands-none : (four : Bool) (s : List ℕ) (w atoms place k p : ℕ) (x : Step) → stepOf (times (ask four w s (atomsOf s atoms) place 1) k p) ≡ x → k ≤ 0 → Step.Next p ≡ x
+commands-none four s w atoms place k p x inv h = times-none (ask four w s (atomsOf s atoms) place 1) k p x inv h
+
+pub ruleset commands = (needs, commands-next, commands-stop, commands-none)

@@ -1,6 +1,6 @@
 -- The loop of `atoms`. Assumes nothing.
 use mathlib.Core.Path.{_≡_, refl, sym, ap, _∙_}
-use mathlib.Core.Bool.{Bool, true}
+use mathlib.Core.Bool.{Bool}
 use mathlib.Core.List.{List, []}
 use Prim.Native.Nat.{ℕ, zero, suc, _+_, _*_, _-_, _<_, _≤_}
 use native.Mathlib.Omega.{arith}
@@ -18,7 +18,7 @@ use Rattle.texts.specs.Table.{Table}
 use Rattle.validate.specs.Front.{Starts, Front, More, Ends, Nexts, All, Fronted}
 use Rattle.validate.specs.declared.Next.{Next}
 use Rattle.validate.specs.declared.Entered.{Entered}
-use Rattle.validate.proofs.Commanding.{refuses-as}
+use Rattle.validate.proofs.CommandCode.{refuses-as}
 use borrow.Author.Tests.{le-leb}
 
 ended : (four : Bool) (s : List ℕ) (w k at n : ℕ) → length s ≤ at → readAtoms four w s n (atomsOf s k) at ≡ got (atomsOf s k) at

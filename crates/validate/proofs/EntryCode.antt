@@ -19,8 +19,7 @@ use Rattle.validate.specs.declared.Atoms.{Atoms}
 use Rattle.validate.specs.declared.Step.{Step}
 use Rattle.validate.specs.declared.Entered.{Entered}
 use Rattle.validate.specs.declared.Validated.{Validated}
-use Rattle.validate.proofs.Commanding.{step-got, step-refused}
-use Rattle.validate.proofs.Walking.{then-is, refuses-then}
+use Rattle.validate.proofs.CommandCode.{step-got, step-refused, then-is, refuses-then}
 
 -- the table of k atoms
 abbrev tableOf : Bool → ℕ → ℕ → ℕ → Atoms

@@ -19,7 +19,7 @@ use Rattle.passes.specs.Resolve.{globals, checkGlobals, validateItems, resolve}
 use Rattle.passes.specs.Sizes.{each, itemFits, stageFits}
 use Rattle.passes.specs.Calls.{nowhere, sizes}
 use Rattle.resolve.proofs.SymbolsMean.{after-yes}
-use Rattle.resolve.proofs.ResolvedKeeps.{resolve-keeps, resolve-fits, stage-fits}
+use Rattle.resolve.proofs.WholeKeeps.{resolve-keeps, resolve-fits, stage-fits}
 
 -- R are the items of the stage g, resolved
 module _ (g : Stage) (R : List Item) (p : resolve (g .items) ≡ yes R) (k : StageWithin true 2 g) where
