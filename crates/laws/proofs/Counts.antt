@@ -5,7 +5,7 @@ use mathlib.Core.Option.{Option, none, some}
 use Prim.Native.Nat.{ℕ, suc, _+_, _*_, _≤_}
 use native.Mathlib.Omega.{arith}
 use lib.ListN.{length, length-append}
-use Rattle.octets.proofs.Numbering.{length-le}
+use Rattle.octets.proofs.NumbersLaws.{length-le}
 use Rattle.parse_tree.specs.plain.Tree.{Text, Leaf, Around, Over, Sym, Syms, ambiguous, bare, quoted, regex, nonterminal, lookahead, lookbehind, error, repeat, choose, name, macro, group, leaf, around, over, nil, cons, count, Attribute, Condition, Alternative, Nonterminal, Source, Item, item, conditions}
 use Rattle.parse_tree.specs.plain.Texts.{number}
 use Rattle.parse_tree.specs.plain.Display.{print}
@@ -15,7 +15,7 @@ use Rattle.parse_tree.specs.plain.WriteTape.{bytesOfEach}
 use Rattle.parse_tree.specs.declared.syntax.Span.{Span}
 use Rattle.parse_tree.specs.declared.syntax.SymbolKind.{SymbolKind}
 use Rattle.parse_tree.specs.declared.syntax.Node.{Node}
-use Rattle.parse_tree.proofs.Sizing.{length-span}
+use Rattle.parse_tree.proofs.SizeLaws.{length-span}
 use Rattle.passes.specs.Outcome.{withSymbols, withAlternatives}
 use Rattle.passes.specs.Macros.{Pending, looking, repeating, listing, symbolOf, spanOf, Expander, push, replaceAround, replaceSymbol, replaceSymbols, replaceAlternatives, replaceItems}
 use Rattle.passes.specs.Views.{ahead, behind}

@@ -7,7 +7,7 @@ use native.Mathlib.Omega.{arith}
 use lib.ListN.{length, drop, length-append, length-drop}
 use lib.Seq.{drop-drop}
 use Rattle.octets.specs.plain.Runs.{Lies}
-use Rattle.octets.proofs.Lying.{lies-split, lies-inside}
+use Rattle.octets.proofs.LiesLaws.{lies-split, lies-inside}
 use Rattle.parse_tree.specs.plain.Tree.{Text, Over, Sym, Syms, leaf, around, over, nil, cons, macro, group, count}
 use Rattle.parse_tree.specs.working.Nodes.{nodeBytes, symbolBytes, nodeAt, sizeOf}
 use Rattle.parse_tree.specs.working.Operands.{insideOf}
@@ -18,7 +18,7 @@ use Rattle.parse_tree.specs.declared.syntax.SymbolKind.{SymbolKind}
 use Rattle.parse_tree.specs.declared.syntax.Node.{Node}
 use Rattle.parse_tree.specs.declared.syntax.Around.{Around as AroundNode}
 use Rattle.parse_tree.specs.declared.syntax.Over.{Over as OverNode}
-use Rattle.parse_tree.proofs.Sizing.{length-span}
+use Rattle.parse_tree.proofs.SizeLaws.{length-span}
 use Rattle.parse_tree.proofs.NodeFits.{NodeFits, TextFits}
 use Rattle.parse_tree.proofs.NodeBack.{node-back}
 use Rattle.parse_tree.proofs.ToCommands.{leaf-passes, around-passes, over-passes}

@@ -11,8 +11,8 @@ use lib.Seq.{drop-set-lt}
 use Rattle.octets.specs.plain.Numbers.{le}
 use Rattle.octets.specs.plain.Runs.{Lies}
 use Rattle.octets.specs.working.Stores.{store}
-use Rattle.octets.proofs.Lying.{lies-split}
-use Rattle.octets.proofs.Storing.{store-none, store-append}
+use Rattle.octets.proofs.LiesLaws.{lies-split}
+use Rattle.octets.proofs.StoreLaws.{store-none, store-append}
 use Rattle.parse_tree.specs.plain.Tree.{Text, Leaf, Around, Over, Sym, Syms, ambiguous, bare, quoted, regex, nonterminal, lookahead, lookbehind, error, macro, group, leaf, around, over, nil, cons, count}
 use Rattle.parse_tree.specs.plain.Texts.{number}
 use Rattle.parse_tree.specs.working.Nodes.{spanBytes, leafCode, leafOperand, symbolBytes, nodeBytes, sizeOf}
@@ -26,7 +26,7 @@ use Rattle.passes.specs.Outcome.{Tree, Outcome, yes, no, after}
 use Rattle.passes.specs.Resolve.{Def, terminalDef, nonterminalDef, argumentDef, lookup, validateNonterminal, rewriteAmbiguousId, validateMacro, validateLeaf, validateOver, validateSymbol, validateSymbols}
 use Rattle.passes.proofs.Outcomes.{yes-inj, after-yes}
 use Rattle.laws.specs.Flat.{symNode, nodesAll, foldSym, foldSyms, run}
-use Rattle.laws.specs.Names.{State, fine, refused, bytesOf, askAmbiguous, askNonterminal, askMacro, askLeaf, askOver, ask}
+use Rattle.laws.specs.Names.{State, fine, refused, bytesOf, askAmbiguous, askNonterminal, askMacro, askLeaf, askOver, askName}
 use Rattle.laws.proofs.Flat.{lies-kept, SymsFits, symbol-size, Keeps, kept, run-whole}
 use Rattle.laws.proofs.Patch.{store-same, store-first, behind-node}
 
@@ -82,8 +82,8 @@ module _ (look : ℕ → Option Def) (w : ℕ) where
   leaf-keeps s at n sp LeafNode.Error h = refl
 
   module _ (ts : List Text) where
-    pub ask-keeps : Keeps w (ask look) ts bytesOf
-    unfolding ask askOver
+    pub ask-keeps : Keeps w (askName look) ts bytesOf
+    unfolding askName askOver
     ask-keeps (fine s) at sp (SymbolKind.Leaf l) = leaf-keeps s at (at + sizeOf w (Node.Symbol sp (SymbolKind.Leaf l))) sp l (omega (arith, symbol-size w ts sp (SymbolKind.Leaf l)))
     ask-keeps (fine s) at sp (SymbolKind.Around a) = refl
     ask-keeps (fine s) at sp (SymbolKind.Over (OverNode.Macro a k)) = ap (drop (at + sizeOf w (Node.Symbol sp (SymbolKind.Over (OverNode.Macro a k))))) (macro-bytes s sp k (look (a .0)))
@@ -92,16 +92,16 @@ module _ (look : ℕ → Option Def) (w : ℕ) where
 
     -- ---- a refusal stays
     mutual
-      unfolding foldSym foldSyms ask
+      unfolding foldSym foldSyms askName
 
-      stays : (x : Sym) (q : ℕ) (sp : Span) (s : List ℕ) (at : ℕ) → foldSym w (ask look) ts x (refused q sp s) at ≡ refused q sp s
+      stays : (x : Sym) (q : ℕ) (sp : Span) (s : List ℕ) (at : ℕ) → foldSym w (askName look) ts x (refused q sp s) at ≡ refused q sp s
       stays (leaf sq l) q sp s at = refl
       stays (around sq a x) q sp s at = stays x q sp s _
       stays (over sq o xs) q sp s at = stay xs q sp s _
 
-      stay : (xs : Syms) (q : ℕ) (sp : Span) (s : List ℕ) (at : ℕ) → foldSyms w (ask look) ts xs (refused q sp s) at ≡ refused q sp s
+      stay : (xs : Syms) (q : ℕ) (sp : Span) (s : List ℕ) (at : ℕ) → foldSyms w (askName look) ts xs (refused q sp s) at ≡ refused q sp s
       stay nil q sp s at = refl
-      stay (cons x xs) q sp s at = ap (λ (σ : State). foldSyms w (ask look) ts xs σ (at + length (symBytes w ts x))) (stays x q sp s at) ∙ stay xs q sp s _
+      stay (cons x xs) q sp s at = ap (λ (σ : State). foldSyms w (askName look) ts xs σ (at + length (symBytes w ts x))) (stays x q sp s at) ∙ stay xs q sp s _
 
     -- ---- with the definitions of a tree, and of an item's arguments
     module _ (G : Tree) (ps : List Text) (agree : (n : Text) → look (number ts n) ≡ lookup G ps n) where
@@ -178,59 +178,59 @@ module _ (look : ℕ → Option Def) (w : ℕ) where
 
       over-told : (sp : Span) (o : Over) (xs : Syms) (n s : List ℕ) (at : ℕ) (v : Outcome (Unit {0})) (r : Outcome Syms) (σ : State) → n ≡ nodeBytes w (Node.Symbol sp (SymbolKind.Over (overNode ts o (count xs))))
           → validateSymbols G ps xs ≡ r → Asked s σ v → Lies s at n (at + length n)
-          → Told (symsBytes w ts) s (at + length n) (length (symsBytes w ts xs)) (foldSyms w (ask look) ts xs (fine s) (at + length n)) r
-          → Told (symBytes w ts) s at (length (symBytes w ts (over sp o xs))) (foldSyms w (ask look) ts xs σ (at + length n)) (after v (λ u. after r (λ ys. yes (over sp o ys))))
+          → Told (symsBytes w ts) s (at + length n) (length (symsBytes w ts xs)) (foldSyms w (askName look) ts xs (fine s) (at + length n)) r
+          → Told (symBytes w ts) s at (length (symBytes w ts (over sp o xs))) (foldSyms w (askName look) ts xs σ (at + length n)) (after v (λ u. after r (λ ys. yes (over sp o ys))))
       unfolding symBytes
       over-told sp o xs n s at (yes u) (yes ys) σ z c a i t =
           let k = count-kept xs ys c in
           rw (k, ← z) (
-            ap (λ (τ : State). foldSyms w (ask look) ts xs τ (at + length n)) a ∙ t .0 ∙ ap fine (behind-node s at (at + length n) n (symsBytes w ts ys) i refl),
+            ap (λ (τ : State). foldSyms w (askName look) ts xs τ (at + length n)) a ∙ t .0 ∙ ap fine (behind-node s at (at + length n) n (symsBytes w ts ys) i refl),
             length-append n (symsBytes w ts ys) ∙ ap (λ (z : ℕ). length n + z) (t .1) ∙ sym (length-append n (symsBytes w ts xs)),
           )
-      over-told sp o xs n s at (yes u) (no q sq) σ z c a i t = (t .0, ap (λ (τ : State). foldSyms w (ask look) ts xs τ (at + length n)) a ∙ t .1)
-      over-told sp o xs n s at (no q sq) r σ z c a i t = (s, ap (λ (τ : State). foldSyms w (ask look) ts xs τ (at + length n)) a ∙ stay xs q sq s (at + length n))
+      over-told sp o xs n s at (yes u) (no q sq) σ z c a i t = (t .0, ap (λ (τ : State). foldSyms w (askName look) ts xs τ (at + length n)) a ∙ t .1)
+      over-told sp o xs n s at (no q sq) r σ z c a i t = (s, ap (λ (τ : State). foldSyms w (askName look) ts xs τ (at + length n)) a ∙ stay xs q sq s (at + length n))
 
       cons-told : (x : Sym) (xs : Syms) (s : List ℕ) (at d : ℕ) (v : Outcome Sym) (r : Outcome Syms) (σ : State) → d ≡ at + length (symBytes w ts x)
           → Told (symBytes w ts) s at (length (symBytes w ts x)) σ v
-          → ((t : List ℕ) → σ ≡ fine t → Told (symsBytes w ts) t d (length (symsBytes w ts xs)) (foldSyms w (ask look) ts xs (fine t) d) r)
-          → Told (symsBytes w ts) s at (length (symsBytes w ts (cons x xs))) (foldSyms w (ask look) ts xs σ d) (after v (λ y. after r (λ ys. yes (cons y ys))))
+          → ((t : List ℕ) → σ ≡ fine t → Told (symsBytes w ts) t d (length (symsBytes w ts xs)) (foldSyms w (askName look) ts xs (fine t) d) r)
+          → Told (symsBytes w ts) s at (length (symsBytes w ts (cons x xs))) (foldSyms w (askName look) ts xs σ d) (after v (λ y. after r (λ ys. yes (cons y ys))))
       unfolding symBytes symsBytes
       cons-told x xs s at d (yes y) (yes ys) σ z h f =
           let t = f (store s at (symBytes w ts y)) (h .0) in (
-            ap (λ (τ : State). foldSyms w (ask look) ts xs τ d) (h .0) ∙ t .0 ∙ ap fine (store-append s at d (symBytes w ts y) (symsBytes w ts ys) (omega (arith, h .1))),
+            ap (λ (τ : State). foldSyms w (askName look) ts xs τ d) (h .0) ∙ t .0 ∙ ap fine (store-append s at d (symBytes w ts y) (symsBytes w ts ys) (omega (arith, h .1))),
             omega (arith, h .1, t .1, length-append (symBytes w ts y) (symsBytes w ts ys), length-append (symBytes w ts x) (symsBytes w ts xs)),
           )
       cons-told x xs s at d (yes y) (no q sq) σ z h f =
           let t = f (store s at (symBytes w ts y)) (h .0) in
-          (t .0, ap (λ (τ : State). foldSyms w (ask look) ts xs τ d) (h .0) ∙ t .1)
-      cons-told x xs s at d (no q sq) r σ z h f = (h .0, ap (λ (τ : State). foldSyms w (ask look) ts xs τ d) (h .1) ∙ stay xs q sq (h .0) d)
+          (t .0, ap (λ (τ : State). foldSyms w (askName look) ts xs τ d) (h .0) ∙ t .1)
+      cons-told x xs s at d (no q sq) r σ z h f = (h .0, ap (λ (τ : State). foldSyms w (askName look) ts xs τ d) (h .1) ∙ stay xs q sq (h .0) d)
 
       mutual
-        unfolding foldSym foldSyms symNode ask symBytes symsBytes validateSymbol validateSymbols sizeOf
+        unfolding foldSym foldSyms symNode askName symBytes symsBytes validateSymbol validateSymbols sizeOf
 
-        pub told-sym : (x : Sym) (s : List ℕ) (at e : ℕ) → Lies s at (symBytes w ts x) e → Told (symBytes w ts) s at (length (symBytes w ts x)) (foldSym w (ask look) ts x (fine s) at) (validateSymbol G ps x)
+        pub told-sym : (x : Sym) (s : List ℕ) (at e : ℕ) → Lies s at (symBytes w ts x) e → Told (symBytes w ts) s at (length (symBytes w ts x)) (foldSym w (askName look) ts x (fine s) at) (validateSymbol G ps x)
         told-sym (leaf sp l) s at e k = told-leaf sp l s at e k
         told-sym (around sp a x) s at e k =
             let n = nodeBytes w (Node.Symbol sp (SymbolKind.Around (aroundNode ts a))) in
             let m = lies-split s at e n (symBytes w ts x) k in
-            around-told sp a x n s at (validateSymbol G ps x) (foldSym w (ask look) ts x (fine s) (at + length n)) refl (m .0) (told-sym x s (at + length n) e (m .1))
+            around-told sp a x n s at (validateSymbol G ps x) (foldSym w (askName look) ts x (fine s) (at + length n)) refl (m .0) (told-sym x s (at + length n) e (m .1))
         told-sym (over sp o xs) s at e k =
             let n = nodeBytes w (Node.Symbol sp (SymbolKind.Over (overNode ts o (count xs)))) in
             let m = lies-split s at e n (symsBytes w ts xs) k in
             over-told sp o xs n s at (validateOver G ps sp o (count xs)) (validateSymbols G ps xs) (askOver look s sp (overNode ts o (count xs))) refl refl (asked-over sp o (count xs) s) (m .0) (told-syms xs s (at + length n) e (m .1))
 
-        pub told-syms : (xs : Syms) (s : List ℕ) (at e : ℕ) → Lies s at (symsBytes w ts xs) e → Told (symsBytes w ts) s at (length (symsBytes w ts xs)) (foldSyms w (ask look) ts xs (fine s) at) (validateSymbols G ps xs)
+        pub told-syms : (xs : Syms) (s : List ℕ) (at e : ℕ) → Lies s at (symsBytes w ts xs) e → Told (symsBytes w ts) s at (length (symsBytes w ts xs)) (foldSyms w (askName look) ts xs (fine s) at) (validateSymbols G ps xs)
         told-syms nil s at e k = (ap fine (sym (store-none s at)), refl)
         told-syms (cons x xs) s at e k =
             let m = lies-split s at e (symBytes w ts x) (symsBytes w ts xs) k in
             let d = at + length (symBytes w ts x) in
-            let σ = foldSym w (ask look) ts x (fine s) at in
+            let σ = foldSym w (askName look) ts x (fine s) at in
             cons-told x xs s at d (validateSymbol G ps x) (validateSymbols G ps xs) σ refl (told-sym x s at d (m .0)) (λ t q.
-            told-syms xs t d e (lies-kept s t d e (symsBytes w ts xs) (ap (λ (τ : State). drop d (bytesOf τ)) (sym q) ∙ kept w (ask look) ts bytesOf ask-keeps x (fine s) at d refl) (m .1)))
+            told-syms xs t d e (lies-kept s t d e (symsBytes w ts xs) (ap (λ (τ : State). drop d (bytesOf τ)) (sym q) ∙ kept w (askName look) ts bytesOf ask-keeps x (fine s) at d refl) (m .1)))
 
       -- the flat run over a list of symbols, with the answer of name resolution
       pub names-run : (xs : Syms) (g : ℕ) (s : List ℕ) (at e : ℕ) → SymsFits w ts xs → nodesAll xs ≤ g → Lies s at (symsBytes w ts xs) e
-          → Told (symsBytes w ts) s at (length (symsBytes w ts xs)) (run w (ask look) bytesOf g (count xs) (fine s) at .0) (validateSymbols G ps xs)
+          → Told (symsBytes w ts) s at (length (symsBytes w ts xs)) (run w (askName look) bytesOf g (count xs) (fine s) at .0) (validateSymbols G ps xs)
       names-run xs g s at e h k l =
-          let z = ap (λ (p : State × ℕ). p .0) (run-whole w (ask look) ts bytesOf ask-keeps xs h g (fine s) at e k l) in
+          let z = ap (λ (p : State × ℕ). p .0) (run-whole w (askName look) ts bytesOf ask-keeps xs h g (fine s) at e k l) in
           rw z (told-syms xs s at e l)

@@ -11,8 +11,8 @@ use Rattle.octets.specs.working.Choice.{pick}
 use Rattle.octets.specs.plain.Numbers.{le}
 use Rattle.octets.specs.plain.Runs.{Lies}
 use Rattle.octets.specs.working.Stores.{store}
-use Rattle.octets.proofs.Lying.{lies-split, lies-first, lies-from}
-use Rattle.octets.proofs.Storing.{store-none, store-append}
+use Rattle.octets.proofs.LiesLaws.{lies-split, lies-first, lies-from}
+use Rattle.octets.proofs.StoreLaws.{store-none, store-append}
 use Rattle.parse_tree.specs.plain.Tree.{Text, Leaf, Sym, Syms, ambiguous, bare, quoted, regex, nonterminal, lookahead, lookbehind, error, leaf, around, over, nil, cons, count}
 use Rattle.parse_tree.specs.plain.Texts.{number}
 use Rattle.parse_tree.specs.working.Nodes.{spanBytes, leafCode, leafOperand, symbolBytes, nodeBytes, sizeOf}

@@ -8,13 +8,13 @@ use native.Mathlib.Omega.{arith}
 use borrow.Author.Tests.{eq-eqb}
 use lib.Dec.{eqb}
 use Rattle.octets.specs.plain.Runs.{sameAs}
-use Rattle.octets.proofs.Sameness.{sameAs-eq}
+use Rattle.octets.proofs.SameLaws.{sameAs-eq}
 use Rattle.parse_tree.specs.plain.Tree.{Text, Op, star, plus, question, Leaf, Around, Over, Sym, Syms, ambiguous, bare, quoted, regex, nonterminal, lookahead, lookbehind, error, repeat, choose, name, macro, group, leaf, around, over, nil, cons}
 use Rattle.parse_tree.specs.plain.Texts.{has, every, startsName, inName, nameBytes}
 use Rattle.parse_tree.specs.plain.Display.{shownOp, shownLeaf, shownBefore, shownBehind, opening, shown, shownAll, shownMore, print}
 use Rattle.parse_tree.specs.declared.syntax.Span.{Span}
 use Rattle.passes.specs.Macros.{vecNone, vecOne, pushed, someText, noneText, oneChosen, allChosen, vName, eName}
-use Rattle.parse_tree.proofs.Printing.{shownAll-app, print-then}
+use Rattle.parse_tree.proofs.DisplayLaws.{shownAll-app, print-then}
 use Rattle.laws.specs.Keys.{builtIns, SoundText, Expands, SymSound, SymsSound}
 
 -- ---- the first and the last byte of a text, and what stands before the last

@@ -11,10 +11,10 @@ use lib.Seq.{sets, drop-set-lt}
 use Rattle.octets.specs.plain.Numbers.{le}
 use Rattle.octets.specs.plain.Runs.{sameAs, Lies}
 use Rattle.octets.specs.working.Stores.{store}
-use Rattle.octets.proofs.Sameness.{sameAs-eq, eq-sameAs}
-use Rattle.octets.proofs.Numbering.{length-le}
-use Rattle.octets.proofs.Lying.{lies-split}
-use Rattle.octets.proofs.Storing.{store-none, store-append}
+use Rattle.octets.proofs.SameLaws.{sameAs-eq, eq-sameAs}
+use Rattle.octets.proofs.NumbersLaws.{length-le}
+use Rattle.octets.proofs.LiesLaws.{lies-split}
+use Rattle.octets.proofs.StoreLaws.{store-none, store-append}
 use Rattle.parse_tree.specs.plain.Tree.{Text, Leaf, Sym, Syms, ambiguous, bare, quoted, regex, nonterminal, lookahead, lookbehind, error, leaf, around, over, nil, cons, count}
 use Rattle.parse_tree.specs.plain.Texts.{has, number}
 use Rattle.parse_tree.specs.working.Nodes.{spanBytes, leafCode, leafOperand, symbolBytes, nodeBytes, sizeOf}
@@ -24,7 +24,7 @@ use Rattle.parse_tree.specs.declared.syntax.Leaf.{Leaf as LeafNode}
 use Rattle.parse_tree.specs.declared.syntax.NonterminalString.{NonterminalString}
 use Rattle.parse_tree.specs.declared.syntax.SymbolKind.{SymbolKind}
 use Rattle.parse_tree.specs.declared.syntax.Node.{Node}
-use Rattle.parse_tree.proofs.Sizing.{length-span}
+use Rattle.parse_tree.proofs.SizeLaws.{length-span}
 use Rattle.parse_tree.proofs.TextLaws.{number-below, text-number}
 use Rattle.passes.specs.Levels.{occurs, occursIn, replaceOccurrences, replaceOccurrencesIn}
 use Rattle.laws.specs.Flat.{symNode, nodesAll, foldSym, foldSyms, run}

@@ -7,7 +7,7 @@ use Rattle.parse_tree.specs.plain.Display.{shownOp, shownLeaf, shownBefore, sho
 use Rattle.parse_tree.specs.declared.syntax.Span.{Span}
 use Rattle.passes.specs.Macros.{Pending, looking, repeating, listing, symbolOf, Expander, push, replaceAround, replaceSymbol, replaceSymbols}
 use Rattle.passes.specs.Views.{ahead, behind}
-use Rattle.parse_tree.proofs.Printing.{print-then}
+use Rattle.parse_tree.proofs.DisplayLaws.{print-then}
 use Rattle.laws.specs.Forms.{Form, formOf, join, more}
 use Rattle.laws.proofs.Hash.{form-append, form-more}
 

@@ -76,6 +76,6 @@ module _ (look : ℕ → Option Def) where
   askNode s at Node.Unknown = fine s
 
   -- the effect of a flat run
-  unfoldable pub ask : State → ℕ → Node → State
-  ask (fine s) at n = askNode s at n
-  ask (refused q sp s) at n = refused q sp s
+  unfoldable pub askName : State → ℕ → Node → State
+  askName (fine s) at n = askNode s at n
+  askName (refused q sp s) at n = refused q sp s

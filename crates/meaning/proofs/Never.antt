@@ -4,7 +4,7 @@ use mathlib.Core.Bool.{Bool, true, false, false≢true, cond, not, _&&_}
 use mathlib.Core.List.{List, [], _∷_, _++_, List·Memᴰ, List·Memᴰ·head, List·Memᴰ·tail, List·Memᴰ·not-nil}
 use mathlib.Core.Option.{none}
 use Rattle.octets.specs.plain.Runs.{sameAs}
-use Rattle.octets.proofs.Sameness.{sameAs-refl}
+use Rattle.octets.proofs.SameLaws.{sameAs-refl}
 use Rattle.parse_tree.specs.plain.Tree.{Text, Alternative, Nonterminal, Item, item}
 use Rattle.passes.specs.Outcome.{Tree}
 use Rattle.passes.specs.Grades.{annotated}

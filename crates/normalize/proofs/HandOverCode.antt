@@ -10,9 +10,9 @@ use mir.Syntax.{w64}
 use mir.Val as Bound
 use Rattle.octets.specs.plain.Runs.{part}
 use Rattle.octets.specs.working.Sink.{lay, Laid}
-use Rattle.octets.proofs.Fitting.{lay-fits}
-use Rattle.octets.proofs.Parts.{part-length}
-use Rattle.octets.proofs.Storing.{store-is}
+use Rattle.octets.proofs.SinkStores.{lay-fits}
+use Rattle.octets.proofs.PartLaws.{part-length}
+use Rattle.octets.proofs.StoreLaws.{store-is}
 use Rattle.parse_tree.specs.declared.refusal.Refusal.{Refusal}
 use Rattle.normalize.specs.working.Handing.{Fits, handed}
 use Rattle.normalize.specs.declared.Answer.{Answer}

@@ -14,7 +14,7 @@ use mir.Val as Bound
 use Rattle.octets.specs.working.Choice.{pick}
 use Rattle.octets.specs.plain.Runs.{part}
 use Rattle.octets.specs.working.Sink.{adv, lay}
-use Rattle.octets.proofs.Fitting.{adv-le, adv-fits, adv-in, lay-part}
+use Rattle.octets.proofs.SinkStores.{adv-le, adv-fits, adv-in, lay-part}
 use Rattle.parse_tree.specs.plain.Tree.{Text, Item, Stage}
 use Rattle.parse_tree.specs.plain.Reading.{got}
 use Rattle.parse_tree.specs.working.Decode.{decodeBy, decode}
@@ -27,7 +27,7 @@ use Rattle.parse_tree.specs.declared.refusal.Refusal.{Refusal}
 use Rattle.parse_tree.proofs.Written.{written}
 use Rattle.parse_tree.proofs.WriteTapeIs.{tape-is}
 use Rattle.texts.specs.Atoms.{atomsOf}
-use Rattle.texts.proofs.Tabling.{length-atoms}
+use Rattle.texts.proofs.TableLaws.{length-atoms}
 use Rattle.validate.specs.Steps.{Refuses}
 use Rattle.validate.specs.Whole.{Valid, Validates}
 use Rattle.validate.specs.declared.Atoms.{Atoms}

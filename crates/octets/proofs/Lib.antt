@@ -1,12 +1,12 @@
 -- What the proofs of several functions, and of the crates above, use.
-pub mod Choices
-pub mod Numbering
-pub mod Storing
-pub mod Parts
-pub mod Lying
-pub mod Laying
-pub mod Fitting
-pub mod Sameness
-mod Comparing
-mod Clearing
-mod Running
+pub mod ChoiceLaws
+pub mod NumbersLaws
+pub mod StoreLaws
+pub mod PartLaws
+pub mod LiesLaws
+pub mod SinkLaws
+pub mod SinkStores
+pub mod SameLaws
+mod RunsSameCode
+mod RunsClearCode
+mod SinkCode

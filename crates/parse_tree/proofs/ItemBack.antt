@@ -7,7 +7,7 @@ use Prim.Native.Nat.{ℕ, zero, suc, _+_}
 use native.Mathlib.Omega.{arith}
 use lib.ListN.{length}
 use Rattle.octets.specs.plain.Runs.{Lies}
-use Rattle.octets.proofs.Lying.{lies-split}
+use Rattle.octets.proofs.LiesLaws.{lies-split}
 use Rattle.parse_tree.specs.plain.Tree.{Text, Sym, Syms, Attribute, Condition, leaf, around, over, nil, cons, item, terminal, count, conditions}
 use Rattle.parse_tree.specs.plain.Texts.{isName}
 use Rattle.parse_tree.specs.working.Nodes.{nodeBytes}

@@ -6,7 +6,7 @@ use Prim.Native.Nat.{ℕ, zero, suc, _≤_}
 use native.Mathlib.Omega.{arith}
 use lib.ListN.{length}
 use Rattle.octets.specs.plain.Numbers.{Bytes}
-use Rattle.octets.proofs.Lying.{lies-append}
+use Rattle.octets.proofs.LiesLaws.{lies-append}
 use Rattle.parse_tree.specs.plain.Tree.{Text, Sym, Attribute, Condition, Alternative, leaf, around, over, item, count, symsOf, conditions}
 use Rattle.parse_tree.specs.plain.Texts.{isName, distinct}
 use Rattle.parse_tree.specs.working.Nodes.{nodeBytes}

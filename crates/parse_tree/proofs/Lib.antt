@@ -1,18 +1,18 @@
 -- What the proofs of several functions, and of the crates above, use.
 -- One command:
 pub mod NodeFits
-pub mod Spans
-pub mod Fields
+pub mod SpanLaws
+pub mod FieldLaws
 pub mod NodeSays
 pub mod NodeBack
-mod Noding
-mod Putting
+mod NodeCode
+mod PutCode
 mod Refusing
-pub mod Sizing
+pub mod SizeLaws
 -- Trees and their tapes; RoundTrip has the theorems.
-pub mod Printing
+pub mod DisplayLaws
 pub mod TextLaws
-pub mod Among
+pub mod AmongLaws
 pub mod ReadingLaws
 pub mod Asking
 pub mod Expecting

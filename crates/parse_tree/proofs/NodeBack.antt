@@ -9,7 +9,7 @@ use borrow.Author.Tests.{le-ltb, lt-leb}
 use Rattle.octets.specs.working.Choice.{pick}
 use Rattle.octets.specs.plain.Numbers.{leAt, le}
 use Rattle.octets.specs.plain.Runs.{Lies}
-use Rattle.octets.proofs.Lying.{lies-first, lies-inside}
+use Rattle.octets.proofs.LiesLaws.{lies-first, lies-inside}
 use Rattle.parse_tree.specs.working.Nodes.{leafCode, leafOperand, symbolBytes, nodeBytes, ifWhole, spanBytes, spanIn, namedLeaf, bareLeaf, symbolNodeAt, textNode, nonterminalNodeAt, terminalNodeAt, argumentNodeAt, alternativeNodeAt, attributeNodeAt, conditionNodeAt, nodeBy, nodeAt}
 use Rattle.parse_tree.specs.working.Within.{SpanWithin}
 use Rattle.parse_tree.specs.declared.syntax.Span.{Span}
@@ -25,8 +25,8 @@ use Rattle.parse_tree.specs.declared.syntax.Over.{Over}
 use Rattle.parse_tree.specs.declared.syntax.SymbolKind.{SymbolKind}
 use Rattle.parse_tree.specs.declared.syntax.Node.{Node}
 use Rattle.parse_tree.proofs.NodeFits.{LeafFits, KindFits, NodeFits, TextFits}
-use Rattle.parse_tree.proofs.Spans.{length-span, span-back}
-use Rattle.parse_tree.proofs.Fields.{byte-read, le-read-then, span-read, le-read-last}
+use Rattle.parse_tree.proofs.SpanLaws.{length-span, span-back}
+use Rattle.parse_tree.proofs.FieldLaws.{byte-read, le-read-then, span-read, le-read-last}
 
 module _ (w : ℕ) (s : List ℕ) (a e : ℕ) where
   -- the code says which command is read, and all of it is inside

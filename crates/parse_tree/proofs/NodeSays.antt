@@ -10,8 +10,8 @@ use borrow.Author.Tests.{ltb-true, ltb-false, leb-false, eqb-true, eqb-false}
 use Rattle.octets.specs.working.Choice.{pick}
 use Rattle.octets.specs.plain.Numbers.{leAt, le, Bytes}
 use Rattle.octets.specs.plain.Runs.{Lies}
-use Rattle.octets.proofs.Choices.{by-pick}
-use Rattle.octets.proofs.Lying.{lies-none, lies-to, leAt-lt}
+use Rattle.octets.proofs.ChoiceLaws.{by-pick}
+use Rattle.octets.proofs.LiesLaws.{lies-none, lies-to, leAt-lt}
 use Rattle.parse_tree.specs.working.Nodes.{leafCode, leafOperand, symbolBytes, nodeBytes, sizeOf, ifWhole, spanIn, namedLeaf, bareLeaf, symbolNodeAt, textNode, nonterminalNodeAt, terminalNodeAt, argumentNodeAt, alternativeNodeAt, attributeNodeAt, conditionNodeAt, nodeBy, nodeAt}
 use Rattle.parse_tree.specs.declared.syntax.Leaf.{Leaf}
 use Rattle.parse_tree.specs.declared.syntax.Around.{Around}
@@ -19,8 +19,8 @@ use Rattle.parse_tree.specs.declared.syntax.Over.{Over}
 use Rattle.parse_tree.specs.declared.syntax.SymbolKind.{SymbolKind}
 use Rattle.parse_tree.specs.declared.syntax.Node.{Node}
 use Rattle.parse_tree.proofs.NodeFits.{LeafFits, NodeFits, TextFits, Stands, NodeSays}
-use Rattle.parse_tree.proofs.Spans.{span-fits}
-use Rattle.parse_tree.proofs.Fields.{byte-then, le-then, span-then, le-last, span-last}
+use Rattle.parse_tree.proofs.SpanLaws.{span-fits}
+use Rattle.parse_tree.proofs.FieldLaws.{byte-then, le-then, span-then, le-last, span-last}
 
 -- ---- a leaf, by its code
 abbrev LeafSays : ℕ → ℕ → List ℕ → Leaf → Type 0

@@ -9,8 +9,8 @@ use lib.ListN.{length, length-append}
 use lib.Seq.{drop-length, append-snoc}
 use Rattle.octets.specs.working.Choice.{pick}
 use Rattle.octets.specs.plain.Runs.{Lies}
-use Rattle.octets.proofs.Lying.{lies-split, lies-from, lies-to, lies-inside, lies-part}
-use Rattle.octets.proofs.Numbering.{length-le}
+use Rattle.octets.proofs.LiesLaws.{lies-split, lies-from, lies-to, lies-inside, lies-part}
+use Rattle.octets.proofs.NumbersLaws.{length-le}
 use Rattle.parse_tree.specs.plain.Tree.{Text, Item, Stage, item, terminal}
 use Rattle.parse_tree.specs.plain.Texts.{distinct}
 use Rattle.parse_tree.specs.working.Nodes.{nodeBytes, nodeAt}

@@ -9,7 +9,7 @@ use borrow.Author.Tests.{eqb-true, ltb-true, ltb-false, lt-leb}
 use lib.Dec.{eqb, ltb, leb}
 use lib.ListN.{length, getD}
 use Rattle.octets.specs.working.Choice.{pick}
-use Rattle.octets.proofs.Choices.{by-pick}
+use Rattle.octets.proofs.ChoiceLaws.{by-pick}
 use Rattle.parse_tree.specs.plain.Tree.{Text}
 use Rattle.parse_tree.specs.working.Nodes.{sizeOf, ifWhole, symbolNodeAt, textNode, nonterminalNodeAt, terminalNodeAt, argumentNodeAt, alternativeNodeAt, attributeNodeAt, conditionNodeAt, nodeBy, nodeAt}
 use Rattle.parse_tree.specs.working.Places.{classOf, allowedAt}

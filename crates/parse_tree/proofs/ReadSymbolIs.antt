@@ -23,7 +23,7 @@ use Rattle.parse_tree.specs.declared.syntax.Around.{Around}
 use Rattle.parse_tree.specs.declared.syntax.Over.{Over}
 use Rattle.parse_tree.specs.declared.syntax.SymbolKind.{SymbolKind}
 use Rattle.parse_tree.specs.declared.syntax.Node.{Node}
-use Rattle.parse_tree.proofs.Sizing.{ambiguous-size, bare-size, quoted-size, regex-size, nonterminal-leaf-size, lookahead-size, lookbehind-size, error-size, leaf-size, repeat-size, choose-size, name-size, macro-size, group-size}
+use Rattle.parse_tree.proofs.SizeLaws.{ambiguous-size, bare-size, quoted-size, regex-size, nonterminal-leaf-size, lookahead-size, lookbehind-size, error-size, leaf-size, repeat-size, choose-size, name-size, macro-size, group-size}
 use Rattle.parse_tree.specs.plain.ReadTape as Plain
 use Rattle.parse_tree.proofs.ReadCommandIs.{node-by, CodeOf, node-code, by-code, pick-if, asks-other, asks-is}
 

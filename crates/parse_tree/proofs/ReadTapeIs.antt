@@ -23,7 +23,7 @@ use Rattle.parse_tree.specs.working.Operands.{attributeOf, conditionOf, 
 use Rattle.parse_tree.specs.working.Decode.{readSym, readArgument, readAttribute, readCondition, alternativeParts, readAlternative, nonterminalParts, readItem, readItems, readAtoms, decodeBy}
 use Rattle.parse_tree.specs.plain.ReadTape.{firstOf}
 use Rattle.parse_tree.specs.declared.syntax.Node.{Node}
-use Rattle.parse_tree.proofs.Sizing.{argument-size, attribute-size, condition-size, alternative-size, nonterminal-size, terminal-size}
+use Rattle.parse_tree.proofs.SizeLaws.{argument-size, attribute-size, condition-size, alternative-size, nonterminal-size, terminal-size}
 use Rattle.parse_tree.specs.plain.ReadTape as Plain
 use Rattle.parse_tree.proofs.ReadSymbolIs.{symbol-is}
 use Rattle.parse_tree.proofs.ReadCommandIs.{and-true, pick-if, pick-or, by-code, node-by, CodeOf, node-code, asks-other, asks-is}

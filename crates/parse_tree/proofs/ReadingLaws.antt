@@ -5,7 +5,7 @@ use Prim.Native.Nat.{ℕ, zero, suc, _+_, _≤_}
 use native.Mathlib.Omega.{arith}
 use lib.ListN.{length, length-append}
 use Rattle.octets.specs.plain.Runs.{Lies}
-use Rattle.octets.proofs.Lying.{lies-none, lies-append, lies-split}
+use Rattle.octets.proofs.LiesLaws.{lies-none, lies-append, lies-split}
 use Rattle.parse_tree.specs.plain.Reading.{Reading, got, refused, then, times}
 use Rattle.parse_tree.specs.plain.WriteTape.{bytesOfEach}
 use Rattle.parse_tree.specs.working.Within.{Each}

@@ -8,7 +8,7 @@ use borrow.Author.Tests.{lt-ltb, not-true}
 use lib.Dec.{ltb}
 use lib.ListN.{length, getD}
 use Rattle.octets.specs.plain.Runs.{sameAs}
-use Rattle.octets.proofs.Sameness.{sameAs-eq, sameAs-refl}
+use Rattle.octets.proofs.SameLaws.{sameAs-eq, sameAs-refl}
 use Rattle.parse_tree.specs.plain.Tree.{Text}
 use Rattle.parse_tree.specs.plain.Texts.{has, number, distinct}
 

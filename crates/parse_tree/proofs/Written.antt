@@ -10,9 +10,9 @@ use lib.ListN.{length}
 use lib.Seq.{drop-length}
 use Rattle.octets.specs.plain.Numbers.{Bytes}
 use Rattle.octets.specs.plain.Runs.{part, Lies}
-use Rattle.octets.proofs.Lying.{lies-none, lies-append, lies-to, lies-inside, part-lies}
-use Rattle.octets.proofs.Numbering.{length-le}
-use Rattle.octets.proofs.Parts.{part-length}
+use Rattle.octets.proofs.LiesLaws.{lies-none, lies-append, lies-to, lies-inside, part-lies}
+use Rattle.octets.proofs.NumbersLaws.{length-le}
+use Rattle.octets.proofs.PartLaws.{part-length}
 use Rattle.parse_tree.specs.plain.Tree.{Text, Item, Stage}
 use Rattle.parse_tree.specs.plain.Texts.{has, distinct}
 use Rattle.parse_tree.specs.working.Nodes.{nodeBytes, sizeOf, nodeAt}

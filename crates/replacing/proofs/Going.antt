@@ -11,7 +11,7 @@ use lib.ListN.{length}
 use Rattle.octets.specs.working.Choice.{pick}
 use Rattle.octets.specs.plain.Numbers.{Bytes}
 use Rattle.octets.specs.plain.Runs.{sameAs}
-use Rattle.octets.proofs.Lying.{lies-inside, lies-part}
+use Rattle.octets.proofs.LiesLaws.{lies-inside, lies-part}
 use Rattle.parse_tree.specs.plain.Tree.{Text, Sym}
 use Rattle.parse_tree.specs.plain.Texts.{has, number, distinct, withNew}
 use Rattle.parse_tree.specs.plain.Display.{print}
@@ -27,12 +27,12 @@ use Rattle.parse_tree.specs.declared.syntax.Leaf.{Leaf as LeafNode}
 use Rattle.parse_tree.specs.declared.syntax.Around.{Around as AroundNode}
 use Rattle.parse_tree.specs.declared.syntax.SymbolKind.{SymbolKind}
 use Rattle.parse_tree.specs.declared.syntax.Node.{Node}
-use Rattle.parse_tree.proofs.Sizing.{node-positive}
+use Rattle.parse_tree.proofs.SizeLaws.{node-positive}
 use Rattle.passes.specs.Macros.{Expander}
 use Rattle.replacing.specs.Trees.{expanded, enterAll}
 use Rattle.replacing.specs.Prints.{symAt}
 use Rattle.replacing.specs.Slots.{Ref, Slots, leafPlaces, aroundPlaces, listed, places, firstLike, among, refer, pushText, pushNew, noteBy, noteAs, note, noteAll, numbered}
-use Rattle.replacing.specs.Runs.{plainLeaf, plainAround, plainKind, plain, isMacro, hops, keyBytes, Run, copyStep, keyBy, skipStep, step, steps}
+use Rattle.replacing.specs.Runs.{plainLeaf, plainAround, plainKind, plain, isMacro, hops, keyBytes, Run, copyStep, keyBy, skipStep, stepOn, steps}
 use Rattle.replacing.proofs.Readings.{Standing}
 use Rattle.replacing.proofs.PlacesMean.{Firm, Places, sym-here, sym-places}
 use Rattle.replacing.proofs.Keys.{firm-key}
@@ -169,11 +169,11 @@ module _ (same : ℕ → ℕ → Bool) (textAt : ℕ → Option ℕ) (w base : �
   pub steps-append : (m n : ℕ) (r : Run) → steps same textAt w base s (m + n) r ≡ steps same textAt w base s n (steps same textAt w base s m r)
   unfolding steps
   steps-append zero n r = ap (λ (k : ℕ). steps same textAt w base s k r) (let z : 0 + n ≡ n = omega arith in z)
-  steps-append (suc m) n r = ap (λ (k : ℕ). steps same textAt w base s k r) (let z : suc m + n ≡ suc (m + n) = omega arith in z) ∙ steps-append m n (step same textAt w base s r)
+  steps-append (suc m) n r = ap (λ (k : ℕ). steps same textAt w base s k r) (let z : suc m + n ≡ suc (m + n) = omega arith in z) ∙ steps-append m n (stepOn same textAt w base s r)
 
   -- at the end nothing is done
-  pub step-end : (r : Run) → length s ≤ r .at → step same textAt w base s r ≡ r
-  unfolding step pick
+  pub step-end : (r : Run) → length s ≤ r .at → stepOn same textAt w base s r ≡ r
+  unfolding stepOn pick
   step-end r l = rw (le-leb (length s) (r .at) l) refl
 
   pub steps-end : (n : ℕ) (r : Run) → length s ≤ r .at → steps same textAt w base s n r ≡ r
@@ -255,8 +255,8 @@ module _ (four : Bool) (w : ℕ) (s : List ℕ) (ts : List Text) (b : Bytes s) (
       (omega (arith, h .lies .end), lies-inside s a c (nodeBytes w n) p (h .lies))
 
   -- ---- a command that is copied
-  copied : (a c : ℕ) (n : Node) (out : List ℕ) (x : Slots) → Standing four w s ts a c n → plain n ≡ true → isMacro n ≡ false → step same textAt w (length ts) s (run a out x) ≡ run c (out ++ nodeBytes w n) x
-  unfolding step copyStep pick
+  copied : (a c : ℕ) (n : Node) (out : List ℕ) (x : Slots) → Standing four w s ts a c n → plain n ≡ true → isMacro n ≡ false → stepOn same textAt w (length ts) s (run a out x) ≡ run c (out ++ nodeBytes w n) x
+  unfolding stepOn copyStep pick
   copied a c n out x h z y =
       let l = standing-inside a c n h in
       let i : leb (length s) a ≡ false = lt-leb (length s) a (omega arith) in
@@ -276,7 +276,7 @@ module _ (four : Bool) (w : ℕ) (s : List ℕ) (ts : List Text) (b : Bytes s) (
 
   -- ---- the definition of a macro
   pub skip-goes : (a c e : ℕ) (n : Node) → Standing four w s ts a c n → isMacro n ≡ true → hops w s (length s) c ≡ e → c ≤ e → Goes a e [] [] (λ T. [])
-  unfolding steps step skipStep pick enterAll withNew
+  unfolding steps stepOn skipStep pick enterAll withNew
   skip-goes a c e n h y i l x σ k =
       let m = standing-inside a c n h in
       let j : leb (length s) a ≡ false = lt-leb (length s) a (omega arith) in
@@ -313,9 +313,9 @@ module _ (four : Bool) (w : ℕ) (s : List ℕ) (ts : List Text) (b : Bytes s) (
         (numbered-sound at Here ts d a (after x) (enterAll (expanded y) σ) (after-fits x σ h)
         (own-last same textAt w s 63 a (listing .at) e x sp k there z (listing .is)))
 
-    keyed-step : (out : List ℕ) (x : Slots) → step same textAt w (length ts) s (run a out x)
+    keyed-step : (out : List ℕ) (x : Slots) → stepOn same textAt w (length ts) s (run a out x)
         ≡ run e (out ++ keyBytes w (Node.Symbol sp k) (numbered (length ts) a (after x) .0)) (numbered (length ts) a (after x) .1)
-    unfolding step keyBy pick plain isMacro after
+    unfolding stepOn keyBy pick plain isMacro after
     keyed-step out x =
         let i : leb (length s) a ≡ false = lt-leb (length s) a (omega arith) in
         rw (i, there, z, listing .is)

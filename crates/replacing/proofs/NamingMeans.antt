@@ -7,7 +7,7 @@ use native.Mathlib.Omega.{arith}
 use lib.ListN.{length}
 use Rattle.octets.specs.working.Choice.{pick}
 use Rattle.octets.specs.plain.Numbers.{Bytes}
-use Rattle.octets.proofs.Lying.{lies-part}
+use Rattle.octets.proofs.LiesLaws.{lies-part}
 use Rattle.parse_tree.specs.plain.Tree.{Text, Sym, leaf, around, over, symsOf}
 use Rattle.parse_tree.specs.plain.Texts.{number, distinct, withNew}
 use Rattle.parse_tree.specs.plain.Display.{print}

@@ -9,14 +9,14 @@ use borrow.Author.Tests.{eqb-true, eq-eqb, not-true}
 use lib.Dec.{eqb}
 use lib.ListN.{length, length-append}
 use Rattle.octets.specs.plain.Runs.{sameAs}
-use Rattle.octets.proofs.Sameness.{sameAs-eq, sameAs-refl, eq-sameAs}
+use Rattle.octets.proofs.SameLaws.{sameAs-eq, sameAs-refl, eq-sameAs}
 use Rattle.parse_tree.specs.plain.Tree.{Text, Sym}
 use Rattle.parse_tree.specs.plain.Texts.{has, number, distinct, withNew}
 use Rattle.parse_tree.specs.plain.Display.{print}
 use Rattle.parse_tree.specs.working.Within.{Each}
 use Rattle.parse_tree.proofs.TextLaws.{both, has-text, number-text, distinct-more}
 use Rattle.passes.specs.Macros.{Expander}
-use Rattle.parse_tree.proofs.Among.{has-here, has-behind}
+use Rattle.parse_tree.proofs.AmongLaws.{has-here, has-behind}
 use Rattle.replacing.specs.Slots.{Ref, text, like, Slots, refAt, among, firstLike, placeIn, numberNew, numberBy, numbered}
 use Rattle.replacing.proofs.PlacesMean.{map-append}
 use Rattle.replacing.proofs.SlotsMean.{has-or, or-true, or-assoc, among-here, among-has, Good, Sound}

@@ -9,7 +9,7 @@ use lib.Dec.{leb}
 use lib.ListN.{length}
 use Rattle.octets.specs.working.Choice.{pick}
 use Rattle.octets.specs.plain.Numbers.{Bytes}
-use Rattle.octets.proofs.Lying.{lies-inside}
+use Rattle.octets.proofs.LiesLaws.{lies-inside}
 use Rattle.parse_tree.specs.plain.Tree.{Text, Sym, Attribute, Condition, Alternative, Item, symsOf}
 use Rattle.parse_tree.specs.working.Nodes.{nodeBytes, nodeAt, sizeOf}
 use Rattle.parse_tree.specs.working.Places.{itemsPlace, symbolsPlace, argumentsPlace, alternativesPlace, attributesPlace, conditionsPlace}
@@ -22,7 +22,7 @@ use Rattle.parse_tree.specs.declared.syntax.NonterminalData.{NonterminalData}
 use Rattle.parse_tree.specs.declared.syntax.Node.{Node}
 use Rattle.parse_tree.proofs.ReadingLaws.{never, then-got, got-as}
 use Rattle.parse_tree.proofs.Expecting.{item-wanted, symbol-wanted, argument-wanted, alternative-wanted, attribute-wanted, condition-wanted}
-use Rattle.parse_tree.proofs.Sizing.{node-positive}
+use Rattle.parse_tree.proofs.SizeLaws.{node-positive}
 use Rattle.replacing.specs.Runs.{isItem, hop, hops}
 use Rattle.replacing.proofs.Readings.{Standing, stands-then}
 

@@ -8,7 +8,7 @@ use borrow.Author.Tests.{eqb-true, eq-eqb}
 use lib.Dec.{eqb}
 use lib.ListN.{length, getD}
 use Rattle.octets.specs.plain.Runs.{sameAs}
-use Rattle.octets.proofs.Sameness.{sameAs-eq, sameAs-refl, eq-sameAs}
+use Rattle.octets.proofs.SameLaws.{sameAs-eq, sameAs-refl, eq-sameAs}
 use Rattle.parse_tree.specs.plain.Tree.{Text, Sym}
 use Rattle.parse_tree.specs.plain.Texts.{has, number, distinct}
 use Rattle.parse_tree.specs.plain.Display.{print}

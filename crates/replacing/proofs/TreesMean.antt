@@ -10,7 +10,7 @@ use Rattle.passes.specs.Outcome.{withSymbols, withAlternatives}
 use Rattle.passes.specs.Macros.{listing, symbolOf, spanOf, Expander, push, replaceAround, replaceSymbol, replaceSymbols, replaceAlternatives, replaceItems}
 use Rattle.parse_tree.specs.working.Within.{Each}
 use Rattle.parse_tree.proofs.ReadingLaws.{each-append}
-use Rattle.parse_tree.proofs.Printing.{print-then}
+use Rattle.parse_tree.proofs.DisplayLaws.{print-then}
 use Rattle.replacing.specs.Trees.{keyed, renamedLeaf, renamedAround, renamed, renamedAll, inner, isKey, ownLeaf, ownAround, expanded, expandedAll, enter, enterAll, renamedAlternatives, expandedAlternatives, renamedItem, expandedItem, renamedItems, expandedItems}
 
 -- ---- (b) printing is unchanged by replacing

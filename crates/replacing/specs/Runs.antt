@@ -115,15 +115,15 @@ module _ (same : ℕ → ℕ → Bool) (textAt : ℕ → Option ℕ) (w base : �
   unfoldable pub skipStep : Run → Run
   skipStep r = record { at = hops w s (length s) (r .at + sizeOf w (nodeAt w s (r .at))); out = r .out; slots = r .slots }
 
-  unfoldable pub step : Run → Run
-  step r =
+  unfoldable pub stepOn : Run → Run
+  stepOn r =
       pick (leb (length s) (r .at)) r
       (pick (isMacro (nodeAt w s (r .at))) (skipStep r)
       (pick (plain (nodeAt w s (r .at))) (copyStep r) (keyBy (places w s 64 (r .at)) r)))
 
   unfoldable pub steps : ℕ → Run → Run
   steps zero r = r
-  steps (suc n) r = steps n (step r)
+  steps (suc n) r = steps n (stepOn r)
 
 -- before the round: marks are the numbers of the texts that were pushed before
 unfoldable pub started : List ℕ → Slots

@@ -10,7 +10,7 @@ use lib.ListN.{length}
 use Rattle.octets.specs.working.Choice.{pick}
 use Rattle.octets.specs.plain.Numbers.{Bytes}
 use Rattle.octets.specs.plain.Runs.{part, Lies}
-use Rattle.octets.proofs.Lying.{lies-none, lies-append, lies-part}
+use Rattle.octets.proofs.LiesLaws.{lies-none, lies-append, lies-part}
 use Rattle.parse_tree.specs.plain.Tree.{Text, Syms, Attribute, Condition, Alternative, count, symsOf, conditions}
 use Rattle.parse_tree.specs.plain.Texts.{distinct}
 use Rattle.parse_tree.specs.working.Nodes.{nodeBytes, nodeAt, sizeOf}

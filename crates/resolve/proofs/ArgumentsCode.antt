@@ -15,8 +15,8 @@ use mir.Val.{Fits}
 use Rattle.octets.specs.working.Choice.{pick}
 use Rattle.octets.specs.plain.Numbers.{Bytes, le}
 use Rattle.octets.specs.working.Stores.{store}
-use Rattle.octets.proofs.Choices.{by-pick}
-use Rattle.octets.proofs.Storing.{length-store}
+use Rattle.octets.proofs.ChoiceLaws.{by-pick}
+use Rattle.octets.proofs.StoreLaws.{length-store}
 use Rattle.parse_tree.specs.working.Nodes.{nodeAt, sizeOf}
 use Rattle.parse_tree.specs.working.Refusals.{refusalAt, refusalOver}
 use Rattle.parse_tree.specs.declared.refusal.Refusal.{Refusal}

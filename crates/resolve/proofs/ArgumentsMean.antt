@@ -12,8 +12,8 @@ use Rattle.octets.specs.working.Choice.{pick}
 use Rattle.octets.specs.plain.Numbers.{Bytes, le}
 use Rattle.octets.specs.plain.Runs.{sameAs}
 use Rattle.octets.specs.working.Stores.{store}
-use Rattle.octets.proofs.Sameness.{sameAs-eq, sameAs-refl}
-use Rattle.octets.proofs.Storing.{length-store}
+use Rattle.octets.proofs.SameLaws.{sameAs-eq, sameAs-refl}
+use Rattle.octets.proofs.StoreLaws.{length-store}
 use Rattle.parse_tree.specs.plain.Tree.{Text, Item, item, extern, match}
 use Rattle.parse_tree.specs.plain.Texts.{has, number, distinct}
 use Rattle.parse_tree.specs.working.Questions.{defined}
@@ -29,7 +29,7 @@ use Rattle.parse_tree.proofs.TextLaws.{number-text}
 use Rattle.parse_tree.proofs.ReadingLaws.{then-got, got-as, each-append}
 use Rattle.parse_tree.proofs.Expecting.{argument-wanted}
 use Rattle.texts.specs.Table.{entry}
-use Rattle.texts.proofs.Tabling.{entry-same, entry-other}
+use Rattle.texts.proofs.TableLaws.{entry-same, entry-other}
 use Rattle.passes.specs.Outcome.{Tree}
 use Rattle.passes.specs.Resolve.{argumentDef, Global, nonterminals, externs, matches, globals, defIn}
 use Rattle.resolve.specs.declared.Def.{Def}

@@ -16,7 +16,7 @@ use mir.Val.{Fits}
 use Rattle.octets.specs.working.Choice.{pick}
 use Rattle.octets.specs.plain.Numbers.{le}
 use Rattle.octets.specs.working.Stores.{store}
-use Rattle.octets.proofs.Choices.{by-pick}
+use Rattle.octets.proofs.ChoiceLaws.{by-pick}
 use Rattle.parse_tree.proofs.syntax.Node.{the-type as node-type}
 use Rattle.parse_tree.specs.working.Nodes.{nodeAt, sizeOf}
 use Rattle.parse_tree.specs.working.Refusals.{refusalOver}
@@ -29,7 +29,7 @@ use Rattle.parse_tree.proofs.NodeFits.{NodeSays}
 use Rattle.parse_tree.proofs.NodeSays.{node-says}
 use Rattle.texts.specs.Table.{entry}
 use Rattle.resolve.specs.Scopes.{Tables, base, tables, codeOf, foundBy}
-use Rattle.resolve.specs.Globals.{Tabled, tabled, refused, thenTabled, Kept, Tabling, Entering, describe, globalOf, globalOut, declareBy, declareOut, commandOut, scanOut, blank, globalsOut}
+use Rattle.resolve.specs.Globals.{Tabled, tabled, refused, thenTabled, Kept, Tabling, EnteringGlobals, describe, globalOf, globalOut, declareBy, declareOut, commandOut, scanOut, blank, globalsOut}
 use Rattle.resolve.specs.declared.Def.{Def}
 use Rattle.resolve.specs.declared.Found.{Found}
 use Rattle.resolve.specs.declared.Scope.{Scope}
@@ -180,13 +180,13 @@ not-declared : (g : Global) → OneOf (1 ∷ []) (tagOf global-type g) → g ≡
 not-declared (Global.Is k d s) h = absurd (miss (1 ∷ []) 0 tt h)
 not-declared Global.Nothing h = refl
 
-entering-next : (m : Scope) (x : Tabled) (e : ℕ) (w w′ : List ℕ) → Tabling m x w Verdict.Fine w′ → Entering m (x, e) w (Passed.Next e) w′
-unfolding Tabling Entering
+entering-next : (m : Scope) (x : Tabled) (e : ℕ) (w w′ : List ℕ) → Tabling m x w Verdict.Fine w′ → EnteringGlobals m (x, e) w (Passed.Next e) w′
+unfolding Tabling EnteringGlobals
 entering-next m (tabled t) e w w′ h = (refl, h .kept)
 entering-next m (refused why) e w w′ h = absurd (fine-not h)
 
-entering-refused : (m : Scope) (x : Tabled) (e : ℕ) (w w′ : List ℕ) (why : Refusal) → Tabling m x w (Verdict.Refused why) w′ → Entering m (x, e) w (Passed.Refused why) w′
-unfolding Tabling Entering
+entering-refused : (m : Scope) (x : Tabled) (e : ℕ) (w w′ : List ℕ) (why : Refusal) → Tabling m x w (Verdict.Refused why) w′ → EnteringGlobals m (x, e) w (Passed.Refused why) w′
+unfolding Tabling EnteringGlobals
 entering-refused m (tabled t) e w w′ why h = absurd (fine-not (sym (h .answered)))
 entering-refused m (refused why′) e w w′ why h = cc
 
@@ -195,16 +195,16 @@ module _ (w s : List ℕ) (m : Scope) (which at : ℕ) (n : Node) (i : n ≡ nod
   unfolding commandOut
   command-is = cc
 
-  pub command-none : OneOf (1 ∷ []) (tagOf global-type g) → Entering m (commandOut m (tables m w) s which at) w (Passed.Next (at + z)) w
+  pub command-none : OneOf (1 ∷ []) (tagOf global-type g) → EnteringGlobals m (commandOut m (tables m w) s which at) w (Passed.Next (at + z)) w
   unfolding globalOut
   command-none h = rw (command-is, not-declared g h) (entering-next m (tabled (tables m w)) (at + z) w w (tabling-fine m _ (tables m w) w w refl (kept-none m w)))
 
   module _ (k : ℕ) (d : Def) (sp : Span) (u : g ≡ Global.Is k d sp) (v : Verdict) (w′ : List ℕ) (h : Tabling m (declareOut m (tables m w) k d sp) w v w′) where
-    pub command-fine : v ≡ Verdict.Fine → Entering m (commandOut m (tables m w) s which at) w (Passed.Next (at + z)) w′
+    pub command-fine : v ≡ Verdict.Fine → EnteringGlobals m (commandOut m (tables m w) s which at) w (Passed.Next (at + z)) w′
     unfolding globalOut
     command-fine a = rw (command-is, u) (entering-next m (declareOut m (tables m w) k d sp) (at + z) w w′ (rw a at h))
 
-    pub command-refused : (why : Refusal) → v ≡ Verdict.Refused why → Entering m (commandOut m (tables m w) s which at) w (Passed.Refused why) w′
+    pub command-refused : (why : Refusal) → v ≡ Verdict.Refused why → EnteringGlobals m (commandOut m (tables m w) s which at) w (Passed.Refused why) w′
     unfolding globalOut
     command-refused why a = rw (command-is, u) (entering-refused m (declareOut m (tables m w) k d sp) (at + z) w w′ why (rw a at h))
 
@@ -224,13 +224,13 @@ record Nexted (m : Scope) (x : Tabled × ℕ) (w : List ℕ) (e : ℕ) (w′ : L
   place : x .1 ≡ e
   kept : Kept m table w w′
 
-nexted : (m : Scope) (x : Tabled) (y : ℕ) (w : List ℕ) (e : ℕ) (w′ : List ℕ) → Entering m (x, y) w (Passed.Next e) w′ → Nexted m (x, y) w e w′
-unfolding Entering
+nexted : (m : Scope) (x : Tabled) (y : ℕ) (w : List ℕ) (e : ℕ) (w′ : List ℕ) → EnteringGlobals m (x, y) w (Passed.Next e) w′ → Nexted m (x, y) w e w′
+unfolding EnteringGlobals
 nexted m (tabled t) y w e w′ h = let z : y ≡ e = let q = h .0 in cc in record { table = t; is = refl; place = z; kept = h .1 }
 nexted m (refused why) y w e w′ h = absurd (next-not h)
 
-denied : (m : Scope) (x : Tabled) (y : ℕ) (w : List ℕ) (why : Refusal) (w′ : List ℕ) → Entering m (x, y) w (Passed.Refused why) w′ → x ≡ refused why
-unfolding Entering
+denied : (m : Scope) (x : Tabled) (y : ℕ) (w : List ℕ) (why : Refusal) (w′ : List ℕ) → EnteringGlobals m (x, y) w (Passed.Refused why) w′ → x ≡ refused why
+unfolding EnteringGlobals
 denied m (tabled t) y w why w′ h = absurd (next-not (sym (h .0)))
 denied m (refused why′) y w why w′ h = cc
 
@@ -262,7 +262,7 @@ module _ (m : Scope) (s w₀ : List ℕ) (which at : ℕ) (w : List ℕ) (p : �
   pub scan-done : length s ≤ p → Tabling m (scanOut m s which (length s) (tables m w₀) at) w₀ Verdict.Fine w
   scan-done h = g .carry Verdict.Fine w (tabling-fine m _ (tables m w) w w (scan-end m s (tables m w) which (g .fuel) p h) (kept-none m w))
 
-  module _ (h : p < length s) (r : Passed) (w′ : List ℕ) (i : Entering m (commandOut m (tables m w) s which p) w r w′) where
+  module _ (h : p < length s) (r : Passed) (w′ : List ℕ) (i : EnteringGlobals m (commandOut m (tables m w) s which p) w r w′) where
     opened : scanOut m s which (g .fuel) (tables m w) p ≡ turn m s which (g .fuel - 1) (tables m w) p
     opened =
         let z : g .fuel ≡ suc (g .fuel - 1) = omega (arith, g .enough) in

@@ -12,14 +12,14 @@ use Rattle.octets.specs.working.Choice.{pick}
 use Rattle.octets.specs.plain.Numbers.{le}
 use Rattle.octets.specs.plain.Runs.{sameAs}
 use Rattle.octets.specs.working.Stores.{store}
-use Rattle.octets.proofs.Sameness.{sameAs-eq, eq-sameAs}
-use Rattle.octets.proofs.Storing.{length-store}
+use Rattle.octets.proofs.SameLaws.{sameAs-eq, eq-sameAs}
+use Rattle.octets.proofs.StoreLaws.{length-store}
 use Rattle.parse_tree.specs.plain.Tree.{Text}
 use Rattle.parse_tree.specs.plain.Texts.{has, number, distinct}
 use Rattle.parse_tree.specs.working.Within.{Each}
 use Rattle.parse_tree.proofs.TextLaws.{number-below, text-number, number-text}
 use Rattle.texts.specs.Table.{entry}
-use Rattle.texts.proofs.Tabling.{entry-same, entry-other}
+use Rattle.texts.proofs.TableLaws.{entry-same, entry-other}
 use Rattle.passes.specs.Outcome.{Outcome, yes, no}
 use Rattle.passes.specs.Resolve.{Def as Definition, terminalDef, nonterminalDef, argumentDef, Global as Met, defIn, kind, metAgain, checkGlobals}
 use Rattle.parse_tree.specs.working.Refusals.{refusalOver}

@@ -8,13 +8,13 @@ use mir.Syntax.{w8, w64}
 use mir.Val.{Fits}
 use lib.ListN.{length, getD}
 use Rattle.octets.specs.plain.Numbers.{Bytes}
-use Rattle.octets.proofs.Lying.{lies-inside}
+use Rattle.octets.proofs.LiesLaws.{lies-inside}
 use Rattle.parse_tree.specs.working.Nodes.{nodeAt, nodeBytes, sizeOf}
 use Rattle.parse_tree.specs.declared.syntax.Alternative.{Alternative}
 use Rattle.parse_tree.specs.declared.syntax.Node.{Node}
 use Rattle.parse_tree.proofs.NodeFits.{Stands, NodeSays}
 use Rattle.parse_tree.proofs.NodeSays.{node-says}
-use Rattle.parse_tree.proofs.Sizing.{alternative-size}
+use Rattle.parse_tree.proofs.SizeLaws.{alternative-size}
 
 -- a command has no byte, or ends inside
 abbrev Ends : ℕ → List ℕ → ℕ → Node → Type 0

@@ -15,8 +15,8 @@ use lib.ListN.{length, getD, length-append}
 use Rattle.octets.specs.working.Choice.{pick}
 use Rattle.octets.specs.plain.Runs.{part}
 use Rattle.octets.specs.working.Sink.{Laid, adv, lay}
-use Rattle.octets.proofs.Laying.{adv-append, lay-append}
-use Rattle.octets.proofs.Fitting.{adv-le}
+use Rattle.octets.proofs.SinkLaws.{adv-append, lay-append}
+use Rattle.octets.proofs.SinkStores.{adv-le}
 use Rattle.parse_tree.specs.working.Nodes.{nodeAt, sizeOf}
 use Rattle.parse_tree.specs.working.Refusals.{refusalAt}
 use Rattle.parse_tree.specs.declared.refusal.Refusal.{Refusal}
@@ -29,7 +29,7 @@ use Rattle.resolve.specs.declared.Passed.{Passed}
 use Rattle.resolve.specs.declared.Walked.{Walked}
 use Rattle.resolve.specs.Scopes.{Area, base, tables}
 use Rattle.resolve.specs.Walks.{Out, wrote, denied, prefix, many, Staged}
-use Rattle.resolve.specs.Items.{Stamped, stamped, against, Stamping, argumentsOut, alternativeOut, Put, put, unput, behind, Replaced, putBy, stampedThen, prefixPut, putThen, within, dataOut, nowhere, itemIn, itemOut, itemsOut}
+use Rattle.resolve.specs.Items.{Stamped, stamped, against, Stamping, argumentsOut, alternativeOut, Put, put, unput, behind, PutOut, putBy, stampedThen, prefixPut, putThen, within, dataOut, putNothing, itemIn, itemOut, itemsOut}
 use Rattle.resolve.proofs.Regions.{tables-lay, behind-lay}
 use Rattle.resolve.proofs.Inside.{command-inside}
 use Rattle.resolve.proofs.GlobalsCode.{noItem, next-not}
@@ -40,16 +40,16 @@ use Rattle.resolve.proofs.ArgumentsCode.{Ends, arguments-end}
 walked-not : {e t : ℕ} {why : Refusal} → Walked.Next e t ≡ Walked.Refused why → ⊥
 walked-not {e} {t} {why} h = let z : _≡_ {A = ℕ} 0 1 = cc in omega arith
 
-replaced-unput : (m : Scope) (x : Put) (why : Refusal) (w : List ℕ) (to : ℕ) (w′ : List ℕ) → x ≡ unput why → Replaced m x w to (Walked.Refused why) w′
-unfolding Replaced
+replaced-unput : (m : Scope) (x : Put) (why : Refusal) (w : List ℕ) (to : ℕ) (w′ : List ℕ) → x ≡ unput why → PutOut m x w to (Walked.Refused why) w′
+unfolding PutOut
 replaced-unput m x why w to w′ e = rw e refl
 
-replaced-as : (m : Scope) (x y : Put) (w : List ℕ) (to : ℕ) (r : Walked) (w′ : List ℕ) → x ≡ y → Replaced m y w to r w′ → Replaced m x w to r w′
+replaced-as : (m : Scope) (x y : Put) (w : List ℕ) (to : ℕ) (r : Walked) (w′ : List ℕ) → x ≡ y → PutOut m y w to r w′ → PutOut m x w to r w′
 replaced-as m x y w to r w′ e h = rw e h
 
 -- what is written by the tables of w1, behind which stands what stood behind those of w
-replaced-staged : (m : Scope) (x : Out) (w w1 : List ℕ) (to : ℕ) (r : Walked) (w2 : List ℕ) → base m ≤ to → behind m w1 ≡ behind m w → Staged x w1 (m .lim) to r w2 → Replaced m (putBy (tables m w1) x) w to r w2
-unfolding Replaced putBy Staged
+replaced-staged : (m : Scope) (x : Out) (w w1 : List ℕ) (to : ℕ) (r : Walked) (w2 : List ℕ) → base m ≤ to → behind m w1 ≡ behind m w → Staged x w1 (m .lim) to r w2 → PutOut m (putBy (tables m w1) x) w to r w2
+unfolding PutOut putBy Staged
 replaced-staged m (wrote xs e) w w1 to r w2 h k g = record {
   answered = g .answered;
   tabled = ap (tables m) (g .bytes) ∙ tables-lay m w1 (m .lim) to xs h;
@@ -84,7 +84,7 @@ fallen m (stamped t e) why w w1 h = absurd (next-not (sym (h .answered)))
 fallen m (against why′) why w w1 h = cc
 
 module _ (m : Scope) (s : List ℕ) (d : NonterminalData) (e : ℕ) (w : List ℕ) (a : ℕ) (x : Passed) (w1 : List ℕ) (g : Stamping m (argumentsOut m s (d .span) a (tables m w) e) w x w1) where
-  pub data-refused : (at to : ℕ) (why : Refusal) → a ≡ d .args → x ≡ Passed.Refused why → (w2 : List ℕ) → Replaced m (dataOut m (tables m w) s d at e) w to (Walked.Refused why) w2
+  pub data-refused : (at to : ℕ) (why : Refusal) → a ≡ d .args → x ≡ Passed.Refused why → (w2 : List ℕ) → PutOut m (dataOut m (tables m w) s d at e) w to (Walked.Refused why) w2
   unfolding dataOut stampedThen
   data-refused at to why f u w2 = replaced-unput m _ why w to w2 (let z = fallen m _ why w w1 (rw u at g) in cc)
 
@@ -99,7 +99,7 @@ module _ (m : Scope) (s : List ℕ) (d : NonterminalData) (e : ℕ) (w : List �
     data-upto l b = ends l b .1
 
     pub data-next : (at to nn k : ℕ) (r : Walked) (w2 : List ℕ) → a ≡ d .args → Area m to nn → k ≡ d .alternatives
-        → Staged (prefix (part at p s) (many (alternativeOut m (tables m w1) s) k p)) w1 (m .lim) to r w2 → Replaced m (dataOut m (tables m w) s d at e) w to r w2
+        → Staged (prefix (part at p s) (many (alternativeOut m (tables m w1) s) k p)) w1 (m .lim) to r w2 → PutOut m (dataOut m (tables m w) s d at e) w to r w2
     unfolding dataOut stampedThen base
     data-next at to nn k r w2 f ar v h =
         let z = stood m _ p w w1 (rw u at g) in
@@ -112,7 +112,7 @@ area-same m to n n1 a e = rw e a
 pub ruleset replacing = (needs, data-refused, data-from, data-upto, data-next, area-same)
 
 -- ---- validate_item
-no-item : (f : NonterminalData → Put) (x : Put) (y : Node) → OneOf noItem (tagOf the-type y) → itemIn f x y ≡ nowhere
+no-item : (f : NonterminalData → Put) (x : Put) (y : Node) → OneOf noItem (tagOf the-type y) → itemIn f x y ≡ putNothing
 unfolding itemIn
 no-item f x (Node.Text k) h = refl
 no-item f x (Node.Nonterminal k) h = absurd (miss noItem 1 tt h)
@@ -125,20 +125,20 @@ no-item f x (Node.Symbol sp k) h = refl
 no-item f x Node.Unknown h = refl
 
 -- the arguments' place is no matter
-replaced-within : (m : Scope) (c : ℕ) (x : Put) (w : List ℕ) (to : ℕ) (r : Walked) (w1 : List ℕ) → Replaced (within m c) x w to r w1 → Replaced m x w to r w1
-unfolding Replaced within tables behind base
+replaced-within : (m : Scope) (c : ℕ) (x : Put) (w : List ℕ) (to : ℕ) (r : Walked) (w1 : List ℕ) → PutOut (within m c) x w to r w1 → PutOut m x w to r w1
+unfolding PutOut within tables behind base
 replaced-within m c (put xs t e) w to r w1 h = record { answered = h .answered; tabled = h .tabled; bytes = h .bytes }
 replaced-within m c (unput why) w to r w1 h = h
 
 module _ (m : Scope) (s : List ℕ) (at : ℕ) (w : List ℕ) (to : ℕ) (n : Node) (i : n ≡ nodeAt (m .width) s at) where
-  pub item-other : (why : Refusal) → why ≡ refusalAt 2 0 → (w1 : List ℕ) → OneOf noItem (tagOf the-type n) → Replaced m (itemOut m (tables m w) s at) w to (Walked.Refused why) w1
+  pub item-other : (why : Refusal) → why ≡ refusalAt 2 0 → (w1 : List ℕ) → OneOf noItem (tagOf the-type n) → PutOut m (itemOut m (tables m w) s at) w to (Walked.Refused why) w1
   unfolding itemOut
   item-other why o w1 h = replaced-unput m _ why w to w1 (no-item _ _ (nodeAt (m .width) s at) (rw i at h) ∙ ap unput (sym o))
 
   module _ (z : ℕ) (g : z ≡ sizeOf (m .width) n) where
     pub item-terminal : (t : TerminalData) (nn q : ℕ) (w1 : List ℕ) → n ≡ Node.Terminal t → Area m to nn → Laid w (m .lim) to (part at (at + z) s) q w1
-        → Replaced m (itemOut m (tables m w) s at) w to (Walked.Next (at + z) q) w1
-    unfolding itemOut itemIn Replaced base
+        → PutOut m (itemOut m (tables m w) s at) w to (Walked.Next (at + z) q) w1
+    unfolding itemOut itemIn PutOut base
     item-terminal t nn q w1 e ar l =
         let o : itemOut m (tables m w) s at ≡ put (part at (at + z) s) (tables m w) (at + z) = cc in
         rw o (record {
@@ -148,10 +148,10 @@ module _ (m : Scope) (s : List ℕ) (at : ℕ) (w : List ℕ) (to : ℕ) (n : No
         })
 
     pub item-nonterminal : (d : NonterminalData) (r : Walked) (w1 : List ℕ) → n ≡ Node.Nonterminal d
-        → Replaced (record { room = m .room; count = m .count; width = m .width; lim = m .lim; first = at + z })
+        → PutOut (record { room = m .room; count = m .count; width = m .width; lim = m .lim; first = at + z })
         (dataOut (record { room = m .room; count = m .count; width = m .width; lim = m .lim; first = at + z }) (tables (record { room = m .room; count = m .count; width = m .width; lim = m .lim; first = at + z }) w) s d at (at + z))
         w to r w1
-        → Replaced m (itemOut m (tables m w) s at) w to r w1
+        → PutOut m (itemOut m (tables m w) s at) w to r w1
     unfolding itemOut itemIn within tables base
     item-nonterminal d r w1 e h =
         let o : itemOut m (tables m w) s at ≡ dataOut (within m (at + z)) (tables m w) s d at (at + z) = cc in
@@ -169,8 +169,8 @@ lay-two m to t w xs ys e k =
 
 -- one behind another
 pub replaced-prefix : (m : Scope) (y : Put) (xs w w1 : List ℕ) (to t : ℕ) (r : Walked) (w2 : List ℕ) → t ≡ adv (m .lim) to (length xs) → base m ≤ to
-    → behind m w1 ≡ lay (behind m w) (m .lim - base m) (to - base m) xs → Replaced m y w1 t r w2 → Replaced m (prefixPut xs y) w to r w2
-unfolding Replaced prefixPut
+    → behind m w1 ≡ lay (behind m w) (m .lim - base m) (to - base m) xs → PutOut m y w1 t r w2 → PutOut m (prefixPut xs y) w to r w2
+unfolding PutOut prefixPut
 replaced-prefix m (put ys t′ e) xs w w1 to t r w2 f k b h = record {
   answered = h .answered ∙ ap (Walked.Next e) (ap (λ (i : ℕ). adv (m .lim) i (length ys)) f ∙ adv-append (m .lim) to (length xs) (length ys) ∙ ap (adv (m .lim) to) (sym (length-append xs ys)));
   tabled = h .tabled;
@@ -185,8 +185,8 @@ record Went (m : Scope) (x : Put) (e t : ℕ) (w : List ℕ) (to : ℕ) (w1 : Li
   after : t ≡ adv (m .lim) to (length written)
   bytes : behind m w1 ≡ lay (behind m w) (m .lim - base m) (to - base m) written
 
-went : (m : Scope) (x : Put) (e t : ℕ) (w : List ℕ) (to : ℕ) (w1 : List ℕ) → Replaced m x w to (Walked.Next e t) w1 → Went m x e t w to w1
-unfolding Replaced
+went : (m : Scope) (x : Put) (e t : ℕ) (w : List ℕ) (to : ℕ) (w1 : List ℕ) → PutOut m x w to (Walked.Next e t) w1 → Went m x e t w to w1
+unfolding PutOut
 went m (put xs t′ e′) e t w to w1 h =
     let a = h .answered in
     let b : e′ ≡ e = cc in
@@ -194,8 +194,8 @@ went m (put xs t′ e′) e t w to w1 h =
     record { written = xs; is = cc (h .tabled); after = c; bytes = h .bytes }
 went m (unput why) e t w to w1 h = absurd (walked-not h)
 
-refused-is : (m : Scope) (x : Put) (why : Refusal) (w : List ℕ) (to : ℕ) (w1 : List ℕ) → Replaced m x w to (Walked.Refused why) w1 → x ≡ unput why
-unfolding Replaced
+refused-is : (m : Scope) (x : Put) (why : Refusal) (w : List ℕ) (to : ℕ) (w1 : List ℕ) → PutOut m x w to (Walked.Refused why) w1 → x ≡ unput why
+unfolding PutOut
 refused-is m (put xs t e) why w to w1 h = absurd (walked-not (sym (h .answered)))
 refused-is m (unput why′) why w to w1 h = cc
 
@@ -205,14 +205,14 @@ pub record Placing (m : Scope) (s : List ℕ) (at : ℕ) (w₀ : List ℕ) (to :
   pub same : length w ≡ length w₀
   pub fuel : ℕ
   pub enough : length s ≤ p + fuel
-  pub carry : (r : Walked) (w′ : List ℕ) → Replaced m (itemsOut m s fuel (tables m w) p) w q r w′ → Replaced m (itemsOut m s (length s) (tables m w₀) at) w₀ to r w′
+  pub carry : (r : Walked) (w′ : List ℕ) → PutOut m (itemsOut m s fuel (tables m w) p) w q r w′ → PutOut m (itemsOut m s (length s) (tables m w₀) at) w₀ to r w′
 
 pub place-start : (m : Scope) (s : List ℕ) (at : ℕ) (w : List ℕ) (to : ℕ) → Area m to (length w) → Placing m s at w to w at to
 place-start m s at w to a = record { area = a; same = refl; fuel = length s; enough = omega arith; carry = λ r w′ h. h }
 
 -- an item, then n more
 unfoldable pub turn : Scope → List ℕ → ℕ → List ℕ → ℕ → Put
-turn m s n t p = putThen (itemOut m t s p) (λ t′ e. pick (leb e p) nowhere (itemsOut m s n t′ e))
+turn m s n t p = putThen (itemOut m t s p) (λ t′ e. pick (leb e p) putNothing (itemsOut m s n t′ e))
 
 pub items-turn : (m : Scope) (s : List ℕ) (n : ℕ) (t : List ℕ) (p : ℕ) → p < length s → itemsOut m s (suc n) t p ≡ turn m s n t p
 unfolding itemsOut turn pick
@@ -224,17 +224,17 @@ items-end m s zero t p h = refl
 items-end m s (suc n) t p h = cc (le-leb (length s) p h)
 
 module _ (m : Scope) (s : List ℕ) (at : ℕ) (w₀ : List ℕ) (to : ℕ) (w : List ℕ) (p q : ℕ) (g : Placing m s at w₀ to w p q) where
-  pub place-done : length s ≤ p → Replaced m (itemsOut m s (length s) (tables m w₀) at) w₀ to (Walked.Next p q) w
-  unfolding Replaced adv lay
+  pub place-done : length s ≤ p → PutOut m (itemsOut m s (length s) (tables m w₀) at) w₀ to (Walked.Next p q) w
+  unfolding PutOut adv lay
   place-done h = g .carry (Walked.Next p q) w (rw (items-end m s (g .fuel) (tables m w) p h) (record { answered = refl; tabled = refl; bytes = refl }))
 
-  module _ (h : p < length s) (x : Walked) (w1 : List ℕ) (i : Replaced m (itemOut m (tables m w) s p) w q x w1) where
+  module _ (h : p < length s) (x : Walked) (w1 : List ℕ) (i : PutOut m (itemOut m (tables m w) s p) w q x w1) where
     opened : itemsOut m s (g .fuel) (tables m w) p ≡ turn m s (g .fuel - 1) (tables m w) p
     opened =
         let z : g .fuel ≡ suc (g .fuel - 1) = omega (arith, g .enough) in
         ap (λ (n : ℕ). itemsOut m s n (tables m w) p) z ∙ items-turn m s (g .fuel - 1) (tables m w) p h
 
-    pub place-refused : (why : Refusal) → x ≡ Walked.Refused why → (w2 : List ℕ) → Replaced m (itemsOut m s (length s) (tables m w₀) at) w₀ to (Walked.Refused why) w2
+    pub place-refused : (why : Refusal) → x ≡ Walked.Refused why → (w2 : List ℕ) → PutOut m (itemsOut m s (length s) (tables m w₀) at) w₀ to (Walked.Refused why) w2
     unfolding turn putThen
     place-refused why u w2 =
         let y = refused-is m _ why w q w1 (rw u at i) in
@@ -244,20 +244,20 @@ module _ (m : Scope) (s : List ℕ) (at : ℕ) (w₀ : List ℕ) (to : ℕ) (w :
       gone : Went m (itemOut m (tables m w) s p) e t w q w1
       gone = went m _ e t w q w1 (rw u at i)
 
-      so : itemsOut m s (g .fuel) (tables m w) p ≡ prefixPut (gone .written) (pick (leb e p) nowhere (itemsOut m s (g .fuel - 1) (tables m w1) e))
+      so : itemsOut m s (g .fuel) (tables m w) p ≡ prefixPut (gone .written) (pick (leb e p) putNothing (itemsOut m s (g .fuel - 1) (tables m w1) e))
       unfolding turn putThen
-      so = opened ∙ ap (λ (y : Put). putThen y (λ t′ e′. pick (leb e′ p) nowhere (itemsOut m s (g .fuel - 1) t′ e′))) (gone .is)
+      so = opened ∙ ap (λ (y : Put). putThen y (λ t′ e′. pick (leb e′ p) putNothing (itemsOut m s (g .fuel - 1) t′ e′))) (gone .is)
 
-      pub place-stuck : (why : Refusal) → why ≡ refusalAt 2 0 → e ≤ p → (w2 : List ℕ) → Replaced m (itemsOut m s (length s) (tables m w₀) at) w₀ to (Walked.Refused why) w2
+      pub place-stuck : (why : Refusal) → why ≡ refusalAt 2 0 → e ≤ p → (w2 : List ℕ) → PutOut m (itemsOut m s (length s) (tables m w₀) at) w₀ to (Walked.Refused why) w2
       unfolding pick prefixPut
-      place-stuck why n l w2 = g .carry _ w2 (replaced-unput m _ why w q w2 (so ∙ ap (λ (c : Bool). prefixPut (gone .written) (pick c nowhere (itemsOut m s (g .fuel - 1) (tables m w1) e))) (le-leb e p l) ∙ ap unput (sym n)))
+      place-stuck why n l w2 = g .carry _ w2 (replaced-unput m _ why w q w2 (so ∙ ap (λ (c : Bool). prefixPut (gone .written) (pick c putNothing (itemsOut m s (g .fuel - 1) (tables m w1) e))) (le-leb e p l) ∙ ap unput (sym n)))
 
       pub place-next : p < e → length w1 ≡ length w → Placing m s at w₀ to w1 e t
       unfolding pick base
       place-next l k =
           let a = g .area in
           let z = adv-le (m .lim) q (length (gone .written)) in
-          let o : itemsOut m s (g .fuel) (tables m w) p ≡ prefixPut (gone .written) (itemsOut m s (g .fuel - 1) (tables m w1) e) = so ∙ ap (λ (c : Bool). prefixPut (gone .written) (pick c nowhere (itemsOut m s (g .fuel - 1) (tables m w1) e))) (lt-leb e p l) in
+          let o : itemsOut m s (g .fuel) (tables m w) p ≡ prefixPut (gone .written) (itemsOut m s (g .fuel - 1) (tables m w1) e) = so ∙ ap (λ (c : Bool). prefixPut (gone .written) (pick c putNothing (itemsOut m s (g .fuel - 1) (tables m w1) e))) (lt-leb e p l) in
           record {
             area = record { tabled = rw k (a .tabled); end = rw k (a .end); apart = omega (arith, gone .after, a .apart) };
             same = k ∙ g .same;

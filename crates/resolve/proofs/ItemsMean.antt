@@ -10,7 +10,7 @@ use lib.ListN.{length, length-append}
 use Rattle.octets.specs.working.Choice.{pick}
 use Rattle.octets.specs.plain.Numbers.{Bytes}
 use Rattle.octets.specs.plain.Runs.{part, Lies}
-use Rattle.octets.proofs.Lying.{lies-append, lies-part}
+use Rattle.octets.proofs.LiesLaws.{lies-append, lies-part}
 use Rattle.parse_tree.specs.plain.Tree.{Text, Alternative, Nonterminal, Item, item}
 use Rattle.parse_tree.specs.plain.Texts.{has, distinct}
 use Rattle.parse_tree.specs.working.Nodes.{nodeBytes, nodeAt, sizeOf}
@@ -26,7 +26,7 @@ use Rattle.parse_tree.specs.declared.syntax.Span.{Span}
 use Rattle.parse_tree.specs.declared.syntax.NonterminalData.{NonterminalData}
 use Rattle.parse_tree.specs.declared.syntax.TerminalData.{TerminalData}
 use Rattle.parse_tree.specs.declared.syntax.Node.{Node}
-use Rattle.parse_tree.proofs.Sizing.{nonterminal-size}
+use Rattle.parse_tree.proofs.SizeLaws.{nonterminal-size}
 use Rattle.parse_tree.proofs.TextLaws.{both, number-text}
 use Rattle.parse_tree.proofs.ReadingLaws.{then-got, got-as}
 use Rattle.parse_tree.proofs.Asking.{Passes}
@@ -39,7 +39,7 @@ use Rattle.passes.specs.Resolve.{checkCondition, validateSymbols, validateAlter
 use Rattle.resolve.specs.declared.Scope.{Scope}
 use Rattle.resolve.specs.Scopes.{base}
 use Rattle.resolve.specs.Walks.{prefix}
-use Rattle.resolve.specs.Items.{Put, put, unput, argumentsOut, putBy, stampedThen, prefixPut, putThen, within, dataOut, nowhere, itemIn, itemOut, itemsOut}
+use Rattle.resolve.specs.Items.{Put, put, unput, argumentsOut, putBy, stampedThen, prefixPut, putThen, within, dataOut, putNothing, itemIn, itemOut, itemsOut}
 use Rattle.resolve.proofs.ItemsCode.{turn, items-turn, items-end}
 use Rattle.resolve.proofs.NamesMean.{outOf}
 use Rattle.resolve.proofs.Readings.{Standing, standing-inside, stands-then, times-length, items-then}
@@ -219,7 +219,7 @@ module _ (m : Scope) (s : List ℕ) (ts : List Text) (b : Bytes s) (d : distinct
   -- one, then the others
   more-mean : (n : ℕ) → ItemsMean n → (a : ℕ) (is : List Item) (e c : ℕ) → readItems true (m .width) s ts n c ≡ got is e → a < c → (r : Outcome Item) (y : Put)
       → Puts m ts G (itemBytes (m .width) ts) r y c
-      → Puts m ts G (bytesOfEach (itemBytes (m .width) ts)) (after r (λ v. after (validateItems G is) (λ vs. yes (v ∷ vs)))) (putThen y (λ t′ e′. pick (leb e′ a) nowhere (itemsOut m s n t′ e′))) e
+      → Puts m ts G (bytesOfEach (itemBytes (m .width) ts)) (after r (λ v. after (validateItems G is) (λ vs. yes (v ∷ vs)))) (putThen y (λ t′ e′. pick (leb e′ a) putNothing (itemsOut m s n t′ e′))) e
   unfolding putThen prefixPut pick bytesOfEach
   more-mean n f a is e c p l (yes v) y h =
       rw (h .is, lt-leb c a l) (go (validateItems G is) (itemsOut m s n (h .table) c) (f c (h .table) is e p (h .scoped)))

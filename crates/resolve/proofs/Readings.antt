@@ -10,7 +10,7 @@ use lib.ListN.{length}
 use Rattle.octets.specs.working.Choice.{pick}
 use Rattle.octets.specs.plain.Numbers.{Bytes}
 use Rattle.octets.specs.plain.Runs.{Lies}
-use Rattle.octets.proofs.Lying.{lies-inside}
+use Rattle.octets.proofs.LiesLaws.{lies-inside}
 use Rattle.parse_tree.specs.plain.Tree.{Text, Item}
 use Rattle.parse_tree.specs.working.Nodes.{nodeBytes, nodeAt, sizeOf}
 use Rattle.parse_tree.specs.working.Places.{classOf, allowedAt}
@@ -20,7 +20,7 @@ use Rattle.parse_tree.specs.working.Decode.{ask, readItem, readItems}
 use Rattle.parse_tree.specs.declared.syntax.Node.{Node}
 use Rattle.parse_tree.proofs.Asking.{Passes, ask-finds}
 use Rattle.parse_tree.proofs.ReadingLaws.{never, then-got, got-as}
-use Rattle.parse_tree.proofs.Sizing.{node-positive}
+use Rattle.parse_tree.proofs.SizeLaws.{node-positive}
 
 -- the command n stands from a to c and has passed
 pub record Standing (w : ℕ) (s : List ℕ) (ts : List Text) (a c : ℕ) (n : Node) : Type 0 where

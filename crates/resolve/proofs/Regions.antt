@@ -12,8 +12,8 @@ use Rattle.octets.specs.working.Choice.{pick}
 use Rattle.octets.specs.plain.Numbers.{leAt, le}
 use Rattle.octets.specs.working.Stores.{store}
 use Rattle.octets.specs.working.Sink.{step, lay1, lay}
-use Rattle.octets.proofs.Numbering.{length-le}
-use Rattle.octets.proofs.Fitting.{lay-over}
+use Rattle.octets.proofs.NumbersLaws.{length-le}
+use Rattle.octets.proofs.SinkStores.{lay-over}
 use Rattle.texts.specs.Table.{entry}
 use Rattle.resolve.specs.Scopes.{base, tables}
 use Rattle.resolve.specs.Items.{behind}

@@ -8,8 +8,8 @@ use denote.Enum.Declared.{tagOf}
 use types.Run.{OneOf, miss}
 use lib.ListN.{length}
 use Rattle.octets.specs.working.Sink.{Laid, adv, lay}
-use Rattle.octets.proofs.Laying.{laid-append}
-use Rattle.octets.proofs.Fitting.{adv-le, length-lay}
+use Rattle.octets.proofs.SinkLaws.{laid-append}
+use Rattle.octets.proofs.SinkStores.{adv-le, length-lay}
 use Rattle.parse_tree.specs.working.Nodes.{nodeAt, nodeBytes, sizeOf}
 use Rattle.parse_tree.specs.working.Operands.{insideOf}
 use Rattle.parse_tree.specs.working.Refusals.{refusalAt}

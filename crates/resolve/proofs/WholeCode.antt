@@ -24,7 +24,7 @@ use Rattle.parse_tree.proofs.ReadingLaws.{got-as}
 use Rattle.parse_tree.specs.working.Refusals.{refusalOver}
 use Rattle.parse_tree.specs.declared.refusal.Refusal.{Refusal}
 use Rattle.texts.specs.Atoms.{atomsOf}
-use Rattle.texts.proofs.Tabling.{length-atoms}
+use Rattle.texts.proofs.TableLaws.{length-atoms}
 use Rattle.passes.specs.Outcome.{Outcome, yes, no, after}
 use Rattle.passes.specs.Resolve.{globals, checkGlobals, validateItems, resolve}
 use Rattle.resolve.specs.declared.Scope.{Scope}
@@ -32,7 +32,7 @@ use Rattle.resolve.specs.declared.Verdict.{Verdict}
 use Rattle.resolve.specs.declared.Walked.{Walked}
 use Rattle.resolve.specs.Scopes.{Area, base, tables}
 use Rattle.resolve.specs.Globals.{Tabled, Kept, Fined, Tabling, globalsOut}
-use Rattle.resolve.specs.Items.{Put, prefixPut, behind, Laying, Replaced, itemsOut}
+use Rattle.resolve.specs.Items.{Put, prefixPut, behind, Laying, PutOut, itemsOut}
 use Rattle.resolve.specs.Whole.{Resolving, treeOut, Written, Answers, ResolvesRead, Resolves}
 use Rattle.resolve.proofs.Regions.{behind-lay}
 use Rattle.resolve.proofs.Readings.{items-then}
@@ -69,7 +69,7 @@ atoms-part s at ts is b d p q =
 
 -- ---- put_tree
 pub tree-behind : (m : Scope) (s : List ℕ) (at : ℕ) (w : List ℕ) (to nn q : ℕ) (w1 : List ℕ) (r : Walked) (w2 : List ℕ) → Area m to nn → Laid w (m .lim) to (part 0 at s) q w1
-    → Replaced m (itemsOut m s (length s) (tables m w1) at) w1 q r w2 → Replaced m (treeOut m (tables m w) s at) w to r w2
+    → PutOut m (itemsOut m s (length s) (tables m w1) at) w1 q r w2 → PutOut m (treeOut m (tables m w) s at) w to r w2
 unfolding treeOut base
 tree-behind m s at w to nn q w1 r w2 ar d h =
     replaced-prefix m _ (part 0 at s) w w1 to q r w2 (d .after) (ar .apart) (ap (behind m) (d .bytes) ∙ behind-lay m w (m .lim) to (part 0 at s) (ar .apart))
@@ -112,7 +112,7 @@ module _ (s w : List ℕ) (m : Scope) (at to : ℕ) (h : Resolving s w m at to) 
           let y : v ≡ Verdict.Refused (refusalOver q′ p′) = rw j at z in
           resolves (no q′ p′) (Walked.Refused why) w1 (ap (λ (o : Outcome (Unit {0})). after o (λ u. validateItems (h .items) (h .items))) i) cc
 
-  module _ (e : v ≡ Verdict.Fine) (r : Walked) (w3 : List ℕ) (k : Replaced m (treeOut m (tables m w1) s at) w1 to r w3) where
+  module _ (e : v ≡ Verdict.Fine) (r : Walked) (w3 : List ℕ) (k : PutOut m (treeOut m (tables m w1) s at) w1 to r w3) where
     atoms-are : part 0 at s ≡ bytesOfEach (atomBytes 2) ts
     atoms-are = atoms-part s at ts (h .items) (λ i. b i .fits) (h .apart) (h .read) (h .decoded)
 
@@ -123,8 +123,8 @@ module _ (s w : List ℕ) (m : Scope) (at to : ℕ) (h : Resolving s w m at to) 
         → Puts m ts (h .items) (bytesOfEach (itemBytes (m .width) ts)) (validateItems (h .items) (h .items)) (itemsOut m s (length s) (tables m w1) at) (length s)
     items-say t c z = rw z (items-mean m s ts (λ i. b i .fits) (h .apart) counted (h .area .tabled .few) l (h .items) (length s) at t (h .items) (length s) read (scoped t c))
 
-    walked : (t : List ℕ) → Kept m t w w1 → (o : Outcome (List Item)) (x : Put) → Puts m ts (h .items) (bytesOfEach (itemBytes (m .width) ts)) o x (length s) → Replaced m (prefixPut (part 0 at s) x) w1 to r w3 → Answers m ts o w to r w3
-    unfolding Replaced Answers stageBytes prefixPut behind
+    walked : (t : List ℕ) → Kept m t w w1 → (o : Outcome (List Item)) (x : Put) → Puts m ts (h .items) (bytesOfEach (itemBytes (m .width) ts)) o x (length s) → PutOut m (prefixPut (part 0 at s) x) w1 to r w3 → Answers m ts o w to r w3
+    unfolding PutOut Answers stageBytes prefixPut behind
     walked t c (yes R) x y z =
         let i : Laying m (part 0 at s ++ bytesOfEach (itemBytes (m .width) ts) R) (y .table) (length s) w1 to r w3 = rw (y .is) at z in
         let n : Written m (part 0 at s ++ bytesOfEach (itemBytes (m .width) ts) R) w to r w3 =

@@ -70,8 +70,8 @@ unfoldable pub declareOut : Scope → List ℕ → ℕ → Def → Span → Tabl
 declareOut m t k d s = pick (leb (m .count) k) (tabled t) (declareBy m t k d s (foundBy (entry t (m .room + k))))
 
 -- the same with the place to read on at
-unfoldable pub Entering : Scope → Tabled × ℕ → List ℕ → Passed → List ℕ → Type 0
-Entering m x w r w′ = elim (x .0) [
+unfoldable pub EnteringGlobals : Scope → Tabled × ℕ → List ℕ → Passed → List ℕ → Type 0
+EnteringGlobals m x w r w′ = elim (x .0) [
   | tabled t ↦ (r ≡ Passed.Next (x .1)) × Kept m t w w′
   | refused why ↦ r ≡ Passed.Refused why
 ]

@@ -132,9 +132,9 @@ pub record Laying (m : Scope) (xs t : List ℕ) (e : ℕ) (w : List ℕ) (to : �
   pub tabled : tables m w′ ≡ t
   pub bytes : behind m w′ ≡ lay (behind m w) (m .lim - base m) (to - base m) xs
 
-unfoldable pub Replaced : Scope → Put → List ℕ → ℕ → Walked → List ℕ → Type 0
-Replaced m (put xs t e) w to r w′ = Laying m xs t e w to r w′
-Replaced m (unput why) w to r w′ = r ≡ Walked.Refused why
+unfoldable pub PutOut : Scope → Put → List ℕ → ℕ → Walked → List ℕ → Type 0
+PutOut m (put xs t e) w to r w′ = Laying m xs t e w to r w′
+PutOut m (unput why) w to r w′ = r ≡ Walked.Refused why
 
 -- an Out with tables that stay
 unfoldable pub putBy : List ℕ → Out → Put
@@ -162,19 +162,19 @@ dataOut m t s d at e =
     stampedThen (argumentsOut m s (d .span) (d .args) t e) (λ t′ p.
     putBy t′ (prefix (part at p s) (many (alternativeOut m t′ s) (d .alternatives) p)))
 
-abbrev pub nowhere : Put
-nowhere = unput (refusalAt 2 0)
+abbrev pub putNothing : Put
+putNothing = unput (refusalAt 2 0)
 
 unfoldable pub itemIn : (NonterminalData → Put) → Put → Node → Put
-itemIn f x (Node.Text k) = nowhere
+itemIn f x (Node.Text k) = putNothing
 itemIn f x (Node.Nonterminal d) = f d
 itemIn f x (Node.Terminal t) = x
-itemIn f x (Node.Argument a) = nowhere
-itemIn f x (Node.Alternative a) = nowhere
-itemIn f x (Node.Attribute a) = nowhere
-itemIn f x (Node.Condition c) = nowhere
-itemIn f x (Node.Symbol s k) = nowhere
-itemIn f x Node.Unknown = nowhere
+itemIn f x (Node.Argument a) = putNothing
+itemIn f x (Node.Alternative a) = putNothing
+itemIn f x (Node.Attribute a) = putNothing
+itemIn f x (Node.Condition c) = putNothing
+itemIn f x (Node.Symbol s k) = putNothing
+itemIn f x Node.Unknown = putNothing
 
 unfoldable pub itemOut : Scope → List ℕ → List ℕ → ℕ → Put
 itemOut m t s at =
@@ -184,4 +184,4 @@ itemOut m t s at =
 -- items to the tape's end; there are fewer than n, since each has a byte
 unfoldable pub itemsOut : Scope → List ℕ → ℕ → List ℕ → ℕ → Put
 itemsOut m s zero t at = put [] t at
-itemsOut m s (suc n) t at = pick (leb (length s) at) (put [] t at) (putThen (itemOut m t s at) (λ t′ e. pick (leb e at) nowhere (itemsOut m s n t′ e)))
+itemsOut m s (suc n) t at = pick (leb (length s) at) (put [] t at) (putThen (itemOut m t s at) (λ t′ e. pick (leb e at) putNothing (itemsOut m s n t′ e)))

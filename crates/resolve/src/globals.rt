@@ -21,7 +21,7 @@ ghost use mathlib.Core.Path.{_≡_};
 ghost use Prim.Native.Nat.{_≤_};
 ghost use lib.ListN.{length};
 ghost use Rattle.resolve.specs.Scopes.{Tables, tables, codeOf};
-ghost use Rattle.resolve.specs.Globals.{Tabling, Entering, describe, globalOf, declareOut, commandOut, scanOut, globalsOut};
+ghost use Rattle.resolve.specs.Globals.{Tabling, EnteringGlobals, describe, globalOf, declareOut, commandOut, scanOut, globalsOut};
 
 // The tables of a tape's globals; the items stand from a place on. No atom is an argument yet.
 pub fn globals(tape: &[u8], work: &mut [u8], m: Scope, at: usize) -> Verdict
@@ -65,7 +65,7 @@ fn declare_each(tape: &[u8], work: &mut [u8], m: Scope, which: u8, at: usize) ->
 // The command at a place, entered if it declares a global of this code.
 fn declare_command(tape: &[u8], work: &mut [u8], m: Scope, which: u8, at: usize) -> Passed
     requires { ⌜ Tables m (length (now work)) ⌝ }
-    ensures { λ r. ⌜ Entering m (commandOut m (tables m (now (work .entry))) (now (tape .entry)) which at) (now (work .entry)) r (now (work .exit)) ⌝ }
+    ensures { λ r. ⌜ EnteringGlobals m (commandOut m (tables m (now (work .entry))) (now (tape .entry)) which at) (now (work .entry)) r (now (work .exit)) ⌝ }
 {
     let n = node(tape, at, m.width);
     let e = at + size(n, m.width);

@@ -26,12 +26,12 @@ ghost use Rattle.octets.specs.plain.Runs.{part};
 ghost use Rattle.texts.specs.Table.{entry};
 ghost use Rattle.resolve.specs.Scopes.{Area, Tables, tables};
 ghost use Rattle.resolve.specs.Walks.{Staged, prefix, many};
-ghost use Rattle.resolve.specs.Items.{Stamping, Replaced, skipTo, conditionOut, alternativeOut, argumentsOut, itemOut, itemsOut, dataOut};
+ghost use Rattle.resolve.specs.Items.{Stamping, PutOut, skipTo, conditionOut, alternativeOut, argumentsOut, itemOut, itemsOut, dataOut};
 
 // The items from a place to the tape's end.
 pub fn validate(tape: &[u8], work: &mut [u8], m: Scope, at: usize, to: usize) -> Walked
     requires { ⌜ Area m to (length (now work)) ⌝ }
-    ensures { λ r. ⌜ Replaced m (itemsOut m (now (tape .entry)) (length (now (tape .entry))) (tables m (now (work .entry))) at) (now (work .entry)) to r (now (work .exit)) ⌝ }
+    ensures { λ r. ⌜ PutOut m (itemsOut m (now (tape .entry)) (length (now (tape .entry))) (tables m (now (work .entry))) at) (now (work .entry)) to r (now (work .exit)) ⌝ }
 {
     let mut p = at;
     let mut q = to;
@@ -55,7 +55,7 @@ pub fn validate(tape: &[u8], work: &mut [u8], m: Scope, at: usize, to: usize) ->
 // The item at a place.
 fn validate_item(tape: &[u8], work: &mut [u8], m: Scope, at: usize, to: usize) -> Walked
     requires { ⌜ Area m to (length (now work)) × (at ≤ length (now tape)) ⌝ }
-    ensures { λ r. ⌜ Replaced m (itemOut m (tables m (now (work .entry))) (now (tape .entry)) at) (now (work .entry)) to r (now (work .exit)) ⌝ }
+    ensures { λ r. ⌜ PutOut m (itemOut m (tables m (now (work .entry))) (now (tape .entry)) at) (now (work .entry)) to r (now (work .exit)) ⌝ }
 {
     let n = node(tape, at, m.width);
     let e = at + size(n, m.width);
@@ -89,7 +89,7 @@ fn validate_data(
     to: usize,
 ) -> Walked
     requires { ⌜ Area m to (length (now work)) × (at ≤ e) × (e ≤ length (now tape)) ⌝ }
-    ensures { λ r. ⌜ Replaced m (dataOut m (tables m (now (work .entry))) (now (tape .entry)) d at e) (now (work .entry)) to r (now (work .exit)) ⌝ }
+    ensures { λ r. ⌜ PutOut m (dataOut m (tables m (now (work .entry))) (now (tape .entry)) d at e) (now (work .entry)) to r (now (work .exit)) ⌝ }
 {
     let s = d.span;
     match validate_macro_args(tape, work, m, s, from8(d.args), e) {

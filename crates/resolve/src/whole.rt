@@ -8,7 +8,7 @@ use octets::sink::put_run;
 ghost use Prim.Native.Nat.{_≤_};
 ghost use lib.ListN.{length};
 ghost use Rattle.resolve.specs.Scopes.{Area, tables};
-ghost use Rattle.resolve.specs.Items.{Replaced};
+ghost use Rattle.resolve.specs.Items.{PutOut};
 ghost use Rattle.resolve.specs.Whole.{Resolving, Resolves, treeOut};
 
 // The items stand from a place on, the atoms before it; the tree is written from `to` on.
@@ -25,7 +25,7 @@ pub fn resolve(tape: &[u8], work: &mut [u8], m: Scope, at: usize, to: usize) -> 
 // The atoms, which stand before a place, as they are; then the items from there on.
 fn put_tree(tape: &[u8], work: &mut [u8], m: Scope, at: usize, to: usize) -> Walked
     requires { ⌜ Area m to (length (now work)) × (at ≤ length (now tape)) ⌝ }
-    ensures { λ r. ⌜ Replaced m (treeOut m (tables m (now (work .entry))) (now (tape .entry)) at) (now (work .entry)) to r (now (work .exit)) ⌝ }
+    ensures { λ r. ⌜ PutOut m (treeOut m (tables m (now (work .entry))) (now (tape .entry)) at) (now (work .entry)) to r (now (work .exit)) ⌝ }
 {
     let q = put_run(tape, 0, at, work, m.lim, to);
     validate(tape, work, m, at, q)

@@ -1,8 +1,8 @@
 -- What the proofs of several functions, and of the crates above, use.
-pub mod Classing
-pub mod Judging
-pub mod Hashing
-pub mod Tabling
-pub mod Chasing
-pub mod Entering
-mod Starting
+pub mod ClassCode
+pub mod ClassOfCode
+pub mod HashCode
+pub mod TableLaws
+pub mod TableKnownCode
+pub mod TableEnterCode
+mod TableStartCode

@@ -6,7 +6,7 @@ use Prim.Native.Nat.{ℕ, _+_, _<_, _≤_}
 use native.Mathlib.Omega.{arith}
 use lib.ListN.{length}
 use Rattle.octets.specs.plain.Numbers.{Bytes}
-use Rattle.octets.proofs.Lying.{lies-inside}
+use Rattle.octets.proofs.LiesLaws.{lies-inside}
 use Rattle.parse_tree.specs.plain.Tree.{Text, Item}
 use Rattle.parse_tree.specs.plain.Texts.{distinct}
 use Rattle.parse_tree.specs.working.Nodes.{nodeAt, nodeBytes, sizeOf}
@@ -20,7 +20,7 @@ use Rattle.parse_tree.proofs.NodeFits.{Stands}
 use Rattle.parse_tree.proofs.NodeSays.{node-says}
 use Rattle.parse_tree.proofs.ItemFound.{item-finds}
 use Rattle.parse_tree.proofs.ReadBack.{item-size}
-use Rattle.parse_tree.proofs.Sizing.{node-positive}
+use Rattle.parse_tree.proofs.SizeLaws.{node-positive}
 
 -- a command that is known lies inside
 pub node-inside : (w : ℕ) (s : List ℕ) → Bytes s → (k a : ℕ) (n : Node) → n ≡ nodeAt w s a → defined k n ≡ true → a + sizeOf w n ≤ length s

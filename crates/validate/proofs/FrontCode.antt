@@ -14,7 +14,7 @@ use mir.Syntax.{w8}
 use mir.Val.{Fits}
 use Rattle.octets.specs.plain.Numbers.{leAt, le, Bytes}
 use Rattle.octets.specs.plain.Runs.{part}
-use Rattle.octets.proofs.Lying.{lies-first, le-read}
+use Rattle.octets.proofs.LiesLaws.{lies-first, le-read}
 use Rattle.parse_tree.specs.plain.Tree.{Text}
 use Rattle.parse_tree.specs.plain.Texts.{has, distinct}
 use Rattle.parse_tree.specs.working.Nodes.{nodeAt, nodeBytes, sizeOf}

@@ -26,7 +26,7 @@ use Rattle.parse_tree.specs.declared.syntax.Attribute.{Attribute}
 use Rattle.parse_tree.specs.declared.syntax.Condition.{Condition}
 use Rattle.parse_tree.specs.declared.syntax.Node.{Node}
 use Rattle.texts.specs.Classes.{textClass}
-use Rattle.texts.proofs.Judging.{class-is-name, class-is-literal, class-is-ascii}
+use Rattle.texts.proofs.ClassOfCode.{class-is-name, class-is-literal, class-is-ascii}
 
 -- ---- one text, by its class: j is the number k, and r the class
 module _ (ts : List Text) (k j r : ℕ) (p : j ≡ k) (q : r ≡ textClass (getD ts j [])) where

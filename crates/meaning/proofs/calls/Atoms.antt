@@ -14,7 +14,7 @@ use Rattle.passes.specs.Macros.{Pending, Expander, replaceItems, drain}
 use Rattle.passes.specs.Sizes.{stageFits}
 use Rattle.passes.specs.Stages.{lastStage, orMore, stage, rounds}
 use Rattle.passes.specs.Calls.{sizes}
-use Rattle.parse_tree.proofs.Among.{has-here, has-before, has-behind}
+use Rattle.parse_tree.proofs.AmongLaws.{has-here, has-before, has-behind}
 use Rattle.meaning.proofs.calls.Staged.{admitted}
 
 -- each of xs is among ts

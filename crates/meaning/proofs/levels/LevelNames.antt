@@ -9,7 +9,7 @@ use borrow.Author.Tests.{le-leb}
 use lib.Dec.{eqb, ltb}
 use native.Mathlib.Omega.{arith}
 use Rattle.octets.specs.plain.Runs.{sameAs}
-use Rattle.octets.proofs.Sameness.{sameAs-eq}
+use Rattle.octets.proofs.SameLaws.{sameAs-eq}
 use Rattle.parse_tree.specs.plain.Tree.{Text, Nonterminal}
 use Rattle.parse_tree.specs.plain.Texts.{every, between, startsName, inName, mutText, errorText}
 use Rattle.passes.specs.Grades.{isDigit, graded}

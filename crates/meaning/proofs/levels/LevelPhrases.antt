@@ -6,7 +6,7 @@ use mathlib.Core.List.{List, [], _∷_, List·Memᴰ}
 use mathlib.Core.Option.{Option, none, some}
 use mathlib.Core.Bool.{Bool, true, false, cond, false≢true}
 use Rattle.octets.specs.plain.Runs.{sameAs}
-use Rattle.octets.proofs.Sameness.{sameAs-eq}
+use Rattle.octets.proofs.SameLaws.{sameAs-eq}
 use Rattle.parse_tree.specs.plain.Tree.{Text, Op, Leaf, Around, Over, Sym, Syms, ambiguous, bare, quoted, regex, nonterminal, lookahead, lookbehind, error, repeat, choose, name, macro, group, leaf, around, over, nil, cons, Condition, Nonterminal, item}
 use Rattle.parse_tree.specs.plain.Texts.{has}
 use Rattle.parse_tree.specs.declared.syntax.Span.{Span}

@@ -5,7 +5,7 @@ use mathlib.Core.Bool.{Bool, true, false, cond, not, true≢false, false≢true}
 use mathlib.Core.List.{List, [], _∷_, List·Memᴰ, List·Memᴰ·head, List·Memᴰ·tail, List·Memᴰ·not-nil, append-nil}
 use mathlib.Core.Option.{Option, none, some}
 use Rattle.octets.specs.plain.Runs.{sameAs}
-use Rattle.octets.proofs.Sameness.{sameAs-eq, eq-sameAs}
+use Rattle.octets.proofs.SameLaws.{sameAs-eq, eq-sameAs}
 use Rattle.parse_tree.specs.plain.Tree.{Text, Leaf, Around, Over, Sym, Syms, ambiguous, bare, quoted, regex, nonterminal, lookahead, lookbehind, error, repeat, choose, name, macro, group, leaf, around, over, nil, cons, Condition, Alternative}
 use Rattle.parse_tree.specs.plain.Texts.{has}
 use Rattle.parse_tree.specs.plain.Display.{shownLeaf, shown, print}
@@ -18,7 +18,7 @@ use Rattle.passes.specs.Macros.{quotedIn, expandAlternative, at, argumentOf, or
 use Rattle.meaning.specs.Premises.{HasItem}
 use Rattle.meaning.proofs.Basics.{test}
 use Rattle.passes.proofs.Outcomes.{no≢yes, yes-inj, after-yes}
-use Rattle.parse_tree.proofs.Among.{has-here, has-later, has-cases}
+use Rattle.parse_tree.proofs.AmongLaws.{has-here, has-later, has-cases}
 use Rattle.meaning.proofs.Predicates.{Ident, Arity, OkayLeaf, OkayOver, Okay, Okays, named-parameter, named-reference}
 use Rattle.meaning.proofs.macros.Sources.{Name, SrcLeaf, Src, Srcs, s-leaf, s-around, s-over, s-nil, s-cons}
 use Rattle.meaning.proofs.macros.Certificate.{anywhere}

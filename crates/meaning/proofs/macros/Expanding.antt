@@ -5,7 +5,7 @@ use mathlib.Core.Bool.{Bool, true, false, cond, _&&_}
 use mathlib.Core.List.{List, [], _∷_, List·Memᴰ, List·Memᴰ·head, List·Memᴰ·tail, List·Memᴰ·not-nil, nil≢cons}
 use mathlib.Core.Option.{Option, none, some}
 use Rattle.octets.specs.plain.Runs.{sameAs}
-use Rattle.octets.proofs.Sameness.{sameAs-eq}
+use Rattle.octets.proofs.SameLaws.{sameAs-eq}
 use Rattle.parse_tree.specs.plain.Tree.{Text, Op, star, plus, question, Over, Sym, Syms, nonterminal, lookahead, lookbehind, repeat, name, macro, group, leaf, around, over, Alternative, Nonterminal, Item, item}
 use Rattle.parse_tree.specs.plain.Texts.{every, startsName, inName}
 use Rattle.parse_tree.specs.plain.Display.{print}

@@ -15,7 +15,7 @@ use Rattle.passes.specs.Views.{ahead, behind}
 use Rattle.passes.specs.Macros.{Pending, looking, repeating, listing, symbolOf, Expander, push, replaceAround, replaceSymbol, replaceSymbols, replaceAlternatives, replaceItems}
 use Rattle.meaning.specs.Premises.{HasItem, isFlat}
 use Rattle.meaning.proofs.Basics.{item-inj, item≢terminal}
-use Rattle.parse_tree.proofs.Among.{has-here, has-later, has-cases}
+use Rattle.parse_tree.proofs.AmongLaws.{has-here, has-later, has-cases}
 use Rattle.meaning.proofs.Predicates.{IdentAround, OkayOver, Arity, isCompound}
 use Rattle.meaning.proofs.macros.Sources.{SrcLeaf, Src, Srcs, s-leaf, s-around, s-over, s-nil, s-cons, name-of}
 use Rattle.meaning.proofs.macros.Certificate.{FlatSrcs, Made}

@@ -9,7 +9,7 @@ use Rattle.passes.specs.Outcome.{Tree}
 use Rattle.meaning.specs.Phrases.{Phrase, Phrases, pnil, pcons}
 use Rattle.meaning.specs.Meaning.{meanLeaf, meanAround, meanOver, mean, means}
 use Rattle.meaning.proofs.Predicates.{IdentAround, IdentOver, PureLeaf, Pure, Pures, OkayOver, isCompound}
-use Rattle.parse_tree.proofs.Printing.{print-then}
+use Rattle.parse_tree.proofs.DisplayLaws.{print-then}
 
 module _ (G : Tree) where
   -- the name n of an item is the printed form of a symbol that says m

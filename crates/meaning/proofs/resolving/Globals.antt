@@ -7,7 +7,7 @@ use mathlib.Core.Bool.{Bool, true, false, cond, false≢true}
 use lib.Dec.{eqb}
 use lib.ListN.{length}
 use Rattle.octets.specs.plain.Runs.{sameAs}
-use Rattle.octets.proofs.Sameness.{sameAs-eq, eq-sameAs}
+use Rattle.octets.proofs.SameLaws.{sameAs-eq, eq-sameAs}
 use Rattle.parse_tree.specs.plain.Tree.{Text, Nonterminal, Item, item, Source, extern, match}
 use Rattle.parse_tree.specs.declared.syntax.Span.{Span}
 use Rattle.passes.specs.Outcome.{Tree, Outcome, yes, no}

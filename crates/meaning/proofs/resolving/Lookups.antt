@@ -8,7 +8,7 @@ use mathlib.Core.Bool.{Bool, true, false, cond, _||_}
 use mathlib.Mathlib.Data.Bool.Basic.{or-inr}
 use lib.ListN.{length}
 use Rattle.octets.specs.plain.Runs.{sameAs}
-use Rattle.octets.proofs.Sameness.{sameAs-eq}
+use Rattle.octets.proofs.SameLaws.{sameAs-eq}
 use Rattle.parse_tree.specs.plain.Tree.{Text, Nonterminal, Item, item, extern, match}
 use Rattle.parse_tree.specs.plain.Texts.{has}
 use Rattle.passes.specs.Outcome.{Tree}

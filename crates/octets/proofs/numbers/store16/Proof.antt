@@ -1,6 +1,6 @@
 use native.Mathlib.Omega.{arith}
 use lib.ListN.{length-set}
-use Rattle.octets.proofs.Storing.{storing}
+use Rattle.octets.proofs.StoreLaws.{storing}
 use borrow.Author.Needs.{needs}
 use Rattle.octets.proofs.numbers.store16.Statement.{statement}
 use Rattle.octets.proofs.numbers.store16.Tie as tie

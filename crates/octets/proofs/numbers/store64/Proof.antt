@@ -1,4 +1,4 @@
-use Rattle.octets.proofs.Storing.{storing}
+use Rattle.octets.proofs.StoreLaws.{storing}
 use borrow.Author.Needs.{needs}
 use Rattle.octets.proofs.numbers.store64.Statement.{statement}
 use Rattle.octets.proofs.numbers.store64.Tie as tie

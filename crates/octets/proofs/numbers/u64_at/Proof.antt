@@ -1,4 +1,4 @@
-use Rattle.octets.proofs.Numbering.{reading}
+use Rattle.octets.proofs.NumbersLaws.{reading}
 use borrow.Author.Needs.{needs}
 use Rattle.octets.proofs.numbers.u64_at.Statement.{statement}
 use Rattle.octets.proofs.numbers.u64_at.Tie as tie

@@ -1,6 +1,6 @@
 use Prim.Native.Nat.{_-_}
 use lib.ListN.{length}
-use Rattle.octets.proofs.Clearing.{Clearing, clearing}
+use Rattle.octets.proofs.RunsClearCode.{Clearing, clearing}
 use Rattle.octets.proofs.runs.clear.Statement.{statement}
 use Rattle.octets.proofs.runs.clear.Tie as tie
 use Rattle.octets.proofs.runs.clear.Reads as reads

@@ -1,4 +1,4 @@
-use Rattle.octets.proofs.Comparing.{equating}
+use Rattle.octets.proofs.RunsSameCode.{equating}
 use borrow.Author.Needs.{needs}
 use Rattle.octets.proofs.runs.equal.Statement.{statement}
 use Rattle.octets.proofs.runs.equal.Tie as tie

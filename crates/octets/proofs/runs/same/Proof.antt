@@ -1,6 +1,6 @@
 use Prim.Native.Nat.{_+_}
 use Rattle.octets.specs.plain.Runs.{part, sameAs}
-use Rattle.octets.proofs.Comparing.{Comparing, comparing}
+use Rattle.octets.proofs.RunsSameCode.{Comparing, comparing}
 use Rattle.octets.proofs.runs.same.Statement.{statement}
 use Rattle.octets.proofs.runs.same.Tie as tie
 use Rattle.octets.proofs.runs.same.Reads as reads

@@ -1,5 +1,5 @@
 use Prim.Native.Nat.{_-_}
-use Rattle.octets.proofs.Running.{Running, running}
+use Rattle.octets.proofs.SinkCode.{Running, running}
 use Rattle.octets.proofs.sink.put_run.Statement.{statement}
 use Rattle.octets.proofs.sink.put_run.Tie as tie
 use Rattle.octets.proofs.sink.put_run.Reads as reads

@@ -1,5 +1,5 @@
 use Rattle.parse_tree.specs.working.Nodes.{argumentNodeAt}
-use Rattle.parse_tree.proofs.Noding.{noding}
+use Rattle.parse_tree.proofs.NodeCode.{noding}
 use borrow.Author.Needs.{needs}
 use Rattle.parse_tree.proofs.node.argument_at.Statement.{statement}
 use Rattle.parse_tree.proofs.node.argument_at.Tie as tie

@@ -1,6 +1,6 @@
 use Rattle.parse_tree.specs.working.Nodes.{bareLeaf}
 use Rattle.octets.specs.working.Choice.{pick}
-use Rattle.octets.proofs.Choices.{tests}
+use Rattle.octets.proofs.ChoiceLaws.{tests}
 use Rattle.parse_tree.proofs.node.bare_leaf.Statement.{statement}
 use Rattle.parse_tree.proofs.node.bare_leaf.Tie as tie
 use Rattle.parse_tree.proofs.node.bare_leaf.Reads as reads

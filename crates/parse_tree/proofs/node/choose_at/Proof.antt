@@ -1,4 +1,4 @@
-use Rattle.parse_tree.proofs.Noding.{noding}
+use Rattle.parse_tree.proofs.NodeCode.{noding}
 use borrow.Author.Needs.{needs}
 use Rattle.parse_tree.proofs.node.choose_at.Statement.{statement}
 use Rattle.parse_tree.proofs.node.choose_at.Tie as tie

@@ -1,7 +1,7 @@
 use Rattle.octets.specs.working.Choice.{pick}
-use Rattle.octets.proofs.Choices.{tests}
+use Rattle.octets.proofs.ChoiceLaws.{tests}
 use Rattle.parse_tree.specs.working.Nodes.{nodeBy, nodeAt}
-use Rattle.parse_tree.proofs.Noding.{noding}
+use Rattle.parse_tree.proofs.NodeCode.{noding}
 use borrow.Author.Needs.{needs}
 use Rattle.parse_tree.proofs.node.node.Statement.{statement}
 use Rattle.parse_tree.proofs.node.node.Tie as tie

@@ -1,6 +1,6 @@
 use Rattle.parse_tree.specs.working.Nodes.{symbolNodeAt}
 use Rattle.octets.specs.working.Choice.{pick}
-use Rattle.octets.proofs.Choices.{tests}
+use Rattle.octets.proofs.ChoiceLaws.{tests}
 use borrow.Author.Needs.{needs}
 use Rattle.parse_tree.proofs.node.symbol_at.Statement.{statement}
 use Rattle.parse_tree.proofs.node.symbol_at.Tie as tie

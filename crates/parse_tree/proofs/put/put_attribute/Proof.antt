@@ -1,4 +1,4 @@
-use Rattle.parse_tree.proofs.Putting.{putting}
+use Rattle.parse_tree.proofs.PutCode.{putting}
 use borrow.Author.Needs.{needs}
 use Rattle.parse_tree.proofs.put.put_attribute.Statement.{statement}
 use Rattle.parse_tree.proofs.put.put_attribute.Tie as tie

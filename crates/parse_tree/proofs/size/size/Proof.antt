@@ -1,4 +1,4 @@
-use Rattle.parse_tree.proofs.Sizing.{sizing}
+use Rattle.parse_tree.proofs.SizeLaws.{sizing}
 use borrow.Author.Needs.{needs}
 use Rattle.parse_tree.proofs.size.size.Statement.{statement}
 use Rattle.parse_tree.proofs.size.size.Tie as tie

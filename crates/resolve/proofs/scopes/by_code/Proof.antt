@@ -1,6 +1,6 @@
 use Rattle.resolve.specs.Scopes.{foundBy}
 use Rattle.octets.specs.working.Choice.{pick}
-use Rattle.octets.proofs.Choices.{tests}
+use Rattle.octets.proofs.ChoiceLaws.{tests}
 use borrow.Author.Needs.{needs}
 use Rattle.resolve.proofs.scopes.by_code.Statement.{statement}
 use Rattle.resolve.proofs.scopes.by_code.Tie as tie

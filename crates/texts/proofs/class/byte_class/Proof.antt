@@ -1,4 +1,4 @@
-use Rattle.texts.proofs.Classing.{byting}
+use Rattle.texts.proofs.ClassCode.{byting}
 use borrow.Author.Needs.{needs}
 use Rattle.texts.proofs.class.byte_class.Statement.{statement}
 use Rattle.texts.proofs.class.byte_class.Tie as tie

@@ -1,4 +1,4 @@
-use Rattle.texts.proofs.Judging.{judging}
+use Rattle.texts.proofs.ClassOfCode.{judging}
 use borrow.Author.Needs.{needs}
 use Rattle.texts.proofs.class.class_of.Statement.{statement}
 use Rattle.texts.proofs.class.class_of.Tie as tie

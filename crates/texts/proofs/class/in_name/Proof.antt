@@ -1,4 +1,4 @@
-use Rattle.texts.proofs.Classing.{naming}
+use Rattle.texts.proofs.ClassCode.{naming}
 use borrow.Author.Needs.{needs}
 use Rattle.texts.proofs.class.in_name.Statement.{statement}
 use Rattle.texts.proofs.class.in_name.Tie as tie

@@ -1,7 +1,7 @@
 use Prim.Native.Nat.{_-_}
 use Rattle.octets.specs.plain.Runs.{part}
 use Rattle.texts.specs.Classes.{least}
-use Rattle.texts.proofs.Classing.{Least, leasting}
+use Rattle.texts.proofs.ClassCode.{Least, leasting}
 use Rattle.texts.proofs.class.least_class.Statement.{statement}
 use Rattle.texts.proofs.class.least_class.Tie as tie
 use Rattle.texts.proofs.class.least_class.Reads as reads

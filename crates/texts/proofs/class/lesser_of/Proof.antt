@@ -1,4 +1,4 @@
-use Rattle.texts.proofs.Classing.{byting}
+use Rattle.texts.proofs.ClassCode.{byting}
 use Rattle.texts.proofs.class.lesser_of.Statement.{statement}
 use Rattle.texts.proofs.class.lesser_of.Tie as tie
 use Rattle.texts.proofs.class.lesser_of.Reads as reads

@@ -1,4 +1,4 @@
-use Rattle.texts.proofs.Classing.{naming}
+use Rattle.texts.proofs.ClassCode.{naming}
 use Rattle.texts.proofs.class.starts_name.Statement.{statement}
 use Rattle.texts.proofs.class.starts_name.Tie as tie
 use Rattle.texts.proofs.class.starts_name.Reads as reads

@@ -1,4 +1,4 @@
-use Rattle.texts.proofs.Hashing.{hashing}
+use Rattle.texts.proofs.HashCode.{hashing}
 use borrow.Author.Needs.{needs}
 use Rattle.texts.proofs.hash.bucket_of.Statement.{statement}
 use Rattle.texts.proofs.hash.bucket_of.Tie as tie

@@ -1,7 +1,7 @@
 use Prim.Native.Nat.{_-_}
 use Rattle.octets.specs.plain.Runs.{part}
 use Rattle.texts.specs.Table.{hashOf}
-use Rattle.texts.proofs.Hashing.{Hashing, hashing}
+use Rattle.texts.proofs.HashCode.{Hashing, hashing}
 use Rattle.texts.proofs.hash.hash.Statement.{statement}
 use Rattle.texts.proofs.hash.hash.Tie as tie
 use Rattle.texts.proofs.hash.hash.Reads as reads

@@ -1,4 +1,4 @@
-use Rattle.texts.proofs.Entering.{entering}
+use Rattle.texts.proofs.TableEnterCode.{entering}
 use borrow.Author.Needs.{needs}
 use Rattle.texts.proofs.table.enter.Statement.{statement}
 use Rattle.texts.proofs.table.enter.Tie as tie

@@ -1,5 +1,5 @@
 use Rattle.octets.specs.plain.Runs.{part}
-use Rattle.texts.proofs.Chasing.{Chasing, chasing}
+use Rattle.texts.proofs.TableKnownCode.{Chasing, chasing}
 use Rattle.texts.proofs.table.known.Statement.{statement}
 use Rattle.texts.proofs.table.known.Tie as tie
 use Rattle.texts.proofs.table.known.Reads as reads

@@ -1,4 +1,4 @@
-use Rattle.texts.proofs.Entering.{linking}
+use Rattle.texts.proofs.TableEnterCode.{linking}
 use borrow.Author.Needs.{needs}
 use Rattle.texts.proofs.table.link.Statement.{statement}
 use Rattle.texts.proofs.table.link.Tie as tie

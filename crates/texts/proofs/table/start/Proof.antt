@@ -1,5 +1,5 @@
 use Prim.Native.Nat.{_-_}
-use Rattle.texts.proofs.Starting.{Starting, starting}
+use Rattle.texts.proofs.TableStartCode.{Starting, starting}
 use Rattle.texts.proofs.table.start.Statement.{statement}
 use Rattle.texts.proofs.table.start.Tie as tie
 use Rattle.texts.proofs.table.start.Reads as reads

@@ -12,8 +12,8 @@ use lib.Seq.{drop-at, length-take-le, take-append-seam}
 use Rattle.octets.specs.working.Choice.{pick}
 use Rattle.octets.specs.working.Stores.{store}
 use Rattle.octets.specs.working.Sink.{step, adv, lay1, lay}
-use Rattle.octets.proofs.Choices.{by-pick}
-use Rattle.octets.proofs.Storing.{store-is}
+use Rattle.octets.proofs.ChoiceLaws.{by-pick}
+use Rattle.octets.proofs.StoreLaws.{store-is}
 
 step-le : (lim to : ℕ) → to ≤ step lim to
 unfolding step

@@ -14,9 +14,9 @@ use Rattle.octets.specs.plain.Numbers.{leAt, le}
 use Rattle.octets.specs.plain.Runs.{part}
 use Rattle.octets.specs.working.Stores.{store}
 use Rattle.octets.specs.working.Choice.{pick}
-use Rattle.octets.proofs.Choices.{by-pick}
-use Rattle.octets.proofs.Numbering.{length-le}
-use Rattle.octets.proofs.Storing.{leAt-other, leAt-same}
+use Rattle.octets.proofs.ChoiceLaws.{by-pick}
+use Rattle.octets.proofs.NumbersLaws.{length-le}
+use Rattle.octets.proofs.StoreLaws.{leAt-other, leAt-same}
 use Rattle.parse_tree.specs.plain.Tree.{Text}
 use Rattle.parse_tree.specs.plain.Texts.{every, nameBytes, isName, isLiteral}
 use Rattle.texts.specs.Atoms.{atomEnd, atomText, placeOf, atomsOf}

@@ -7,7 +7,7 @@ use native.Mathlib.Nat.{mod-lt}
 use borrow.Author.Needs.{needs}
 use lib.ListN.{length, getD}
 use Rattle.octets.specs.plain.Runs.{part}
-use Rattle.octets.proofs.Parts.{part-none, part-one}
+use Rattle.octets.proofs.PartLaws.{part-none, part-one}
 use Rattle.texts.specs.Table.{hashOf, bucket}
 
 -- h is the hash of what was passed, and x that of the whole

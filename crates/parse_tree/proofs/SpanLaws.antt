@@ -6,8 +6,8 @@ use native.Mathlib.Omega.{arith}
 use lib.ListN.{length, length-append}
 use Rattle.octets.specs.plain.Numbers.{le, Bytes}
 use Rattle.octets.specs.plain.Runs.{Lies}
-use Rattle.octets.proofs.Numbering.{length-le}
-use Rattle.octets.proofs.Lying.{lies-append, lies-split, lies-from, lies-to, lies-le, leAt-lt, le-read}
+use Rattle.octets.proofs.NumbersLaws.{length-le}
+use Rattle.octets.proofs.LiesLaws.{lies-append, lies-split, lies-from, lies-to, lies-le, leAt-lt, le-read}
 use Rattle.parse_tree.specs.working.Nodes.{spanBytes, spanIn}
 use Rattle.parse_tree.specs.working.Within.{SpanWithin}
 use Rattle.parse_tree.specs.declared.syntax.Span.{Span}

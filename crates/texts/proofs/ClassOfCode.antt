@@ -11,7 +11,7 @@ use lib.Dec.{eqb, leb, ltb}
 use lib.ListN.{length, getD, take, drop}
 use Rattle.octets.specs.working.Choice.{pick}
 use Rattle.octets.specs.plain.Runs.{part, sameAs}
-use Rattle.octets.proofs.Parts.{part-none, part-one}
+use Rattle.octets.proofs.PartLaws.{part-none, part-one}
 use Rattle.parse_tree.specs.plain.Tree.{Text}
 use Rattle.parse_tree.specs.plain.Texts.{every, between, startsName, inName, nameBytes, isName, isLiteral, isAscii, mutText, errorText}
 use Rattle.texts.specs.Classes.{textClass, byteClass, least, lesser}

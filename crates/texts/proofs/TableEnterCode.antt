@@ -15,12 +15,12 @@ use Rattle.octets.specs.working.Choice.{pick}
 use Rattle.octets.specs.plain.Numbers.{le}
 use Rattle.octets.specs.plain.Runs.{part}
 use Rattle.octets.specs.working.Stores.{store}
-use Rattle.octets.proofs.Storing.{length-store}
+use Rattle.octets.proofs.StoreLaws.{length-store}
 use Rattle.texts.specs.Atoms.{atomText, placeOf}
 use Rattle.texts.specs.Classes.{textClass}
 use Rattle.texts.specs.Table.{entry, bucket, last, Table, Entering, Linked}
-use Rattle.texts.proofs.Tabling.{entry-same, entry-other, class-small}
-use Rattle.texts.proofs.Chasing.{bucket-small}
+use Rattle.texts.proofs.TableLaws.{entry-same, entry-other, class-small}
+use Rattle.texts.proofs.TableKnownCode.{bucket-small}
 
 -- ---- `link`: three entries are put one after another
 module _ (w w1 w2 w3 : List ℕ) (c k b m h : ℕ) where

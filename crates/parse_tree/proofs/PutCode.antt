@@ -5,7 +5,7 @@ use Prim.Native.Nat.{ℕ}
 use borrow.Author.Needs.{needs}
 use Rattle.octets.specs.plain.Numbers.{le}
 use Rattle.octets.specs.working.Sink.{Laid}
-use Rattle.octets.proofs.Laying.{laid-append, laid-none}
+use Rattle.octets.proofs.SinkLaws.{laid-append, laid-none}
 use Rattle.parse_tree.specs.working.Nodes.{spanBytes, leafCode, leafOperand, symbolBytes, nodeBytes}
 use Rattle.parse_tree.specs.declared.syntax.Span.{Span}
 use Rattle.parse_tree.specs.declared.syntax.Atom.{Atom}

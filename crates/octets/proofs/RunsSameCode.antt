@@ -10,7 +10,7 @@ use lib.Dec.{eqb}
 use lib.ListN.{length, getD}
 use lib.Seq.{take-all}
 use Rattle.octets.specs.plain.Runs.{part, sameAs}
-use Rattle.octets.proofs.Parts.{part-none, part-one}
+use Rattle.octets.proofs.PartLaws.{part-none, part-one}
 
 -- k bytes are left, from i and from j on, and x is what the whole says
 pub record Comparing (s t : List ℕ) (x : Bool) (i j k : ℕ) : Type 0 where

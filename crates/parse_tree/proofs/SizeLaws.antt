@@ -5,7 +5,7 @@ use Prim.Native.Nat.{ℕ, _+_, _<_}
 use native.Mathlib.Omega.{arith}
 use borrow.Author.Needs.{needs}
 use lib.ListN.{length, length-append}
-use Rattle.octets.proofs.Numbering.{length-le}
+use Rattle.octets.proofs.NumbersLaws.{length-le}
 use Rattle.parse_tree.specs.working.Nodes.{spanBytes, leafOperand, symbolBytes, nodeBytes, sizeOf}
 use Rattle.parse_tree.specs.working.Questions.{defined}
 use Rattle.parse_tree.specs.declared.syntax.Span.{Span}

@@ -11,8 +11,8 @@ use lib.Seq.{sets, sets-eq, length-sets, getD-set-other, length-take-le, drop-at
 use Rattle.octets.specs.plain.Numbers.{leAt, le}
 use Rattle.octets.specs.working.Stores.{store}
 use Rattle.octets.specs.plain.Runs.{Lies}
-use Rattle.octets.proofs.Numbering.{length-le, le-32, le-64}
-use Rattle.octets.proofs.Lying.{le-read}
+use Rattle.octets.proofs.NumbersLaws.{length-le, le-32, le-64}
+use Rattle.octets.proofs.LiesLaws.{le-read}
 
 pub store-none : (s : List ℕ) (at : ℕ) → store s at [] ≡ s
 unfolding store

@@ -9,7 +9,7 @@ use lib.ListN.{length, set, length-append}
 use Rattle.octets.specs.working.Choice.{pick}
 use Rattle.octets.specs.plain.Numbers.{le}
 use Rattle.octets.specs.working.Sink.{step, adv, lay1, lay, Laid}
-use Rattle.octets.proofs.Numbering.{le-16, le-24, le-32}
+use Rattle.octets.proofs.NumbersLaws.{le-16, le-24, le-32}
 
 pub adv-append : (lim to n m : ℕ) → adv lim (adv lim to n) m ≡ adv lim to (n + m)
 unfolding adv

@@ -11,7 +11,7 @@ use lib.ListN.{length}
 use Rattle.octets.specs.plain.Numbers.{le}
 use Rattle.octets.specs.working.Stores.{store}
 use Rattle.texts.specs.Table.{entry, last, Table}
-use Rattle.texts.proofs.Tabling.{entry-same, entry-other}
+use Rattle.texts.proofs.TableLaws.{entry-same, entry-other}
 
 -- the first b heads are 0
 pub record Starting (w₀ w : List ℕ) (c b : ℕ) : Type 0 where

@@ -7,8 +7,8 @@ use borrow.Author.Needs.{needs}
 use lib.ListN.{length, getD}
 use Rattle.octets.specs.plain.Runs.{part}
 use Rattle.octets.specs.working.Sink.{Laid}
-use Rattle.octets.proofs.Parts.{part-none, part-one}
-use Rattle.octets.proofs.Laying.{laid-append, laid-none}
+use Rattle.octets.proofs.PartLaws.{part-none, part-one}
+use Rattle.octets.proofs.SinkLaws.{laid-append, laid-none}
 
 -- what is left, from i to e, goes to q on; whatever that comes to, the whole comes to
 pub record Running (src w : List ℕ) (lim to a e : ℕ) (out : List ℕ) (i q : ℕ) : Type 0 where

@@ -6,12 +6,12 @@ use native.Mathlib.Omega.{arith}
 use lib.ListN.{length, getD}
 use Rattle.octets.specs.plain.Numbers.{leAt, le, Bytes}
 use Rattle.octets.specs.plain.Runs.{Lies}
-use Rattle.octets.proofs.Numbering.{length-le}
-use Rattle.octets.proofs.Lying.{lies-append, lies-split, lies-first, lies-from, lies-to, lies-byte, lies-le, le-read}
+use Rattle.octets.proofs.NumbersLaws.{length-le}
+use Rattle.octets.proofs.LiesLaws.{lies-append, lies-split, lies-first, lies-from, lies-to, lies-byte, lies-le, le-read}
 use Rattle.parse_tree.specs.working.Nodes.{spanBytes, spanIn}
 use Rattle.parse_tree.specs.working.Within.{SpanWithin}
 use Rattle.parse_tree.specs.declared.syntax.Span.{Span}
-use Rattle.parse_tree.proofs.Spans.{length-span, span-lies, span-back}
+use Rattle.parse_tree.proofs.SpanLaws.{length-span, span-lies, span-back}
 
 -- ---- what is read lies there: an operand at a, and ys from m up to e, inside the tape
 module _ {s : List ℕ} {e : ℕ} (b : Bytes s) (h : e ≤ length s) where

@@ -13,12 +13,12 @@ use mir.Syntax.{w64}
 use mir.Val.{Fits}
 use Rattle.octets.specs.working.Choice.{pick}
 use Rattle.octets.specs.plain.Runs.{part, sameAs}
-use Rattle.octets.proofs.Sameness.{sameAs-eq}
+use Rattle.octets.proofs.SameLaws.{sameAs-eq}
 use Rattle.parse_tree.specs.plain.Tree.{Text}
 use Rattle.parse_tree.specs.plain.Texts.{has}
 use Rattle.texts.specs.Atoms.{atomText, placeOf, atomsOf}
 use Rattle.texts.specs.Table.{entry, bucket, last, Table}
-use Rattle.texts.proofs.Tabling.{atoms-at}
+use Rattle.texts.proofs.TableLaws.{atoms-at}
 
 pub has-snoc : (x : Text) (ts : List Text) (t : Text) → has x (ts ++ (t ∷ [])) ≡ has x ts || sameAs t x
 unfolding has

@@ -10,7 +10,7 @@ use lib.Dec.{leb}
 use lib.ListN.{length, getD}
 use Rattle.octets.specs.working.Choice.{pick}
 use Rattle.octets.specs.plain.Runs.{part}
-use Rattle.octets.proofs.Parts.{part-none, part-one}
+use Rattle.octets.proofs.PartLaws.{part-none, part-one}
 use Rattle.parse_tree.specs.plain.Texts.{startsName, inName}
 use Rattle.texts.specs.Classes.{byteClass, least, lesser}
 
