@@ -16,7 +16,6 @@ use Rattle.parse_tree.specs.plain.WriteTape.{tapeOf}
 use Rattle.parse_tree.specs.plain.References.{stageOf}
 use Rattle.passes.specs.Resolve.{resolve}
 use Rattle.passes.specs.Sizes.{stageFits}
-use Rattle.parse_tree.specs.plain.ReadTape.{readTape}
 use Rattle.parse_tree.specs.working.Refusals.{refusalAt}
 use Rattle.parse_tree.specs.declared.refusal.Refusal.{Refusal}
 use Rattle.parse_tree.proofs.ReadTapeIs.{read-is}
@@ -24,7 +23,7 @@ use Rattle.passes.specs.Outcome.{Outcome, yes, no, after}
 use Rattle.passes.specs.Stages.{resolveStage}
 use Rattle.passes.specs.Calls.{nowhere, readAs, sizes, validateCall, resolveCall, written, workAfter}
 use Rattle.normalize.specs.plain.Answers.{answerOf, Called, Checked}
-use Rattle.normalize.specs.working.Stages.{staged, Holds, Resolved}
+use Rattle.normalize.specs.working.Stages.{Judged, staged, Holds, Resolved}
 use Rattle.normalize.specs.working.Handing.{Fits, handed}
 use Rattle.normalize.specs.declared.Answer.{Answer}
 
@@ -113,10 +112,10 @@ module _ (s w : List ℕ) (ok : Bool) (i : ok ≡ leb (8 * (length s + 0)) (leng
     pub check-room : 8 * length s ≤ length w
     check-room = let z = leb-true (8 * (length s + 0)) (length w) (sym i ∙ e) in omega arith
 
-    pub check-done : (r : Answer) (w₁ w₂ : List ℕ) → r ≡ answerOf (readAs (readTape true 2 s)) → length w₁ ≡ length w → w₂ ≡ replicate (length w₁) 0 → Checked (validateCall true 2 s 0 (length w)) s w r w₂
+    pub check-done : (r : Answer) (w′ : List ℕ) → Judged s w r w′ → Checked (validateCall true 2 s 0 (length w)) s w r w′
     unfolding validateCall workAfter
-    check-done r w₁ w₂ d l q =
+    check-done r w′ d =
         let z : leb (8 * (length s + 0)) (length w) ≡ true = sym i ∙ e in
-        record { answered = rw z d; zeroed = rw z (q ∙ ap (λ (n : ℕ). replicate n 0) l) }
+        record { answered = rw z (d .answered); zeroed = rw z (d .zeroed) }
 
 pub ruleset checking = (needs, check-short, check-room, check-done)

@@ -32,12 +32,9 @@ pub fn validate(tape: &[u8], work: &mut [u8]) -> Answer
     ensures { λ r. ⌜ Checked (validateCall true 2 (now (tape .entry)) 0 (length (now (work .entry)))) (now (tape .entry)) (now (work .entry)) r (now (work .exit)) ⌝ }
 {
     if enough(tape.len(), 0, work.len()) {
-        let r = validate_tape(tape, work);
-        clear(work);
-        r
-    } else {
-        Answer::No(refusal::at(1, 0))
+        return validate_tape(tape, work);
     }
+    Answer::No(refusal::at(1, 0))
 }
 
 // Resolving alone: questions 1 to 13, 20 and 21.

@@ -1,12 +1,14 @@
 -- A finished stage in work, and what is answered to it. Assumes nothing: these are definitions.
 use mathlib.Core.Path.{_≡_}
+use mathlib.Core.Bool.{true}
 use mathlib.Core.List.{List}
 use Prim.Native.Nat.{ℕ, _+_, _-_, _*_}
 use lib.Dec.{ltb}
-use lib.ListN.{length}
+use lib.ListN.{length, replicate}
 use Rattle.octets.specs.working.Choice.{pick}
 use Rattle.octets.specs.plain.Runs.{part}
 use Rattle.parse_tree.specs.plain.Tree.{Stage}
+use Rattle.parse_tree.specs.plain.ReadTape.{readTape}
 use Rattle.parse_tree.specs.plain.WriteTape.{tapeOf}
 use Rattle.parse_tree.specs.working.Decode.{decode}
 use Rattle.parse_tree.specs.working.Refusals.{refusalAt}
@@ -15,6 +17,11 @@ use Rattle.passes.specs.Stages.{resolveStage}
 use Rattle.passes.specs.Calls.{readAs, sizes}
 use Rattle.normalize.specs.plain.Answers.{answerOf}
 use Rattle.normalize.specs.declared.Answer.{Answer}
+
+-- behind question 1, without an output: the answer to 2 to 4, and work cleared
+pub record Judged (s w : List ℕ) (r : Answer) (w′ : List ℕ) : Type 0 where
+  pub answered : r ≡ answerOf (readAs (readTape true 2 s))
+  pub zeroed : w′ ≡ replicate (length w) 0
 
 -- 20 and 21 of a stage written from a to e, where lim is the end of its room
 unfoldable pub sized : ℕ → ℕ → ℕ → ℕ → Answer

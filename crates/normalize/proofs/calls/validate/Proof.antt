@@ -8,17 +8,14 @@ enough-requires c κs = search checking
 validate-tape-requires : tie.Need-validate-tape-requires
 validate-tape-requires c κs = search checking
 
-clear-requires : tie.Need-clear-requires
-clear-requires c κs = search checking
-
-at-requires : tie.Need-at-requires
-at-requires c κs = search checking
-
 same-length : tie.Need-same-length
 same-length c = search checking
 
 returns : tie.Need-returns
 returns c = search checking
+
+at-requires : tie.Need-at-requires
+at-requires c κs = search checking
 
 returns-2 : tie.Need-returns-2
 returns-2 c = search checking
@@ -26,11 +23,4 @@ returns-2 c = search checking
 pub validate-spec : {M : Type 1} → statement M
 validate-spec =
     tie.close
-    (tie.spec
-    enough-requires
-    validate-tape-requires
-    clear-requires
-    at-requires
-    same-length
-    returns
-    returns-2)
+    (tie.spec enough-requires validate-tape-requires same-length returns at-requires returns-2)

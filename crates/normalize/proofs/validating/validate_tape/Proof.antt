@@ -5,8 +5,11 @@ use Rattle.normalize.proofs.validating.validate_tape.Tie as tie
 validate-requires : tie.Need-validate-requires
 validate-requires c κs = search tapes
 
-enum-known-why : tie.Need-enum-known-why
-enum-known-why c = search tapes
+clear-requires : tie.Need-clear-requires
+clear-requires c κs = search tapes
+
+enum-known-v : tie.Need-enum-known-v
+enum-known-v c = search tapes
 
 enum-told : tie.Need-enum-told
 enum-told c = search tapes
@@ -28,7 +31,8 @@ validate-tape-spec =
     tie.close
     (tie.spec
     validate-requires
-    enum-known-why
+    clear-requires
+    enum-known-v
     enum-told
     same-length
     returns
