@@ -1,6 +1,6 @@
 //! One call of ours beside the expected outcome: answer, tree, bytes behind, work.
 use crate::case::Case;
-use crate::commands::hex;
+use reading::commands::hex;
 use normalize::Words;
 use oracle::chance::Chance;
 use reading::Outcome;

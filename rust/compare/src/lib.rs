@@ -3,8 +3,6 @@ use std::io::Write;
 
 pub mod case;
 pub mod chosen;
-pub mod commands;
-pub mod damage;
 pub mod edges;
 pub mod grammars;
 pub mod grow;

@@ -1,6 +1,6 @@
 //! The random cases: trees of all sizes, good and damaged, with any room.
 use crate::case::{room, Case};
-use crate::damage::damaged;
+use oracle::damage::damaged;
 use crate::grow::{tree, Size};
 use oracle::chance::Chance;
 

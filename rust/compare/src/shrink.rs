@@ -1,6 +1,6 @@
 //! A smaller case that still differs: fewer items, symbols, commands, bytes.
 use crate::case::{Case, Room};
-use crate::commands::split;
+use reading::commands::split;
 use crate::judge::{judge, Ours, Verdict};
 use reading::tree::*;
 use reading::{read, write};

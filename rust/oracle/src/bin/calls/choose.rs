@@ -1,0 +1,90 @@
+//! Which calls are made of which tapes.
+use crate::grow;
+use oracle::chance::Chance;
+use oracle::convert::from_grammar;
+use oracle::damage::damaged;
+use oracle::{staged, Call};
+use reading::commands::split;
+use reading::tree::Stage;
+use reading::{answer, read, stage_lengths, work_needed, write, Outcome};
+
+/// antt computes each case.
+const LONGEST_TAPE: usize = 900;
+const LONGEST_STAGE: usize = 2_500;
+/// Cases of one tape; of a damaged one.
+const OF_ONE: usize = 5;
+const OF_DAMAGED: usize = 2;
+/// Texts that nothing uses; some of them are made later.
+const UNUSED: [&[u8]; 8] = [b"n*", b"n+", b"v", b"None", b"(<>)", b"E1", b"\xff\x00", b"unused"];
+
+pub struct Case {
+    pub tape: Vec<u8>,
+    pub call: Call,
+    pub limit: u16,
+    pub output: usize,
+    pub work: usize,
+    pub outcome: Outcome,
+}
+
+pub fn cases(seed: u64, count: usize) -> Vec<Case> {
+    let mut chance = Chance(seed);
+    let mut found = vec![];
+    while found.len() < count {
+        let tape = grown(&mut chance);
+        let is_damaged = chance.percent(12);
+        let tape = if is_damaged { damaged(&mut chance, &tape) } else { tape };
+        if tape.len() <= LONGEST_TAPE {
+            let wanted = if is_damaged { OF_DAMAGED } else { OF_ONE }.min(count - found.len());
+            found.extend((0..wanted).filter_map(|_| case(&mut chance, &tape)));
+        }
+    }
+    found
+}
+
+/// The tape of a random tree, its atoms by first use or in any order.
+fn grown(chance: &mut Chance) -> Vec<u8> {
+    let items = from_grammar(&grow::tree(chance), vec![]).items;
+    let tape = write(&Stage { atoms: vec![], items: items.clone() });
+    if chance.percent(40) {
+        return tape;
+    }
+    let texts = split(&tape).into_iter().filter(|range| tape[range.start] == 0x01).map(|range| tape[range][3..].to_vec());
+    let mut atoms: Vec<Vec<u8>> = texts.collect();
+    let unused = (0..chance.under(4)).map(|_| chance.one_of(&UNUSED).to_vec());
+    atoms.extend(unused);
+    for index in (1..atoms.len()).rev() {
+        atoms.swap(index, chance.under(index + 1));
+    }
+    write(&Stage { atoms, items })
+}
+
+/// A call of the tape, or nothing where a stage is too long to compute.
+fn case(chance: &mut Chance, tape: &[u8]) -> Option<Case> {
+    let call = [Call::Whole, Call::Macros, Call::Levels, Call::Resolve][[0, 0, 0, 0, 1, 1, 1, 2, 2, 3][chance.under(10)]];
+    let limit = chance.one_of(&[0, 1, 2, 3, 3, 4, 64]);
+    let lengths = match read(tape) {
+        Ok(stage) => stage_lengths(stage.atoms.clone(), &staged(&stage, call, limit)?),
+        Err(_) => vec![],
+    };
+    let longest = lengths.iter().copied().max().unwrap_or(tape.len());
+    if longest > LONGEST_STAGE {
+        return None;
+    }
+    let any = if lengths.is_empty() { tape.len() } else { chance.one_of(&lengths) };
+    let output = match chance.under(20) {
+        0..=10 => longest,
+        11..=13 => any,
+        14..=17 => any.saturating_sub(1),
+        18 => longest + chance.under(99),
+        _ => chance.under(longest + 1),
+    };
+    let need = work_needed(tape.len(), output);
+    let work = match chance.under(40) {
+        0 => need.saturating_sub(1),
+        1 => chance.under(need + 1),
+        2 => need + chance.under(99),
+        _ => need,
+    };
+    let outcome = answer(tape, output, work, |stage| staged(stage, call, limit))?;
+    Some(Case { tape: tape.to_vec(), call, limit, output, work, outcome })
+}
