@@ -8,7 +8,6 @@ pub mod grammars;
 pub mod grow;
 pub mod judge;
 pub mod mix;
-pub mod notation;
 pub mod run;
 pub mod short;
 pub mod shrink;

@@ -3,6 +3,7 @@
 mod call;
 pub mod commands;
 mod levels;
+pub mod notation;
 mod read;
 mod sizes;
 mod texts;

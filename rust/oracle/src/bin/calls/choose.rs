@@ -1,12 +1,13 @@
 //! Which calls are made of which tapes.
+use crate::case::{lengths, Case};
 use crate::grow;
 use oracle::chance::Chance;
 use oracle::convert::from_grammar;
 use oracle::damage::damaged;
-use oracle::{staged, Call};
+use oracle::Call;
 use reading::commands::split;
 use reading::tree::Stage;
-use reading::{answer, read, stage_lengths, work_needed, write, Outcome};
+use reading::{work_needed, write};
 
 /// antt computes each case.
 const LONGEST_TAPE: usize = 900;
@@ -18,15 +19,6 @@ const OF_DAMAGED: usize = 2;
 const UNSUITED: [&[u8]; 8] = [b"mut", b"error", b"", b"1a", b"a b", b"a-", b"a\x1f", b"a\x80"];
 /// Texts that nothing uses; some of them are made later.
 const UNUSED: [&[u8]; 8] = [b"n*", b"n+", b"v", b"None", b"(<>)", b"E1", b"\xff\x00", b"unused"];
-
-pub struct Case {
-    pub tape: Vec<u8>,
-    pub call: Call,
-    pub limit: u16,
-    pub output: usize,
-    pub work: usize,
-    pub outcome: Outcome,
-}
 
 pub fn cases(seed: u64, count: usize) -> Vec<Case> {
     let mut chance = Chance(seed);
@@ -75,10 +67,7 @@ fn case(chance: &mut Chance, tape: &[u8]) -> Option<Case> {
     let call = [Call::Whole, Call::Macros, Call::Levels, Call::Resolve][[0, 0, 0, 0, 1, 1, 1, 2, 2, 3][chance.under(10)]];
     // a macro that calls itself twice doubles in each round
     let limit = chance.one_of(&[0, 1, 2, 3, 3, 4, 6]);
-    let lengths = match read(tape) {
-        Ok(stage) => stage_lengths(stage.atoms.clone(), &staged(&stage, call, limit)?),
-        Err(_) => vec![],
-    };
+    let lengths = lengths(tape, call, limit);
     let longest = lengths.iter().copied().max().unwrap_or(tape.len());
     if longest > LONGEST_STAGE {
         return None;
@@ -98,6 +87,5 @@ fn case(chance: &mut Chance, tape: &[u8]) -> Option<Case> {
         2 => need + chance.under(99),
         _ => need,
     };
-    let outcome = answer(tape, output, work, |stage| staged(stage, call, limit))?;
-    Some(Case { tape: tape.to_vec(), call, limit, output, work, outcome })
+    Some(Case::new(tape, call, limit, output, work))
 }
