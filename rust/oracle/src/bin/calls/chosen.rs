@@ -24,7 +24,7 @@ const CHOSEN: [(&str, Call, u16, Room, &str); 35] = [
     ("`+` holds the nonterminal of its own name", Whole, 1, Longest, "L = !+;"),
     ("and its stage must fit", Whole, 1, Under(3), "L = !+;"),
     ("op codes 1 and 2; `?` is inline; `Some(<>)` and `None`", Whole, 1, Longest, "S = n+ n?; extern n;"),
-    ("`*` becomes `+`", Whole, 2, Longest, "S = n*; extern n;"),
+    ("an appending stage's atoms come before the next replacing stage's", Whole, 2, Longest, "S = n? n*; extern n;"),
     (
         "left",
         Levels,
