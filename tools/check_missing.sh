@@ -22,6 +22,6 @@ nowhere="LALRPOP_SRC=$scratch/nowhere"
 try "no archive" 101 "libnormalize.a is not in $scratch/nowhere: run \`rt staticlib normalize\`" RATTLE_STATICLIB="$scratch/nowhere" $check -p normalize
 try "no LALRPOP" 0 "LALRPOP_SRC names their folder): what needs them is skipped" REQUIRE_LALRPOP= "$nowhere" $check -p oracle
 try "LALRPOP required" 101 "LALRPOP_SRC names their folder): REQUIRE_LALRPOP=1 asks for them" REQUIRE_LALRPOP=1 "$nowhere" $check -p oracle
-try "no LALRPOP, trees" 0 "LALRPOP_SRC names their folder): nothing compared" REQUIRE_LALRPOP= "$nowhere" tools/compare_trees.sh 1 1
-try "LALRPOP required, trees" 2 "LALRPOP_SRC names their folder): REQUIRE_LALRPOP=1 asks for them" REQUIRE_LALRPOP=1 "$nowhere" tools/compare_trees.sh 1 1
+try "no LALRPOP, calls" 0 "LALRPOP_SRC names their folder): nothing compared" REQUIRE_LALRPOP= "$nowhere" tools/compare_calls.sh 1 1
+try "LALRPOP required, calls" 2 "LALRPOP_SRC names their folder): REQUIRE_LALRPOP=1 asks for them" REQUIRE_LALRPOP=1 "$nowhere" tools/compare_calls.sh 1 1
 echo "tools/check_missing.sh: 5 things that are missing are each said in one sentence"

@@ -10,12 +10,15 @@ const PARTS: [(&str, &[&str]); 4] = [
     ("normalize", &["normalize/norm_util.rs", "normalize/resolve/mod.rs", "normalize/precedence/mod.rs", "normalize/macro_expand/mod.rs"]),
 ];
 
+const STEPPING: &str = "src/in_macro_expand/stepping.rs";
+
 fn main() {
     println!("cargo::rustc-check-cfg=cfg(lalrpop)");
     println!("cargo::rerun-if-env-changed=LALRPOP_SRC");
     println!("cargo::rerun-if-env-changed=REQUIRE_LALRPOP");
     let here = PathBuf::from(std::env::var("CARGO_MANIFEST_DIR").unwrap());
     let folder = std::env::var("LALRPOP_SRC").map(PathBuf::from).unwrap_or_else(|_| here.join("../../../shared/docs/src/lalrpop/src"));
+    println!("cargo::rerun-if-changed=build.rs");
     println!("cargo::rerun-if-changed={}", folder.display());
     let mut files = PARTS.iter().flat_map(|(_, files)| files.iter());
     match files.find(|file| !folder.join(file).is_file()) {
@@ -42,8 +45,13 @@ fn write_parts(source: &Path) {
     }
 }
 
-/// A file `x.rs` or a folder's `x/mod.rs` is the module x.
+/// A file `x.rs` or a folder's `x/mod.rs` is the module x. What expands macros is private to its module: our steps stand behind its text there.
 fn module_line(source: &Path, file: &str) -> String {
-    let name = file.trim_end_matches("/mod.rs").trim_end_matches(".rs").rsplit('/').next().unwrap();
-    format!("#[path = {:?}]\npub mod {name};\n", source.join(file))
+    let (name, path) = (file.trim_end_matches("/mod.rs").trim_end_matches(".rs").rsplit('/').next().unwrap(), source.join(file));
+    if name == "macro_expand" {
+        let ours = PathBuf::from(std::env::var("CARGO_MANIFEST_DIR").unwrap()).join(STEPPING);
+        println!("cargo::rerun-if-changed={}", ours.display());
+        return format!("pub mod {name} {{\n    include!({path:?});\n    include!({ours:?});\n}}\n");
+    }
+    format!("#[path = {path:?}]\npub mod {name};\n")
 }

@@ -4,5 +4,7 @@ pub mod RangeOfPasses
 pub mod RangeOfReading
 pub mod Range
 -- Computed cases.
+mod Asked
 pub mod Build
 mod Starred
+mod Chosen

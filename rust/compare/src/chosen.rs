@@ -1,12 +1,12 @@
 //! The stored list: short cases, as many of each answer, answered by the second reading and the Rust.
 //! 20 is not among them: it takes more than 65,536 atoms.
 use crate::case::{Case, Room};
-use crate::commands::hex;
 use crate::grammars::{MACRO_EXPAND, RESOLVE};
 use crate::grow::Size;
 use crate::judge::expected;
 use crate::{mix, short};
 use oracle::chance::Chance;
+use reading::commands::hex;
 use reading::Outcome;
 use std::collections::BTreeMap;
 

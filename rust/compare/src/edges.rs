@@ -1,6 +1,6 @@
 //! Tapes at the limits: as many atoms, arguments, alternatives, symbols as an operand counts, and one more; the deepest nesting.
 use crate::case::{Case, Room};
-use crate::commands::split;
+use reading::commands::split;
 
 fn atom(text: &[u8]) -> Vec<u8> {
     [&[0x01][..], &(text.len() as u16).to_le_bytes(), text].concat()

@@ -1,7 +1,7 @@
 //! The grammars of LALRPOP 0.19.8's unit tests of resolve, precedence and macro_expand, written anew in our notation.
 //! Left out, since the tape doesn't carry them: types, conditions with `~~` and `!~`, and the trees behind macro expansion, whose
 //! names (like `Comma<"Id">`) question 4 refuses.
-use crate::notation::parse;
+use reading::notation::parse;
 use reading::tree::Stage;
 use reading::{write, Refusal};
 

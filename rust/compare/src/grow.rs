@@ -1,6 +1,6 @@
 //! Random trees of several sizes over a small pool of names, so that every answer from 5 to 13 and a yes are frequent.
-use crate::commands::split;
 use oracle::chance::Chance;
+use reading::commands::split;
 use reading::tree::*;
 use reading::write;
 

@@ -1,8 +1,8 @@
 //! One call of ours beside the expected outcome: answer, tree, bytes behind, work.
 use crate::case::Case;
-use crate::commands::hex;
 use normalize::Words;
 use oracle::chance::Chance;
+use reading::commands::hex;
 use reading::Outcome;
 
 /// Our call: tape, output, work, and the words of the answer.

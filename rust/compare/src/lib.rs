@@ -3,14 +3,11 @@ use std::io::Write;
 
 pub mod case;
 pub mod chosen;
-pub mod commands;
-pub mod damage;
 pub mod edges;
 pub mod grammars;
 pub mod grow;
 pub mod judge;
 pub mod mix;
-pub mod notation;
 pub mod run;
 pub mod short;
 pub mod shrink;

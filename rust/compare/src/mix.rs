@@ -1,8 +1,8 @@
 //! The random cases: trees of all sizes, good and damaged, with any room.
 use crate::case::{room, Case};
-use crate::damage::damaged;
 use crate::grow::{tree, Size};
 use oracle::chance::Chance;
+use oracle::damage::damaged;
 
 /// Cases without end, fixed by the chance's seed.
 pub fn cases(mut chance: Chance) -> impl Iterator<Item = Case> {

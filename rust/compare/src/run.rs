@@ -1,9 +1,9 @@
 //! Many cases, one after another: each judged and counted, the first that differ shrunk and told.
 use crate::case::Case;
-use crate::commands::{hex, shown};
 use crate::judge::{judge, Ours, Verdict};
 use crate::shrink::shrink;
 use crate::tally::Tally;
+use reading::commands::{hex, shown};
 
 const TOLD: usize = 5;
 

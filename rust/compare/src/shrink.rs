@@ -1,7 +1,7 @@
 //! A smaller case that still differs: fewer items, symbols, commands, bytes.
 use crate::case::{Case, Room};
-use crate::commands::split;
 use crate::judge::{judge, Ours, Verdict};
+use reading::commands::split;
 use reading::tree::*;
 use reading::{read, write};
 use std::ops::Range;

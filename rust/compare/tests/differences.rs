@@ -1,8 +1,8 @@
 //! The smallest inputs of docs/DIFFERENCES.md: what the Rust does with each, and what of ours is in code.
-use compare::notation::parse;
 use compare::the_rust_is_there;
 use normalize::{resolve, work_len};
 use oracle::{expand, Expanded};
+use reading::notation::parse;
 use reading::{read, within_operands, write, Refusal};
 
 const TWO_LEVELS: &str = r#"E = #precedence(level="1") "n" | #precedence(level="2") E "+" E;"#;

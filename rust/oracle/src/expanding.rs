@@ -37,8 +37,14 @@ pub fn expand(_: &Stage, _: u16) -> Option<Expanded> {
 
 /// The passes' own answer, or a panic's message.
 #[cfg(lalrpop)]
-pub fn passes(input: Grammar, limit: u16) -> Result<NormResult<Grammar>, String> {
-    std::panic::catch_unwind(move || expand_macros(expand_precedence(input)?, limit)).map_err(|panic| {
+fn passes(input: Grammar, limit: u16) -> Result<NormResult<Grammar>, String> {
+    caught(move || expand_macros(expand_precedence(input)?, limit))
+}
+
+/// What the Rust answers, or the message of its panic.
+#[cfg(lalrpop)]
+pub fn caught<T>(ask: impl FnOnce() -> T + std::panic::UnwindSafe) -> Result<T, String> {
+    std::panic::catch_unwind(ask).map_err(|panic| {
         let text = panic.downcast_ref::<String>().cloned();
         text.or(panic.downcast_ref::<&str>().map(|text| text.to_string())).unwrap_or_default()
     })

@@ -1,5 +1,5 @@
-//! LALRPOP's passes, compiled from its own files (build.rs), for comparing ours with them: `resolve` and `expand` ask them about a tree of `reading`.
-//! Where those files aren't there, cfg `lalrpop` is off and both answer nothing.
+//! LALRPOP's passes, compiled from its own files (build.rs), for comparing ours with them: `resolve`, `expand` and `staged` ask them about a tree of `reading`.
+//! Where those files aren't there, cfg `lalrpop` is off and they answer nothing.
 //! What stands here beside them are only the few names that those files use and that aren't there.
 #![allow(dead_code, unused)]
 
@@ -13,12 +13,15 @@ pub mod answers;
 pub mod chance;
 #[cfg(lalrpop)]
 pub mod convert;
+pub mod damage;
 pub mod expanding;
+pub mod staging;
 #[cfg(lalrpop)]
 mod stand_ins;
 
 pub use answers::{is_there, resolve, there_and_back, NOT_THERE};
 pub use expanding::{expand, Expanded};
+pub use staging::{staged, Call, CALLS};
 #[cfg(lalrpop)]
 pub use stand_ins::{lexer, message, session, tls, DefaultAtom, Regex};
 

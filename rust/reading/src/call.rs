@@ -1,40 +1,79 @@
-//! The call for name resolution alone, as document 01 answers it: 1, then 2 to 4, then the pass, then the sizes of its stage.
+//! A call as document 01 answers it: 1, then 2 to 4, then the pass's questions and the sizes of its stages, in time order.
 use crate::read::{read, Refusal};
 use crate::sizes::within_operands;
-use crate::tree::Stage;
-use crate::write::write;
+use crate::tree::{Item, Stage};
+use crate::write::write_over;
 
 /// The tree that is written, or the refusal.
 pub type Outcome = Result<Vec<u8>, Refusal>;
+
+/// What a pass does: it finishes a stage, whose sizes are asked then, or it refuses.
+#[derive(Clone, Debug, PartialEq, Eq)]
+pub enum Step {
+    Finished(Vec<Item>),
+    Refused(Refusal),
+}
 
 pub fn work_needed(tape: usize, output: usize) -> usize {
     8 * (tape + output)
 }
 
-/// `resolve` answers nothing where the Rust isn't there to be asked; then there is no outcome.
+/// The call for name resolution alone. `resolve` answers nothing where the Rust isn't there to be asked; then there is no outcome.
 pub fn call(tape: &[u8], output: usize, work: usize, resolve: impl Fn(&Stage) -> Option<Result<Stage, Refusal>>) -> Option<Outcome> {
-    if work < work_needed(tape.len(), output) {
-        return Some(no(1));
-    }
-    let stage = match read(tape) {
-        Ok(stage) => stage,
-        Err(refusal) => return Some(Err(refusal)),
-    };
-    Some(resolve(&stage)?.and_then(|resolved| sized(&resolved, output)))
+    answer(tape, output, work, |stage| {
+        Some(vec![match resolve(stage)? {
+            Ok(resolved) => Step::Finished(resolved.items),
+            Err(refusal) => Step::Refused(refusal),
+        }])
+    })
 }
 
-/// 20, then 21, of a finished stage.
-fn sized(stage: &Stage, output: usize) -> Outcome {
-    if !within_operands(stage) {
-        return no(20);
+/// Any call, whose steps the Rust makes.
+pub fn answer(tape: &[u8], output: usize, work: usize, steps: impl Fn(&Stage) -> Option<Vec<Step>>) -> Option<Outcome> {
+    if work < work_needed(tape.len(), output) {
+        return Some(Err(nowhere(1)));
     }
-    let tree = write(stage);
-    if tree.len() > output {
-        return no(21);
+    Some(match read(tape) {
+        Err(refusal) => Err(refusal),
+        Ok(stage) => last_tree(stage.atoms.clone(), steps(&stage)?, output),
+    })
+}
+
+/// 20, then 21, of each stage as it finishes; its atoms are the former stage's, then its new texts.
+fn last_tree(mut atoms: Vec<Vec<u8>>, steps: Vec<Step>, output: usize) -> Outcome {
+    let mut tree = vec![];
+    for step in steps {
+        let stage = match step {
+            Step::Finished(items) => Stage { atoms, items },
+            Step::Refused(refusal) => return Err(refusal),
+        };
+        if !within_operands(&stage) {
+            return Err(nowhere(20));
+        }
+        (atoms, tree) = write_over(&stage);
+        if tree.len() > output {
+            return Err(nowhere(21));
+        }
     }
     Ok(tree)
 }
 
-fn no(number: u8) -> Outcome {
-    Err(Refusal { number, place: (0, 0) })
+/// The length of each stage, as far as they are within their operands.
+pub fn stage_lengths(mut atoms: Vec<Vec<u8>>, steps: &[Step]) -> Vec<usize> {
+    let mut lengths = vec![];
+    for step in steps {
+        let Step::Finished(items) = step else { break };
+        let stage = Stage { atoms, items: items.clone() };
+        if !within_operands(&stage) {
+            break;
+        }
+        let tree;
+        (atoms, tree) = write_over(&stage);
+        lengths.push(tree.len());
+    }
+    lengths
+}
+
+fn nowhere(number: u8) -> Refusal {
+    Refusal { number, place: (0, 0) }
 }

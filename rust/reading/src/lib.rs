@@ -1,13 +1,17 @@
 //! A second reading of document 01, written from the document: the tape, its questions, its sizes.
 //! What the passes answer is LALRPOP's to say.
 mod call;
+pub mod commands;
+mod levels;
+pub mod notation;
 mod read;
 mod sizes;
 mod texts;
 pub mod tree;
 mod write;
 
-pub use call::{call, work_needed, Outcome};
+pub use call::{answer, call, stage_lengths, work_needed, Outcome, Step};
+pub use levels::level_refusal;
 pub use read::{operand_bytes, read, Refusal};
 pub use sizes::within_operands;
 pub use write::write;

@@ -4,6 +4,11 @@ use std::collections::HashMap;
 
 /// The tape of a stage whose counts and numbers are within their operands.
 pub fn write(stage: &Stage) -> Vec<u8> {
+    write_over(stage).1
+}
+
+/// The same, with its atoms.
+pub fn write_over(stage: &Stage) -> (Vec<Vec<u8>>, Vec<u8>) {
     let mut writer = Writer::default();
     for text in &stage.atoms {
         writer.number(text);
@@ -18,7 +23,7 @@ pub fn write(stage: &Stage) -> Vec<u8> {
         tape.extend(text);
     }
     tape.extend(writer.body);
-    tape
+    (writer.atoms, tape)
 }
 
 #[derive(Default)]

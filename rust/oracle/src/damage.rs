@@ -1,6 +1,6 @@
 //! Damaged copies of a tape: bytes changed, put in, left out; commands moved; operands changed.
-use crate::commands::split;
-use oracle::chance::Chance;
+use crate::chance::Chance;
+use reading::commands::split;
 use std::ops::Range;
 
 pub fn damaged(chance: &mut Chance, tape: &[u8]) -> Vec<u8> {

@@ -14,7 +14,7 @@ pub fn split(tape: &[u8]) -> Vec<Range<usize>> {
 
 /// The length of the first command, if it is known and whole.
 fn length(rest: &[u8]) -> Option<usize> {
-    let mut length = 1 + reading::operand_bytes(rest[0])?;
+    let mut length = 1 + crate::operand_bytes(rest[0])?;
     if rest[0] == 0x01 {
         length += usize::from(u16::from_le_bytes([*rest.get(1)?, *rest.get(2)?]));
     }

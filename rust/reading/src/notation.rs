@@ -6,7 +6,7 @@
 //! ```
 //!
 //! A name is a 20, `$n` a bare terminal, `%n` a nonterminal, `!` error; `=>?` is a fallible action. `M<A>` is a call, `M <A>` is not.
-use reading::tree::*;
+use crate::tree::*;
 
 /// The tree of a text; a text that isn't in the notation is a fault of the test.
 pub fn parse(text: &str) -> Stage {

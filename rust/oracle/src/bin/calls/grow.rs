@@ -38,14 +38,24 @@ pub struct Grower<'a> {
     ladder: [&'static str; 4],
     /// How often, in a hundred, a choice is made without regard to what is defined.
     wild: usize,
+    /// How often a level or a side can't be read, or has no value.
+    bad: usize,
+    /// How often a symbol of a group has a name.
+    named: usize,
+    /// Whether a symbol is about as deep as is allowed; only one is.
+    tower: bool,
     most_deep: usize,
 }
 
 pub fn tree(chance: &mut Chance) -> Grammar {
     let wild = if chance.percent(70) { 0 } else { 6 };
+    let bad = if chance.percent(85) { 1 } else { 20 };
+    let named = if chance.percent(85) { 2 } else { 40 };
+    let tower = chance.percent(10);
     let most_deep = if chance.percent(80) { 3 } else { 6 };
     let at = Head { name: "S", args: vec![] };
-    let mut grower = Grower { chance, heads: vec![], terminals: vec![], at, annotated: false, ladder: LADDERS[0], wild, most_deep };
+    let mut grower =
+        Grower { chance, heads: vec![], terminals: vec![], at, annotated: false, ladder: LADDERS[0], wild, bad, named, tower, most_deep };
     grower.grow_heads();
     let mut items: Vec<GrammarItem> = grower.heads.clone().into_iter().map(|head| grower.nonterminal(head)).collect();
     for name in grower.terminals.clone() {
@@ -58,6 +68,10 @@ pub fn tree(chance: &mut Chance) -> Grammar {
 
 fn attribute(id: &str, arg: AttributeArg) -> Attribute {
     Attribute { id_span: Span(0, 0), id: Atom::from(id), arg }
+}
+
+fn repeated(op: RepeatOp, symbol: Symbol) -> SymbolKind {
+    SymbolKind::Repeat(Box::new(RepeatSymbol { op, symbol }))
 }
 
 fn other_than(place: usize, names: &[&'static str]) -> Vec<&'static str> {
@@ -91,7 +105,7 @@ impl Grower<'_> {
     // ---- heads and terminals
 
     fn grow_heads(&mut self) {
-        let most = if self.chance.percent(1) { 0 } else { 1 + self.chance.under(5) };
+        let most = if self.chance.percent(1) { 0 } else { 1 + self.chance.under(if self.tower { 1 } else { 4 }) };
         for _ in 0..most {
             let taken: Vec<_> = self.heads.iter().map(|head| head.name).collect();
             let name = self.new_name(&NAMES, &taken);
@@ -183,7 +197,7 @@ impl Grower<'_> {
 
     fn condition(&mut self) -> Option<Condition> {
         let of_argument = !self.at.args.is_empty() && self.chance.percent(30);
-        let wild = self.wild > 0 && self.chance.percent(2);
+        let wild = self.chance.percent(self.wild);
         if !of_argument && !wild {
             return None;
         }
@@ -201,7 +215,7 @@ impl Grower<'_> {
     /// What `get_arg_equal` answers, or, rarely, one of the three arguments where it answers nothing.
     fn with_value(&mut self, id: &str, key: &str, value: &str) -> Attribute {
         let equal = AttributeArg::Equal(value.to_string());
-        if self.chance.under(150) == 0 {
+        if self.chance.percent(self.bad) {
             let none = [AttributeArg::Empty, AttributeArg::Paren(vec![]), equal];
             return attribute(id, self.chance.one_of(&none));
         }
@@ -210,8 +224,8 @@ impl Grower<'_> {
 
     fn level(&mut self, index: usize) -> Attribute {
         let value = match self.chance.under(100) {
-            0 => self.chance.one_of(&BAD_LEVELS),
-            1..=25 => self.chance.one_of(&GOOD_LEVELS),
+            at if at < self.bad => self.chance.one_of(&BAD_LEVELS),
+            0..=25 => self.chance.one_of(&GOOD_LEVELS),
             _ => self.ladder[index.min(3)],
         };
         self.with_value("precedence", "level", value)
@@ -220,8 +234,8 @@ impl Grower<'_> {
     /// On the lowest level mostly `all`.
     fn side(&mut self, lowest: bool) -> Attribute {
         let value = match self.chance.under(100) {
-            0 => self.chance.one_of(&BAD_SIDES),
-            1..=90 if lowest => "all",
+            at if at < self.bad => self.chance.one_of(&BAD_SIDES),
+            0..=90 if lowest => "all",
             _ => self.chance.one_of(&SIDES),
         };
         self.with_value("assoc", "side", value)
@@ -257,6 +271,9 @@ impl Grower<'_> {
 
     /// A symbol so deep; it is a name so many times in a hundred.
     fn symbol(&mut self, depth: usize, names: usize) -> Symbol {
+        if std::mem::take(&mut self.tower) {
+            return self.deep();
+        }
         let span = self.span();
         let kind = if depth < self.most_deep && self.chance.percent(names) {
             let name = Name::new(self.chance.percent(30), Atom::from(self.chance.one_of(&VALUE_NAMES)));
@@ -269,16 +286,27 @@ impl Grower<'_> {
         Symbol { span, kind }
     }
 
+    /// A symbol behind 60 to 62 choices, and mostly repeated.
+    fn deep(&mut self) -> Symbol {
+        let mut symbol = Symbol { span: self.span(), kind: self.leaf() };
+        for _ in 0..self.chance.one_of(&[60, 61, 62, 62, 62]) {
+            symbol = Symbol { span: self.span(), kind: SymbolKind::Choose(Box::new(symbol)) };
+        }
+        let op = self.chance.one_of(&[RepeatOp::Star, RepeatOp::Star, RepeatOp::Plus, RepeatOp::Question]);
+        let kind = if self.chance.percent(80) { repeated(op, symbol) } else { SymbolKind::Choose(Box::new(symbol)) };
+        Symbol { span: self.span(), kind }
+    }
+
     fn outer(&mut self, depth: usize) -> SymbolKind {
         match self.chance.under(10) {
             0..=2 => {
                 let op = self.chance.one_of(&[RepeatOp::Star, RepeatOp::Plus, RepeatOp::Question]);
-                SymbolKind::Repeat(Box::new(RepeatSymbol { op, symbol: self.symbol(depth + 1, 2) }))
+                repeated(op, self.symbol(depth + 1, 2))
             }
             3 | 4 => SymbolKind::Choose(Box::new(self.symbol(depth + 1, 3))),
             5 | 6 => {
                 let count = self.chance.under(4);
-                SymbolKind::Expr(ExprSymbol { symbols: (0..count).map(|_| self.symbol(depth + 1, 2)).collect() })
+                SymbolKind::Expr(ExprSymbol { symbols: (0..count).map(|_| self.symbol(depth + 1, self.named)).collect() })
             }
             _ => self.call(depth),
         }
@@ -296,7 +324,7 @@ impl Grower<'_> {
         } else {
             self.chance.one_of(&macros)
         };
-        let count = if self.goes_wild() { 1 + self.chance.under(3) } else { head.args.len() };
+        let count = if self.chance.percent(2 * self.wild) { 1 + self.chance.under(3) } else { head.args.len() };
         let args = (0..count).map(|place| self.argument(depth, &other_than(place, &head.args))).collect();
         SymbolKind::Macro(MacroSymbol { name: nonterminal_string(head.name), args })
     }
