@@ -4,8 +4,9 @@
 # grows the tapes that SEED fixes, has LALRPOP's code make every stage of each call, and writes an antt module: each tape with a call, a limit
 # and the lengths of output and work, what document 01 then says, and theorems by `refl` that the definitions give the same answer and the same
 # bytes. The module is checked with rt in a temporary copy of the crates it needs; nothing is written into the repository but target/.
-# Printed: how many cases agreed, how often each answer occurred, and each case that differs.
-# Exit status: 0 all agreed, or LALRPOP's files are missing; 1 a case differs; 2 bad usage, the tools failed, or the files are missing and
+# Printed: how many cases agreed, how often each answer occurred, and each case that differs. The stored table crates/passes/proofs/Chosen.antt
+# must be what rust/oracle writes, too.
+# Exit status: 0 all agreed, or LALRPOP's files are missing; 1 a case or the table differs; 2 bad usage, the tools failed, or the files are missing and
 # REQUIRE_LALRPOP is 1.
 set -euo pipefail
 
@@ -51,6 +52,10 @@ print_answers() {
 }
 
 cargo build --quiet --release --offline --manifest-path "$repository/rust/Cargo.toml" --target-dir "$repository/target/rust" -p oracle
+if ! "$repository/target/rust/release/calls" chosen | diff -q - "$repository/crates/passes/proofs/Chosen.antt" > "$copy/log"; then
+    echo "compare_calls: crates/passes/proofs/Chosen.antt is not what \`calls chosen\` writes" >&2
+    exit 1
+fi
 copy_crates
 if compare 25; then
     echo "agreed: $count of $count cases (seed $seed)"

@@ -82,6 +82,7 @@ givesWithin output call limit items new made =
       work = 8 * (length tape + output);
       words = 1 ∷ length tree ∷ 0 ∷ 0 ∷ 0 ∷ [];
       bytes = tree ++ drop (length tree) old;
+      tooLong = [];
     }
 
 -- the answer is a refusal, and output is as it was
@@ -96,6 +97,7 @@ refusesWithin output call limit items number s =
       work = 8 * (length tape + output);
       words = 0 ∷ number ∷ s .0 ∷ s .1 ∷ 0 ∷ [];
       bytes = old;
+      tooLong = [];
     }
 
 abbrev gives : Call → ℕ → List Item → List Text → List Item → Row
@@ -257,6 +259,7 @@ errorPlus =
       work = 2152;
       words = 1 ∷ 215 ∷ 0 ∷ 0 ∷ 0 ∷ [];
       bytes = 1 ∷ 1 ∷ 0 ∷ 76 ∷ 1 ∷ 6 ∷ 0 ∷ 101 ∷ 114 ∷ 114 ∷ 111 ∷ 114 ∷ 43 ∷ 1 ∷ 15 ∷ 0 ∷ 97 ∷ 108 ∷ 108 ∷ 111 ∷ 99 ∷ 58 ∷ 58 ∷ 118 ∷ 101 ∷ 99 ∷ 33 ∷ 91 ∷ 60 ∷ 62 ∷ 93 ∷ 1 ∷ 31 ∷ 0 ∷ 123 ∷ 32 ∷ 108 ∷ 101 ∷ 116 ∷ 32 ∷ 109 ∷ 117 ∷ 116 ∷ 32 ∷ 118 ∷ 32 ∷ 61 ∷ 32 ∷ 118 ∷ 59 ∷ 32 ∷ 118 ∷ 46 ∷ 112 ∷ 117 ∷ 115 ∷ 104 ∷ 40 ∷ 101 ∷ 41 ∷ 59 ∷ 32 ∷ 118 ∷ 32 ∷ 125 ∷ 1 ∷ 1 ∷ 0 ∷ 118 ∷ 1 ∷ 1 ∷ 0 ∷ 101 ∷ 16 ∷ 0 ∷ 0 ∷ 0 ∷ 0 ∷ 10 ∷ 0 ∷ 0 ∷ 0 ∷ 0 ∷ 0 ∷ 0 ∷ 0 ∷ 1 ∷ 0 ∷ 18 ∷ 4 ∷ 0 ∷ 0 ∷ 0 ∷ 10 ∷ 0 ∷ 0 ∷ 0 ∷ 0 ∷ 0 ∷ 0 ∷ 0 ∷ 0 ∷ 1 ∷ 0 ∷ 36 ∷ 4 ∷ 0 ∷ 0 ∷ 0 ∷ 10 ∷ 0 ∷ 0 ∷ 0 ∷ 1 ∷ 0 ∷ 16 ∷ 4 ∷ 0 ∷ 0 ∷ 0 ∷ 10 ∷ 0 ∷ 0 ∷ 0 ∷ 1 ∷ 0 ∷ 0 ∷ 0 ∷ 2 ∷ 0 ∷ 18 ∷ 4 ∷ 0 ∷ 0 ∷ 0 ∷ 10 ∷ 0 ∷ 0 ∷ 0 ∷ 0 ∷ 0 ∷ 1 ∷ 2 ∷ 0 ∷ 1 ∷ 0 ∷ 44 ∷ 4 ∷ 0 ∷ 0 ∷ 0 ∷ 9 ∷ 0 ∷ 0 ∷ 0 ∷ 18 ∷ 4 ∷ 0 ∷ 0 ∷ 0 ∷ 10 ∷ 0 ∷ 0 ∷ 0 ∷ 0 ∷ 0 ∷ 1 ∷ 3 ∷ 0 ∷ 2 ∷ 0 ∷ 40 ∷ 4 ∷ 0 ∷ 0 ∷ 0 ∷ 10 ∷ 0 ∷ 0 ∷ 0 ∷ 0 ∷ 4 ∷ 0 ∷ 36 ∷ 4 ∷ 0 ∷ 0 ∷ 0 ∷ 10 ∷ 0 ∷ 0 ∷ 0 ∷ 1 ∷ 0 ∷ 40 ∷ 4 ∷ 0 ∷ 0 ∷ 0 ∷ 10 ∷ 0 ∷ 0 ∷ 0 ∷ 0 ∷ 5 ∷ 0 ∷ 44 ∷ 4 ∷ 0 ∷ 0 ∷ 0 ∷ 9 ∷ 0 ∷ 0 ∷ 0 ∷ [];
+      tooLong = [];
     }
 
 abbrev rows : List Row

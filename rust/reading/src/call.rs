@@ -30,18 +30,30 @@ pub fn call(tape: &[u8], output: usize, work: usize, resolve: impl Fn(&Stage) ->
 
 /// Any call, whose steps the Rust makes.
 pub fn answer(tape: &[u8], output: usize, work: usize, steps: impl Fn(&Stage) -> Option<Vec<Step>>) -> Option<Outcome> {
+    answer_and_stage(tape, output, work, steps).map(|(outcome, _)| outcome)
+}
+
+/// The same, and the last stage that was measured: the tree, or the one that is too long.
+pub fn answer_and_stage(
+    tape: &[u8],
+    output: usize,
+    work: usize,
+    steps: impl Fn(&Stage) -> Option<Vec<Step>>,
+) -> Option<(Outcome, Vec<u8>)> {
     if work < work_needed(tape.len(), output) {
-        return Some(Err(nowhere(1)));
+        return Some((Err(nowhere(1)), vec![]));
     }
-    Some(match read(tape) {
-        Err(refusal) => Err(refusal),
-        Ok(stage) => last_tree(stage.atoms.clone(), steps(&stage)?, output),
-    })
+    let stage = match read(tape) {
+        Ok(stage) => stage,
+        Err(refusal) => return Some((Err(refusal), vec![])),
+    };
+    let mut last = vec![];
+    let answer = measured(stage.atoms.clone(), steps(&stage)?, output, &mut last);
+    Some((answer.map(|()| last.clone()), last))
 }
 
 /// 20, then 21, of each stage as it finishes; its atoms are the former stage's, then its new texts.
-fn last_tree(mut atoms: Vec<Vec<u8>>, steps: Vec<Step>, output: usize) -> Outcome {
-    let mut tree = vec![];
+fn measured(mut atoms: Vec<Vec<u8>>, steps: Vec<Step>, output: usize, last: &mut Vec<u8>) -> Result<(), Refusal> {
     for step in steps {
         let stage = match step {
             Step::Finished(items) => Stage { atoms, items },
@@ -50,12 +62,12 @@ fn last_tree(mut atoms: Vec<Vec<u8>>, steps: Vec<Step>, output: usize) -> Outcom
         if !within_operands(&stage) {
             return Err(nowhere(20));
         }
-        (atoms, tree) = write_over(&stage);
-        if tree.len() > output {
+        (atoms, *last) = write_over(&stage);
+        if last.len() > output {
             return Err(nowhere(21));
         }
     }
-    Ok(tree)
+    Ok(())
 }
 
 /// The length of each stage, as far as they are within their operands.

@@ -10,7 +10,7 @@ mod texts;
 pub mod tree;
 mod write;
 
-pub use call::{answer, call, stage_lengths, work_needed, Outcome, Step};
+pub use call::{answer, answer_and_stage, call, stage_lengths, work_needed, Outcome, Step};
 pub use levels::level_refusal;
 pub use read::{operand_bytes, read, Refusal};
 pub use sizes::within_operands;

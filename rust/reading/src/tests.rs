@@ -1,6 +1,7 @@
 //! Tapes written out by hand, with the document's answers.
+use crate::notation::parse;
 use crate::tree::*;
-use crate::{call, read, write, Refusal};
+use crate::{answer, answer_and_stage, call, level_refusal, read, stage_lengths, work_needed, write, Refusal, Step};
 
 fn atom(text: &[u8]) -> Vec<u8> {
     [&[0x01, text.len() as u8, 0][..], text].concat()
@@ -110,4 +111,41 @@ fn sizes_come_last_and_work_first() {
     let many: Vec<u8> = (0..65_537u32).flat_map(|k| atom(format!("{k}").as_bytes())).collect();
     let answer = call(&many, 0, usize::MAX, same).unwrap();
     assert_eq!(answer, Err(Refusal { number: 20, place: (0, 0) }));
+}
+
+/// The refusal of levels and the text at its place.
+fn level_refused(grammar: &str) -> Option<(u8, &str)> {
+    let refusal = level_refusal(&parse(grammar).items)?;
+    Some((refusal.number, &grammar[refusal.place.0 as usize..refusal.place.1 as usize]))
+}
+
+#[test]
+fn levels_are_asked_in_order() {
+    assert_eq!(level_refused(r#"E = #precedence(level="+1") "n" | #assoc(side="all") E;"#), None);
+    assert_eq!(level_refused(r#"E = "n" | #precedence(level="x") E;"#), None);
+    assert_eq!(level_refused(r#"E = #assoc(side="x") #precedence(level="++1") "n";"#).unwrap().0, 14);
+    assert_eq!(level_refused(r#"E = #precedence "n";"#).unwrap().0, 14);
+    assert_eq!(level_refused(r#"E = #assoc "n";"#).unwrap().0, 15);
+    let two = r##"E = #precedence(level="2") #assoc(side="left") E E | #precedence(level="1") "n" | #assoc(side="none") "m";"##;
+    assert_eq!(level_refused(two), Some((16, r##"#assoc(side="none") "m""##)));
+    // a side does not outlast a new level
+    assert_eq!(level_refused(r#"E = #precedence(level="2") #assoc(side="left") E | #precedence(level="1") "n" | "m";"#), None);
+}
+
+/// Stages as they finish: the second names a new text, the third refers to it first.
+#[test]
+fn stages_keep_the_atoms_before() {
+    let tape = write(&parse(r#"A = "x";"#));
+    let items = |grammar: &str| Step::Finished(parse(grammar).items);
+    let refused = Refusal { number: 18, place: (7, 8) };
+    let steps = vec![items(r#"A = "x";"#), items(r#"A = "x"; B1 = "y";"#), items(r#"C1 = "z"; B1 = "y";"#)];
+    let lengths = stage_lengths(read(&tape).unwrap().atoms, &steps);
+    let ask = |output, steps: Vec<Step>| answer_and_stage(&tape, output, work_needed(tape.len(), output), |_| Some(steps.clone())).unwrap();
+    let (tree, _) = ask(lengths[2].max(lengths[1]), steps.clone());
+    let atoms = [atom(b"A"), atom(b"x"), atom(b"B1"), atom(b"y"), atom(b"C1"), atom(b"z")].concat();
+    assert!(tree.unwrap().starts_with(&atoms));
+    let (outgrown, too_long) = ask(lengths[1] - 1, steps.clone());
+    assert_eq!((outgrown.unwrap_err().number, too_long.len()), (21, lengths[1]));
+    assert_eq!(ask(tape.len(), vec![steps[0].clone(), Step::Refused(refused)]).0, Err(refused));
+    assert_eq!(answer(&tape, 9, work_needed(tape.len(), 9) - 1, |_| None), Some(Err(Refusal { number: 1, place: (0, 0) })));
 }

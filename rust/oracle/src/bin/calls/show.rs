@@ -53,9 +53,11 @@ fn row(tape: &str, case: &Case) -> String {
         Ok(tree) => ([1, tree.len() as u64, 0, 0, 0], [&tree[..], OLD.get(tree.len()..).unwrap_or(&[])].concat()),
         Err(refusal) => ([0, refusal.number.into(), refusal.place.0, refusal.place.1, 0], OLD.to_vec()),
     };
-    let (limit, output, work, words, bytes) = (case.limit, case.output, case.work, list(&words), list(&bytes));
+    let too_long = if words[1] == 21 && words[0] == 0 { &case.stage[..] } else { &[] };
+    let (limit, output, work, words, bytes, too_long) = (case.limit, case.output, case.work, list(&words), list(&bytes), list(too_long));
     format!(
-        "record {{ call = {call}; tape = {tape}; limit = {limit}; output = {output}; work = {work}; words = {words}; bytes = {bytes} }}"
+        "record {{ call = {call}; tape = {tape}; limit = {limit}; output = {output}; work = {work}; words = {words}; bytes = {bytes}; \
+         tooLong = {too_long} }}"
     )
 }
 
