@@ -6,7 +6,6 @@ use lib.Dec.{leb}
 use lib.ListN.{length}
 use Rattle.parse_tree.specs.plain.Tree.{Stage}
 use Rattle.parse_tree.specs.plain.WriteTape.{tapeOf}
-use Rattle.parse_tree.specs.declared.syntax.Span.{Span}
 use Rattle.passes.specs.Outcome.{Outcome, yes, no, after}
 use Rattle.passes.specs.Stages.{resolveStage, levelStage, macroStages, allStages}
 use Rattle.passes.specs.Calls.{validateCall, resolveCall, levelsCall, macrosCall, answerWords, written}

@@ -2,7 +2,6 @@
 -- stands its grammar, in the notation of rust/reading/src/notation.rs; spans are places in that text.
 use mathlib.Core.Path.{_≡_, refl}
 use mathlib.Core.List.{List, [], _∷_, map}
-use Prim.Native.Nat.{ℕ}
 use Rattle.octets.specs.plain.Numbers.{le, leAt}
 use Rattle.octets.specs.plain.Runs.{part, sameAs}
 use Rattle.parse_tree.specs.plain.Tree.{count, symsOf}

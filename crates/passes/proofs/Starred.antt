@@ -8,7 +8,7 @@ use Prim.Native.Nat.{ℕ, zero, suc, _+_, _*_}
 use lib.ListN.{length, drop, replicate}
 use Rattle.octets.specs.plain.Numbers.{le, leAt}
 use Rattle.octets.specs.plain.Runs.{part, sameAs}
-use Rattle.parse_tree.specs.plain.Tree.{Text, Op, Around, Action, Sym, Attribute, Alternative, Item, Stage, ambiguous, bare, nonterminal, lookahead, lookbehind, repeat, star, macro, leaf, around, over, nil, user, lookaheadAction, lookbehindAction, item, extern, count, symsOf}
+use Rattle.parse_tree.specs.plain.Tree.{Text, Op, Around, Action, Sym, Attribute, Alternative, Item, ambiguous, bare, nonterminal, lookahead, lookbehind, repeat, star, macro, leaf, around, over, nil, user, lookaheadAction, lookbehindAction, item, extern, count, symsOf}
 use Rattle.parse_tree.specs.plain.Texts.{every, startsName, inName, nameBytes, isName, isLiteral, isAscii, has, number, distinct, withNew}
 use Rattle.parse_tree.specs.plain.Display.{escaped, shownLeaf, shownBefore, shownBehind, opening, shown, print}
 use Rattle.parse_tree.specs.plain.Reading.{then, times}

@@ -15,11 +15,11 @@ pub data Side : Type 0 where
 
 -- ---- "The level is a `u32` as Rust parses it": digits, perhaps behind a plus
 abbrev pub isDigit : ℕ → Bool
-isDigit b = leb 48 b && leb b 57
+isDigit b = leb 0x30 b && leb b 0x39
 
 abbrev pub digits : ℕ → Text → Option ℕ
 digits v [] = cond (leb v 4294967295) (some v) none
-digits v (b ∷ bs) = cond (isDigit b) (digits (v * 10 + (b - 48)) bs) none
+digits v (b ∷ bs) = cond (isDigit b) (digits (v * 10 + (b - 0x30)) bs) none
 
 abbrev pub unsigned : Text → Option ℕ
 unsigned [] = none
@@ -27,7 +27,7 @@ unsigned (b ∷ bs) = digits 0 (b ∷ bs)
 
 abbrev pub levelIn : Text → Option ℕ
 levelIn [] = none
-levelIn (b ∷ bs) = cond (eqb b 43) (unsigned bs) (unsigned (b ∷ bs))
+levelIn (b ∷ bs) = cond (eqb b 0x2b) (unsigned bs) (unsigned (b ∷ bs))
 
 -- "Side one of left, right, none, all"
 abbrev pub sideIn : Text → Option Side

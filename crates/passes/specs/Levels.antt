@@ -29,7 +29,7 @@ ofLevel v (g ∷ rest) = cond (eqb (g .level) v) (g ∷ ofLevel v rest) (ofLevel
 -- a level in plain digits
 abbrev pub decimalFrom : ℕ → ℕ → Text → Text
 decimalFrom zero n r = r
-decimalFrom (suc more) n r = let r′ = (48 + n % 10) ∷ r in let q = decimalFrom more (n / 10) r′ in cond (ltb n 10) r′ q
+decimalFrom (suc more) n r = let r′ = (0x30 + n % 10) ∷ r in let q = decimalFrom more (n / 10) r′ in cond (ltb n 10) r′ q
 
 -- a `u32` has at most ten digits
 abbrev pub decimal : ℕ → Text

@@ -9,7 +9,7 @@ const OLD: [u8; 3] = [3, 1, 4];
 
 /// Cases that follow each other with one tape share it.
 pub fn random(cases: &[Case], rows_each: usize) -> String {
-    let mut text = format!("-- Written by rust/oracle: random tapes.\n{USES}");
+    let mut text = format!("-- Written by rust/oracle: random tapes.\nuse Prim.Native.Nat.{{ℕ}}\n{USES}");
     let (mut tape, mut rows) = (String::new(), vec![]);
     for (index, case) in cases.iter().enumerate() {
         if index == 0 || case.tape != cases[index - 1].tape {
