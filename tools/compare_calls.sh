@@ -46,6 +46,9 @@ compare() {
     (cd "$copy" && RT_CUT=0 rt check passes) > "$copy/log" 2>&1
 }
 
+# how many cases the module has
+cases() { grep -c '^ *-- case [0-9]*: ' "$module"; }
+
 # one line of counts: yes, then the refusals by number
 print_answers() {
     sed -n 's/^ *-- case [0-9]*: //p' "$module" | sort -V | uniq -c | awk '{ printf "%s%s: %s", (NR > 1 ? ", " : "answers: "), $2, $1 } END { print "" }'
@@ -58,14 +61,14 @@ if ! "$repository/target/rust/release/calls" chosen | diff -q - "$repository/cra
 fi
 copy_crates
 if compare 25; then
-    echo "agreed: $count of $count cases (seed $seed)"
+    echo "agreed: $(cases) of $(cases) cases (seed $seed)"
     print_answers
     exit 0
 fi
 compare 1 || true
 # a failure that names no case is one of the tools
 differing=$(grep -o 'error: `agree[0-9]*`' "$copy/log" | grep -o '[0-9]*' | sort -nu) || { tail -n 20 "$copy/log" >&2; exit 2; }
-echo "agreed: $((count - $(wc -w <<< "$differing"))) of $count cases (seed $seed)"
+echo "agreed: $(($(cases) - $(wc -w <<< "$differing"))) of $(cases) cases (seed $seed)"
 print_answers
 for case in $differing; do
     echo "differs: case $case"
