@@ -69,6 +69,7 @@ pub fn instructions(call: Call, nonterminals: usize) -> Vec<(u64, String)> {
         .expect("valgrind runs");
     assert!(status.success(), "valgrind ended with {status}");
     let mut all = by_function(&std::fs::read_to_string(file).expect("callgrind's file"));
+    assert!(!all.is_empty(), "callgrind saw no call of {}", call.function());
     all.retain(|(_, name)| !name.contains("memset"));
     all.sort_by(|one, other| other.cmp(one));
     all

@@ -1,4 +1,5 @@
 //! The time that this thread had a processor: what others do on a busy machine is not in it, but for the caches that they take.
+use std::sync::OnceLock;
 use std::time::Duration;
 
 #[cfg(all(target_os = "linux", target_pointer_width = "64"))]
@@ -38,16 +39,22 @@ mod thread {
     }
 }
 
-/// How long it took, with one look at the clock in it.
+/// How long it took, the looks at the clock not counted.
 pub fn took<T>(what: impl FnOnce() -> T) -> (Duration, T) {
+    static COST: OnceLock<Duration> = OnceLock::new();
+    let cost = *COST.get_or_init(cost);
     let start = thread::now();
     let answer = what();
-    (thread::now() - start, answer)
+    ((thread::now() - start).saturating_sub(cost), answer)
 }
 
-/// What `took` says of nothing: the median of many.
-pub fn cost() -> Duration {
-    let mut costs: Vec<Duration> = (0..1_001).map(|_| took(|| ()).0).collect();
+/// What lies between two looks at the clock, one behind the other: the median of many.
+fn cost() -> Duration {
+    let look = |_| {
+        let start = thread::now();
+        thread::now() - start
+    };
+    let mut costs: Vec<Duration> = (0..1_001).map(look).collect();
     costs.sort();
     costs[costs.len() / 2]
 }

@@ -195,19 +195,16 @@ fn separated_macro() -> String {
 #[cfg(test)]
 mod tests {
     use super::*;
-    use normalize::work_len;
+    use crate::subject::Subject;
     use reading::tree::Item;
 
     #[test]
     fn they_are_accepted_and_have_so_many_nonterminals() {
         for size in SIZES {
-            let stage = grammar(size);
-            let found = stage.items.iter().filter(|item| matches!(item, Item::Nonterminal(_))).count();
+            let found = grammar(size).items.iter().filter(|item| matches!(item, Item::Nonterminal(_))).count();
             assert_eq!(found, size);
-            let tape = reading::write(&stage);
-            let (mut output, mut work) = (vec![0; tape.len()], vec![0; work_len(tape.len(), tape.len())]);
-            assert_eq!(normalize::validate(&tape, &mut work), Ok(tape.len()), "{size}");
-            assert_eq!(normalize::resolve(&tape, &mut output, &mut work), Ok(tape.len()), "{size}");
+            let subject = Subject::of_grammar(size);
+            assert_eq!(subject.tree().len(), subject.tape.len());
         }
     }
 

@@ -1,5 +1,5 @@
 //! Time: turns one after the other, each long enough to be read from a clock, and their medians.
-use crate::clock::{cost, took};
+use crate::clock::took;
 use crate::subject::Subject;
 use oracle::Ready;
 use std::hint::black_box;
@@ -20,9 +20,9 @@ pub struct Figures {
     pub theirs: Option<(f64, f64)>,
 }
 
-/// The medians of the turns: validating, ours, copying, theirs, and again.
-pub fn figures(subject: &Subject) -> Figures {
-    let mut runs = vec![validating(subject), resolving(subject), copying(subject)];
+/// The medians of the turns: validating, resolving, copying, LALRPOP's, and again. The tree is what the tape becomes.
+pub fn figures(subject: &Subject, tree: &[u8]) -> Figures {
+    let mut runs = vec![validating(subject), resolving(subject), copying(subject, tree)];
     runs.extend(subject.ready.as_ref().map(|ready| theirs(ready, &subject.tape)));
     let counts: Vec<u32> = runs.iter_mut().map(times_for_a_turn).collect();
     let mut turns: Vec<Vec<f64>> = vec![vec![]; runs.len()];
@@ -67,12 +67,12 @@ fn resolving(subject: &Subject) -> Run<'_> {
 }
 
 /// Copying the tape and the tree, and clearing as much work as resolving clears.
-fn copying(subject: &Subject) -> Run<'_> {
-    let (tree, mut copy, mut output, mut work) = (subject.tree(), subject.output(), subject.output(), subject.work_of_resolving());
+fn copying<'a>(subject: &'a Subject, tree: &'a [u8]) -> Run<'a> {
+    let (mut copy, mut output, mut work) = (subject.output(), subject.output(), subject.work_of_resolving());
     Box::new(move |times| {
         timed(times, || {
             black_box(&mut copy).copy_from_slice(black_box(&subject.tape));
-            black_box(&mut output).copy_from_slice(black_box(&tree));
+            black_box(&mut output).copy_from_slice(black_box(tree));
             black_box(&mut work).fill(0);
         })
     })
@@ -81,9 +81,9 @@ fn copying(subject: &Subject) -> Run<'_> {
 /// How many bytes of tapes go with the trees that are copied for LALRPOP at once: so few that they stay in a cache.
 const AT_ONCE: usize = 8_192;
 
-/// LALRPOP's own, on copies just made; neither making them nor dropping the answers is counted, nor the looks at the clock.
+/// LALRPOP's own, on copies just made; neither making them nor dropping the answers is counted.
 fn theirs<'a>(ready: &'a Ready, tape: &[u8]) -> Run<'a> {
-    let (most, cost) = (AT_ONCE / tape.len() + 1, cost());
+    let most = AT_ONCE / tape.len() + 1;
     Box::new(move |times| {
         let (mut left, mut sum) = (times as usize, Duration::ZERO);
         while left > 0 {
@@ -92,17 +92,17 @@ fn theirs<'a>(ready: &'a Ready, tape: &[u8]) -> Run<'a> {
             let mut answers = Vec::with_capacity(inputs.len());
             let (time, ()) = took(|| answers.extend(inputs.into_iter().map(Ready::resolved)));
             assert!(black_box(answers).iter().all(Option::is_some));
-            sum += time.saturating_sub(cost);
+            sum += time;
         }
         sum
     })
 }
 
-/// The least nanoseconds of several runs of validating and of resolving, each with buffers just long enough.
-pub fn least(tape: &[u8]) -> [f64; 2] {
+/// The least nanoseconds of several runs of validating, resolving, and copying and clearing, each with buffers just long enough.
+pub fn least(tape: &[u8]) -> [f64; 3] {
     let subject = Subject::of_tape(tape.to_vec());
-    let runs = (32_000_000 / tape.len()).clamp(5, 1_000);
-    [validating(&subject), resolving(&subject)].map(|mut run| {
+    let runs = (32_000_000 / tape.len()).clamp(9, 1_000);
+    [validating(&subject), resolving(&subject), copying(&subject, tape)].map(|mut run| {
         let figures = (0..runs).map(|_| run(1).as_nanos() as f64);
         figures.fold(f64::INFINITY, f64::min)
     })
