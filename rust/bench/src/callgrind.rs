@@ -1,5 +1,5 @@
 //! Instructions, by valgrind's tool callgrind, which counts those of one call and nothing else: the same number on every run.
-//! `bench --once CALL NONTERMINALS` is what it runs: one call.
+//! `bench --once CALL SUBJECT` is what it runs: one call. The subject is a number of nonterminals, or `symbols-SIZE`.
 use crate::subject::Subject;
 use oracle::Ready;
 use std::collections::HashMap;
@@ -39,8 +39,8 @@ pub fn is_there() -> bool {
 
 /// The call that the arguments behind `--once` name, made once.
 pub fn once(arguments: &[String]) {
-    let [call, nonterminals] = arguments else { panic!("--once CALL NONTERMINALS") };
-    let subject = Subject::of_grammar(nonterminals.parse().expect("a number of nonterminals"));
+    let [call, word] = arguments else { panic!("--once CALL SUBJECT") };
+    let subject = Subject::of_word(word);
     match call.as_str() {
         "validate" => subject.validate(&mut subject.work_of_validating()),
         "resolve" => subject.resolve(&mut subject.output(), &mut subject.work_of_resolving()),
@@ -57,14 +57,14 @@ fn lalrpop_resolves(ready: Ready) -> Option<Ready> {
 
 /// The instructions of a call by function, the most first. Those of `memset`, which clears work and tables, are left out: callgrind counts one
 /// for each byte where the processor is asked once for all.
-pub fn instructions(call: Call, nonterminals: usize) -> Vec<(u64, String)> {
+pub fn instructions(call: Call, word: &str) -> Vec<(u64, String)> {
     let program = std::env::current_exe().expect("the program's own path");
-    let file = program.with_file_name(format!("callgrind.{}.{nonterminals}", call.word()));
+    let file = program.with_file_name(format!("callgrind.{}.{word}", call.word()));
     let status = Command::new("valgrind")
         .args(["--tool=callgrind", "--quiet", &format!("--toggle-collect={}", call.function())])
         .arg(format!("--callgrind-out-file={}", file.display()))
         .arg(program)
-        .args(["--once", call.word(), &nonterminals.to_string()])
+        .args(["--once", call.word(), word])
         .status()
         .expect("valgrind runs");
     assert!(status.success(), "valgrind ended with {status}");
@@ -73,6 +73,12 @@ pub fn instructions(call: Call, nonterminals: usize) -> Vec<(u64, String)> {
     all.retain(|(_, name)| !name.contains("memset"));
     all.sort_by(|one, other| other.cmp(one));
     all
+}
+
+/// The sum, for each byte of the tape.
+pub fn per_byte(call: Call, word: &str) -> f64 {
+    let sum: u64 = instructions(call, word).iter().map(|(count, _)| count).sum();
+    sum as f64 / Subject::of_word(word).tape.len() as f64
 }
 
 /// What callgrind's file says of each function without those that it calls: a line `fn=(7) name`, or `fn=(7)` where the name was said before,

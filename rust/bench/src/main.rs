@@ -10,7 +10,7 @@ mod tapes;
 use callgrind::Call;
 use grammars::SIZES;
 use std::process::ExitCode;
-use subject::Subject;
+use subject::{Subject, SYMBOLS};
 
 const MOST_GROWTH: f64 = 1.5;
 
@@ -55,23 +55,29 @@ fn count() {
         return;
     }
     println!("\nInstructions for each byte of the tape, the clearing of memory not counted.\n");
-    println!("| nonterminals | validating | resolving | LALRPOP | LALRPOP / resolving |\n|---|---|---|---|---|");
-    for &size in &SIZES[..4] {
-        let bytes = Subject::of_grammar(size).tape.len() as f64;
-        let per_byte = |call: Call| callgrind::instructions(call, size).iter().map(|(count, _)| *count as f64).sum::<f64>() / bytes;
-        let (validating, resolving) = (per_byte(Call::Validate), per_byte(Call::Resolve));
-        let theirs = oracle::is_there().then(|| per_byte(Call::Lalrpop));
-        let theirs = theirs.map_or("– | –".into(), |theirs| format!("{theirs:.1} | {:.2}", theirs / resolving));
-        println!("| {size} | {validating:.1} | {resolving:.1} | {theirs} |");
+    println!("| nonterminals, or bytes of symbols | validating | resolving | LALRPOP | LALRPOP / resolving |\n|---|---|---|---|---|");
+    for size in &SIZES[..4] {
+        instructions_of(&size.to_string(), oracle::is_there());
     }
-    functions(128);
+    for size in [4 << 10, 64 << 10, 1 << 20] {
+        instructions_of(&format!("{SYMBOLS}{size}"), false);
+    }
+    functions("128");
+}
+
+/// One line, with LALRPOP or without.
+fn instructions_of(word: &str, with_theirs: bool) {
+    let [validating, resolving] = [Call::Validate, Call::Resolve].map(|call| callgrind::per_byte(call, word));
+    let theirs = with_theirs.then(|| callgrind::per_byte(Call::Lalrpop, word));
+    let theirs = theirs.map_or("– | –".into(), |theirs| format!("{theirs:.1} | {:.2}", theirs / resolving));
+    println!("| {word} | {validating:.1} | {resolving:.1} | {theirs} |");
 }
 
 /// Where resolving spends its instructions.
-fn functions(size: usize) {
-    let all = callgrind::instructions(Call::Resolve, size);
+fn functions(word: &str) {
+    let all = callgrind::instructions(Call::Resolve, word);
     let total: u64 = all.iter().map(|(count, _)| count).sum();
-    println!("\n| function, resolving at {size} nonterminals | share |\n|---|---|");
+    println!("\n| function, resolving at {word} nonterminals | share |\n|---|---|");
     for (count, name) in all {
         println!("| `{name}` | {:.0} % |", 100.0 * count as f64 / total as f64);
     }

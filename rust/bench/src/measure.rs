@@ -101,7 +101,7 @@ fn theirs<'a>(ready: &'a Ready, tape: &[u8]) -> Run<'a> {
 /// The least nanoseconds of several runs of validating, resolving, and copying and clearing, each with buffers just long enough.
 pub fn least(tape: &[u8]) -> [f64; 3] {
     let subject = Subject::of_tape(tape.to_vec());
-    let runs = (32_000_000 / tape.len()).clamp(9, 1_000);
+    let runs = (32_000_000 / tape.len()).clamp(25, 1_000);
     [validating(&subject), resolving(&subject), copying(&subject, tape)].map(|mut run| {
         let figures = (0..runs).map(|_| run(1).as_nanos() as f64);
         figures.fold(f64::INFINITY, f64::min)

@@ -1,8 +1,12 @@
 //! What is measured: a tape, and its tree for LALRPOP.
 use crate::grammars::grammar;
+use crate::tapes::symbols;
 use normalize::work_len;
 use oracle::Ready;
 use reading::write;
+
+/// What stands before the size of a tape of symbols.
+pub const SYMBOLS: &str = "symbols-";
 
 pub struct Subject {
     pub tape: Vec<u8>,
@@ -19,6 +23,15 @@ impl Subject {
     pub fn of_grammar(nonterminals: usize) -> Subject {
         let stage = grammar(nonterminals);
         Subject { tape: write(&stage), ready: Ready::of(&stage) }
+    }
+
+    /// By what stands on the command line: a number of nonterminals, or `symbols-SIZE` for a tape of symbols of about that many bytes.
+    pub fn of_word(word: &str) -> Subject {
+        let number = |text: &str| text.parse().expect("a number, or symbols- and a number");
+        match word.strip_prefix(SYMBOLS) {
+            Some(size) => Subject::of_tape(symbols(number(size))),
+            None => Subject::of_grammar(number(word)),
+        }
     }
 
     /// The tree, once validating and resolving accepted the tape and LALRPOP's tree, if it is there, was the same.

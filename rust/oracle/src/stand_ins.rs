@@ -2,7 +2,7 @@
 use std::fmt::{self, Display};
 use std::sync::Arc;
 
-/// `string_cache`'s atom: here a text that is shared, so that cloning one costs about as much as there.
+/// `string_cache`'s atom: here a text that is shared, so that cloning one copies no text, as there.
 #[derive(Clone, Debug, Default, Hash, PartialEq, Eq, PartialOrd, Ord)]
 pub struct DefaultAtom(Arc<str>);
 
