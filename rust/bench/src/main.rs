@@ -1,147 +1,116 @@
-//! Nanoseconds per byte of validating and of resolving a tape, at four sizes, and of tapes of many atoms, items and arguments.
-//! Ends with status 1 where a figure grows by more than half from the smallest size to the largest.
-use normalize::work_len;
-use std::time::Instant;
+//! What the calls cost: beside LALRPOP's own name resolution on grammars like grammar files, in instructions, and at sizes up to 4 MiB.
+//! Ends with status 1 where a byte takes more than half as long again at 4 MiB as at 64 KiB.
+mod callgrind;
+mod clock;
+mod grammars;
+mod measure;
+mod subject;
+mod tapes;
 
-fn atom(tape: &mut Vec<u8>, text: &[u8]) {
-    tape.push(0x01);
-    tape.extend((text.len() as u16).to_le_bytes());
-    tape.extend(text);
-}
+use callgrind::Call;
+use grammars::SIZES;
+use std::process::ExitCode;
+use subject::{Subject, SYMBOLS};
 
-fn span(tape: &mut Vec<u8>) {
-    tape.extend([0; 8]);
-}
+const MOST_GROWTH: f64 = 1.5;
 
-/// One alternative of as many symbols as fit: repeats, groups and names over 64 atoms.
-fn alternative(room: usize) -> Vec<u8> {
-    let (mut symbols, mut count) = (Vec::new(), 0u16);
-    while symbols.len() + 60 < room && count < 60_000 {
-        let k = (count % 64).to_le_bytes();
-        match count % 3 {
-            0 => {
-                symbols.push(0x26);
-                span(&mut symbols);
-                symbols.push(1);
-            }
-            1 => {
-                symbols.push(0x29);
-                span(&mut symbols);
-                symbols.extend(1u16.to_le_bytes());
-            }
-            _ => {
-                symbols.push(0x28);
-                span(&mut symbols);
-                symbols.push(0);
-                symbols.extend(k);
-            }
-        }
-        symbols.push(0x20);
-        span(&mut symbols);
-        symbols.extend(k);
-        count += 1;
+fn main() -> ExitCode {
+    let arguments: Vec<String> = std::env::args().skip(1).collect();
+    if arguments.first().is_some_and(|word| word == "--once") {
+        callgrind::once(&arguments[1..]);
+        return ExitCode::SUCCESS;
     }
-    let mut tape = vec![0x12];
-    span(&mut tape);
-    tape.extend([0, 0, 0, 0, 0]);
-    tape.extend(count.to_le_bytes());
-    tape.extend(symbols);
-    tape
-}
-
-/// A tape of about `size` bytes of symbols.
-fn symbols(size: usize) -> Vec<u8> {
-    let mut tape = Vec::new();
-    for k in 0..64 {
-        atom(&mut tape, format!("name{k}").as_bytes());
-    }
-    let (mut alternatives, mut count) = (Vec::new(), 0u16);
-    while alternatives.len() + 1_000 < size.saturating_sub(tape.len()) {
-        let room = size - tape.len() - alternatives.len();
-        alternatives.extend(alternative(room.min(16_384)));
-        count += 1;
-    }
-    tape.push(0x10);
-    span(&mut tape);
-    tape.extend([0, 0, 0, 0]);
-    tape.extend(count.to_le_bytes());
-    tape.extend(alternatives);
-    (1..64).for_each(|k| named(&mut tape, 0x30, k));
-    tape
-}
-
-fn named(tape: &mut Vec<u8>, code: u8, k: u16) {
-    tape.push(code);
-    span(tape);
-    tape.extend(k.to_le_bytes());
-}
-
-/// A tape of n nonterminals with so many arguments each; the one alternative of each names the next and its own arguments.
-fn items(n: u16, arguments: u8) -> Vec<u8> {
-    let mut tape = atoms(usize::from(n) + usize::from(arguments));
-    for k in 0..n {
-        named(&mut tape, 0x10, k);
-        tape.extend([0, arguments, 1, 0]);
-        let own = n..n + u16::from(arguments);
-        own.clone().for_each(|k| tape.extend([0x11, k.to_le_bytes()[0], k.to_le_bytes()[1]]));
-        tape.push(0x12);
-        span(&mut tape);
-        tape.extend([0, 0, 0, 0, 0, arguments + 1, 0]);
-        own.for_each(|k| named(&mut tape, 0x20, k));
-        call(&mut tape, (k + 1) % n, arguments);
-    }
-    tape
-}
-
-/// A name, or a macro call where there are arguments.
-fn call(tape: &mut Vec<u8>, k: u16, arguments: u8) {
-    named(tape, if arguments > 0 { 0x25 } else { 0x20 }, k);
-    if arguments > 0 {
-        tape.push(arguments);
-        (0..arguments).for_each(|_| named(tape, 0x22, 0));
+    compare();
+    count();
+    let is_linear = sizes();
+    names();
+    if is_linear {
+        ExitCode::SUCCESS
+    } else {
+        ExitCode::FAILURE
     }
 }
 
-/// A tape of n atoms.
-fn atoms(n: usize) -> Vec<u8> {
-    let mut tape = Vec::new();
-    for k in 0..n {
-        atom(&mut tape, format!("a{k:x}").as_bytes());
+/// Ours beside LALRPOP's.
+fn compare() {
+    println!("Nanoseconds for each byte of the tape; LALRPOP's `resolve` has its parse tree ready.\n");
+    println!("| nonterminals | tape, bytes | validating | resolving | copying and clearing | LALRPOP | LALRPOP / resolving |");
+    println!("|---|---|---|---|---|---|---|");
+    for size in SIZES {
+        let subject = Subject::of_grammar(size);
+        let figures = measure::figures(&subject, &subject.tree());
+        let ours = [figures.validating, figures.resolving, figures.copying].map(|figure| format!("{figure:.2}")).join(" | ");
+        let theirs = figures.theirs.map_or("– | –".into(), |(theirs, ratio)| format!("{theirs:.2} | {ratio:.2}"));
+        println!("| {size} | {} | {ours} | {theirs} |", subject.tape.len());
     }
-    tape
+    if !oracle::is_there() {
+        println!("\nNothing of LALRPOP is measured: {}.", oracle::NOT_THERE);
+    }
 }
 
-/// The least nanoseconds per byte of several runs.
-fn measure(tape: &[u8], mut run: impl FnMut()) -> f64 {
-    let runs = (64_000_000 / tape.len()).clamp(5, 2_000);
-    let figure = |_| {
-        let start = Instant::now();
-        run();
-        start.elapsed().as_nanos() as f64 / tape.len() as f64
-    };
-    (0..runs).map(figure).fold(f64::INFINITY, f64::min)
+/// Instructions of one call.
+fn count() {
+    if !callgrind::is_there() {
+        println!("\nInstructions are not counted: there is no valgrind.");
+        return;
+    }
+    println!("\nInstructions for each byte of the tape, the clearing of memory not counted.\n");
+    println!("| nonterminals, or bytes of symbols | validating | resolving | LALRPOP | LALRPOP / resolving |\n|---|---|---|---|---|");
+    for size in &SIZES[..4] {
+        instructions_of(&size.to_string(), oracle::is_there());
+    }
+    for size in [4 << 10, 64 << 10, 1 << 20] {
+        instructions_of(&format!("{SYMBOLS}{size}"), false);
+    }
+    functions("128");
 }
 
-/// What validating and resolving take, each with buffers just long enough.
-fn figures(name: &str, tape: &[u8]) -> [f64; 2] {
-    let length = tape.len();
-    let mut work = vec![0u8; work_len(length, 0)];
-    let validating = measure(tape, || assert_eq!(normalize::validate(tape, &mut work), Ok(length)));
-    let (mut output, mut work) = (vec![0u8; length], vec![0u8; work_len(length, length)]);
-    let resolving = measure(tape, || assert_eq!(normalize::resolve(tape, &mut output, &mut work), Ok(length)));
-    println!("{name:22} {length:8} bytes  validating {validating:6.2}  resolving {resolving:6.2} ns/byte");
-    [validating, resolving]
+/// One line, with LALRPOP or without.
+fn instructions_of(word: &str, with_theirs: bool) {
+    let [validating, resolving] = [Call::Validate, Call::Resolve].map(|call| callgrind::per_byte(call, word));
+    let theirs = with_theirs.then(|| callgrind::per_byte(Call::Lalrpop, word));
+    let theirs = theirs.map_or("– | –".into(), |theirs| format!("{theirs:.1} | {:.2}", theirs / resolving));
+    println!("| {word} | {validating:.1} | {resolving:.1} | {theirs} |");
 }
 
-fn main() {
-    let sizes = [4usize << 10, 64 << 10, 1 << 20, 4 << 20];
-    let all: Vec<[f64; 2]> = sizes.into_iter().map(|size| figures("symbols", &symbols(size))).collect();
-    figures("65,536 atoms", &atoms(65_536));
-    figures("60,000 items", &items(60_000, 0));
-    figures("2,000 of 100 arguments", &items(2_000, 100));
-    let growth = [all[3][0] / all[0][0], all[3][1] / all[0][1]];
-    println!("growth from the smallest to the largest: validating {:.2}, resolving {:.2}", growth[0], growth[1]);
-    if growth.iter().any(|&growth| growth > 1.5) {
-        std::process::exit(1);
+/// Where resolving spends its instructions.
+fn functions(word: &str) {
+    let all = callgrind::instructions(Call::Resolve, word);
+    let total: u64 = all.iter().map(|(count, _)| count).sum();
+    println!("\n| function, resolving at {word} nonterminals | share |\n|---|---|");
+    for (count, name) in all {
+        println!("| `{name}` | {:.0} % |", 100.0 * count as f64 / total as f64);
+    }
+}
+
+/// Large tapes: whether a byte takes as long in those of 4 MiB.
+fn sizes() -> bool {
+    println!("\nNanoseconds for each byte of the tape, the least of several runs.\n");
+    println!("| tape | bytes | validating | resolving | copying and clearing |\n|---|---|---|---|---|");
+    let all = [4usize << 10, 64 << 10, 1 << 20, 4 << 20].map(|size| line("symbols", &tapes::symbols(size)));
+    line("65,536 atoms", &tapes::atoms(65_536));
+    line("60,000 items", &tapes::items(60_000, 0));
+    line("2,000 macros of 100 arguments", &tapes::items(2_000, 100));
+    let growth = [0, 1].map(|call| all[3][call] / all[1][call]);
+    let is_linear = growth.iter().all(|&growth| growth <= MOST_GROWTH);
+    let end = if is_linear { "no more than" } else { "and that is more than" };
+    println!("\nA byte at 4 MiB, against 64 KiB: validating {:.2}, resolving {:.2}: {end} {MOST_GROWTH}.", growth[0], growth[1]);
+    is_linear
+}
+
+/// One line: nanoseconds for each byte.
+fn line(name: &str, tape: &[u8]) -> [f64; 3] {
+    let figures = measure::least(tape).map(|figure| figure / tape.len() as f64);
+    println!("| {name} | {} | {:.2} | {:.2} | {:.2} |", tape.len(), figures[0], figures[1], figures[2]);
+    figures
+}
+
+/// Names that all fall into one bucket of the table of atoms.
+fn names() {
+    println!("\nNanoseconds for each of {} names of 24 letters.\n", tapes::NAMES);
+    println!("| names | validating | resolving |\n|---|---|---|");
+    for (name, tape) in [("ordinary", tapes::names_of_many()), ("all of one hash", tapes::names_of_one_bucket())] {
+        let [validating, resolving, _] = measure::least(&tape).map(|figure| figure / tapes::NAMES as f64);
+        println!("| {name} | {validating:.0} | {resolving:.0} |");
     }
 }

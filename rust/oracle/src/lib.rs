@@ -15,12 +15,14 @@ pub mod chance;
 pub mod convert;
 pub mod damage;
 pub mod expanding;
+mod ready;
 pub mod staging;
 #[cfg(lalrpop)]
 mod stand_ins;
 
 pub use answers::{is_there, resolve, there_and_back, NOT_THERE};
 pub use expanding::{expand, Expanded};
+pub use ready::Ready;
 pub use staging::{staged, Call, CALLS};
 #[cfg(lalrpop)]
 pub use stand_ins::{lexer, message, session, tls, DefaultAtom, Regex};

@@ -1,9 +1,10 @@
 //! Stand-ins for what LALRPOP's files use and docs/src has not: only types, so that the passes compile.
 use std::fmt::{self, Display};
+use std::sync::Arc;
 
-/// `string_cache`'s atom: here simply a text.
+/// `string_cache`'s atom: here a text that is shared, so that cloning one copies no text, as there.
 #[derive(Clone, Debug, Default, Hash, PartialEq, Eq, PartialOrd, Ord)]
-pub struct DefaultAtom(String);
+pub struct DefaultAtom(Arc<str>);
 
 impl DefaultAtom {
     pub fn as_str(&self) -> &str {
@@ -20,13 +21,13 @@ impl std::ops::Deref for DefaultAtom {
 
 impl<T: Into<String>> From<T> for DefaultAtom {
     fn from(text: T) -> DefaultAtom {
-        DefaultAtom(text.into())
+        DefaultAtom(text.into().into())
     }
 }
 
 impl PartialEq<str> for DefaultAtom {
     fn eq(&self, text: &str) -> bool {
-        self.0 == text
+        &*self.0 == text
     }
 }
 
