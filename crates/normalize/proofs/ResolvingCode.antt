@@ -27,7 +27,7 @@ use Rattle.parse_tree.specs.declared.refusal.Refusal.{Refusal}
 use Rattle.parse_tree.proofs.Written.{written}
 use Rattle.parse_tree.proofs.WriteTapeIs.{tape-is}
 use Rattle.texts.specs.Atoms.{atomsOf}
-use Rattle.texts.proofs.TableLaws.{length-atoms}
+use Rattle.texts.proofs.ColumnsLaws.{length-atoms}
 use Rattle.validate.specs.Steps.{Refuses}
 use Rattle.validate.specs.Whole.{Valid, Validates}
 use Rattle.validate.specs.declared.Atoms.{Atoms}

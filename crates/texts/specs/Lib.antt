@@ -1,4 +1,8 @@
 -- What the contracts of texts, and of the crates above it, cite.
 pub mod Atoms
 pub mod Classes
+pub mod Columns
+pub mod Hash
+pub mod Fields
+pub mod Texts
 pub mod Table

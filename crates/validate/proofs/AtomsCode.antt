@@ -14,7 +14,7 @@ use Rattle.parse_tree.specs.working.Decode.{readAtoms}
 use Rattle.parse_tree.specs.working.Refusals.{refusalAt}
 use Rattle.parse_tree.specs.declared.refusal.Refusal.{Refusal}
 use Rattle.texts.specs.Atoms.{atomsOf, placeOf}
-use Rattle.texts.specs.Table.{Table}
+use Rattle.texts.specs.Columns.{Columns}
 use Rattle.validate.specs.Front.{Starts, Front, More, Ends, Nexts, All, Fronted}
 use Rattle.validate.specs.declared.Next.{Next}
 use Rattle.validate.specs.declared.Entered.{Entered}
@@ -37,7 +37,7 @@ pub record Gathering (s w₀ w : List ℕ) (c width k at : ℕ) : Type 0 where
 pub gather-room : (s w : List ℕ) (c width : ℕ) → Starts s w c width → 8 * (c + c + c) ≤ length w
 gather-room s w c width g = omega (arith, g .third, g .small)
 
-pub gather-start : (s w w′ : List ℕ) (c width : ℕ) → Starts s w c width → Table s w′ c 0 → length w′ ≡ length w → Gathering s w′ w′ c width 0 0
+pub gather-start : (s w w′ : List ℕ) (c width : ℕ) → Starts s w c width → Columns s w′ c 0 → length w′ ≡ length w → Gathering s w′ w′ c width 0 0
 unfolding atomsOf placeOf distinct
 gather-start s w w′ c width g t l = record {
   front = record {

@@ -27,7 +27,7 @@ use Rattle.parse_tree.proofs.NodeFits.{Stands}
 use Rattle.parse_tree.proofs.NodeSays.{node-says}
 use Rattle.parse_tree.proofs.TextLaws.{distinct-more}
 use Rattle.texts.specs.Atoms.{atomEnd, atomText, atomsOf, placeOf}
-use Rattle.texts.specs.Table.{Table, Entering}
+use Rattle.texts.specs.Columns.{Columns, ColumnEntering}
 use Rattle.validate.specs.Front.{Front, Nexts}
 use Rattle.validate.specs.declared.Next.{Next}
 
@@ -119,7 +119,7 @@ module _ (s w : List ℕ) (c k at width : ℕ) (g : Front s w c k at width) (n :
       one-more : k < c
       one-more = omega (arith, here .inside, g .starts .third, g .upto)
 
-      pub next-enters : Entering s w c k at (at + 3 + j)
+      pub next-enters : ColumnEntering s w c k at (at + 3 + j)
       next-enters = record {
         table = g .table;
         one = one-more;
@@ -138,7 +138,7 @@ module _ (s w : List ℕ) (c k at width : ℕ) (g : Front s w c k at width) (n :
       unfolding atomsOf
       atoms-more = rw (add-one k) (ap (λ (t : Text). atomsOf s k ++ (t ∷ [])) text-is)
 
-      pub next-atom : (r : Bool) (w′ : List ℕ) → r ≡ has (part (at + 3) (at + 3 + j) s) (atomsOf s k) → r ≡ false → Table s w′ c (k + 1) → length w′ ≡ length w → Nexts s c k at width (Next.Atom (at + 3 + j)) w′
+      pub next-atom : (r : Bool) (w′ : List ℕ) → r ≡ has (part (at + 3) (at + 3 + j) s) (atomsOf s k) → r ≡ false → Columns s w′ c (k + 1) → length w′ ≡ length w → Nexts s c k at width (Next.Atom (at + 3 + j)) w′
       unfolding Nexts
       next-atom r w′ u v t z =
           let d : distinct (atomsOf s k ++ (part (at + 3) (at + 3 + j) s ∷ [])) ≡ true = distinct-more (atomsOf s k) (part (at + 3) (at + 3 + j) s) (g .apart) (sym u ∙ v) in

@@ -8,7 +8,7 @@ use Rattle.parse_tree.specs.plain.Texts.{distinct}
 use Rattle.parse_tree.specs.plain.Reading.{got, refused}
 use Rattle.parse_tree.specs.working.Decode.{readAtoms}
 use Rattle.texts.specs.Atoms.{atomsOf, placeOf}
-use Rattle.texts.specs.Table.{Table}
+use Rattle.texts.specs.Columns.{Columns}
 use Rattle.validate.specs.Steps.{Refuses}
 use Rattle.validate.specs.declared.Next.{Next}
 use Rattle.validate.specs.declared.Entered.{Entered}
@@ -23,7 +23,7 @@ pub record Starts (s w : List ℕ) (c width : ℕ) : Type 0 where
 -- k atoms are entered, and the next command stands at `at`
 pub record Front (s w : List ℕ) (c k at width : ℕ) : Type 0 where
   pub starts : Starts s w c width
-  pub table : Table s w c k
+  pub table : Columns s w c k
   pub here : at ≡ placeOf s k
   pub upto : 3 * k ≤ at
   pub inside : at ≤ length s

@@ -10,14 +10,14 @@ use Rattle.parse_tree.specs.working.Refusals.{refusalAt}
 use Rattle.parse_tree.specs.declared.refusal.Refusal.{Refusal}
 use Rattle.parse_tree.specs.declared.syntax.Node.{Node}
 use Rattle.texts.specs.Atoms.{atomsOf}
-use Rattle.texts.specs.Table.{Table}
+use Rattle.texts.specs.Columns.{Columns}
 use Rattle.validate.specs.declared.Atoms.{Atoms}
 use Rattle.validate.specs.declared.Asked.{Asked}
 use Rattle.validate.specs.declared.Step.{Step}
 
 -- w is the table of the first atoms of s, whose numbers have two or three bytes
 pub record Ready (s w : List ℕ) (m : Atoms) : Type 0 where
-  pub table : Table s w (m .room) (m .count)
+  pub table : Columns s w (m .room) (m .count)
   pub narrow : 2 ≤ m .width
   pub wide : m .width ≤ 3
 

@@ -9,7 +9,7 @@ use parse_tree::syntax::Leaf;
 use parse_tree::syntax::Node;
 use parse_tree::syntax::Over;
 use parse_tree::syntax::SymbolKind;
-use texts::table::class;
+use texts::columns::class;
 ghost use mathlib.Core.Path.{_≡_};
 ghost use mathlib.Core.Bool.{true};
 ghost use mathlib.Core.List.{[]};

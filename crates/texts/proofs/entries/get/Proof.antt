@@ -1,4 +1,4 @@
-use Rattle.texts.proofs.TableLaws.{tabling}
+use Rattle.texts.proofs.ColumnsLaws.{tabling}
 use borrow.Author.Needs.{needs}
 use Rattle.texts.proofs.entries.get.Statement.{statement}
 use Rattle.texts.proofs.entries.get.Tie as tie

@@ -7,8 +7,8 @@ use Rattle.validate.proofs.front.next.Lts as lts
 use Rattle.parse_tree.proofs.node.node.Reads as node-reads
 use Rattle.parse_tree.proofs.places.allowed.Reads as allowed-reads
 use Rattle.parse_tree.proofs.places.class.Reads as class-reads
-use Rattle.texts.proofs.table.enter.Reads as enter-reads
-use Rattle.texts.proofs.table.known.Reads as known-reads
+use Rattle.texts.proofs.columns.enter.Reads as enter-reads
+use Rattle.texts.proofs.columns.known.Reads as known-reads
 use Rattle.octets.proofs.wide.from16.Reads as from16-reads
 
 node-requires : tie.Need-node-requires

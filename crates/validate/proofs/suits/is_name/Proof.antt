@@ -4,7 +4,7 @@ use Rattle.validate.proofs.suits.is_name.Statement.{statement}
 use Rattle.validate.proofs.suits.is_name.Tie as tie
 use Rattle.validate.proofs.suits.is_name.Reads as reads
 use Rattle.validate.proofs.suits.is_name.Lts as lts
-use Rattle.texts.proofs.table.class.Reads as class-reads
+use Rattle.texts.proofs.columns.class.Reads as class-reads
 use Rattle.octets.proofs.wide.from32.Reads as from32-reads
 
 from32-requires : tie.Need-from32-requires

@@ -1,0 +1,16 @@
+use Rattle.texts.proofs.HashLaws.{hashing}
+use Rattle.texts.proofs.hash.bucket.Statement.{statement}
+use Rattle.texts.proofs.hash.bucket.Tie as tie
+use Rattle.texts.proofs.hash.bucket.Reads as reads
+use Rattle.texts.proofs.hash.bucket.Lts as lts
+
+-- src/hash.rt:33:5
+mul-result : tie.Need-mul-result
+mul-result c = search hashing
+
+-- src/hash.rt:29:1
+returns : tie.Need-returns
+returns c = search hashing
+
+pub bucket-spec : {M : Type 1} → statement M
+bucket-spec = tie.close (tie.spec mul-result returns)
