@@ -1,22 +1,22 @@
 -- The chains: a record more, none, and all anew. Assumes nothing.
 use mathlib.Core.Path.{_≡_, refl, sym, ap, _∙_}
 use mathlib.Core.Bool.{Bool, true, false}
-use mathlib.Core.Logic.{_⊎_, inl, inr}
+use mathlib.Core.Logic.{inl, inr}
 use mathlib.Core.List.{List}
-use Prim.Native.Nat.{ℕ, zero, suc, _+_, _*_, _-_, _^_, _<_, _≤_}
+use Prim.Native.Nat.{ℕ, zero, suc, _+_, _*_, _<_, _≤_}
 use native.Mathlib.Omega.{arith}
 use native.Mathlib.Numerals.{add-one}
 use borrow.Author.Needs.{needs}
 use borrow.Author.Tests.{ltb-true, ltb-false, eqb-true, eqb-false}
 use lib.Dec.{eqb, ltb}
-use lib.ListN.{length, getD}
+use lib.ListN.{length}
 use Rattle.octets.specs.working.Choice.{pick}
 use Rattle.octets.specs.plain.Numbers.{le}
 use Rattle.octets.specs.working.Stores.{store}
 use Rattle.octets.proofs.NumbersLaws.{length-le}
 use Rattle.octets.proofs.StoreLaws.{leAt-same}
 use Rattle.texts.specs.Hash.{bucketOf}
-use Rattle.texts.specs.Fields.{markAt, hashAt, linkAt, headAt, cellAt, bucketAt, last, Chained, RecordsKept, Relinking, Relinked, Linked}
+use Rattle.texts.specs.Fields.{hashAt, linkAt, headAt, bucketAt, last, Chained, RecordsKept, Relinking, Relinked, Linked}
 use Rattle.texts.proofs.HashLaws.{bucket-small}
 use Rattle.texts.proofs.FieldsCode.{Beside, beside}
 

@@ -1,6 +1,6 @@
 -- Hashes compose: hash (xs ++ ys) = hash xs * power ys + hash ys. Assumes nothing.
 use mathlib.Core.Path.{_≡_, refl, sym, ap, _∙_}
-use mathlib.Core.List.{List, [], _∷_, _++_}
+use mathlib.Core.List.{[], _∷_, _++_}
 use Prim.Native.Nat.{ℕ, zero, suc, _+_, _*_, _/_, _%_, _<_}
 use native.Mathlib.Omega.{arith}
 use native.Mathlib.Nat.{mod-lt, mul-comm, mul-assoc, add-mul, mod-add-div, add-mul-mod-self-left, add-mod-mod}
@@ -48,7 +48,7 @@ unfolding hashFrom
 append-from h [] ys = refl
 append-from h (x ∷ xs) ys = append-from (hashStep h x) xs ys
 
--- THE LAW
+-- theorem: the hash composes
 pub hash-join : (xs ys : Text) → hashOf (xs ++ ys) ≡ (hashOf xs * power (length ys) + hashOf ys) % 4294967296
 unfolding hashOf
 hash-join xs ys = append-from 0 xs ys ∙ hash-from (hashFrom 0 xs) ys (hash-small xs)
@@ -77,7 +77,7 @@ power-join n (suc k) =
         sum : (o p q r t : ℕ) → (o + 0) % 4294967296 ≡ (p + 0) % 4294967296 → (r + 0) % 4294967296 ≡ (q + 0) % 4294967296 → p ≡ q → t ≡ r → o % 4294967296 ≡ t % 4294967296
         sum o p q r t a c d f = omega arith
 
--- a byte more
+-- theorem: and with a byte more
 pub hash-snoc : (xs : Text) (b : ℕ) → hashOf (xs ++ (b ∷ [])) ≡ hashStep (hashOf xs) b
 unfolding hashOf hashFrom
 hash-snoc xs b = append-from 0 xs (b ∷ [])

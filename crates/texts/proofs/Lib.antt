@@ -1,13 +1,11 @@
 -- What the proofs of several functions, and of the crates above, use.
-pub mod ClassCode
-pub mod ClassOfCode
-pub mod SumsCode
-pub mod ColumnsLaws
-pub mod ColumnsKnownCode
-pub mod ColumnsEnterCode
-mod ColumnsStartCode
+mod ClassCode
+pub mod ClassByCode
+pub mod AtomsLaws
+pub mod EntriesLaws
 pub mod HashLaws
 pub mod HashComposes
+mod ScanCode
 pub mod FieldsCode
 pub mod ChainCode
 pub mod TextCode

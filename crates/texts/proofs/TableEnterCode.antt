@@ -1,25 +1,22 @@
 -- A text more in the table; none; all in other buckets. Assumes nothing.
 use mathlib.Core.Path.{_≡_, refl, sym, ap, _∙_}
 use mathlib.Core.Bool.{Bool, true, false}
-use mathlib.Core.Logic.{_⊎_, inl, inr}
 use mathlib.Core.List.{List, [], _∷_, _++_}
-use Prim.Native.Nat.{ℕ, zero, suc, _+_, _*_, _-_, _^_, _<_, _≤_}
+use Prim.Native.Nat.{ℕ, _+_, _*_, _^_, _<_, _≤_}
 use native.Mathlib.Omega.{arith}
 use native.Mathlib.Numerals.{add-one}
 use borrow.Author.Needs.{needs}
-use borrow.Author.Tests.{lt-ltb, le-ltb, ltb-true, ltb-false}
+use borrow.Author.Tests.{ltb-true, ltb-false}
 use lib.Dec.{ltb}
 use lib.ListN.{length, getD}
 use mir.Syntax.{w64}
 use mir.Val.{Fits}
-use Rattle.octets.specs.working.Choice.{pick}
 use Rattle.octets.proofs.ChoiceLaws.{by-pick}
-use Rattle.parse_tree.specs.plain.Tree.{Text}
 use Rattle.texts.specs.declared.Map.{Map}
 use Rattle.texts.specs.Hash.{hashOf, bucketOf}
-use Rattle.texts.specs.Fields.{markAt, hashAt, linkAt, headAt, cellAt, Chained, RecordsKept, Relinking, Relinked, Linked, RecordWritten}
-use Rattle.texts.specs.Texts.{textAt, Whole, Behind, textsOf}
-use Rattle.texts.specs.Table.{Table, Above, Stays, texts, linked, Entering, Entered, Started, Spreading, Spread, Growing, Grown}
+use Rattle.texts.specs.Fields.{markAt, hashAt, Chained, RecordsKept, Relinking, Relinked, Linked, RecordWritten}
+use Rattle.texts.specs.Texts.{textAt, Whole, textsOf}
+use Rattle.texts.specs.Table.{texts, linked, Entering, Entered, Started, Spreading, Spread, Growing, Grown}
 use Rattle.texts.proofs.HashLaws.{hash-small, bucket-small}
 use Rattle.texts.proofs.ChainCode.{kept-all, kept-trans, kept-wide, chained-same, chained-more}
 use Rattle.texts.proofs.TableStays.{text-agree, whole-agree, whole-stays, hash-stays, texts-stay, linked-le}

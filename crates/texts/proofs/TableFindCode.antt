@@ -1,8 +1,8 @@
 -- `find`: from a bucket's head the links pass every text whose hash falls there. Assumes nothing.
 use mathlib.Core.Path.{_≡_, refl, sym, ap, _∙_}
-use mathlib.Core.Bool.{Bool, true, false, _||_, or-true, or-false, false≢true}
+use mathlib.Core.Bool.{Bool, true, false, _||_, or-false}
 use mathlib.Core.List.{List, [], _∷_, _++_}
-use Prim.Native.Nat.{ℕ, zero, suc, _+_, _*_, _-_, _^_, _<_, _≤_}
+use Prim.Native.Nat.{ℕ, zero, suc, _+_, _*_, _-_, _<_, _≤_}
 use native.Mathlib.Omega.{arith}
 use native.Mathlib.Numerals.{add-one}
 use borrow.Author.Needs.{needs}
@@ -20,7 +20,7 @@ use Rattle.texts.specs.declared.Found.{Found}
 use Rattle.texts.specs.Hash.{hashOf, bucketOf}
 use Rattle.texts.specs.Fields.{markAt, hashAt, linkAt, headAt, bucketAt, last}
 use Rattle.texts.specs.Texts.{textAt, textsOf}
-use Rattle.texts.specs.Table.{Table, texts, linked, Is, Finds, foundIn}
+use Rattle.texts.specs.Table.{Table, texts, linked, Finds, foundIn}
 use Rattle.texts.proofs.HashLaws.{hash-small, bucket-small}
 use Rattle.texts.proofs.TextCode.{length-texts, texts-at}
 use Rattle.texts.proofs.TableStays.{linked-le}
@@ -223,7 +223,7 @@ module _ (s w : List ℕ) (m : Map) (x : Text) where
 
 pub ruleset resting = (needs, rest-start, rest-next, rest-found, rest-done)
 
--- ---- what an answer says where no two texts are equal: it is THE answer
+-- theorem: where no two texts are equal, the answer of `find` is the only one
 pub answer-is : (ts : List Text) (t : Text) (r : Found) → distinct ts ≡ true → Finds ts t r → r ≡ foundIn ts t
 unfolding Finds foundIn pick
 answer-is ts t (Found.At k) d a =
@@ -233,7 +233,7 @@ answer-is ts t (Found.At k) d a =
     cc
 answer-is ts t Found.Nothing d a = cc
 
--- a text is found by its number
+-- theorem: a text is found by its number
 pub answer-at : (ts : List Text) (t : Text) (k : ℕ) → distinct ts ≡ true → Finds ts t (Found.At k) → k ≡ number ts t
 unfolding Finds
 answer-at ts t k d a = sym (ap (number ts) (sym (a .text)) ∙ number-text ts k d (a .below))

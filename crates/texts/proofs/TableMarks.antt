@@ -1,17 +1,17 @@
 -- Marks for callers: of a place on the tape and a class, and of a place in work; and a command 01 that was written. Assumes nothing.
 use mathlib.Core.Path.{_≡_, refl, sym, ap, _∙_}
 use mathlib.Core.Bool.{Bool, true, false}
-use mathlib.Core.Logic.{_⊎_, inl, inr}
+use mathlib.Core.Logic.{inl, inr}
 use mathlib.Core.List.{List, [], _∷_, _++_}
-use Prim.Native.Nat.{ℕ, _+_, _*_, _-_, _/_, _%_, _<_, _≤_}
+use Prim.Native.Nat.{ℕ, _+_, _*_, _-_, _/_, _<_, _≤_}
 use native.Mathlib.Omega.{arith}
 use borrow.Author.Tests.{ltb-true, ltb-false}
 use lib.Dec.{ltb}
 use lib.ListN.{length}
 use Rattle.octets.specs.plain.Numbers.{leAt, le}
-use Rattle.octets.specs.plain.Runs.{part, Lies}
+use Rattle.octets.specs.plain.Runs.{Lies}
 use Rattle.octets.proofs.NumbersLaws.{length-le}
-use Rattle.octets.proofs.LiesLaws.{lies-split, lies-first, lies-part, lies-inside, le-read, lies-to}
+use Rattle.octets.proofs.LiesLaws.{lies-split, lies-first, lies-part, lies-inside, le-read}
 use Rattle.parse_tree.specs.plain.Tree.{Text}
 use Rattle.texts.specs.declared.Map.{Map}
 use Rattle.texts.specs.Fields.{markAt}
@@ -74,12 +74,14 @@ module _ (w : List ℕ) (p e : ℕ) (t : Text) (n : length t < 65536) (l : Lies 
   unfolding atomEnd
   atom-lies-end = let r = lies-rest .1 .end in omega (arith, lies-length, length-le 2 (length t))
 
+  -- theorem: its text
   pub atom-lies-text : atomText w p ≡ t
   unfolding atomText
   atom-lies-text =
       let z : p + 3 ≡ p + 1 + length (le 2 (length t)) = omega (arith, length-le 2 (length t)) in
       rw (z, atom-lies-end) (lies-part w (p + 1 + length (le 2 (length t))) e t (lies-rest .1))
 
+  -- theorem: it is whole
   pub atom-lies-inside : atomEnd w p ≤ length w
   atom-lies-inside = rw atom-lies-end (lies-inside w p e (1 ∷ (le 2 (length t) ++ t)) (omega arith) l)
 
@@ -98,6 +100,7 @@ above-none s w m z e = record { above = λ i l. absurd (omega arith) }
 -- ---- what `enter` asks, of an 01 on the tape and of one in work; z is a bound from which on the texts in work stand
 module _ (s w : List ℕ) (m : Map) (z h : ℕ) (g : Table s w m) (a : Above s w m z) (some : 0 < m .buckets) (room : m .base + 24 * m .count + 24 ≤ length w) (roof : m .base + 24 * m .count + 24 ≤ z)
     (wide : m .base + 24 * m .buckets ≤ z) where
+  -- theorem: what `enter` asks for a text of the tape
   pub entering-tape : (at c : ℕ) → c < 4 → atomEnd s at ≤ length s → h ≡ hashOf (atomText s at) → Entering s w m (4 * at + c) h
   entering-tape at c l k e = record {
     low = z;
@@ -112,6 +115,7 @@ module _ (s w : List ℕ) (m : Map) (z h : ℕ) (g : Table s w m) (a : Above s w
     hash = e ∙ ap hashOf (sym (tape-mark-text s w at c l k));
   }
 
+  -- theorem: and for one of work
   pub entering-work : (p : ℕ) → 8 * length s ≤ p → z ≤ p → atomEnd w p ≤ length w → h ≡ hashOf (atomText w p) → Entering s w m (p - 4 * length s) h
   entering-work p l b k e = record {
     low = z;
@@ -126,9 +130,10 @@ module _ (s w : List ℕ) (m : Map) (z h : ℕ) (g : Table s w m) (a : Above s w
     hash = e ∙ ap hashOf (sym (work-mark-text s w p l));
   }
 
--- the text that was entered
+-- theorem: the text that was entered, of work
 pub entered-work : (s w : List ℕ) (m : Map) (p h c : ℕ) (m1 : Map) (w1 : List ℕ) → 8 * length s ≤ p → Entered s w m (p - 4 * length s) h c m1 w1 → texts s w1 m1 ≡ texts s w m ++ (atomText w p ∷ [])
 entered-work s w m p h c m1 w1 l g = g .more ∙ ap (λ (t : Text). texts s w m ++ (t ∷ [])) (work-mark-text s w p l)
 
+-- theorem: and of the tape
 pub entered-tape : (s w : List ℕ) (m : Map) (at k h c : ℕ) (m1 : Map) (w1 : List ℕ) → k < 4 → atomEnd s at ≤ length s → Entered s w m (4 * at + k) h c m1 w1 → texts s w1 m1 ≡ texts s w m ++ (atomText s at ∷ [])
 entered-tape s w m at k h c m1 w1 l e g = g .more ∙ ap (λ (t : Text). texts s w m ++ (t ∷ [])) (tape-mark-text s w at k l e)

@@ -1,16 +1,14 @@
 -- The table stays where neither its records nor its texts are written. Assumes nothing.
 use mathlib.Core.Path.{_≡_, refl, sym, ap, _∙_}
 use mathlib.Core.Bool.{Bool, true, false}
-use mathlib.Core.Logic.{_⊎_, inl, inr}
-use mathlib.Core.List.{List, [], _∷_, _++_}
-use Prim.Native.Nat.{ℕ, zero, suc, _+_, _*_, _-_, _/_, _^_, _<_, _≤_}
+use mathlib.Core.Logic.{inl, inr}
+use mathlib.Core.List.{List}
+use Prim.Native.Nat.{ℕ, zero, suc, _+_, _*_, _-_, _<_, _≤_}
 use native.Mathlib.Omega.{arith}
-use borrow.Author.Needs.{needs}
 use borrow.Author.Tests.{ltb-true, ltb-false}
 use lib.Dec.{ltb}
-use lib.ListN.{length, getD, take, drop, length-drop}
+use lib.ListN.{length, getD, drop}
 use lib.Seq.{ext-getD, getD-take, getD-drop}
-use Rattle.octets.specs.working.Choice.{pick}
 use Rattle.octets.specs.plain.Numbers.{leAt, le}
 use Rattle.octets.specs.plain.Runs.{part}
 use Rattle.octets.specs.working.Stores.{store}
@@ -18,7 +16,6 @@ use Rattle.octets.proofs.NumbersLaws.{length-le}
 use Rattle.octets.proofs.PartLaws.{part-length}
 use Rattle.octets.proofs.ChoiceLaws.{by-pick}
 use Rattle.octets.proofs.StoreLaws.{length-store, leAt-same, getD-store-before, getD-store-after}
-use Rattle.parse_tree.specs.plain.Tree.{Text}
 use Rattle.texts.specs.declared.Map.{Map}
 use Rattle.texts.specs.Hash.{hashOf}
 use Rattle.texts.specs.Fields.{markAt, hashAt, linkAt, headAt, cellAt}
@@ -27,7 +24,7 @@ use Rattle.texts.specs.Texts.{holder, placeAt, textAt, Whole, Behind, te
 use Rattle.texts.specs.Table.{Table, Above, Agree, Stays, Celled, texts, linked}
 use Rattle.texts.proofs.FieldsCode.{Beside, beside}
 use Rattle.texts.proofs.ChainCode.{chained-same}
-use Rattle.texts.proofs.TextCode.{on-tape, tape-place, in-work, work-place}
+use Rattle.texts.proofs.TextCode.{on-tape, in-work, work-place}
 
 -- ---- numbers and parts, where the bytes are the same
 pub leAt-agree : (n : ℕ) (w w1 : List ℕ) (a : ℕ) → ((i : ℕ) → a ≤ i → i < a + n → getD w1 i 0 ≡ getD w i 0) → leAt n w1 a ≡ leAt n w a
@@ -144,14 +141,14 @@ module _ (s w w1 : List ℕ) (m : Map) (z : ℕ) (g : Table s w m) (a : Above s 
         cells = cell-stays;
       }
 
--- the bound stays with the marks
+-- theorem: the bound stays with the marks
 pub above-stays : (s w : List ℕ) (m : Map) (w1 : List ℕ) (m1 : Map) (z : ℕ) → Stays s w m w1 m1 → Above s w m z → Above s w1 m1 z
 above-stays s w m w1 m1 z t a = record { above = λ i h. go i (rw (t .count) at h) }
   where
     go : (i : ℕ) → i < m .count → Behind s z (markAt w1 (m1 .base) i)
     go i h = rw (t .base, t .marks i h) (a .above i h)
 
--- a bound may be lower
+-- theorem: a bound may be lower
 pub above-lower : (s w : List ℕ) (m : Map) (z y : ℕ) → y ≤ z → Above s w m z → Above s w m y
 above-lower s w m z y h a = record { above = λ i k. go (a .above i k) }
   where
@@ -161,12 +158,14 @@ above-lower s w m z y h a = record { above = λ i k. go (a .above i k) }
 
 -- one store beside the records and below z
 module _ (s w w1 : List ℕ) (m : Map) (z at : ℕ) (vs : List ℕ) (g : Table s w m) (a : Above s w m z) (o : w1 ≡ store w at vs) (h : at + length vs ≤ z) where
+  -- theorem: a store below the records
   pub stays-below : at + length vs ≤ m .base → Stays s w m w1 m
   stays-below k = rw o (stays s w (store w at vs) m z g a (length-store w at vs)
       (record { agree = λ i x y. getD-store-after w at vs i (omega arith) })
       (record { agree = λ i x y. getD-store-after w at vs i (omega arith) })
       (record { agree = λ i x y. getD-store-after w at vs i (omega arith) }))
 
+  -- theorem: and one above them
   pub stays-above : m .base + 24 * m .count ≤ at → m .base + 24 * m .buckets ≤ at → Stays s w m w1 m
   stays-above k n = rw o (stays s w (store w at vs) m z g a (length-store w at vs)
       (record { agree = λ i x y. getD-store-after w at vs i (omega arith) })
@@ -175,6 +174,7 @@ module _ (s w w1 : List ℕ) (m : Map) (z at : ℕ) (vs : List ℕ) (g : Table s
 
 -- ---- `put_cell`
 module _ (s w w1 : List ℕ) (m : Map) (z k v : ℕ) (g : Table s w m) (a : Above s w m z) (r : m .base + 24 * m .count ≤ z) (h : k < m .count) (f : v < 4294967296) (o : w1 ≡ store w (m .base + 24 * k + 20) (le 4 v)) where
+  -- theorem: what `put_cell` does
   pub celled : Celled s w m k v w1
   unfolding texts cellAt
   celled =
@@ -201,7 +201,7 @@ module _ (s w w1 : List ℕ) (m : Map) (z k v : ℕ) (g : Table s w m) (a : Abov
         after = λ i x. d .after i x;
       }
 
--- ---- one after another
+-- theorem: one after another
 pub stays-trans : (s w : List ℕ) (m : Map) (w1 : List ℕ) (m1 : Map) (w2 : List ℕ) (m2 : Map) → Stays s w m w1 m1 → Stays s w1 m1 w2 m2 → Stays s w m w2 m2
 stays-trans s w m w1 m1 w2 m2 p q = record {
   base = q .base ∙ p .base;

@@ -1,7 +1,6 @@
 -- The text of a mark, and the texts of the records. Assumes nothing.
 use mathlib.Core.Path.{_≡_, refl, sym, ap, _∙_}
 use mathlib.Core.Bool.{Bool, true, false}
-use mathlib.Core.Logic.{_⊎_, inl, inr}
 use mathlib.Core.List.{List, [], _∷_, _++_}
 use Prim.Native.Nat.{ℕ, zero, suc, _+_, _*_, _-_, _/_, _^_, _<_, _≤_}
 use native.Mathlib.Omega.{arith}
@@ -9,18 +8,17 @@ use borrow.Author.Needs.{needs}
 use borrow.Author.Tests.{lt-ltb, le-ltb, ltb-true, ltb-false}
 use lib.Dec.{ltb}
 use lib.ListN.{length, getD, take, drop, length-append, List·getD-append}
-use lib.Seq.{getD-append-seam, ext-getD, getD-take, getD-drop}
+use lib.Seq.{getD-append-seam}
 use mir.Syntax.{w64}
 use mir.Val.{Fits}
 use Rattle.octets.specs.working.Choice.{pick}
 use Rattle.octets.specs.plain.Numbers.{leAt}
 use Rattle.octets.specs.plain.Runs.{part}
-use Rattle.octets.proofs.PartLaws.{part-length}
 use Rattle.parse_tree.specs.plain.Tree.{Text}
 use Rattle.texts.specs.declared.Map.{Map}
 use Rattle.texts.specs.Fields.{markAt}
 use Rattle.texts.specs.Atoms.{atomEnd, atomText}
-use Rattle.texts.specs.Texts.{holder, placeAt, textAt, Whole, Behind, textsOf}
+use Rattle.texts.specs.Texts.{holder, placeAt, textAt, Whole, textsOf}
 use Rattle.texts.specs.Table.{Table, texts}
 
 -- ---- `atom`
@@ -122,9 +120,6 @@ texts-at s w b (suc n) k h = go (ltb k n) refl (texts-at s w b n k)
 
 -- ---- `text`
 module _ (s w : List ℕ) (m : Map) (k x : ℕ) (g : Table s w m) (h : k < m .count) (e : x ≡ markAt w (m .base) k) where
-  pub text-room : m .base + 24 * k + 24 ≤ length w
-  text-room = omega (arith, g .room)
-
   pub text-whole : Whole s w x
   text-whole = rw e (g .whole k h)
 

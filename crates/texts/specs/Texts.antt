@@ -6,8 +6,6 @@ use mathlib.Core.List.{List, [], _∷_, _++_}
 use lib.Dec.{ltb}
 use lib.ListN.{length}
 use Rattle.octets.specs.working.Choice.{pick}
-use Rattle.octets.specs.plain.Numbers.{leAt}
-use Rattle.octets.specs.plain.Runs.{part}
 use Rattle.parse_tree.specs.plain.Tree.{Text}
 use Rattle.texts.specs.Atoms.{atomEnd, atomText}
 use Rattle.texts.specs.Fields.{markAt}

@@ -2,15 +2,12 @@
 // A text is a record of 24 bytes in work: its mark (8), its hash (4), its link (4), the head of the bucket of this index (4), and a cell that
 // is the caller's (4). Links and heads are a number and one, and 0 for none. A mark below four times the tape's length is four times the place of
 // an 01 on the tape, and a class; any other is the place of an 01 in work, less four times the tape's length.
-// The modules columns and sums are another table, of a tape's atoms only: entries of eight bytes, c marks, c links and c heads, where c atoms
-// have room. Marks are the same; a head is the last atom of its bucket and a link the one before in the same bucket, each by its number and one.
 pub mod chain;
 pub mod class;
-pub mod columns;
 pub mod entries;
 pub mod fields;
 pub mod hash;
-pub mod sums;
+pub mod scan;
 pub mod table;
 pub mod text;
 

@@ -12,31 +12,24 @@ Inv-loop work₀ base n y₀ work y = Emptying work₀ work base n y
 abbrev μ-loop : tie.MeasureT-loop
 μ-loop work₀ base n y₀ work y = n - y
 
--- src/chain.rt:38:5
 loop-holds : tie.Need-loop-holds Inv-loop μ-loop
 loop-holds c = search emptying
 
--- src/chain.rt:39:9
 put-head-requires : tie.Need-put-head-requires Inv-loop μ-loop
 put-head-requires c κs = search emptying
 
--- src/chain.rt:40:9
 add-y : tie.Need-add-y Inv-loop μ-loop
 add-y c = search emptying
 
--- src/chain.rt:38:5
 loop-less : tie.Need-loop-less Inv-loop μ-loop
 loop-less c = search emptying
 
--- src/chain.rt:38:5
 loop-again : tie.Need-loop-again Inv-loop μ-loop
 loop-again c = search emptying
 
--- src/chain.rt:33:1
 same-length : tie.Need-same-length Inv-loop μ-loop
 same-length c = search emptying
 
--- src/chain.rt:33:1
 returns : tie.Need-returns Inv-loop μ-loop
 returns c = search emptying
 

@@ -7,19 +7,15 @@ use Rattle.texts.proofs.chain.link.Lts as lts
 use Rattle.texts.proofs.chain.put_before.Reads as put-before-reads
 use Rattle.texts.proofs.hash.bucket.Reads as bucket-reads
 
--- src/chain.rt:28:9
 bucket-requires : tie.Need-bucket-requires
 bucket-requires c κs = search needs
 
--- src/chain.rt:29:5
 put-before-requires : tie.Need-put-before-requires
 put-before-requires c κs = search linking
 
--- src/chain.rt:24:1
 same-length : tie.Need-same-length
 same-length c = search needs
 
--- src/chain.rt:24:1
 returns : tie.Need-returns
 returns c = search linking
 

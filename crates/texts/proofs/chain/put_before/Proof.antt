@@ -8,31 +8,24 @@ use Rattle.texts.proofs.fields.head.Reads as head-reads
 use Rattle.texts.proofs.fields.put_head.Reads as put-head-reads
 use Rattle.texts.proofs.fields.put_link.Reads as put-link-reads
 
--- src/chain.rt:18:9
 head-requires : tie.Need-head-requires
 head-requires c κs = search needs
 
--- src/chain.rt:19:5
 put-link-requires : tie.Need-put-link-requires
 put-link-requires c κs = search needs
 
--- src/chain.rt:20:30
 add-put-head : tie.Need-add-put-head
 add-put-head c = search needs
 
--- src/chain.rt:20:29
 cast-put-head : tie.Need-cast-put-head
 cast-put-head c = search needs
 
--- src/chain.rt:20:5
 put-head-requires : tie.Need-put-head-requires
 put-head-requires c κs = search needs
 
--- src/chain.rt:14:1
 same-length : tie.Need-same-length
 same-length c = search needs
 
--- src/chain.rt:14:1
 returns : tie.Need-returns
 returns c = search putting
 

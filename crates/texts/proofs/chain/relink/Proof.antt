@@ -13,35 +13,27 @@ Inv-loop work₀ base n k e i₀ work i = Chains work₀ work base n e i
 abbrev μ-loop : tie.MeasureT-loop
 μ-loop work₀ base n k e i₀ work i = e - i
 
--- src/chain.rt:50:5
 loop-holds : tie.Need-loop-holds Inv-loop μ-loop
 loop-holds c = search chaining
 
--- src/chain.rt:51:13
 hash-requires : tie.Need-hash-requires Inv-loop μ-loop
 hash-requires c κs = search chaining
 
--- src/chain.rt:52:9
 link-requires : tie.Need-link-requires Inv-loop μ-loop
 link-requires c κs = search chaining
 
--- src/chain.rt:53:9
 add-i : tie.Need-add-i Inv-loop μ-loop
 add-i c = search chaining
 
--- src/chain.rt:50:5
 loop-less : tie.Need-loop-less Inv-loop μ-loop
 loop-less c = search chaining
 
--- src/chain.rt:50:5
 loop-again : tie.Need-loop-again Inv-loop μ-loop
 loop-again c = search chaining
 
--- src/chain.rt:45:1
 same-length : tie.Need-same-length Inv-loop μ-loop
 same-length c = search chaining
 
--- src/chain.rt:45:1
 returns : tie.Need-returns Inv-loop μ-loop
 returns c = search chaining
 

@@ -6,23 +6,18 @@ use Rattle.texts.proofs.fields.cell.Reads as reads
 use Rattle.texts.proofs.fields.cell.Lts as lts
 use Rattle.octets.proofs.numbers.u32_at.Reads as u32-at-reads
 
--- src/fields.rt:53:25
 mul-u32-at : tie.Need-mul-u32-at
 mul-u32-at c = search needs
 
--- src/fields.rt:53:18
 add-u32-at : tie.Need-add-u32-at
 add-u32-at c = search needs
 
--- src/fields.rt:53:18
 add-u32-at-2 : tie.Need-add-u32-at-2
 add-u32-at-2 c = search needs
 
--- src/fields.rt:53:5
 u32-at-requires : tie.Need-u32-at-requires
 u32-at-requires c κs = search needs
 
--- src/fields.rt:49:1
 returns : tie.Need-returns
 returns c = search fielding
 

@@ -6,11 +6,9 @@ use Rattle.texts.proofs.fields.class.Reads as reads
 use Rattle.texts.proofs.fields.class.Lts as lts
 use Rattle.texts.proofs.fields.mark.Reads as mark-reads
 
--- src/fields.rt:25:5
 mark-requires : tie.Need-mark-requires
 mark-requires c κs = search needs
 
--- src/fields.rt:21:1
 returns : tie.Need-returns
 returns c = search fielding
 

@@ -7,27 +7,21 @@ use Rattle.texts.proofs.fields.hash.Lts as lts
 use Rattle.octets.proofs.numbers.u32_at.Reads as u32-at-reads
 use Rattle.octets.proofs.wide.from32.Reads as from32-reads
 
--- src/fields.rt:32:32
 mul-u32-at : tie.Need-mul-u32-at
 mul-u32-at c = search needs
 
--- src/fields.rt:32:25
 add-u32-at : tie.Need-add-u32-at
 add-u32-at c = search needs
 
--- src/fields.rt:32:25
 add-u32-at-2 : tie.Need-add-u32-at-2
 add-u32-at-2 c = search needs
 
--- src/fields.rt:32:12
 u32-at-requires : tie.Need-u32-at-requires
 u32-at-requires c κs = search needs
 
--- src/fields.rt:32:5
 from32-requires : tie.Need-from32-requires
 from32-requires c κs = search needs
 
--- src/fields.rt:28:1
 returns : tie.Need-returns
 returns c = search fielding
 

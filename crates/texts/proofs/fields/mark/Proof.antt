@@ -6,19 +6,15 @@ use Rattle.texts.proofs.fields.mark.Reads as reads
 use Rattle.texts.proofs.fields.mark.Lts as lts
 use Rattle.octets.proofs.numbers.u64_at.Reads as u64-at-reads
 
--- src/fields.rt:18:25
 mul-u64-at : tie.Need-mul-u64-at
 mul-u64-at c = search needs
 
--- src/fields.rt:18:18
 add-u64-at : tie.Need-add-u64-at
 add-u64-at c = search needs
 
--- src/fields.rt:18:5
 u64-at-requires : tie.Need-u64-at-requires
 u64-at-requires c κs = search needs
 
--- src/fields.rt:14:1
 returns : tie.Need-returns
 returns c = search fielding
 

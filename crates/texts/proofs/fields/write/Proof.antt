@@ -7,43 +7,33 @@ use Rattle.texts.proofs.fields.write.Lts as lts
 use Rattle.octets.proofs.numbers.store32.Reads as store32-reads
 use Rattle.octets.proofs.numbers.store64.Reads as store64-reads
 
--- src/fields.rt:82:20
 mul-r : tie.Need-mul-r
 mul-r c = search needs
 
--- src/fields.rt:82:13
 add-r : tie.Need-add-r
 add-r c = search needs
 
--- src/fields.rt:83:5
 store64-requires : tie.Need-store64-requires
 store64-requires c κs = search needs
 
--- src/fields.rt:84:19
 add-store32 : tie.Need-add-store32
 add-store32 c = search needs
 
--- src/fields.rt:84:26
 cast-store32 : tie.Need-cast-store32
 cast-store32 c = search needs
 
--- src/fields.rt:84:5
 store32-requires : tie.Need-store32-requires
 store32-requires c κs = search needs
 
--- src/fields.rt:85:19
 add-store32-2 : tie.Need-add-store32-2
 add-store32-2 c = search needs
 
--- src/fields.rt:85:5
 store32-requires-2 : tie.Need-store32-requires-2
 store32-requires-2 c κs = search needs
 
--- src/fields.rt:78:1
 same-length : tie.Need-same-length
 same-length c = search needs
 
--- src/fields.rt:78:1
 returns : tie.Need-returns
 returns c = search writing
 

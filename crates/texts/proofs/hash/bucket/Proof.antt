@@ -4,11 +4,9 @@ use Rattle.texts.proofs.hash.bucket.Tie as tie
 use Rattle.texts.proofs.hash.bucket.Reads as reads
 use Rattle.texts.proofs.hash.bucket.Lts as lts
 
--- src/hash.rt:33:5
 mul-result : tie.Need-mul-result
 mul-result c = search hashing
 
--- src/hash.rt:29:1
 returns : tie.Need-returns
 returns c = search hashing
 

@@ -13,31 +13,24 @@ Inv-loop t h₀ i₀ h i = Hashing t h i
 abbrev μ-loop : tie.MeasureT-loop
 μ-loop t h₀ i₀ h i = length t - i
 
--- src/hash.rt:21:5
 loop-holds : tie.Need-loop-holds Inv-loop μ-loop
 loop-holds c = search hashing
 
--- src/hash.rt:22:21
 shared-slice-read-next : tie.Need-shared-slice-read-next Inv-loop μ-loop
 shared-slice-read-next c = search hashing
 
--- src/hash.rt:22:9
 next-requires : tie.Need-next-requires Inv-loop μ-loop
 next-requires c κs = search hashing
 
--- src/hash.rt:23:9
 add-i : tie.Need-add-i Inv-loop μ-loop
 add-i c = search hashing
 
--- src/hash.rt:21:5
 loop-less : tie.Need-loop-less Inv-loop μ-loop
 loop-less c = search hashing
 
--- src/hash.rt:21:5
 loop-again : tie.Need-loop-again Inv-loop μ-loop
 loop-again c = search hashing
 
--- src/hash.rt:16:1
 returns : tie.Need-returns Inv-loop μ-loop
 returns c = search hashing
 

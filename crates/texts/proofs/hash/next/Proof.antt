@@ -6,19 +6,15 @@ use Rattle.texts.proofs.hash.next.Reads as reads
 use Rattle.texts.proofs.hash.next.Lts as lts
 use Rattle.octets.proofs.wide.from8.Reads as from8-reads
 
--- src/hash.rt:12:10
 from8-requires : tie.Need-from8-requires
 from8-requires c κs = search needs
 
--- src/hash.rt:12:6
 add-result : tie.Need-add-result
 add-result c = search needs
 
--- src/hash.rt:12:5
 mul-result : tie.Need-mul-result
 mul-result c = search needs
 
--- src/hash.rt:8:1
 returns : tie.Need-returns
 returns c = search hashing
 

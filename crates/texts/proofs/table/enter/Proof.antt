@@ -7,35 +7,27 @@ use Rattle.texts.proofs.table.enter.Lts as lts
 use Rattle.texts.proofs.chain.link.Reads as link-reads
 use Rattle.texts.proofs.fields.write.Reads as write-reads
 
--- src/table.rt:73:5
 write-requires : tie.Need-write-requires
 write-requires c κs = search entering
 
--- src/table.rt:75:9
 link-requires : tie.Need-link-requires
 link-requires c κs = search entering
 
--- src/table.rt:76:43
 add-t14 : tie.Need-add-t14
 add-t14 c = search needs
 
--- src/table.rt:76:9
 same-length : tie.Need-same-length
 same-length c = search needs
 
--- src/table.rt:76:9
 returns : tie.Need-returns
 returns c = search entering
 
--- src/table.rt:78:32
 add-t15 : tie.Need-add-t15
 add-t15 c = search needs
 
--- src/table.rt:69:1
 same-length-2 : tie.Need-same-length-2
 same-length-2 c = search needs
 
--- src/table.rt:69:1
 returns-2 : tie.Need-returns-2
 returns-2 c = search entering
 

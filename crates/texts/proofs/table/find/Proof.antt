@@ -16,51 +16,39 @@ Inv-loop tape work m t h y j₀ j = Chasing tape work m t h j
 abbrev μ-loop : tie.MeasureT-loop
 μ-loop tape work m t h y j₀ j = j
 
--- src/table.rt:56:9
 bucket-requires : tie.Need-bucket-requires Inv-loop μ-loop
 bucket-requires c κs = search chasing
 
--- src/table.rt:57:24
 head-requires : tie.Need-head-requires Inv-loop μ-loop
 head-requires c κs = search chasing
 
--- src/table.rt:57:9
 from32-requires : tie.Need-from32-requires Inv-loop μ-loop
 from32-requires c κs = search chasing
 
--- src/table.rt:58:5
 loop-holds : tie.Need-loop-holds Inv-loop μ-loop
 loop-holds c = search chasing
 
--- src/table.rt:59:17
 sub-i : tie.Need-sub-i Inv-loop μ-loop
 sub-i c = search chasing
 
--- src/table.rt:60:12
 is-requires : tie.Need-is-requires Inv-loop μ-loop
 is-requires c κs = search chasing
 
--- src/table.rt:61:13
 returns : tie.Need-returns Inv-loop μ-loop
 returns c = search chasing
 
--- src/table.rt:63:9
 link-requires : tie.Need-link-requires Inv-loop μ-loop
 link-requires c κs = search chasing
 
--- src/table.rt:58:5
 loop-less : tie.Need-loop-less Inv-loop μ-loop
 loop-less c = search chasing
 
--- src/table.rt:58:5
 loop-again : tie.Need-loop-again Inv-loop μ-loop
 loop-again c = search chasing
 
--- src/table.rt:65:5
 rest-requires : tie.Need-rest-requires Inv-loop μ-loop
 rest-requires c κs = search chasing
 
--- src/table.rt:52:1
 returns-2 : tie.Need-returns-2 Inv-loop μ-loop
 returns-2 c = search chasing
 

@@ -7,23 +7,18 @@ use Rattle.texts.proofs.table.grow.Lts as lts
 use Rattle.texts.proofs.chain.relink.Reads as relink-reads
 use Rattle.texts.proofs.table.lesser.Reads as lesser-reads
 
--- src/table.rt:116:9
 lesser-requires : tie.Need-lesser-requires
 lesser-requires c κs = search needs
 
--- src/table.rt:117:9
 lesser-requires-2 : tie.Need-lesser-requires-2
 lesser-requires-2 c κs = search needs
 
--- src/table.rt:118:5
 relink-requires : tie.Need-relink-requires
 relink-requires c κs = search growing
 
--- src/table.rt:112:1
 same-length : tie.Need-same-length
 same-length c = search needs
 
--- src/table.rt:112:1
 returns : tie.Need-returns
 returns c = search growing
 

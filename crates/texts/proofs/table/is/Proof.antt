@@ -8,23 +8,18 @@ use Rattle.octets.proofs.runs.equal.Reads as equal-reads
 use Rattle.texts.proofs.fields.hash.Reads as hash-reads
 use Rattle.texts.proofs.text.text.Reads as text-reads
 
--- src/table.rt:30:8
 hash-requires : tie.Need-hash-requires
 hash-requires c κs = search needs
 
--- src/table.rt:31:9
 returns : tie.Need-returns
 returns c = search judging
 
--- src/table.rt:33:11
 text-requires : tie.Need-text-requires
 text-requires c κs = search needs
 
--- src/table.rt:33:5
 equal-requires : tie.Need-equal-requires
 equal-requires c κs = search needs
 
--- src/table.rt:26:1
 returns-2 : tie.Need-returns-2
 returns-2 c = search judging
 

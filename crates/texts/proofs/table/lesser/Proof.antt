@@ -4,11 +4,9 @@ use Rattle.texts.proofs.table.lesser.Tie as tie
 use Rattle.texts.proofs.table.lesser.Reads as reads
 use Rattle.texts.proofs.table.lesser.Lts as lts
 
--- src/table.rt:85:9
 returns : tie.Need-returns
 returns c = search lessening
 
--- src/table.rt:81:1
 returns-2 : tie.Need-returns-2
 returns-2 c = search lessening
 

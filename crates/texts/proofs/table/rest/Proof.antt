@@ -12,31 +12,24 @@ Inv-loop tape work m t h i₀ i = Resting tape work m t i
 abbrev μ-loop : tie.MeasureT-loop
 μ-loop tape work m t h i₀ i = m .count - i
 
--- src/table.rt:42:5
 loop-holds : tie.Need-loop-holds Inv-loop μ-loop
 loop-holds c = search resting
 
--- src/table.rt:43:12
 is-requires : tie.Need-is-requires Inv-loop μ-loop
 is-requires c κs = search resting
 
--- src/table.rt:44:13
 returns : tie.Need-returns Inv-loop μ-loop
 returns c = search resting
 
--- src/table.rt:46:9
 add-i : tie.Need-add-i Inv-loop μ-loop
 add-i c = search resting
 
--- src/table.rt:42:5
 loop-less : tie.Need-loop-less Inv-loop μ-loop
 loop-less c = search resting
 
--- src/table.rt:42:5
 loop-again : tie.Need-loop-again Inv-loop μ-loop
 loop-again c = search resting
 
--- src/table.rt:37:1
 returns-2 : tie.Need-returns-2 Inv-loop μ-loop
 returns-2 c = search resting
 

@@ -8,23 +8,18 @@ use Rattle.texts.proofs.chain.empty.Reads as empty-reads
 use Rattle.texts.proofs.chain.relink.Reads as relink-reads
 use Rattle.texts.proofs.table.lesser.Reads as lesser-reads
 
--- src/table.rt:105:9
 lesser-requires : tie.Need-lesser-requires
 lesser-requires c κs = search needs
 
--- src/table.rt:106:5
 empty-requires : tie.Need-empty-requires
 empty-requires c κs = search spreading
 
--- src/table.rt:107:5
 relink-requires : tie.Need-relink-requires
 relink-requires c κs = search spreading
 
--- src/table.rt:101:1
 same-length : tie.Need-same-length
 same-length c = search needs
 
--- src/table.rt:101:1
 returns : tie.Need-returns
 returns c = search spreading
 

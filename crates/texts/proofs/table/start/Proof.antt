@@ -7,19 +7,15 @@ use Rattle.texts.proofs.table.start.Lts as lts
 use Rattle.texts.proofs.chain.empty.Reads as empty-reads
 use Rattle.texts.proofs.table.lesser.Reads as lesser-reads
 
--- src/table.rt:95:9
 lesser-requires : tie.Need-lesser-requires
 lesser-requires c κs = search needs
 
--- src/table.rt:96:5
 empty-requires : tie.Need-empty-requires
 empty-requires c κs = search starting
 
--- src/table.rt:91:1
 same-length : tie.Need-same-length
 same-length c = search needs
 
--- src/table.rt:91:1
 returns : tie.Need-returns
 returns c = search starting
 

@@ -7,39 +7,30 @@ use Rattle.texts.proofs.text.atom.Lts as lts
 use Rattle.octets.proofs.numbers.u16_at.Reads as u16-at-reads
 use Rattle.octets.proofs.wide.from16.Reads as from16-reads
 
--- src/text.rt:18:30
 add-u16-at : tie.Need-add-u16-at
 add-u16-at c = search atoming
 
--- src/text.rt:18:20
 u16-at-requires : tie.Need-u16-at-requires
 u16-at-requires c κs = search atoming
 
--- src/text.rt:18:9
 from16-requires : tie.Need-from16-requires
 from16-requires c κs = search needs
 
--- src/text.rt:19:13
 add-a : tie.Need-add-a
 add-a c = search atoming
 
--- src/text.rt:20:13
 add-e : tie.Need-add-e
 add-e c = search atoming
 
--- src/text.rt:21:5
 sub-result : tie.Need-sub-result
 sub-result c = search needs
 
--- src/text.rt:21:5
 part-result-start : tie.Need-part-result-start
 part-result-start c = search needs
 
--- src/text.rt:21:5
 part-result-end : tie.Need-part-result-end
 part-result-end c = search atoming
 
--- src/text.rt:14:1
 returns : tie.Need-returns
 returns c = search atoming
 

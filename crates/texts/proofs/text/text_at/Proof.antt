@@ -6,27 +6,21 @@ use Rattle.texts.proofs.text.text_at.Reads as reads
 use Rattle.texts.proofs.text.text_at.Lts as lts
 use Rattle.texts.proofs.text.atom.Reads as atom-reads
 
--- src/text.rt:30:9
 atom-requires : tie.Need-atom-requires
 atom-requires c κs = search addressing
 
--- src/text.rt:32:24
 mul-atom : tie.Need-mul-atom
 mul-atom c = search needs
 
--- src/text.rt:32:20
 add-atom : tie.Need-add-atom
 add-atom c = search addressing
 
--- src/text.rt:32:9
 atom-requires-2 : tie.Need-atom-requires-2
 atom-requires-2 c κs = search addressing
 
--- src/text.rt:25:1
 returns : tie.Need-returns
 returns c = search addressing
 
--- src/text.rt:25:1
 returns-2 : tie.Need-returns-2
 returns-2 c = search addressing
 

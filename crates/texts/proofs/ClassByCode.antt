@@ -1,4 +1,4 @@
--- What the least class of a text's bytes says of the text: the ways out of `class_of`. Assumes nothing.
+-- What the least class of a text's bytes says of the text: the ways out of `class_by`. Assumes nothing.
 use mathlib.Core.Path.{_≡_, refl, sym, ap, ap₂, _∙_}
 use mathlib.Core.Bool.{Bool, true, false, _&&_, not, false≢true, and-true, and-assoc}
 use mathlib.Mathlib.Data.Bool.Basic.{and-elim-right}
