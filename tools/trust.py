@@ -12,7 +12,7 @@ reference = re.compile(r"`([^`]+)` (crates/[^\s:,)]+):(\d+)")
 def line_of(name, path):
     """The line that declares the name: its signature, record, field or function."""
     start = re.compile(
-        r"^\s*(?:unfoldable |abbrev |pub |data |record |extern \"C\" |const )*(?:fn )?" + re.escape(name) + r"(?=[\s:({\[])"
+        r"^\s*(?:unfoldable |abbrev |pub |data |record |extern \"C\" |const )*(?:fn )?" + re.escape(name) + r"(?=[\s:({\[<])"
     )
     with open(f"{root}/{path}") as f:
         for number, line in enumerate(f, 1):

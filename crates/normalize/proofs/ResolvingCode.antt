@@ -2,7 +2,7 @@
 use mathlib.Core.Path.{_≡_, refl, sym, ap, _∙_}
 use mathlib.Core.Bool.{Bool, true, false}
 use mathlib.Core.List.{List}
-use Prim.Native.Nat.{ℕ, _+_, _-_, _*_, _<_, _≤_}
+use Prim.Native.Nat.{ℕ, _+_, _-_, _*_, _/_, _<_, _≤_}
 use native.Mathlib.Omega.{arith}
 use borrow.Author.Needs.{needs}
 use borrow.Author.Tests.{leb-true, leb-false, ltb-true, ltb-false}
@@ -27,11 +27,12 @@ use Rattle.parse_tree.specs.declared.refusal.Refusal.{Refusal}
 use Rattle.parse_tree.proofs.Written.{written}
 use Rattle.parse_tree.proofs.WriteTapeIs.{tape-is}
 use Rattle.texts.specs.Atoms.{atomsOf}
-use Rattle.texts.proofs.TableLaws.{length-atoms}
+use Rattle.texts.proofs.AtomsLaws.{length-atoms}
 use Rattle.validate.specs.Steps.{Refuses}
 use Rattle.validate.specs.Whole.{Valid, Validates}
 use Rattle.validate.specs.declared.Atoms.{Atoms}
 use Rattle.validate.specs.declared.Validated.{Validated}
+use Rattle.validate.proofs.FrontCode.{place-three}
 use Rattle.passes.specs.Outcome.{Outcome, yes, no, after}
 use Rattle.passes.specs.Resolve.{resolve}
 use Rattle.passes.specs.Stages.{stage, resolveStage}
@@ -48,7 +49,7 @@ use Rattle.normalize.proofs.ResolvingMean.{admit-many, admit-long, admi
 
 -- the tables of a tape of n bytes, and behind them cap bytes for the tree
 abbrev scopeOf : Atoms → ℕ → ℕ → Scope
-scopeOf a n cap = record { room = a .room; count = a .count; width = a .width; lim = 8 * n + cap; first = 0 }
+scopeOf a n cap = record { room = n / 3; count = a .count; width = a .width; lim = 8 * n + cap; first = 0 }
 
 -- ---- what the call says is what was answered
 module _ (s : List ℕ) (cap : ℕ) (w : List ℕ) where
@@ -108,13 +109,13 @@ module _ (s : List ℕ) (cap : ℕ) (w : List ℕ) (a : Atoms) (at : ℕ) (v : V
       items = v .items;
       area = record {
         tabled = record {
-          few = v .ready .ready .table .few;
-          fits = v .ready .ready .table .room;
+          few = omega (arith, v .here, v .ready .inside, place-three s (a .count));
+          fits = omega arith;
           narrow = v .ready .ready .narrow;
           wide = v .ready .ready .wide;
         };
         end = omega arith;
-        apart = let z = v .third in omega arith;
+        apart = omega arith;
       };
       inside = v .ready .inside;
       width = v .wide;
@@ -190,7 +191,6 @@ module _ (s : List ℕ) (cap : ℕ) (w : List ℕ) (a : Atoms) (at : ℕ) (v : V
                 let g = ltb-false (8 * length s + cap) e y in
                 let f : 8 * length s + length xs ≤ 8 * length s + cap = adv-fits (8 * length s + cap) (8 * length s) (length xs) (omega (arith, k .end)) in
                 let l : e ≡ 8 * length s + length xs = k .end ∙ adv-in (8 * length s + cap) (8 * length s) (length xs) (omega arith) in
-                let t = v .third in
                 says-yes s cap w′ (record { atoms = atomsOf s (a .count); items = k .tree }) (e - 8 * length s) (is ∙ admit-done tape (k .tree) (k .is) within cap (omega (arith, many)) (omega arith)) (omega arith)
                 (behind-part (scopeOf a (length s) cap) w w′ xs (8 * length s) (omega arith) (omega arith) (omega arith) (k .bytes))
 

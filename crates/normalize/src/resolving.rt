@@ -19,8 +19,9 @@ fn resolve_valid(tape: &[u8], cap: usize, work: &mut [u8], a: Atoms, at: usize) 
     ensures { λ r. ⌜ Resolved (now (tape .entry)) cap r (now (work .exit)) ⌝ }
 {
     let to = 8 * tape.len();
+    let room = tape.len() / 3;
     let m = Scope {
-        room: a.room,
+        room: room,
         count: a.count,
         width: a.width,
         lim: to + cap,

@@ -28,8 +28,8 @@ use Rattle.parse_tree.specs.declared.syntax.Node.{Node}
 use Rattle.parse_tree.proofs.TextLaws.{number-text}
 use Rattle.parse_tree.proofs.ReadingLaws.{then-got, got-as, each-append}
 use Rattle.parse_tree.proofs.Expecting.{argument-wanted}
-use Rattle.texts.specs.Table.{entry}
-use Rattle.texts.proofs.TableLaws.{entry-same, entry-other}
+use Rattle.texts.specs.Entries.{entry}
+use Rattle.texts.proofs.EntriesLaws.{entry-same, entry-other}
 use Rattle.passes.specs.Outcome.{Tree}
 use Rattle.passes.specs.Resolve.{argumentDef, Global, nonterminals, externs, matches, globals, defIn}
 use Rattle.resolve.specs.declared.Def.{Def}

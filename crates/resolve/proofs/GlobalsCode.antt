@@ -27,7 +27,7 @@ use Rattle.parse_tree.specs.declared.syntax.TerminalData.{TerminalData}
 use Rattle.parse_tree.specs.declared.syntax.Node.{Node}
 use Rattle.parse_tree.proofs.NodeFits.{NodeSays}
 use Rattle.parse_tree.proofs.NodeSays.{node-says}
-use Rattle.texts.specs.Table.{entry}
+use Rattle.texts.specs.Entries.{entry}
 use Rattle.resolve.specs.Scopes.{Tables, base, tables, codeOf, foundBy}
 use Rattle.resolve.specs.Globals.{Tabled, tabled, refused, thenTabled, Kept, Tabling, EnteringGlobals, describe, globalOf, globalOut, declareBy, declareOut, commandOut, scanOut, blank, globalsOut}
 use Rattle.resolve.specs.declared.Def.{Def}

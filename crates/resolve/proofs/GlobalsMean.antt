@@ -25,7 +25,7 @@ use Rattle.parse_tree.specs.declared.syntax.TerminalData.{TerminalData}
 use Rattle.parse_tree.specs.declared.syntax.Node.{Node}
 use Rattle.parse_tree.proofs.TextLaws.{both, has-text, number-text}
 use Rattle.parse_tree.proofs.ReadingLaws.{got-as, each-append}
-use Rattle.texts.specs.Table.{entry}
+use Rattle.texts.specs.Entries.{entry}
 use Rattle.validate.proofs.CommandInside.{item-inside}
 use Rattle.passes.specs.Outcome.{Outcome}
 use Rattle.passes.specs.Resolve.{terminalDef, nonterminalDef, Global as Met, nonterminals, externs, matches, globals, checkGlobals}

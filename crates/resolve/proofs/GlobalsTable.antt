@@ -18,8 +18,8 @@ use Rattle.parse_tree.specs.plain.Tree.{Text}
 use Rattle.parse_tree.specs.plain.Texts.{has, number, distinct}
 use Rattle.parse_tree.specs.working.Within.{Each}
 use Rattle.parse_tree.proofs.TextLaws.{number-below, text-number, number-text}
-use Rattle.texts.specs.Table.{entry}
-use Rattle.texts.proofs.TableLaws.{entry-same, entry-other}
+use Rattle.texts.specs.Entries.{entry}
+use Rattle.texts.proofs.EntriesLaws.{entry-same, entry-other}
 use Rattle.passes.specs.Outcome.{Outcome, yes, no}
 use Rattle.passes.specs.Resolve.{Def as Definition, terminalDef, nonterminalDef, argumentDef, Global as Met, defIn, kind, metAgain, checkGlobals}
 use Rattle.parse_tree.specs.working.Refusals.{refusalOver}

@@ -14,7 +14,7 @@ use Rattle.octets.specs.working.Stores.{store}
 use Rattle.octets.specs.working.Sink.{step, lay1, lay}
 use Rattle.octets.proofs.NumbersLaws.{length-le}
 use Rattle.octets.proofs.SinkStores.{lay-over}
-use Rattle.texts.specs.Table.{entry}
+use Rattle.texts.specs.Entries.{entry}
 use Rattle.resolve.specs.Scopes.{base, tables}
 use Rattle.resolve.specs.Items.{behind}
 use Rattle.resolve.specs.declared.Scope.{Scope}

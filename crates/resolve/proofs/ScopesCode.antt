@@ -9,7 +9,7 @@ use lib.ListN.{length}
 use mir.Syntax.{w64}
 use mir.Val.{Fits}
 use Rattle.octets.specs.working.Choice.{pick}
-use Rattle.texts.specs.Table.{entry}
+use Rattle.texts.specs.Entries.{entry}
 use Rattle.resolve.specs.Scopes.{Tables, tables, codeOf, foundBy, found}
 use Rattle.resolve.specs.declared.Def.{Def}
 use Rattle.resolve.specs.declared.Found.{Found}

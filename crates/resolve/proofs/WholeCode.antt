@@ -24,7 +24,7 @@ use Rattle.parse_tree.proofs.ReadingLaws.{got-as}
 use Rattle.parse_tree.specs.working.Refusals.{refusalOver}
 use Rattle.parse_tree.specs.declared.refusal.Refusal.{Refusal}
 use Rattle.texts.specs.Atoms.{atomsOf}
-use Rattle.texts.proofs.TableLaws.{length-atoms}
+use Rattle.texts.proofs.AtomsLaws.{length-atoms}
 use Rattle.passes.specs.Outcome.{Outcome, yes, no, after}
 use Rattle.passes.specs.Resolve.{globals, checkGlobals, validateItems, resolve}
 use Rattle.resolve.specs.declared.Scope.{Scope}

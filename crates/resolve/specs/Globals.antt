@@ -12,7 +12,7 @@ use Rattle.parse_tree.specs.working.Refusals.{refusalOver}
 use Rattle.parse_tree.specs.declared.refusal.Refusal.{Refusal}
 use Rattle.parse_tree.specs.declared.syntax.Span.{Span}
 use Rattle.parse_tree.specs.declared.syntax.Node.{Node}
-use Rattle.texts.specs.Table.{entry}
+use Rattle.texts.specs.Entries.{entry}
 use Rattle.resolve.specs.declared.Def.{Def}
 use Rattle.resolve.specs.declared.Found.{Found}
 use Rattle.resolve.specs.declared.Scope.{Scope}

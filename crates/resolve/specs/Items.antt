@@ -18,7 +18,7 @@ use Rattle.parse_tree.specs.declared.syntax.NonterminalData.{NonterminalData}
 use Rattle.parse_tree.specs.declared.syntax.Alternative.{Alternative}
 use Rattle.parse_tree.specs.declared.syntax.Condition.{Condition}
 use Rattle.parse_tree.specs.declared.syntax.Node.{Node}
-use Rattle.texts.specs.Table.{entry}
+use Rattle.texts.specs.Entries.{entry}
 use Rattle.resolve.specs.declared.Scope.{Scope}
 use Rattle.resolve.specs.declared.Passed.{Passed}
 use Rattle.resolve.specs.declared.Verdict.{Verdict}

@@ -4,7 +4,7 @@ use Prim.Native.Nat.{ℕ, _+_, _-_, _*_, _≤_}
 use lib.Dec.{leb, eqb}
 use lib.ListN.{take}
 use Rattle.octets.specs.working.Choice.{pick}
-use Rattle.texts.specs.Table.{entry}
+use Rattle.texts.specs.Entries.{entry}
 use Rattle.resolve.specs.declared.Def.{Def}
 use Rattle.resolve.specs.declared.Found.{Found}
 use Rattle.resolve.specs.declared.Scope.{Scope}

@@ -23,7 +23,7 @@ ghost use Prim.Native.Nat.{_+_, _≤_, _<_};
 ghost use lib.Dec.{eqb};
 ghost use lib.ListN.{length};
 ghost use Rattle.octets.specs.plain.Runs.{part};
-ghost use Rattle.texts.specs.Table.{entry};
+ghost use Rattle.texts.specs.Entries.{entry};
 ghost use Rattle.resolve.specs.Scopes.{Area, Tables, tables};
 ghost use Rattle.resolve.specs.Walks.{Staged, prefix, many};
 ghost use Rattle.resolve.specs.Items.{Stamping, PutOut, skipTo, conditionOut, alternativeOut, argumentsOut, itemOut, itemsOut, dataOut};

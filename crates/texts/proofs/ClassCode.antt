@@ -1,18 +1,14 @@
 -- The class of a text is found from the least class of its bytes. Assumes nothing.
-use mathlib.Core.Path.{_≡_, refl, sym, _∙_}
+use mathlib.Core.Path.{_≡_, sym, _∙_}
 use mathlib.Core.Bool.{Bool, true, false, or-false}
-use mathlib.Core.List.{List}
-use Prim.Native.Nat.{ℕ, _+_, _<_, _≤_}
+use Prim.Native.Nat.{ℕ, _<_, _≤_}
 use native.Mathlib.Omega.{arith}
 use borrow.Author.Needs.{needs}
 use borrow.Author.Tests.{lt-ltb, le-ltb, le-leb, lt-leb, eq-eqb, ne-eqb}
 use lib.Dec.{leb}
-use lib.ListN.{length, getD}
 use Rattle.octets.specs.working.Choice.{pick}
-use Rattle.octets.specs.plain.Runs.{part}
-use Rattle.octets.proofs.PartLaws.{part-none, part-one}
 use Rattle.parse_tree.specs.plain.Texts.{startsName, inName}
-use Rattle.texts.specs.Classes.{byteClass, least, lesser}
+use Rattle.texts.specs.Classes.{byteClass, lesser}
 
 -- ---- `starts_name`, `in_name`
 module _ (b : ℕ) where
@@ -82,23 +78,3 @@ module _ (m n : ℕ) where
   lesser-second h = simp (le-ltb m n h)
 
 pub ruleset byting = (needs, no-ascii, low-control, high-control, name-byte, other-byte, lesser-first, lesser-second)
-
--- ---- the loop of `least_class`: x is the least class of the whole
-pub record Least (s : List ℕ) (x e m i : ℕ) : Type 0 where
-  pub rest : least m (part i e s) ≡ x
-  pub upto : i ≤ e
-  pub inside : e ≤ length s
-
-pub least-start : (s : List ℕ) (a e : ℕ) → a ≤ e → e ≤ length s → Least s (least 3 (part a e s)) e 3 a
-least-start s a e h k = record { rest = refl; upto = h; inside = k }
-
-module _ (s : List ℕ) (x e m i : ℕ) (g : Least s x e m i) where
-  pub least-next : (n r : ℕ) → i < e → n ≡ byteClass (getD s i 0) → r ≡ lesser m n → Least s x e r (i + 1)
-  unfolding least
-  least-next n r l p q = record { rest = cc (part-one i e s l (g .inside), g .rest); upto = omega arith; inside = g .inside }
-
-  pub least-done : e ≤ i → m ≡ x
-  unfolding least
-  least-done l = cc (part-none i e s l, g .rest)
-
-pub ruleset leasting = (needs, least-start, least-next, least-done)

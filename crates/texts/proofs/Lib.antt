@@ -1,8 +1,15 @@
 -- What the proofs of several functions, and of the crates above, use.
-pub mod ClassCode
-pub mod ClassOfCode
-pub mod HashCode
-pub mod TableLaws
-pub mod TableKnownCode
+mod ClassCode
+pub mod ClassByCode
+pub mod AtomsLaws
+pub mod EntriesLaws
+pub mod HashLaws
+pub mod HashComposes
+mod ScanCode
+pub mod FieldsCode
+pub mod ChainCode
+pub mod TextCode
+pub mod TableStays
+pub mod TableFindCode
 pub mod TableEnterCode
-mod TableStartCode
+pub mod TableMarks

@@ -6,7 +6,7 @@ ghost use Prim.Native.Nat.{_+_, _*_, _≤_};
 ghost use lib.ListN.{length};
 ghost use Rattle.octets.specs.plain.Numbers.{le};
 ghost use Rattle.octets.specs.working.Stores.{store};
-ghost use Rattle.texts.specs.Table.{entry};
+ghost use Rattle.texts.specs.Entries.{entry};
 
 pub fn get(work: &[u8], i: usize) -> usize
     requires { ⌜ 8 * i + 8 ≤ length (now work) ⌝ }

@@ -1,29 +1,34 @@
-// The bucket of a text.
+// The hash of a text, which composes, and the bucket that it falls into.
 use octets::wide::from8;
 ghost use mathlib.Core.Path.{_≡_};
 ghost use Prim.Native.Nat.{_≤_, _<_};
-ghost use lib.ListN.{length};
-ghost use Rattle.octets.specs.plain.Runs.{part};
-ghost use Rattle.texts.specs.Table.{hashOf, bucket};
+ghost use Rattle.texts.specs.Hash.{hashStep, hashOf, bucketOf};
 
-// The hash of the bytes from a up to e.
-fn hash(tape: &[u8], a: usize, e: usize) -> usize
-    requires { ⌜ (a ≤ e) × (e ≤ length (now tape)) ⌝ }
-    ensures { λ r. ⌜ r ≡ hashOf 0 (part a e (now (tape .entry))) ⌝ }
+// The hash of a text and a byte more.
+pub fn next(h: usize, b: u8) -> usize
+    requires { ⌜ h < 4294967296 ⌝ }
+    ensures { λ r. ⌜ r ≡ hashStep h b ⌝ }
+{
+    (h + from8(b)) * 2654435761 % 4294967296
+}
+
+// The hash of a text.
+pub fn hash(t: &[u8]) -> usize
+    ensures { λ r. ⌜ r ≡ hashOf (now (t .entry)) ⌝ }
 {
     let mut h: usize = 0;
-    let mut i = a;
-    while i < e {
-        h = (h * 31 + from8(tape[i])) % 4294967296;
+    let mut i = 0;
+    while i < t.len() {
+        h = next(h, t[i]);
         i += 1;
     }
     h
 }
 
-// Which of c buckets it falls into.
-pub fn bucket_of(tape: &[u8], a: usize, e: usize, c: usize) -> usize
-    requires { ⌜ (a ≤ e) × (e ≤ length (now tape)) × (0 < c) ⌝ }
-    ensures { λ r. ⌜ r ≡ bucket c (part a e (now (tape .entry))) ⌝ }
+// The bucket of a hash among n.
+pub fn bucket(h: usize, n: usize) -> usize
+    requires { ⌜ (h < 4294967296) × (n < 4294967296) ⌝ }
+    ensures { λ r. ⌜ r ≡ bucketOf h n ⌝ }
 {
-    hash(tape, a, e) % c
+    h * n / 4294967296
 }

@@ -1,107 +1,140 @@
-// The table of a tape's atoms: an atom is looked up by its text and by its number, and entered.
-use crate::class::class_of;
-use crate::entries::get;
-use crate::entries::put;
-use crate::hash::bucket_of;
-use octets::numbers::u16_at;
+// The table: a text by its bytes, and a text more.
+use crate::Found;
+use crate::Map;
+use crate::chain::empty;
+use crate::chain::link;
+use crate::chain::relink;
+use crate::fields::hash;
+use crate::fields::head;
+use crate::fields::write;
+use crate::hash::bucket;
+use crate::text::text;
 use octets::runs::equal;
-use octets::wide::from16;
+use octets::wide::from32;
 ghost use mathlib.Core.Path.{_≡_};
+ghost use mathlib.Core.Bool.{false};
 ghost use mathlib.Core.List.{[]};
 ghost use Prim.Native.Nat.{_+_, _*_, _≤_, _<_};
 ghost use lib.ListN.{length, getD};
-ghost use Rattle.octets.specs.plain.Runs.{part};
+ghost use Rattle.octets.specs.plain.Runs.{sameAs};
 ghost use Rattle.parse_tree.specs.plain.Texts.{has};
-ghost use Rattle.texts.specs.Atoms.{atomEnd, atomText, atomsOf, placeOf};
-ghost use Rattle.texts.specs.Classes.{textClass};
-ghost use Rattle.texts.specs.Table.{Entering, Linked, Table};
+ghost use Rattle.texts.specs.Hash.{hashOf};
+ghost use Rattle.texts.specs.Texts.{textsOf};
+ghost use Rattle.texts.specs.Table.{Table, texts, linked, Finds, Entering, Entered, Started, Spreading, Spread, Growing, Grown};
 
-// The text of the atom whose command stands at a place.
-pub fn atom_text(tape: &[u8], at: usize) -> &[u8]
-    requires { ⌜ (at + 3 ≤ length (now tape)) × (atomEnd (now tape) at ≤ length (now tape)) ⌝ }
-    ensures { λ r. ⌜ now r ≡ atomText (now (tape .entry)) at ⌝ }
+// Whether the k-th text is t, whose hash is h.
+fn is<'a>(tape: &'a [u8], work: &'a [u8], m: Map, k: usize, t: &[u8], h: usize) -> bool
+    requires { ⌜ Table (now tape) (now work) m × (k < m .count) × (h ≡ hashOf (now t)) ⌝ }
+    ensures { λ r. ⌜ r ≡ sameAs (getD (texts (now (tape .entry)) (now (work .entry)) m) k []) (now (t .entry)) ⌝ }
 {
-    let n = from16(u16_at(tape, at + 1));
-    let a = at + 3;
-    let e = a + n;
-    &tape[a..e]
-}
-
-// The place of the k-th of n atoms.
-pub fn place(tape: &[u8], work: &[u8], c: usize, n: usize, k: usize) -> usize
-    requires { ⌜ Table (now tape) (now work) c n × (k < n) ⌝ }
-    ensures { λ r. ⌜ r ≡ placeOf (now (tape .entry)) k ⌝ }
-{
-    get(work, k) / 4
-}
-
-// The class of the text of the k-th of n atoms; of the empty text where there is no such atom.
-pub fn class(tape: &[u8], work: &[u8], c: usize, n: usize, k: usize) -> usize
-    requires { ⌜ Table (now tape) (now work) c n ⌝ }
-    ensures { λ r. ⌜ r ≡ textClass (getD (atomsOf (now (tape .entry)) n) k []) ⌝ }
-{
-    if n <= k {
-        return 2;
+    if hash(work, m.base, k) != h {
+        return false;
     }
-    get(work, k) % 4
+    equal(text(tape, work, m, k), t)
 }
 
-// The text of the k-th of n atoms, as that part of the tape.
-pub fn text<'a>(tape: &'a [u8], work: &[u8], c: usize, n: usize, k: usize) -> &'a [u8]
-    requires { ⌜ Table (now tape) (now work) c n × (k < n) ⌝ }
-    ensures { λ r. ⌜ now r ≡ getD (atomsOf (now (tape .entry)) n) k [] ⌝ }
+// A text among those that are in no chain.
+fn rest<'a>(tape: &'a [u8], work: &'a [u8], m: Map, t: &[u8], h: usize) -> Found
+    requires { ⌜ Table (now tape) (now work) m × (h ≡ hashOf (now t)) × (has (now t) (textsOf (now tape) (now work) (m .base) (linked (m .count))) ≡ false) ⌝ }
+    ensures { λ r. ⌜ Finds (texts (now (tape .entry)) (now (work .entry)) m) (now (t .entry)) r ⌝ }
 {
-    let at = place(tape, work, c, n, k);
-    atom_text(tape, at)
+    let mut i: usize = 4294967295;
+    while i < m.count {
+        if is(tape, work, m, i, t, h) {
+            return Found::At(i);
+        }
+        i += 1;
+    }
+    Found::Nothing
 }
 
-// Whether the bytes from a up to e are the text of one of the first k atoms.
-pub fn known(tape: &[u8], work: &[u8], c: usize, k: usize, a: usize, e: usize) -> bool
-    requires { ⌜ Table (now tape) (now work) c k × (0 < c) × (a ≤ e) × (e ≤ length (now tape)) ⌝ }
-    ensures { λ r. ⌜ r ≡ has (part a e (now (tape .entry))) (atomsOf (now (tape .entry)) k) ⌝ }
+// The number of a text by its bytes and their hash.
+pub fn find<'a>(tape: &'a [u8], work: &'a [u8], m: Map, t: &[u8], h: usize) -> Found
+    requires { ⌜ Table (now tape) (now work) m × (0 < m .buckets) × (h ≡ hashOf (now t)) ⌝ }
+    ensures { λ r. ⌜ Finds (texts (now (tape .entry)) (now (work .entry)) m) (now (t .entry)) r ⌝ }
 {
-    let b = bucket_of(tape, a, e, c);
-    let mut j = get(work, c + c + b);
+    let y = bucket(h, m.buckets);
+    let mut j = from32(head(work, m.base, y));
     while 0 < j {
         let i = j - 1;
-        if equal(text(tape, work, c, k, i), &tape[a..e]) {
-            return true;
+        if is(tape, work, m, i, t, h) {
+            return Found::At(i);
         }
-        j = get(work, c + i);
+        j = crate::fields::link(work, m.base, i);
     }
-    false
+    rest(tape, work, m, t, h)
 }
 
-// Puts the k-th atom, with its mark, before the others of bucket b.
-fn link(work: &mut [u8], c: usize, k: usize, b: usize, mark: usize)
-    requires { ⌜ (8 * (c + c + c) ≤ length (now work)) × (k < c) × (b < c) ⌝ }
-    ensures { λ _. ⌜ Linked (now (work .entry)) c k b mark (now (work .exit)) ⌝ }
+// The text of a mark, with its hash and its cell, as the next one.
+pub fn enter(tape: &[u8], work: &mut [u8], m: Map, x: usize, h: usize, c: u32) -> Map
+    requires { ⌜ Entering (now tape) (now work) m x h ⌝ }
+    ensures { λ r. ⌜ Entered (now (tape .entry)) (now (work .entry)) m x h c r (now (work .exit)) ⌝ }
 {
-    let before = get(work, c + c + b);
-    put(work, k, mark);
-    put(work, c + k, before);
-    put(work, c + c + b, k + 1);
+    write(work, m.base, m.count, x, h, c);
+    if m.count < 4294967295 {
+        link(work, m.base, m.buckets, m.count, h);
+        return Map {
+            base: m.base,
+            count: m.count + 1,
+            buckets: m.buckets,
+        };
+    }
+    Map {
+        base: m.base,
+        count: m.count + 1,
+        buckets: m.buckets,
+    }
 }
 
-// Enters the atom whose command stands from at to e as the k-th.
-pub fn enter(tape: &[u8], work: &mut [u8], c: usize, k: usize, at: usize, e: usize)
-    requires { ⌜ Entering (now tape) (now work) c k at e ⌝ }
-    ensures { λ _. ⌜ Table (now (tape .entry)) (now (work .exit)) c (k + 1) ⌝ }
+fn lesser(n: usize) -> usize
+    ensures { λ r. ⌜ r ≡ linked n ⌝ }
 {
-    let a = at + 3;
-    let b = bucket_of(tape, a, e, c);
-    let m = 4 * at + class_of(tape, a, e);
-    link(work, c, k, b, m);
+    if n < 4294967295 {
+        return n;
+    }
+    4294967295
 }
 
-// The table of no atoms.
-pub fn start(tape: &[u8], work: &mut [u8], c: usize)
-    requires { ⌜ 8 * (c + c + c) ≤ length (now work) ⌝ }
-    ensures { λ _. ⌜ Table (now (tape .entry)) (now (work .exit)) c 0 ⌝ }
+// No texts yet, with a bucket for each of n to come.
+pub fn start(tape: &[u8], work: &mut [u8], base: usize, n: usize) -> Map
+    requires { ⌜ base + 24 * n ≤ length (now work) ⌝ }
+    ensures { λ r. ⌜ Started (now (tape .entry)) (now (work .entry)) base n r (now (work .exit)) ⌝ }
 {
-    let mut b = 0;
-    while b < c {
-        put(work, c + c + b, 0);
-        b += 1;
+    let y = lesser(n);
+    empty(work, base, y);
+    Map {
+        base: base,
+        count: 0,
+        buckets: y,
+    }
+}
+
+// The same texts with a bucket for each.
+pub fn spread(tape: &[u8], work: &mut [u8], m: Map) -> Map
+    requires { ⌜ Spreading (now tape) (now work) m ⌝ }
+    ensures { λ r. ⌜ Spread (now (tape .entry)) (now (work .entry)) m r (now (work .exit)) ⌝ }
+{
+    let y = lesser(m.count);
+    empty(work, m.base, y);
+    relink(work, m.base, y, 0, y);
+    Map {
+        base: m.base,
+        count: m.count,
+        buckets: y,
+    }
+}
+
+// The records up to n, which are written, as texts.
+pub fn grow(tape: &[u8], work: &mut [u8], m: Map, n: usize) -> Map
+    requires { ⌜ Growing (now tape) (now work) m n ⌝ }
+    ensures { λ r. ⌜ Grown (now (tape .entry)) (now (work .entry)) m n r (now (work .exit)) ⌝ }
+{
+    let k = lesser(m.count);
+    let e = lesser(n);
+    relink(work, m.base, m.buckets, k, e);
+    Map {
+        base: m.base,
+        count: n,
+        buckets: m.buckets,
     }
 }

@@ -19,7 +19,7 @@ use Rattle.parse_tree.specs.working.Refusals.{refusalAt}
 use Rattle.parse_tree.specs.declared.refusal.Refusal.{Refusal}
 use Rattle.parse_tree.specs.declared.syntax.Node.{Node}
 use Rattle.texts.specs.Atoms.{atomsOf}
-use Rattle.texts.proofs.TableLaws.{length-atoms}
+use Rattle.texts.proofs.AtomsLaws.{length-atoms}
 use Rattle.validate.specs.Steps.{askedOf, stepOf, Refuses}
 use Rattle.validate.specs.declared.Asked.{Asked}
 use Rattle.validate.specs.declared.Step.{Step}

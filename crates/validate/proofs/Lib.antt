@@ -5,7 +5,8 @@ pub mod CommandInside
 pub mod CommandCode
 mod SymbolsCode
 mod CommandKinds
-mod FrontCode
+pub mod FrontCode
+mod FrontReads
 mod AtomsCode
 mod EntryCode
 mod CommandMean

@@ -1,12 +1,13 @@
 -- Question 4: one law for each way out. Assumes nothing.
-use mathlib.Core.Path.{_≡_, ap, _∙_}
+use mathlib.Core.Path.{_≡_, sym, ap, _∙_}
 use mathlib.Core.Bool.{Bool, true, false, not}
 use mathlib.Core.List.{List, []}
-use Prim.Native.Nat.{ℕ}
+use Prim.Native.Nat.{ℕ, _+_, _*_, _<_, _≤_}
+use native.Mathlib.Omega.{arith}
 use borrow.Author.Needs.{needs}
 use borrow.Author.Tests.{ne-eqb, not-true, not-false}
 use lib.Dec.{leb, eqb}
-use lib.ListN.{getD}
+use lib.ListN.{length, getD}
 use Rattle.octets.specs.working.Choice.{pick}
 use Rattle.parse_tree.specs.plain.Tree.{Text}
 use Rattle.parse_tree.specs.plain.Texts.{isName, isLiteral, isAscii}
@@ -25,8 +26,24 @@ use Rattle.parse_tree.specs.declared.syntax.Alternative.{Alternative}
 use Rattle.parse_tree.specs.declared.syntax.Attribute.{Attribute}
 use Rattle.parse_tree.specs.declared.syntax.Condition.{Condition}
 use Rattle.parse_tree.specs.declared.syntax.Node.{Node}
+use Rattle.texts.specs.Atoms.{atomsOf}
 use Rattle.texts.specs.Classes.{textClass}
-use Rattle.texts.proofs.ClassOfCode.{class-is-name, class-is-literal, class-is-ascii}
+use Rattle.texts.specs.Fields.{classAt}
+use Rattle.texts.proofs.AtomsLaws.{atoms-at, class-beyond}
+use Rattle.texts.proofs.ClassByCode.{class-is-name, class-is-literal, class-is-ascii}
+use Rattle.validate.specs.Steps.{mapOf, Ready}
+use Rattle.validate.specs.declared.Atoms.{Atoms}
+
+-- ---- the class that a record holds
+module _ (s w : List ℕ) (m : Atoms) (k : ℕ) (g : Ready s w m) (h : k < m .count) where
+  pub class-room : m .base + 24 * k + 24 ≤ length w
+  unfolding mapOf
+  class-room = omega (arith, g .table .room)
+
+  pub class-held : (r : ℕ) → r ≡ classAt w (m .base) k → r ≡ textClass (getD (atomsOf s (m .count)) k [])
+  class-held r e = e ∙ g .classes k h ∙ ap textClass (sym (atoms-at s (m .count) k h))
+
+pub ruleset holding = (needs, class-room, class-held, class-beyond)
 
 -- ---- one text, by its class: j is the number k, and r the class
 module _ (ts : List Text) (k j r : ℕ) (p : j ≡ k) (q : r ≡ textClass (getD ts j [])) where

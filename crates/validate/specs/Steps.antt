@@ -2,22 +2,31 @@
 use mathlib.Core.Path.{_≡_}
 use mathlib.Core.Bool.{true}
 use mathlib.Core.List.{List}
-use Prim.Native.Nat.{ℕ, _≤_}
+use Prim.Native.Nat.{ℕ, _≤_, _<_}
 use lib.ListN.{length}
 use Rattle.parse_tree.specs.plain.Texts.{distinct}
 use Rattle.parse_tree.specs.plain.Reading.{Reading, got, refused}
 use Rattle.parse_tree.specs.working.Refusals.{refusalAt}
 use Rattle.parse_tree.specs.declared.refusal.Refusal.{Refusal}
 use Rattle.parse_tree.specs.declared.syntax.Node.{Node}
-use Rattle.texts.specs.Atoms.{atomsOf}
-use Rattle.texts.specs.Table.{Table}
+use Rattle.texts.specs.Atoms.{atomText, atomsOf, placeOf}
+use Rattle.texts.specs.Classes.{textClass}
+use Rattle.texts.specs.declared.Map.{Map}
+use Rattle.texts.specs.Fields.{classAt}
+use Rattle.texts.specs.Table.{Table, texts}
 use Rattle.validate.specs.declared.Atoms.{Atoms}
 use Rattle.validate.specs.declared.Asked.{Asked}
 use Rattle.validate.specs.declared.Step.{Step}
 
--- w is the table of the first atoms of s, whose numbers have two or three bytes
+-- the table of the atoms
+unfoldable pub mapOf : Atoms → Map
+mapOf m = record { base = m .base; count = m .count; buckets = m .buckets }
+
+-- w holds the table of the first atoms of s with the classes of their texts; their numbers have two or three bytes
 pub record Ready (s w : List ℕ) (m : Atoms) : Type 0 where
-  pub table : Table s w (m .room) (m .count)
+  pub table : Table s w (mapOf m)
+  pub same : texts s w (mapOf m) ≡ atomsOf s (m .count)
+  pub classes : (i : ℕ) → i < m .count → classAt w (m .base) i ≡ textClass (atomText s (placeOf s i))
   pub narrow : 2 ≤ m .width
   pub wide : m .width ≤ 3
 

@@ -1,9 +1,10 @@
 // A tape as a whole.
 use crate::Atoms;
-use crate::Entered;
+use crate::Gathered;
 use crate::Step;
 use crate::Validated;
 use crate::front::atoms;
+use crate::front::front;
 use crate::items::items;
 ghost use Prim.Native.Nat.{_*_, _≤_};
 ghost use lib.ListN.{length};
@@ -14,19 +15,20 @@ pub fn validate(tape: &[u8], work: &mut [u8], width: usize, four: bool) -> Valid
     requires { ⌜ (8 * length (now tape) ≤ length (now work)) × (2 ≤ width) × (width ≤ 3) ⌝ }
     ensures { λ r. ⌜ Validates four width (now (tape .entry)) r (now (work .exit)) ⌝ }
 {
-    let c = tape.len() / 3;
-    match atoms(tape, work, c, width) {
-        Entered::Refused(why) => Validated::Refused(why),
-        Entered::All(k, at) => {
+    let f = front(tape);
+    match atoms(tape, work, f.at, f.count) {
+        Gathered::Refused(why) => Validated::Refused(why),
+        Gathered::All(t) => {
             let m = Atoms {
-                room: c,
-                count: k,
+                base: t.base,
+                count: t.count,
+                buckets: t.buckets,
                 width: width,
                 four: four,
             };
-            match items(tape, work, m, at) {
+            match items(tape, work, m, f.at) {
                 Step::Refused(why) => Validated::Refused(why),
-                Step::Next(_) => Validated::Valid(m, at),
+                Step::Next(_) => Validated::Valid(m, f.at),
             }
         }
     }

@@ -1,62 +1,99 @@
-// The atoms at the front of a tape, each new, entered in the table.
-use crate::Entered;
+// The atoms at the front of a tape, counted, then entered in the table, each new.
+use crate::Count;
+use crate::Gathered;
 use crate::Next;
+use octets::numbers::u16_at;
 use octets::wide::from16;
-use parse_tree::node::node;
-use parse_tree::places::ATOMS;
-use parse_tree::places::allowed;
-use parse_tree::places::class;
 use parse_tree::refusal;
-use parse_tree::syntax::Node;
+use texts::Found;
+use texts::Map;
+use texts::class::class_by;
+use texts::scan::scan;
 use texts::table::enter;
-use texts::table::known;
+use texts::table::find;
 use texts::table::start;
+use texts::text::atom;
 ghost use mathlib.Core.Path.{_≡_};
-ghost use Prim.Native.Nat.{_/_};
-ghost use Rattle.validate.specs.Front.{Front, Nexts, Starts, Fronted};
+ghost use Prim.Native.Nat.{_<_};
+ghost use lib.ListN.{length};
+ghost use Rattle.validate.specs.Front.{nextAt, Counted, Going, Nexts, Starts, Fronted};
 
-// The atom at a place, as the k-th.
-fn next(tape: &[u8], work: &mut [u8], c: usize, k: usize, at: usize, width: usize) -> Next
-    requires { ⌜ Front (now tape) (now work) c k at width ⌝ }
-    ensures { λ r. ⌜ Nexts (now (tape .entry)) c k at width r (now (work .exit)) ⌝ }
+// The place behind the atom at a place; the place itself where no whole one stands.
+fn behind(tape: &[u8], at: usize) -> usize
+    requires { ⌜ at < length (now tape) ⌝ }
+    ensures { λ r. ⌜ r ≡ nextAt (now (tape .entry)) at ⌝ }
 {
-    let n = node(tape, at, width);
-    if !allowed(ATOMS, class(n)) {
-        return Next::End;
+    if tape[at] != 1 {
+        return at;
     }
-    let Node::Text(l) = n else {
-        return Next::End;
-    };
-    let a = at + 3;
-    let e = a + from16(l);
-    if known(tape, work, c, k, a, e) {
-        return Next::Known;
+    let room = tape.len() - at;
+    if room < 3 {
+        return at;
     }
-    enter(tape, work, c, k, at, e);
-    Next::Atom(e)
+    let n = from16(u16_at(tape, at + 1));
+    if room < 3 + n {
+        return at;
+    }
+    at + 3 + n
 }
 
-// All atoms; c of them have room in the table.
-pub fn atoms(tape: &[u8], work: &mut [u8], c: usize, width: usize) -> Entered
-    requires { ⌜ Starts (now tape) (now work) c width ⌝ }
-    ensures { λ r. ⌜ Fronted (now (tape .entry)) c width r (now (work .exit)) ⌝ }
+// The atoms at the front.
+pub fn front(tape: &[u8]) -> Count
+    ensures { λ r. ⌜ Counted (now (tape .entry)) (r .at) (r .count) ⌝ }
 {
-    start(tape, work, c);
-    let mut k = 0;
     let mut at = 0;
+    let mut count = 0;
     while at < tape.len() {
-        match next(tape, work, c, k, at, width) {
-            Next::Atom(e) => {
-                k += 1;
+        let e = behind(tape, at);
+        if e <= at {
+            return Count {
+                at: at,
+                count: count,
+            };
+        }
+        at = e;
+        count += 1;
+    }
+    Count {
+        at: at,
+        count: count,
+    }
+}
+
+// The atom at a place.
+fn enter_at(tape: &[u8], work: &mut [u8], m: Map, at: usize, end: usize, count: usize) -> Next
+    requires { ⌜ Going (now tape) (now work) m at end count × (at < end) ⌝ }
+    ensures { λ r. ⌜ Nexts (now (tape .entry)) m at end count r (now (work .exit)) ⌝ }
+{
+    let t = atom(tape, at);
+    let f = scan(t);
+    let a = at + 3;
+    let e = a + t.len();
+    if let Found::At(k) = find(tape, work, m, t, f.hash) {
+        return Next::Known;
+    }
+    let x = 4 * at + class_by(tape, a, e, f.least);
+    let r = enter(tape, work, m, x, f.hash, 0);
+    Next::Atom(r, e)
+}
+
+// All of them, which are so many and stand before `end`.
+pub fn atoms(tape: &[u8], work: &mut [u8], end: usize, count: usize) -> Gathered
+    requires { ⌜ Starts (now tape) (now work) end count ⌝ }
+    ensures { λ r. ⌜ Fronted (now (tape .entry)) end count r (now (work .exit)) ⌝ }
+{
+    let mut m = start(tape, work, 8 * (tape.len() - end), count);
+    let mut at = 0;
+    while at < end {
+        match enter_at(tape, work, m, at, end, count) {
+            Next::Atom(r, e) => {
+                m = r;
                 at = e;
             }
-            Next::End => {
-                return Entered::All(k, at);
-            }
             Next::Known => {
-                return Entered::Refused(refusal::at(3, at));
+                return Gathered::Refused(refusal::at(3, at));
             }
         }
     }
-    Entered::All(k, at)
+    Gathered::All(m)
 }

@@ -1,6 +1,7 @@
 // Questions 2, 3 and 4 of every command of a tape, in one pass. Touches the work buffer only, for the table of atoms.
 use parse_tree::refusal::Refusal;
 use parse_tree::syntax::Node;
+use texts::Map;
 
 pub mod command;
 pub mod entry;
@@ -10,11 +11,12 @@ pub mod questions;
 pub mod suits;
 pub mod symbols;
 
-// The table of a tape's atoms: how many it has room for, how many there are, and the width of their numbers in bytes.
-// `four` says whether question 4 is asked.
+// The table of a tape's atoms: where their records stand, how many there are, and how many buckets; then the width of their numbers in
+// bytes. `four` says whether question 4 is asked.
 pub struct Atoms {
-    pub room: usize,
+    pub base: usize,
     pub count: usize,
+    pub buckets: usize,
     pub width: usize,
     pub four: bool,
 }
@@ -31,16 +33,21 @@ pub enum Step {
     Refused(Refusal),
 }
 
-// Another atom and the place behind it, the end of the atoms, or one that was there before.
+// How many whole atoms there are, and the place behind them.
+pub struct Count {
+    pub at: usize,
+    pub count: usize,
+}
+
+// The table with another atom, and the place behind it; or one that was there before.
 pub enum Next {
-    Atom(usize),
-    End,
+    Atom(Map, usize),
     Known,
 }
 
-// How many atoms there are and the place behind them, or a refusal.
-pub enum Entered {
-    All(usize, usize),
+// The table of all atoms, or a refusal.
+pub enum Gathered {
+    All(Map),
     Refused(Refusal),
 }
 

@@ -9,7 +9,7 @@ use parse_tree::syntax::Leaf;
 use parse_tree::syntax::Node;
 use parse_tree::syntax::Over;
 use parse_tree::syntax::SymbolKind;
-use texts::table::class;
+use texts::fields::class;
 ghost use mathlib.Core.Path.{_≡_};
 ghost use mathlib.Core.Bool.{true};
 ghost use mathlib.Core.List.{[]};
@@ -18,27 +18,39 @@ ghost use Rattle.octets.specs.working.Choice.{pick};
 ghost use Rattle.parse_tree.specs.plain.Texts.{isName, isLiteral, isAscii};
 ghost use Rattle.parse_tree.specs.working.Questions.{suits, leafSuits, symbolSuits};
 ghost use Rattle.texts.specs.Atoms.{atomsOf};
+ghost use Rattle.texts.specs.Classes.{textClass};
 ghost use Rattle.validate.specs.Steps.{Ready};
+
+// The class of the k-th atom's text; of the empty text where there is no such atom.
+fn text_class(tape: &[u8], work: &[u8], m: Atoms, k: usize) -> usize
+    requires { ⌜ Ready (now tape) (now work) m ⌝ }
+    ensures { λ r. ⌜ r ≡ textClass (getD (atomsOf (now (tape .entry)) (m .count)) k []) ⌝ }
+{
+    if m.count <= k {
+        return 2;
+    }
+    class(work, m.base, k)
+}
 
 fn is_name(tape: &[u8], work: &[u8], m: Atoms, k: u32) -> bool
     requires { ⌜ Ready (now tape) (now work) m ⌝ }
     ensures { λ r. ⌜ r ≡ isName (getD (atomsOf (now (tape .entry)) (m .count)) k []) ⌝ }
 {
-    class(tape, work, m.room, m.count, from32(k)) == 3
+    text_class(tape, work, m, from32(k)) == 3
 }
 
 fn is_literal(tape: &[u8], work: &[u8], m: Atoms, k: u32) -> bool
     requires { ⌜ Ready (now tape) (now work) m ⌝ }
     ensures { λ r. ⌜ r ≡ isLiteral (getD (atomsOf (now (tape .entry)) (m .count)) k []) ⌝ }
 {
-    2 <= class(tape, work, m.room, m.count, from32(k))
+    2 <= text_class(tape, work, m, from32(k))
 }
 
 fn is_ascii(tape: &[u8], work: &[u8], m: Atoms, k: u32) -> bool
     requires { ⌜ Ready (now tape) (now work) m ⌝ }
     ensures { λ r. ⌜ r ≡ isAscii (getD (atomsOf (now (tape .entry)) (m .count)) k []) ⌝ }
 {
-    1 <= class(tape, work, m.room, m.count, from32(k))
+    1 <= text_class(tape, work, m, from32(k))
 }
 
 fn leaf_suits(tape: &[u8], work: &[u8], m: Atoms, l: Leaf) -> bool

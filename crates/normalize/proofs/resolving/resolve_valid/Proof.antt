@@ -6,8 +6,8 @@ use Rattle.normalize.proofs.resolving.resolve_valid.Tie as tie
 mul-to : tie.Need-mul-to
 mul-to c = search needs
 
-add-t10 : tie.Need-add-t10
-add-t10 c = search validated
+add-t11 : tie.Need-add-t11
+add-t11 c = search validated
 
 resolve-requires : tie.Need-resolve-requires
 resolve-requires c κs = search validated
@@ -38,7 +38,7 @@ resolve-valid-spec =
     tie.close
     (tie.spec
     mul-to
-    add-t10
+    add-t11
     resolve-requires
     enum-known-why
     enum-known-e

@@ -1,4 +1,4 @@
-use Rattle.texts.proofs.TableLaws.{tabling}
+use Rattle.texts.proofs.EntriesLaws.{entries}
 use borrow.Author.Needs.{needs}
 use Rattle.texts.proofs.entries.get.Statement.{statement}
 use Rattle.texts.proofs.entries.get.Tie as tie
@@ -13,7 +13,7 @@ u64-at-requires : tie.Need-u64-at-requires
 u64-at-requires c κs = search needs
 
 returns : tie.Need-returns
-returns c = search tabling
+returns c = search entries
 
 pub get-spec : {M : Type 1} → statement M
 get-spec = tie.close (tie.spec mul-u64-at u64-at-requires returns)

@@ -1,33 +1,26 @@
+use lib.ListN.{length}
 use Prim.Native.Nat.{_-_}
-use Rattle.octets.specs.plain.Runs.{part}
-use Rattle.texts.specs.Table.{hashOf}
-use Rattle.texts.proofs.HashCode.{Hashing, hashing}
+use Rattle.texts.proofs.HashLaws.{Hashing, hashing}
 use Rattle.texts.proofs.hash.hash.Statement.{statement}
 use Rattle.texts.proofs.hash.hash.Tie as tie
 use Rattle.texts.proofs.hash.hash.Reads as reads
 use Rattle.texts.proofs.hash.hash.Lts as lts
-use Rattle.octets.proofs.wide.from8.Reads as from8-reads
+use Rattle.texts.proofs.hash.next.Reads as next-reads
 
 abbrev Inv-loop : tie.InvT-loop
-Inv-loop tape a e h₀ i₀ h i = Hashing tape (hashOf 0 (part a e tape)) e h i
+Inv-loop t h₀ i₀ h i = Hashing t h i
 
 abbrev μ-loop : tie.MeasureT-loop
-μ-loop tape a e h₀ i₀ h i = e - i
+μ-loop t h₀ i₀ h i = length t - i
 
 loop-holds : tie.Need-loop-holds Inv-loop μ-loop
 loop-holds c = search hashing
 
-mul-h : tie.Need-mul-h Inv-loop μ-loop
-mul-h c = search hashing
+shared-slice-read-next : tie.Need-shared-slice-read-next Inv-loop μ-loop
+shared-slice-read-next c = search hashing
 
-shared-slice-read-from8 : tie.Need-shared-slice-read-from8 Inv-loop μ-loop
-shared-slice-read-from8 c = search hashing
-
-from8-requires : tie.Need-from8-requires Inv-loop μ-loop
-from8-requires c κs = search hashing
-
-add-h : tie.Need-add-h Inv-loop μ-loop
-add-h c = search hashing
+next-requires : tie.Need-next-requires Inv-loop μ-loop
+next-requires c κs = search hashing
 
 add-i : tie.Need-add-i Inv-loop μ-loop
 add-i c = search hashing
@@ -48,10 +41,8 @@ hash-spec =
     Inv-loop
     μ-loop
     loop-holds
-    mul-h
-    shared-slice-read-from8
-    from8-requires
-    add-h
+    shared-slice-read-next
+    next-requires
     add-i
     loop-less
     loop-again

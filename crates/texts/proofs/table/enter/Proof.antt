@@ -4,27 +4,17 @@ use Rattle.texts.proofs.table.enter.Statement.{statement}
 use Rattle.texts.proofs.table.enter.Tie as tie
 use Rattle.texts.proofs.table.enter.Reads as reads
 use Rattle.texts.proofs.table.enter.Lts as lts
-use Rattle.texts.proofs.class.class_of.Reads as class-of-reads
-use Rattle.texts.proofs.hash.bucket_of.Reads as bucket-of-reads
-use Rattle.texts.proofs.table.link.Reads as link-reads
+use Rattle.texts.proofs.chain.link.Reads as link-reads
+use Rattle.texts.proofs.fields.write.Reads as write-reads
 
-add-a : tie.Need-add-a
-add-a c = search needs
-
-bucket-of-requires : tie.Need-bucket-of-requires
-bucket-of-requires c κs = search needs
-
-mul-m : tie.Need-mul-m
-mul-m c = search needs
-
-class-of-requires : tie.Need-class-of-requires
-class-of-requires c κs = search needs
-
-add-m : tie.Need-add-m
-add-m c = search entering
+write-requires : tie.Need-write-requires
+write-requires c κs = search entering
 
 link-requires : tie.Need-link-requires
 link-requires c κs = search entering
+
+add-t14 : tie.Need-add-t14
+add-t14 c = search needs
 
 same-length : tie.Need-same-length
 same-length c = search needs
@@ -32,15 +22,24 @@ same-length c = search needs
 returns : tie.Need-returns
 returns c = search entering
 
+add-t15 : tie.Need-add-t15
+add-t15 c = search needs
+
+same-length-2 : tie.Need-same-length-2
+same-length-2 c = search needs
+
+returns-2 : tie.Need-returns-2
+returns-2 c = search entering
+
 pub enter-spec : {M : Type 1} → statement M
 enter-spec =
     tie.close
     (tie.spec
-    add-a
-    bucket-of-requires
-    mul-m
-    class-of-requires
-    add-m
+    write-requires
     link-requires
+    add-t14
     same-length
-    returns)
+    returns
+    add-t15
+    same-length-2
+    returns-2)

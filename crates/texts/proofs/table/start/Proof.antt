@@ -1,56 +1,23 @@
-use Prim.Native.Nat.{_-_}
-use Rattle.texts.proofs.TableStartCode.{Starting, starting}
+use Rattle.texts.proofs.TableEnterCode.{starting}
+use borrow.Author.Needs.{needs}
 use Rattle.texts.proofs.table.start.Statement.{statement}
 use Rattle.texts.proofs.table.start.Tie as tie
 use Rattle.texts.proofs.table.start.Reads as reads
 use Rattle.texts.proofs.table.start.Lts as lts
-use Rattle.texts.proofs.entries.put.Reads as put-reads
+use Rattle.texts.proofs.chain.empty.Reads as empty-reads
+use Rattle.texts.proofs.table.lesser.Reads as lesser-reads
 
-abbrev Inv-loop : tie.InvT-loop
-Inv-loop tape work₀ c b₀ work b = Starting work₀ work c b
+lesser-requires : tie.Need-lesser-requires
+lesser-requires c κs = search needs
 
-abbrev μ-loop : tie.MeasureT-loop
-μ-loop tape work₀ c b₀ work b = c - b
+empty-requires : tie.Need-empty-requires
+empty-requires c κs = search starting
 
-loop-holds : tie.Need-loop-holds Inv-loop μ-loop
-loop-holds c = search starting
+same-length : tie.Need-same-length
+same-length c = search needs
 
-add-put : tie.Need-add-put Inv-loop μ-loop
-add-put c = search starting
-
-add-put-2 : tie.Need-add-put-2 Inv-loop μ-loop
-add-put-2 c = search starting
-
-put-requires : tie.Need-put-requires Inv-loop μ-loop
-put-requires c κs = search starting
-
-add-b : tie.Need-add-b Inv-loop μ-loop
-add-b c = search starting
-
-loop-less : tie.Need-loop-less Inv-loop μ-loop
-loop-less c = search starting
-
-loop-again : tie.Need-loop-again Inv-loop μ-loop
-loop-again c = search starting
-
-same-length : tie.Need-same-length Inv-loop μ-loop
-same-length c = search starting
-
-returns : tie.Need-returns Inv-loop μ-loop
+returns : tie.Need-returns
 returns c = search starting
 
 pub start-spec : {M : Type 1} → statement M
-start-spec =
-    tie.close
-    (tie.spec
-    Inv-loop
-    μ-loop
-    loop-holds
-    add-put
-    add-put-2
-    put-requires
-    add-b
-    loop-less
-    loop-again
-    same-length
-    returns)
+start-spec = tie.close (tie.spec lesser-requires empty-requires same-length returns)

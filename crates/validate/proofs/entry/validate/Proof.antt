@@ -3,14 +3,17 @@ use borrow.Author.Needs.{needs}
 use Rattle.validate.proofs.entry.validate.Statement.{statement}
 use Rattle.validate.proofs.entry.validate.Tie as tie
 
+front-requires : tie.Need-front-requires
+front-requires c κs = search needs
+
 atoms-requires : tie.Need-atoms-requires
-atoms-requires c κs = search needs
+atoms-requires c κs = search wholes
 
 enum-known-why : tie.Need-enum-known-why
 enum-known-why c = search needs
 
-enum-known-k : tie.Need-enum-known-k
-enum-known-k c = search needs
+enum-known-t : tie.Need-enum-known-t
+enum-known-t c = search needs
 
 items-requires : tie.Need-items-requires
 items-requires c κs = search wholes
@@ -43,9 +46,10 @@ pub validate-spec : {M : Type 1} → statement M
 validate-spec =
     tie.close
     (tie.spec
+    front-requires
     atoms-requires
     enum-known-why
-    enum-known-k
+    enum-known-t
     items-requires
     enum-known-why-2
     enum-told

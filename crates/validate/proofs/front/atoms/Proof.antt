@@ -1,62 +1,62 @@
 use Prim.Native.Nat.{_-_}
+use mathlib.Core.Path.{_≡_}
+use Rattle.validate.specs.Front.{Going}
 use lib.ListN.{length}
-use Rattle.validate.proofs.AtomsCode.{Gathering, gathering}
+use Rattle.validate.proofs.AtomsCode.{fronting}
 use Rattle.validate.proofs.front.atoms.Statement.{statement}
 use Rattle.validate.proofs.front.atoms.Tie as tie
+use Rattle.validate.proofs.front.atoms.Reads as reads
+use Rattle.validate.proofs.front.atoms.Lts as lts
+use Rattle.validate.proofs.front.enter_at.Reads as enter-at-reads
+use Rattle.texts.proofs.table.start.Reads as start-reads
 
 abbrev Inv-loop : tie.InvT-loop
-Inv-loop tape work₀ c width k₀ at₀ work k at = Gathering tape work₀ work c width k at
+Inv-loop tape work₀ end count m₀ at₀ work m at = Going tape work m at end count × (length work ≡ length work₀)
 
 abbrev μ-loop : tie.MeasureT-loop
-μ-loop tape work₀ c width k₀ at₀ work k at = length tape - at
+μ-loop tape work₀ end count m₀ at₀ work m at = end - at
+
+sub-start : tie.Need-sub-start Inv-loop μ-loop
+sub-start c = search fronting
+
+mul-start : tie.Need-mul-start Inv-loop μ-loop
+mul-start c = search fronting
 
 start-requires : tie.Need-start-requires Inv-loop μ-loop
-start-requires c κs = search gathering
+start-requires c κs = search fronting
 
 loop-holds : tie.Need-loop-holds Inv-loop μ-loop
-loop-holds c = search gathering
+loop-holds c = search fronting
 
-next-requires : tie.Need-next-requires Inv-loop μ-loop
-next-requires c κs = search gathering
+enter-at-requires : tie.Need-enter-at-requires Inv-loop μ-loop
+enter-at-requires c κs = search fronting
 
-enum-known-e : tie.Need-enum-known-e Inv-loop μ-loop
-enum-known-e c = search gathering
-
-add-k : tie.Need-add-k Inv-loop μ-loop
-add-k c = search gathering
+enum-known-r : tie.Need-enum-known-r Inv-loop μ-loop
+enum-known-r c = search fronting
 
 loop-less : tie.Need-loop-less Inv-loop μ-loop
-loop-less c = search gathering
+loop-less c = search fronting
 
 loop-again : tie.Need-loop-again Inv-loop μ-loop
-loop-again c = search gathering
+loop-again c = search fronting
 
 enum-told : tie.Need-enum-told Inv-loop μ-loop
-enum-told c = search gathering
-
-same-length : tie.Need-same-length Inv-loop μ-loop
-same-length c = search gathering
-
-returns : tie.Need-returns Inv-loop μ-loop
-returns c = search gathering
-
-enum-told-2 : tie.Need-enum-told-2 Inv-loop μ-loop
-enum-told-2 c = search gathering
+enum-told c = search fronting
 
 at-requires : tie.Need-at-requires Inv-loop μ-loop
-at-requires c κs = search gathering
+at-requires c κs = search fronting
+
+same-length : tie.Need-same-length Inv-loop μ-loop
+same-length c = search fronting
+
+returns : tie.Need-returns Inv-loop μ-loop
+returns c = search fronting
 
 same-length-2 : tie.Need-same-length-2 Inv-loop μ-loop
-same-length-2 c = search gathering
+same-length-2 c = search fronting
 
 returns-2 : tie.Need-returns-2 Inv-loop μ-loop
-returns-2 c = search gathering
-
-same-length-3 : tie.Need-same-length-3 Inv-loop μ-loop
-same-length-3 c = search gathering
-
-returns-3 : tie.Need-returns-3 Inv-loop μ-loop
-returns-3 c = search gathering
+returns-2 c = search fronting
 
 pub atoms-spec : {M : Type 1} → statement M
 atoms-spec =
@@ -64,19 +64,17 @@ atoms-spec =
     (tie.spec
     Inv-loop
     μ-loop
+    sub-start
+    mul-start
     start-requires
     loop-holds
-    next-requires
-    enum-known-e
-    add-k
+    enter-at-requires
+    enum-known-r
     loop-less
     loop-again
     enum-told
+    at-requires
     same-length
     returns
-    enum-told-2
-    at-requires
     same-length-2
-    returns-2
-    same-length-3
-    returns-3)
+    returns-2)

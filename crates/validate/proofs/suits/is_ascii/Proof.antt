@@ -4,17 +4,17 @@ use Rattle.validate.proofs.suits.is_ascii.Statement.{statement}
 use Rattle.validate.proofs.suits.is_ascii.Tie as tie
 use Rattle.validate.proofs.suits.is_ascii.Reads as reads
 use Rattle.validate.proofs.suits.is_ascii.Lts as lts
-use Rattle.texts.proofs.table.class.Reads as class-reads
+use Rattle.validate.proofs.suits.text_class.Reads as text-class-reads
 use Rattle.octets.proofs.wide.from32.Reads as from32-reads
 
 from32-requires : tie.Need-from32-requires
 from32-requires c κs = search needs
 
-class-requires : tie.Need-class-requires
-class-requires c κs = search needs
+text-class-requires : tie.Need-text-class-requires
+text-class-requires c κs = search needs
 
 returns : tie.Need-returns
 returns c = search texts
 
 pub is-ascii-spec : {M : Type 1} → statement M
-is-ascii-spec = tie.close (tie.spec from32-requires class-requires returns)
+is-ascii-spec = tie.close (tie.spec from32-requires text-class-requires returns)
