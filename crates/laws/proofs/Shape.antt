@@ -8,8 +8,8 @@ use Rattle.parse_tree.specs.declared.syntax.Span.{Span}
 use Rattle.passes.specs.Macros.{Pending, looking, repeating, listing, symbolOf, Expander, push, replaceAround, replaceSymbol, replaceSymbols}
 use Rattle.passes.specs.Views.{ahead, behind}
 use Rattle.parse_tree.proofs.DisplayLaws.{print-then}
-use Rattle.laws.specs.Forms.{Form, formOf, join, more}
-use Rattle.laws.proofs.Hash.{form-append, form-more}
+use Rattle.texts.specs.Forms.{Form, formOf, join, more}
+use Rattle.texts.proofs.FormLaws.{form-append, form-more}
 
 -- ---- symbols that print alike
 abbrev pub Alike : Syms → Syms → Type 0

@@ -1,5 +1,4 @@
 -- What the laws speak of, beside the definitions of parse_tree and passes.
-pub mod Forms
 pub mod Keys
 pub mod Flat
 pub mod Patch

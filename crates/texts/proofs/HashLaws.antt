@@ -12,7 +12,7 @@ use mir.Val.{Fits}
 use Rattle.octets.specs.plain.Runs.{part}
 use Rattle.octets.proofs.PartLaws.{part-none, part-one}
 use Rattle.parse_tree.specs.plain.Tree.{Text}
-use Rattle.texts.specs.Hash.{hashStep, hashFrom, hashOf, bucketOf}
+use Rattle.texts.specs.Hash.{hashBy, hashStep, hashFrom, hashOf, bucketOf}
 
 pub next-done : (h b x : ℕ) → x ≡ b → (h + x) * 2654435761 % 4294967296 ≡ hashStep h b
 unfolding hashStep
@@ -22,10 +22,18 @@ pub step-small : (h b : ℕ) → hashStep h b < 4294967296
 unfolding hashStep
 step-small h b = mod-lt _ (omega arith)
 
+-- the hash goes on byte by byte
+pub from-none : (h : ℕ) → hashFrom h [] ≡ h
+unfolding hashFrom hashBy
+from-none h = refl
+
+pub from-more : (h b : ℕ) (t : Text) → hashFrom h (b ∷ t) ≡ hashFrom (hashStep h b) t
+unfolding hashFrom hashBy hashStep
+from-more h b t = refl
+
 from-small : (h : ℕ) (t : Text) → h < 4294967296 → hashFrom h t < 4294967296
-unfolding hashFrom
-from-small h [] l = l
-from-small h (b ∷ bs) l = from-small (hashStep h b) bs (step-small h b)
+from-small h [] l = rw (from-none h) l
+from-small h (b ∷ bs) l = rw (from-more h b bs) (from-small (hashStep h b) bs (step-small h b))
 
 pub hash-small : (t : Text) → hashOf t < 4294967296
 unfolding hashOf
@@ -43,16 +51,14 @@ hash-start t = record { rest = ap (hashFrom 0) (take-all (length t - 0) t (omega
 
 module _ (t : List ℕ) (h i : ℕ) (g : Hashing t h i) where
   pub hash-next : (r b : ℕ) → i < length t → b ≡ getD t i 0 → r ≡ hashStep h b → Hashing t r (i + 1)
-  unfolding hashFrom
   hash-next r b l p q = record {
-    rest = cc (part-one i (length t) t l (omega arith), g .rest);
+    rest = cc (part-one i (length t) t l (omega arith), from-more h (getD t i 0) (part (i + 1) (length t) t), g .rest);
     small = rw q (step-small h b);
     upto = omega arith;
   }
 
   pub hash-done : length t ≤ i → h ≡ hashOf t
-  unfolding hashFrom
-  hash-done l = cc (part-none i (length t) t l, g .rest)
+  hash-done l = cc (part-none i (length t) t l, from-none h, g .rest)
 
 -- ---- `bucket`
 module _ (h n : ℕ) where

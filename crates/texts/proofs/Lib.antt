@@ -3,6 +3,7 @@ mod ClassCode
 pub mod ClassByCode
 pub mod AtomsLaws
 pub mod EntriesLaws
+pub mod FormLaws
 pub mod HashLaws
 pub mod HashComposes
 mod ScanCode

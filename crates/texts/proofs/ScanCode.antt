@@ -10,7 +10,7 @@ use Rattle.octets.specs.plain.Runs.{part}
 use Rattle.octets.proofs.PartLaws.{part-none, part-one}
 use Rattle.texts.specs.Classes.{byteClass, least, lesser}
 use Rattle.texts.specs.Hash.{hashStep, hashFrom, hashOf}
-use Rattle.texts.proofs.HashLaws.{step-small}
+use Rattle.texts.proofs.HashLaws.{step-small, from-none, from-more}
 use Rattle.texts.specs.Scan.{Scans}
 
 pub record Scanning (t : List ℕ) (h m i : ℕ) : Type 0 where
@@ -27,17 +27,17 @@ scan-start t =
 
 module _ (t : List ℕ) (h m i : ℕ) (g : Scanning t h m i) where
   pub scan-next : (b r k c : ℕ) → i < length t → b ≡ getD t i 0 → r ≡ hashStep h b → k ≡ byteClass b → c ≡ lesser m k → Scanning t r c (i + 1)
-  unfolding hashFrom least
+  unfolding least
   scan-next b r k c l f p q o = record {
-    hash = cc (part-one i (length t) t l (omega arith), g .hash);
+    hash = cc (part-one i (length t) t l (omega arith), from-more h (getD t i 0) (part (i + 1) (length t) t), g .hash);
     class = cc (part-one i (length t) t l (omega arith), g .class);
     small = rw p (step-small h b);
     upto = omega arith;
   }
 
   pub scan-done : length t ≤ i → Scans t h m
-  unfolding hashFrom least
-  scan-done l = record { hash = cc (part-none i (length t) t l, g .hash); class = cc (part-none i (length t) t l, g .class) }
+  unfolding least
+  scan-done l = record { hash = cc (part-none i (length t) t l, from-none h, g .hash); class = cc (part-none i (length t) t l, g .class) }
 
   pub scan-small : h < 4294967296
   scan-small = g .small

@@ -15,7 +15,7 @@ use Rattle.octets.proofs.ChoiceLaws.{by-pick}
 use Rattle.texts.specs.declared.Map.{Map}
 use Rattle.texts.specs.Hash.{hashOf, bucketOf}
 use Rattle.texts.specs.Fields.{markAt, hashAt, Chained, RecordsKept, Relinking, Relinked, Linked, RecordWritten}
-use Rattle.texts.specs.Texts.{textAt, Whole, textsOf}
+use Rattle.texts.specs.Texts.{markedText, Whole, textsOf}
 use Rattle.texts.specs.Table.{texts, linked, Entering, Entered, Started, Spreading, Spread, Growing, Grown}
 use Rattle.texts.proofs.HashLaws.{hash-small, bucket-small}
 use Rattle.texts.proofs.ChainCode.{kept-all, kept-trans, kept-wide, chained-same, chained-more}
@@ -55,7 +55,7 @@ module _ (s w : List ℕ) (m : Map) (x h : ℕ) (g : Entering s w m x h) where
   enter-room = g .room
 
   pub enter-hash : h < 4294967296
-  enter-hash = rw (g .hash) (hash-small (textAt s w x))
+  enter-hash = rw (g .hash) (hash-small (markedText s w x))
 
   pub enter-some : 0 < m .buckets
   enter-some = g .some
@@ -92,8 +92,8 @@ module _ (s w : List ℕ) (m : Map) (x h : ℕ) (g : Entering s w m x h) where
       mark-then : markAt w2 (m .base) (m .count) ≡ x
       mark-then = k .marks (m .count) ∙ a .mark
 
-      text-then : textAt s w2 (markAt w2 (m .base) (m .count)) ≡ textAt s w x
-      text-then = ap (textAt s w2) mark-then ∙ text-agree s w w2 (g .low) x long-then (g .whole) (g .behind) far
+      text-then : markedText s w2 (markAt w2 (m .base) (m .count)) ≡ markedText s w x
+      text-then = ap (markedText s w2) mark-then ∙ text-agree s w w2 (g .low) x long-then (g .whole) (g .behind) far
 
       whole-at : (i : ℕ) (t : Bool) → ltb i (m .count) ≡ t → i < m .count + 1 → Whole s w2 (markAt w2 (m .base) i)
       whole-at i true u l = whole-stays s w w2 (m .base) (m .count) (g .low) (g .table .whole) (g .above .above) long-then far marks-then i (ltb-true i (m .count) u)
@@ -101,14 +101,14 @@ module _ (s w : List ℕ) (m : Map) (x h : ℕ) (g : Entering s w m x h) where
           let z : i ≡ m .count = omega (arith, ltb-false i (m .count) u) in
           rw (z, mark-then) (whole-agree s w w2 (g .low) x long-then (g .whole) (g .behind) far)
 
-      hash-at : (i : ℕ) (t : Bool) → ltb i (m .count) ≡ t → i < m .count + 1 → hashAt w2 (m .base) i ≡ hashOf (textAt s w2 (markAt w2 (m .base) i))
+      hash-at : (i : ℕ) (t : Bool) → ltb i (m .count) ≡ t → i < m .count + 1 → hashAt w2 (m .base) i ≡ hashOf (markedText s w2 (markAt w2 (m .base) i))
       hash-at i true u l =
           hash-stays s w w2 (m .base) (m .count) (g .low) (g .table .whole) (g .above .above) long-then far marks-then (g .table .hashes) hashes-then i (ltb-true i (m .count) u)
       hash-at i false u l =
           let z : i ≡ m .count = omega (arith, ltb-false i (m .count) u) in
           rw z (k .hashes (m .count) ∙ a .hash ∙ g .hash ∙ ap hashOf (sym text-then))
 
-      more-then : textsOf s w2 (m .base) (m .count + 1) ≡ textsOf s w (m .base) (m .count) ++ (textAt s w x ∷ [])
+      more-then : textsOf s w2 (m .base) (m .count + 1) ≡ textsOf s w (m .base) (m .count) ++ (markedText s w x ∷ [])
       unfolding textsOf
       more-then =
           let q = texts-stay s w w2 (m .base) (m .count) (g .low) (g .table .whole) (g .above .above) long-then far marks-then (m .count) (omega arith) in

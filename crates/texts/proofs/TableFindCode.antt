@@ -19,7 +19,7 @@ use Rattle.texts.specs.declared.Map.{Map}
 use Rattle.texts.specs.declared.Found.{Found}
 use Rattle.texts.specs.Hash.{hashOf, bucketOf}
 use Rattle.texts.specs.Fields.{markAt, hashAt, linkAt, headAt, bucketAt, last}
-use Rattle.texts.specs.Texts.{textAt, textsOf}
+use Rattle.texts.specs.Texts.{markedText, textsOf}
 use Rattle.texts.specs.Table.{Table, texts, linked, Finds, foundIn}
 use Rattle.texts.proofs.HashLaws.{hash-small, bucket-small}
 use Rattle.texts.proofs.TextCode.{length-texts, texts-at}
@@ -61,9 +61,9 @@ has-snoc x (y ∷ ts) t = go (sameAs y x) (has-snoc x ts t)
     go false i = i
 
 module _ (s w : List ℕ) (b : ℕ) (x : Text) where
-  has-next : (i : ℕ) (r : Bool) → r ≡ sameAs (textAt s w (markAt w b i)) x → r ≡ false → has x (textsOf s w b (suc i)) ≡ has x (textsOf s w b i)
+  has-next : (i : ℕ) (r : Bool) → r ≡ sameAs (markedText s w (markAt w b i)) x → r ≡ false → has x (textsOf s w b (suc i)) ≡ has x (textsOf s w b i)
   unfolding textsOf
-  has-next i r p q = has-snoc x (textsOf s w b i) (textAt s w (markAt w b i)) ∙ rw (sym p ∙ q) (or-false (has x (textsOf s w b i)))
+  has-next i r p q = has-snoc x (textsOf s w b i) (markedText s w (markAt w b i)) ∙ rw (sym p ∙ q) (or-false (has x (textsOf s w b i)))
 
 -- ---- `last`
 module _ (f : ℕ → ℕ) (y : ℕ) where
@@ -96,16 +96,16 @@ module _ (f : ℕ → ℕ) (y : ℕ) where
       go false e = absurd (let z : last f y i ≡ suc i = rw e at h in omega (arith, last-le i))
 
 -- behind it no text is one of the bucket
-last-has : (s w : List ℕ) (b n : ℕ) (x : Text) (y k : ℕ) → ((i : ℕ) → i < k → textAt s w (markAt w b i) ≡ x → bucketAt w b n i ≡ y)
+last-has : (s w : List ℕ) (b n : ℕ) (x : Text) (y k : ℕ) → ((i : ℕ) → i < k → markedText s w (markAt w b i) ≡ x → bucketAt w b n i ≡ y)
     → has x (textsOf s w b (last (bucketAt w b n) y k)) ≡ has x (textsOf s w b k)
 unfolding last pick
 last-has s w b n x y zero h = refl
-last-has s w b n x y (suc k) h = go (eqb (bucketAt w b n k) y) refl (sameAs (textAt s w (markAt w b k)) x) refl (last-has s w b n x y k (λ i l. h i (omega arith)))
+last-has s w b n x y (suc k) h = go (eqb (bucketAt w b n k) y) refl (sameAs (markedText s w (markAt w b k)) x) refl (last-has s w b n x y k (λ i l. h i (omega arith)))
   where
-    go : (t : Bool) → eqb (bucketAt w b n k) y ≡ t → (u : Bool) → sameAs (textAt s w (markAt w b k)) x ≡ u → has x (textsOf s w b (last (bucketAt w b n) y k)) ≡ has x (textsOf s w b k)
+    go : (t : Bool) → eqb (bucketAt w b n k) y ≡ t → (u : Bool) → sameAs (markedText s w (markAt w b k)) x ≡ u → has x (textsOf s w b (last (bucketAt w b n) y k)) ≡ has x (textsOf s w b k)
         → has x (textsOf s w b (pick t (suc k) (last (bucketAt w b n) y k))) ≡ has x (textsOf s w b (suc k))
     go true e u f i = refl
-    go false e true f i = absurd (eqb-false (bucketAt w b n k) y e (h k (omega arith) (sameAs-eq (textAt s w (markAt w b k)) x f)))
+    go false e true f i = absurd (eqb-false (bucketAt w b n k) y e (h k (omega arith) (sameAs-eq (markedText s w (markAt w b k)) x f)))
     go false e false f i = i ∙ sym (has-next s w b x k false (sym f) refl)
 
 -- ---- the loop: j is a record to look at, and one
@@ -115,7 +115,7 @@ pub record Chasing (s w : List ℕ) (m : Map) (x : Text) (h j : ℕ) : Type 0 wh
   pub upto : j ≤ linked (m .count)
 
 module _ (s w : List ℕ) (m : Map) (x : Text) (h : ℕ) (g : Table s w m) (p : h ≡ hashOf x) where
-  of-bucket : (i : ℕ) → i < m .count → textAt s w (markAt w (m .base) i) ≡ x → bucketAt w (m .base) (m .buckets) i ≡ bucketOf h (m .buckets)
+  of-bucket : (i : ℕ) → i < m .count → markedText s w (markAt w (m .base) i) ≡ x → bucketAt w (m .base) (m .buckets) i ≡ bucketOf h (m .buckets)
   unfolding bucketAt
   of-bucket i l e = ap (λ (v : ℕ). bucketOf v (m .buckets)) (g .hashes i l ∙ ap hashOf e ∙ sym p)
 
@@ -161,7 +161,7 @@ module _ (s w : List ℕ) (m : Map) (x : Text) (h : ℕ) (g : Table s w m) (p : 
     unfolding texts
     chase-next r n e u q =
         let z : suc (j - 1) ≡ j = omega arith in
-        let d : r ≡ sameAs (textAt s w (markAt w (m .base) (j - 1))) x = e ∙ ap (λ (v : Text). sameAs v x) (texts-at s w (m .base) (m .count) (j - 1) chase-below) in
+        let d : r ≡ sameAs (markedText s w (markAt w (m .base) (j - 1))) x = e ∙ ap (λ (v : Text). sameAs v x) (texts-at s w (m .base) (m .count) (j - 1) chase-below) in
         let f : has x (textsOf s w (m .base) j) ≡ has x (textsOf s w (m .base) (j - 1)) = ap (λ (v : ℕ). has x (textsOf s w (m .base) v)) (sym z) ∙ has-next s w (m .base) x (j - 1) r d u in
         let b = last-bucket (bucketAt w (m .base) (m .buckets)) (bucketOf h (m .buckets)) (j - 1) (rw z (c .chain)) in
         chase-last (j - 1) n (omega (arith, c .upto)) (sym f ∙ c .rest) (q ∙ g .chained .links (j - 1) (omega (arith, c .upto)) ∙ ap (λ (v : ℕ). last (bucketAt w (m .base) (m .buckets)) v (j - 1)) b)
@@ -200,7 +200,7 @@ module _ (s w : List ℕ) (m : Map) (x : Text) where
     pub rest-next : (r : Bool) → i < m .count → r ≡ sameAs (getD (texts s w m) i []) x → r ≡ false → Resting s w m x (i + 1)
     unfolding texts
     rest-next r h e u =
-        let d : r ≡ sameAs (textAt s w (markAt w (m .base) i)) x = e ∙ ap (λ (v : Text). sameAs v x) (texts-at s w (m .base) (m .count) i h) in
+        let d : r ≡ sameAs (markedText s w (markAt w (m .base) i)) x = e ∙ ap (λ (v : Text). sameAs v x) (texts-at s w (m .base) (m .count) i h) in
         record {
           below = λ k. rw (add-one i) (has-next s w (m .base) x i r d u ∙ g .below (omega arith));
           all = λ k. absurd (omega arith);

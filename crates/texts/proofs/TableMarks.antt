@@ -16,7 +16,7 @@ use Rattle.parse_tree.specs.plain.Tree.{Text}
 use Rattle.texts.specs.declared.Map.{Map}
 use Rattle.texts.specs.Fields.{markAt}
 use Rattle.texts.specs.Atoms.{atomEnd, atomText}
-use Rattle.texts.specs.Texts.{textAt, Whole, Behind}
+use Rattle.texts.specs.Texts.{markedText, Whole, Behind}
 use Rattle.texts.specs.Hash.{hashOf}
 use Rattle.texts.specs.Table.{Table, Above, texts, Entering, Entered}
 use Rattle.texts.proofs.TextCode.{on-tape, tape-place, in-work, work-place}
@@ -35,8 +35,8 @@ module _ (s w : List ℕ) (at c : ℕ) (h : c < 4) (k : atomEnd s at ≤ length 
       let z : (4 * at + c) / 4 ≡ at = omega arith in
       record { inside = rw (on-tape s w (4 * at + c) tape-low, tape-place s w (4 * at + c) tape-low, z) k }
 
-  pub tape-mark-text : textAt s w (4 * at + c) ≡ atomText s at
-  unfolding textAt
+  pub tape-mark-text : markedText s w (4 * at + c) ≡ atomText s at
+  unfolding markedText
   tape-mark-text =
       let z : (4 * at + c) / 4 ≡ at = omega arith in
       rw (on-tape s w (4 * at + c) tape-low, tape-place s w (4 * at + c) tape-low, z)
@@ -55,8 +55,8 @@ module _ (s w : List ℕ) (p : ℕ) (h : 8 * length s ≤ p) where
   pub work-mark-whole : atomEnd w p ≤ length w → Whole s w (p - 4 * length s)
   work-mark-whole k = record { inside = rw (in-work s w (p - 4 * length s) work-high, work-place s w (p - 4 * length s) work-high, work-back) k }
 
-  pub work-mark-text : textAt s w (p - 4 * length s) ≡ atomText w p
-  unfolding textAt
+  pub work-mark-text : markedText s w (p - 4 * length s) ≡ atomText w p
+  unfolding markedText
   work-mark-text = rw (in-work s w (p - 4 * length s) work-high, work-place s w (p - 4 * length s) work-high, work-back)
 
   pub work-mark-behind : (z : ℕ) → z ≤ p → Behind s z (p - 4 * length s)

@@ -20,7 +20,7 @@ use Rattle.texts.specs.declared.Map.{Map}
 use Rattle.texts.specs.Hash.{hashOf}
 use Rattle.texts.specs.Fields.{markAt, hashAt, linkAt, headAt, cellAt}
 use Rattle.texts.specs.Atoms.{atomEnd, atomText}
-use Rattle.texts.specs.Texts.{holder, placeAt, textAt, Whole, Behind, textsOf}
+use Rattle.texts.specs.Texts.{holder, placeAt, markedText, Whole, Behind, textsOf}
 use Rattle.texts.specs.Table.{Table, Above, Agree, Stays, Celled, texts, linked}
 use Rattle.texts.proofs.FieldsCode.{Beside, beside}
 use Rattle.texts.proofs.ChainCode.{chained-same}
@@ -64,8 +64,8 @@ module _ (s w w1 : List ℕ) (z x : ℕ) (l : length w1 ≡ length w) (g : Whole
           let v : atomEnd w1 (x + 4 * length s) ≤ length w1 = rw (end-agree w w1 (x + 4 * length s) l k (λ i a c. far i (omega arith) c), l) k in
           record { inside = rw (in-work s w1 x h, work-place s w1 x h) v }
 
-  pub text-agree : textAt s w1 x ≡ textAt s w x
-  unfolding textAt
+  pub text-agree : markedText s w1 x ≡ markedText s w x
+  unfolding markedText
   text-agree = go (ltb x (4 * length s)) refl
     where
       go : (t : Bool) → ltb x (4 * length s) ≡ t → atomText (holder s w1 x) (placeAt s x) ≡ atomText (holder s w x) (placeAt s x)
@@ -79,14 +79,14 @@ module _ (s w w1 : List ℕ) (z x : ℕ) (l : length w1 ≡ length w) (g : Whole
 -- ---- the texts of n records whose marks are as they were
 module _ (s w w1 : List ℕ) (b n z : ℕ) (whole : (i : ℕ) → i < n → Whole s w (markAt w b i)) (above : (i : ℕ) → i < n → Behind s z (markAt w b i)) (l : length w1 ≡ length w)
     (far : (i : ℕ) → z ≤ i → i < length w → getD w1 i 0 ≡ getD w i 0) (marks : (i : ℕ) → i < n → markAt w1 b i ≡ markAt w b i) where
-  text-stays : (i : ℕ) → i < n → textAt s w1 (markAt w1 b i) ≡ textAt s w (markAt w b i)
-  text-stays i h = ap (textAt s w1) (marks i h) ∙ text-agree s w w1 z (markAt w b i) l (whole i h) (above i h) far
+  text-stays : (i : ℕ) → i < n → markedText s w1 (markAt w1 b i) ≡ markedText s w (markAt w b i)
+  text-stays i h = ap (markedText s w1) (marks i h) ∙ text-agree s w w1 z (markAt w b i) l (whole i h) (above i h) far
 
   pub whole-stays : (i : ℕ) → i < n → Whole s w1 (markAt w1 b i)
   whole-stays i h = rw (marks i h) (whole-agree s w w1 z (markAt w b i) l (whole i h) (above i h) far)
 
-  pub hash-stays : ((i : ℕ) → i < n → hashAt w b i ≡ hashOf (textAt s w (markAt w b i))) → ((i : ℕ) → i < n → hashAt w1 b i ≡ hashAt w b i)
-      → (i : ℕ) → i < n → hashAt w1 b i ≡ hashOf (textAt s w1 (markAt w1 b i))
+  pub hash-stays : ((i : ℕ) → i < n → hashAt w b i ≡ hashOf (markedText s w (markAt w b i))) → ((i : ℕ) → i < n → hashAt w1 b i ≡ hashAt w b i)
+      → (i : ℕ) → i < n → hashAt w1 b i ≡ hashOf (markedText s w1 (markAt w1 b i))
   hash-stays g e i h = e i h ∙ g i h ∙ ap hashOf (sym (text-stays i h))
 
   pub texts-stay : (k : ℕ) → k ≤ n → textsOf s w1 b k ≡ textsOf s w b k

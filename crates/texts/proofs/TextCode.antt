@@ -18,7 +18,7 @@ use Rattle.parse_tree.specs.plain.Tree.{Text}
 use Rattle.texts.specs.declared.Map.{Map}
 use Rattle.texts.specs.Fields.{markAt}
 use Rattle.texts.specs.Atoms.{atomEnd, atomText}
-use Rattle.texts.specs.Texts.{holder, placeAt, textAt, Whole, textsOf}
+use Rattle.texts.specs.Texts.{holder, placeAt, markedText, Whole, textsOf}
 use Rattle.texts.specs.Table.{Table, texts}
 
 -- ---- `atom`
@@ -81,12 +81,12 @@ module _ (s w : List ℕ) (x : ℕ) where
   pub work-whole : Whole s w x → length s ≤ x / 4 → atomEnd w (x + 4 * length s) ≤ length w
   work-whole g h = let l = quarter-not x (length s) h in rw (in-work l, work-place l) at (g .inside)
 
-  pub tape-text : (y : Text) → x / 4 < length s → y ≡ atomText s (x / 4) → y ≡ textAt s w x
-  unfolding textAt
+  pub tape-text : (y : Text) → x / 4 < length s → y ≡ atomText s (x / 4) → y ≡ markedText s w x
+  unfolding markedText
   tape-text y h e = let l = quarter x (length s) h in rw (on-tape l, tape-place l) e
 
-  pub work-text : (y : Text) → length s ≤ x / 4 → y ≡ atomText w (x + 4 * length s) → y ≡ textAt s w x
-  unfolding textAt
+  pub work-text : (y : Text) → length s ≤ x / 4 → y ≡ atomText w (x + 4 * length s) → y ≡ markedText s w x
+  unfolding markedText
   work-text y h e = let l = quarter-not x (length s) h in rw (in-work l, work-place l) e
 
   pub work-fits : Whole s w x → length w < 2 ^ 64 → length s ≤ x / 4 → Fits w64 (x + 4 * length s)
@@ -102,30 +102,30 @@ pub ruleset addressing = (needs, tape-whole, work-whole, tape-text, work-text, w
 pub length-texts : (s w : List ℕ) (b k : ℕ) → length (textsOf s w b k) ≡ k
 unfolding textsOf
 length-texts s w b zero = refl
-length-texts s w b (suc k) = length-append (textsOf s w b k) (textAt s w (markAt w b k) ∷ []) ∙ (omega (arith, length-texts s w b k))
+length-texts s w b (suc k) = length-append (textsOf s w b k) (markedText s w (markAt w b k) ∷ []) ∙ (omega (arith, length-texts s w b k))
 
-pub texts-at : (s w : List ℕ) (b n k : ℕ) → k < n → getD (textsOf s w b n) k [] ≡ textAt s w (markAt w b k)
+pub texts-at : (s w : List ℕ) (b n k : ℕ) → k < n → getD (textsOf s w b n) k [] ≡ markedText s w (markAt w b k)
 unfolding textsOf
 texts-at s w b zero k h = absurd (omega arith)
 texts-at s w b (suc n) k h = go (ltb k n) refl (texts-at s w b n k)
   where
-    go : (t : Bool) → ltb k n ≡ t → (k < n → getD (textsOf s w b n) k [] ≡ textAt s w (markAt w b k)) → getD (textsOf s w b n ++ (textAt s w (markAt w b n) ∷ [])) k [] ≡ textAt s w (markAt w b k)
-    go true e i = let l = ltb-true k n e in List·getD-append (textsOf s w b n) (textAt s w (markAt w b n) ∷ []) [] k (omega (arith, length-texts s w b n)) ∙ i l
+    go : (t : Bool) → ltb k n ≡ t → (k < n → getD (textsOf s w b n) k [] ≡ markedText s w (markAt w b k)) → getD (textsOf s w b n ++ (markedText s w (markAt w b n) ∷ [])) k [] ≡ markedText s w (markAt w b k)
+    go true e i = let l = ltb-true k n e in List·getD-append (textsOf s w b n) (markedText s w (markAt w b n) ∷ []) [] k (omega (arith, length-texts s w b n)) ∙ i l
     go false e i =
         let l = ltb-false k n e in
         let z : k ≡ n = omega arith in
         let y : k ≡ length (textsOf s w b n) = z ∙ sym (length-texts s w b n) in
-        ap (λ (j : ℕ). getD (textsOf s w b n ++ (textAt s w (markAt w b n) ∷ [])) j []) y ∙ getD-append-seam (textsOf s w b n) (textAt s w (markAt w b n)) [] []
-        ∙ ap (λ (j : ℕ). textAt s w (markAt w b j)) (sym z)
+        ap (λ (j : ℕ). getD (textsOf s w b n ++ (markedText s w (markAt w b n) ∷ [])) j []) y ∙ getD-append-seam (textsOf s w b n) (markedText s w (markAt w b n)) [] []
+        ∙ ap (λ (j : ℕ). markedText s w (markAt w b j)) (sym z)
 
 -- ---- `text`
 module _ (s w : List ℕ) (m : Map) (k x : ℕ) (g : Table s w m) (h : k < m .count) (e : x ≡ markAt w (m .base) k) where
   pub text-whole : Whole s w x
   text-whole = rw e (g .whole k h)
 
-  pub text-is : (y : Text) → y ≡ textAt s w x → y ≡ getD (texts s w m) k []
+  pub text-is : (y : Text) → y ≡ markedText s w x → y ≡ getD (texts s w m) k []
   unfolding texts
-  text-is y p = p ∙ ap (textAt s w) e ∙ sym (texts-at s w (m .base) (m .count) k h)
+  text-is y p = p ∙ ap (markedText s w) e ∙ sym (texts-at s w (m .base) (m .count) k h)
 
 pub record-room : (s w : List ℕ) (m : Map) (k : ℕ) → Table s w m → k < m .count → m .base + 24 * k + 24 ≤ length w
 record-room s w m k g h = omega (arith, g .room)

@@ -3,6 +3,7 @@ pub mod Atoms
 pub mod Classes
 pub mod Entries
 pub mod Hash
+pub mod Forms
 pub mod Scan
 pub mod Fields
 pub mod Texts

@@ -12,7 +12,7 @@ use Rattle.texts.specs.declared.Map.{Map}
 use Rattle.texts.specs.declared.Found.{Found}
 use Rattle.texts.specs.Hash.{hashOf}
 use Rattle.texts.specs.Fields.{markAt, hashAt, cellAt, Chained}
-use Rattle.texts.specs.Texts.{textAt, Whole, Behind, textsOf}
+use Rattle.texts.specs.Texts.{markedText, Whole, Behind, textsOf}
 
 -- the texts by number
 unfoldable pub texts : List ℕ → List ℕ → Map → List Text
@@ -28,7 +28,7 @@ pub record Table (s w : List ℕ) (m : Map) : Type 0 where
   pub room : m .base + 24 * m .count ≤ length w
   pub wide : m .base + 24 * m .buckets ≤ length w
   pub whole : (i : ℕ) → i < m .count → Whole s w (markAt w (m .base) i)
-  pub hashes : (i : ℕ) → i < m .count → hashAt w (m .base) i ≡ hashOf (textAt s w (markAt w (m .base) i))
+  pub hashes : (i : ℕ) → i < m .count → hashAt w (m .base) i ≡ hashOf (markedText s w (markAt w (m .base) i))
   pub chained : Chained w (m .base) (m .buckets) (linked (m .count))
 
 -- the texts that stand in work stand from z on
@@ -82,7 +82,7 @@ pub record Entering (s w : List ℕ) (m : Map) (x h : ℕ) : Type 0 where
   pub wide : m .base + 24 * m .buckets ≤ low
   pub whole : Whole s w x
   pub behind : Behind s low x
-  pub hash : h ≡ hashOf (textAt s w x)
+  pub hash : h ≡ hashOf (markedText s w x)
 
 -- and what it leaves
 pub record Entered (s w : List ℕ) (m : Map) (x h c : ℕ) (m′ : Map) (w′ : List ℕ) : Type 0 where
@@ -90,7 +90,7 @@ pub record Entered (s w : List ℕ) (m : Map) (x h c : ℕ) (m′ : Map) (w′ :
   pub count : m′ .count ≡ m .count + 1
   pub buckets : m′ .buckets ≡ m .buckets
   pub table : Table s w′ m′
-  pub more : texts s w′ m′ ≡ texts s w m ++ (textAt s w x ∷ [])
+  pub more : texts s w′ m′ ≡ texts s w m ++ (markedText s w x ∷ [])
   pub mark : markAt w′ (m .base) (m .count) ≡ x
   pub marks : (i : ℕ) → i < m .count → markAt w′ (m .base) i ≡ markAt w (m .base) i
   pub cell : cellAt w′ (m .base) (m .count) ≡ c
@@ -131,7 +131,7 @@ pub record Growing (s w : List ℕ) (m : Map) (n : ℕ) : Type 0 where
   pub wide : m .base + 24 * m .buckets ≤ low
   pub whole : (i : ℕ) → i < n → Whole s w (markAt w (m .base) i)
   pub behind : (i : ℕ) → i < n → Behind s low (markAt w (m .base) i)
-  pub hashes : (i : ℕ) → i < n → hashAt w (m .base) i ≡ hashOf (textAt s w (markAt w (m .base) i))
+  pub hashes : (i : ℕ) → i < n → hashAt w (m .base) i ≡ hashOf (markedText s w (markAt w (m .base) i))
 
 pub record Grown (s w : List ℕ) (m : Map) (n : ℕ) (m′ : Map) (w′ : List ℕ) : Type 0 where
   pub base : m′ .base ≡ m .base

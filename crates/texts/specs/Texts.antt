@@ -17,8 +17,8 @@ holder s w x = pick (ltb x (4 * length s)) s w
 unfoldable pub placeAt : List ℕ → ℕ → ℕ
 placeAt s x = pick (ltb x (4 * length s)) (x / 4) (x + 4 * length s)
 
-unfoldable pub textAt : List ℕ → List ℕ → ℕ → Text
-textAt s w x = atomText (holder s w x) (placeAt s x)
+unfoldable pub markedText : List ℕ → List ℕ → ℕ → Text
+markedText s w x = atomText (holder s w x) (placeAt s x)
 
 -- its command is whole
 pub record Whole (s w : List ℕ) (x : ℕ) : Type 0 where
@@ -31,4 +31,4 @@ Behind s z x = (x < 4 * length s) ⊎ (z ≤ x + 4 * length s)
 -- the texts of the first k records
 unfoldable pub textsOf : List ℕ → List ℕ → ℕ → ℕ → List Text
 textsOf s w b zero = []
-textsOf s w b (suc k) = textsOf s w b k ++ (textAt s w (markAt w b k) ∷ [])
+textsOf s w b (suc k) = textsOf s w b k ++ (markedText s w (markAt w b k) ∷ [])

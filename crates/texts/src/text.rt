@@ -8,7 +8,7 @@ ghost use mathlib.Core.List.{[]};
 ghost use Prim.Native.Nat.{_≤_, _<_};
 ghost use lib.ListN.{length, getD};
 ghost use Rattle.texts.specs.Atoms.{atomEnd, atomText};
-ghost use Rattle.texts.specs.Texts.{textAt, Whole};
+ghost use Rattle.texts.specs.Texts.{markedText, Whole};
 ghost use Rattle.texts.specs.Table.{Table, texts};
 
 // The text of the command 01 at a place.
@@ -25,7 +25,7 @@ pub fn atom(s: &[u8], at: usize) -> &[u8]
 // The text of a mark.
 pub fn text_at<'a>(tape: &'a [u8], work: &'a [u8], x: usize) -> &'a [u8]
     requires { ⌜ Whole (now tape) (now work) x ⌝ }
-    ensures { λ r. ⌜ now r ≡ textAt (now (tape .entry)) (now (work .entry)) x ⌝ }
+    ensures { λ r. ⌜ now r ≡ markedText (now (tape .entry)) (now (work .entry)) x ⌝ }
 {
     if x / 4 < tape.len() {
         atom(tape, x / 4)

@@ -25,7 +25,7 @@ use Rattle.texts.specs.declared.Map.{Map}
 use Rattle.texts.specs.declared.Found.{Found}
 use Rattle.texts.specs.Hash.{hashOf}
 use Rattle.texts.specs.Fields.{classAt}
-use Rattle.texts.specs.Texts.{textAt, textsOf}
+use Rattle.texts.specs.Texts.{markedText, textsOf}
 use Rattle.texts.specs.Table.{texts, linked, Finds, Entering, Entered, Started}
 use Rattle.texts.proofs.TableFindCode.{answer-none, answer-has, linked-few, linked-many}
 use Rattle.texts.proofs.TableMarks.{tape-mark-whole, tape-mark-text, tape-mark-behind, above-entered, above-none}
@@ -111,7 +111,7 @@ module _ (s w : List ℕ) (m : Map) (at end n : ℕ) (g : Going s w m at end n) 
       pub mark-fits : length w < 2 ^ 64 → Fits w64 (4 * at + c)
       mark-fits l = record { fits = omega (arith, class-few, next-inside, g .starts .small) }
 
-      mark-text : textAt s w (4 * at + c) ≡ atomText s at
+      mark-text : markedText s w (4 * at + c) ≡ atomText s at
       mark-text = tape-mark-text s w at c class-few next-whole
 
       pub next-entering : (v : ℕ) → v ≡ hashOf t → Entering s w m (4 * at + c) v
@@ -146,7 +146,7 @@ module _ (s w : List ℕ) (m : Map) (at end n : ℕ) (g : Going s w m at end n) 
         same-then : texts s w1 m1 ≡ atomsOf s (m1 .count)
         unfolding atomsOf
         same-then =
-            let z : texts s w m ++ (textAt s w (4 * at + c) ∷ []) ≡ atomsOf s (suc (m .count)) = cc (g .same, mark-text, g .here) in
+            let z : texts s w m ++ (markedText s w (4 * at + c) ∷ []) ≡ atomsOf s (suc (m .count)) = cc (g .same, mark-text, g .here) in
             x .more ∙ z ∙ ap (atomsOf s) (sym count-then)
 
         new : has t (texts s w m) ≡ false → has (atomText s at) (atomsOf s (m .count)) ≡ false

@@ -4,6 +4,7 @@ use mathlib.Core.List.{List, [], _∷_}
 use lib.Dec.{ltb}
 use lib.ListN.{length}
 use Rattle.octets.specs.working.Choice.{pick}
+use Rattle.texts.specs.Hash.{hashBy, powerBy}
 
 -- lengths stop at 65,536
 unfoldable pub stop : ℕ → ℕ
@@ -16,21 +17,8 @@ pub record Form : Type 0 where
   pub len : ℕ
 
 module _ (B : ℕ) where
-  -- the hash of a text whose first bytes have the hash h
-  unfoldable pub hashFrom : ℕ → List ℕ → ℕ
-  hashFrom h [] = h
-  hashFrom h (b ∷ bs) = hashFrom ((h + b) * B % 4294967296) bs
-
-  unfoldable pub hash : List ℕ → ℕ
-  hash t = hashFrom 0 t
-
-  -- B to the n, below 2^32
-  unfoldable pub power : ℕ → ℕ
-  power zero = 1
-  power (suc n) = power n * B % 4294967296
-
   unfoldable pub formOf : List ℕ → Form
-  formOf t = record { hash = hash t; power = power (length t); len = stop (length t) }
+  formOf t = record { hash = hashBy B 0 t; power = powerBy B (length t); len = stop (length t) }
 
   -- one text behind another
   unfoldable pub join : Form → Form → Form

@@ -9,7 +9,8 @@ use borrow.Author.Tests.{lt-ltb, le-ltb, ltb-true, ltb-false}
 use lib.Dec.{ltb}
 use lib.ListN.{length, length-append}
 use Rattle.octets.specs.working.Choice.{pick}
-use Rattle.laws.specs.Forms.{stop, hashFrom, hash, power, formOf, join, more}
+use Rattle.texts.specs.Hash.{hashBy, powerBy}
+use Rattle.texts.specs.Forms.{stop, formOf, join, more}
 
 -- ---- numbers modulo 2^32
 
@@ -29,30 +30,30 @@ sum-alike a b c d e f = omega arith
 
 module _ (B : ℕ) where
   -- ---- bounds
-  pub hashFrom-small : (h : ℕ) (t : List ℕ) → h < 4294967296 → hashFrom B h t < 4294967296
-  unfolding hashFrom
+  pub hashFrom-small : (h : ℕ) (t : List ℕ) → h < 4294967296 → hashBy B h t < 4294967296
+  unfolding hashBy
   hashFrom-small h [] l = l
   hashFrom-small h (b ∷ bs) l = hashFrom-small ((h + b) * B % 4294967296) bs (mod-lt ((h + b) * B) (omega arith))
 
   -- theorem
-  pub hash-small : (t : List ℕ) → hash B t < 4294967296
-  unfolding hash
+  pub hash-small : (t : List ℕ) → hashBy B 0 t < 4294967296
+  unfolding hashBy
   hash-small t = hashFrom-small 0 t (omega arith)
 
-  pub power-small : (n : ℕ) → power B n < 4294967296
-  unfolding power
+  pub power-small : (n : ℕ) → powerBy B n < 4294967296
+  unfolding powerBy
   power-small zero = omega arith
-  power-small (suc n) = mod-lt (power B n * B) (omega arith)
+  power-small (suc n) = mod-lt (powerBy B n * B) (omega arith)
 
   -- ---- powers
-  pub power-add : (m n : ℕ) → power B (m + n) ≡ power B m * power B n % 4294967296
-  unfolding power
+  pub power-add : (m n : ℕ) → powerBy B (m + n) ≡ powerBy B m * powerBy B n % 4294967296
+  unfolding powerBy
   power-add m zero = let z : m + 0 ≡ m = omega arith in let s = power-small m in rw z (omega arith)
   power-add m (suc n) =
       let z : m + suc n ≡ suc (m + n) = omega arith in
       let i = power-add m n in
-      let e = mod-factor (power B m * power B n) B in
-      let f = mod-factor-right (power B m) (power B n * B) in
+      let e = mod-factor (powerBy B m * powerBy B n) B in
+      let f = mod-factor-right (powerBy B m) (powerBy B n * B) in
       rw (z, i) (omega arith)
 
   -- ---- the hash of one text behind another
@@ -65,23 +66,23 @@ module _ (B : ℕ) where
       let z : (h + b) * B * p + k ≡ h * (p * B) + (b * B * p + k) = omega arith in
       l ∙ ap (λ (x : ℕ). x % 4294967296) z ∙ sym r
 
-  pub hashFrom-is : (h : ℕ) (t : List ℕ) → h < 4294967296 → hashFrom B h t ≡ (h * power B (length t) + hash B t) % 4294967296
-  unfolding hashFrom hash power
+  pub hashFrom-is : (h : ℕ) (t : List ℕ) → h < 4294967296 → hashBy B h t ≡ (h * powerBy B (length t) + hashBy B 0 t) % 4294967296
+  unfolding hashBy powerBy
   hashFrom-is h [] l = omega arith
   hashFrom-is h (b ∷ bs) l =
       let i = hashFrom-is ((h + b) * B % 4294967296) bs (mod-lt ((h + b) * B) (omega arith)) in
       let j = hashFrom-is ((0 + b) * B % 4294967296) bs (mod-lt ((0 + b) * B) (omega arith)) in
       let z : 0 + b ≡ b = omega arith in
-      i ∙ step-turn h b (power B (length bs)) (hash B bs) ∙ ap (λ (x : ℕ). (h * (power B (length bs) * B % 4294967296) + x) % 4294967296) (sym (j ∙ ap (λ (x : ℕ). (x * B % 4294967296 * power B (length bs) + hash B bs) % 4294967296) z))
+      i ∙ step-turn h b (powerBy B (length bs)) (hashBy B 0 bs) ∙ ap (λ (x : ℕ). (h * (powerBy B (length bs) * B % 4294967296) + x) % 4294967296) (sym (j ∙ ap (λ (x : ℕ). (x * B % 4294967296 * powerBy B (length bs) + hashBy B 0 bs) % 4294967296) z))
 
-  hashFrom-append : (h : ℕ) (xs ys : List ℕ) → hashFrom B h (xs ++ ys) ≡ hashFrom B (hashFrom B h xs) ys
-  unfolding hashFrom
+  hashFrom-append : (h : ℕ) (xs ys : List ℕ) → hashBy B h (xs ++ ys) ≡ hashBy B (hashBy B h xs) ys
+  unfolding hashBy
   hashFrom-append h [] ys = refl
   hashFrom-append h (x ∷ xs) ys = hashFrom-append ((h + x) * B % 4294967296) xs ys
 
-  pub hash-append : (xs ys : List ℕ) → hash B (xs ++ ys) ≡ (hash B xs * power B (length ys) + hash B ys) % 4294967296
-  unfolding hash
-  hash-append xs ys = hashFrom-append 0 xs ys ∙ hashFrom-is (hashFrom B 0 xs) ys (hashFrom-small 0 xs (omega arith))
+  pub hash-append : (xs ys : List ℕ) → hashBy B 0 (xs ++ ys) ≡ (hashBy B 0 xs * powerBy B (length ys) + hashBy B 0 ys) % 4294967296
+  unfolding hashBy
+  hash-append xs ys = hashFrom-append 0 xs ys ∙ hashFrom-is (hashBy B 0 xs) ys (hashFrom-small 0 xs (omega arith))
 
   -- ---- lengths
   stop-less : (n : ℕ) → n < 65536 → stop n ≡ n
@@ -134,11 +135,11 @@ module _ (B : ℕ) where
 
   -- theorem
   pub form-none : formOf B [] ≡ record { hash = 0; power = 1; len = 0 }
-  unfolding formOf hash hashFrom power stop pick
+  unfolding formOf hashBy powerBy stop pick
   form-none = refl
 
   pub form-more : (xs : List ℕ) (b : ℕ) → formOf B (xs ++ (b ∷ [])) ≡ more B (formOf B xs) b
-  unfolding formOf more hash hashFrom power
+  unfolding formOf more hashBy powerBy
   form-more xs b =
       let n : length (xs ++ (b ∷ [])) ≡ suc (length xs) = omega (arith, length-append xs (b ∷ [])) in
       let z : length xs + 1 ≡ suc (length xs) = omega arith in
@@ -163,15 +164,15 @@ module _ (B : ℕ) where
   bucket-fits h n l k = let m = mul-le-mul {n₁ = h} {m₁ = n} {n₂ = 4294967295} {m₂ = 4294967296} (omega arith) k in omega arith
 
 -- ---- powers by two tables of 256
-pub power-times : (B m k : ℕ) → power (power B m) k ≡ power B (k * m)
-unfolding power
+pub power-times : (B m k : ℕ) → powerBy (powerBy B m) k ≡ powerBy B (k * m)
+unfolding powerBy
 power-times B m zero = let z : 0 * m ≡ 0 = omega arith in rw z refl
 power-times B m (suc k) =
     let z : suc k * m ≡ k * m + m = omega arith in
     rw (power-times B m k, z) (sym (power-add B (k * m) m))
 
 -- theorem
-pub power-tables : (B n : ℕ) → power B n ≡ power B (n % 256) * power (power B 256) (n / 256) % 4294967296
+pub power-tables : (B n : ℕ) → powerBy B n ≡ powerBy B (n % 256) * powerBy (powerBy B 256) (n / 256) % 4294967296
 power-tables B n =
     let z : n ≡ n % 256 + n / 256 * 256 = omega arith in
-    ap (power B) z ∙ power-add B (n % 256) (n / 256 * 256) ∙ ap (λ (x : ℕ). power B (n % 256) * x % 4294967296) (sym (power-times B 256 (n / 256)))
+    ap (powerBy B) z ∙ power-add B (n % 256) (n / 256 * 256) ∙ ap (λ (x : ℕ). powerBy B (n % 256) * x % 4294967296) (sym (power-times B 256 (n / 256)))
