@@ -1,6 +1,6 @@
 -- Hash, power and length of a text: how they come from those of its parts. B is the multiplier. Assumes nothing: these are definitions.
-use Prim.Native.Nat.{ℕ, zero, suc, _+_, _*_, _%_}
-use mathlib.Core.List.{List, [], _∷_}
+use Prim.Native.Nat.{ℕ, _+_, _*_, _%_}
+use mathlib.Core.List.{List}
 use lib.Dec.{ltb}
 use lib.ListN.{length}
 use Rattle.octets.specs.working.Choice.{pick}
