@@ -4,6 +4,7 @@ mod SuitsCode
 pub mod CommandInside
 pub mod CommandCode
 mod SymbolsCode
+mod QuickCode
 mod CommandKinds
 pub mod FrontCode
 mod FrontReads

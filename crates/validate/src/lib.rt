@@ -8,6 +8,7 @@ pub mod entry;
 pub mod front;
 pub mod items;
 pub mod questions;
+pub mod quick;
 pub mod suits;
 pub mod symbols;
 

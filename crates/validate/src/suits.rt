@@ -32,14 +32,14 @@ fn text_class(tape: &[u8], work: &[u8], m: Atoms, k: usize) -> usize
     class(work, m.base, k)
 }
 
-fn is_name(tape: &[u8], work: &[u8], m: Atoms, k: u32) -> bool
+pub fn is_name(tape: &[u8], work: &[u8], m: Atoms, k: u32) -> bool
     requires { ⌜ Ready (now tape) (now work) m ⌝ }
     ensures { λ r. ⌜ r ≡ isName (getD (atomsOf (now (tape .entry)) (m .count)) k []) ⌝ }
 {
     text_class(tape, work, m, from32(k)) == 3
 }
 
-fn is_literal(tape: &[u8], work: &[u8], m: Atoms, k: u32) -> bool
+pub fn is_literal(tape: &[u8], work: &[u8], m: Atoms, k: u32) -> bool
     requires { ⌜ Ready (now tape) (now work) m ⌝ }
     ensures { λ r. ⌜ r ≡ isLiteral (getD (atomsOf (now (tape .entry)) (m .count)) k []) ⌝ }
 {

@@ -3,6 +3,8 @@ use crate::Asked;
 use crate::Atoms;
 use crate::Step;
 use crate::command::command;
+use crate::quick::held;
+use crate::quick::quick;
 use octets::wide::from8;
 use octets::wide::from16;
 use parse_tree::places::SYMBOLS;
@@ -50,7 +52,7 @@ pub fn symbol(tape: &[u8], work: &[u8], m: Atoms, at: usize, left: usize) -> Ste
     }
 }
 
-// n symbols, one behind another.
+// n symbols, one behind another. What stands behind a quick look is a list: none for a leaf.
 pub fn symbols(tape: &[u8], work: &[u8], m: Atoms, at: usize, n: usize, left: usize) -> Step
     requires { ⌜ Ready (now tape) (now work) m ⌝ }
     ensures { λ r. ⌜ r ≡ stepOf (times (readSym (m .four) (m .width) (now (tape .entry)) (atomsOf (now (tape .entry)) (m .count)) left) n at) ⌝ }
@@ -58,13 +60,32 @@ pub fn symbols(tape: &[u8], work: &[u8], m: Atoms, at: usize, n: usize, left: us
     let mut p = at;
     let mut k = n;
     while 0 < k {
-        match symbol(tape, work, m, p, left) {
-            Step::Next(e) => {
-                p = e;
+        let f = quick(tape, work, m, p, left);
+        if p < f {
+            let i = held(tape, p, m.width);
+            if i == 0 {
+                p = f;
                 k -= 1;
+            } else {
+                match symbols(tape, work, m, f, i, left - 1) {
+                    Step::Next(e) => {
+                        p = e;
+                        k -= 1;
+                    }
+                    Step::Refused(why) => {
+                        return Step::Refused(why);
+                    }
+                }
             }
-            Step::Refused(why) => {
-                return Step::Refused(why);
+        } else {
+            match symbol(tape, work, m, p, left) {
+                Step::Next(e) => {
+                    p = e;
+                    k -= 1;
+                }
+                Step::Refused(why) => {
+                    return Step::Refused(why);
+                }
             }
         }
     }

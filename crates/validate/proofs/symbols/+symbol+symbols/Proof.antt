@@ -4,6 +4,7 @@ use Rattle.parse_tree.specs.plain.Reading.{times}
 use Rattle.parse_tree.specs.working.Decode.{readSym}
 use mathlib.Core.Path.{_≡_}
 use Rattle.validate.proofs.SymbolsCode.{walking}
+use Rattle.validate.proofs.QuickCode.{stepping}
 use Prim.Native.Nat.{ℕ, _<_, _*_, _+_}
 use borrow.Fn.Kinds.{In}
 use borrow.Fn.PlainCycle.{Measures, is, falls, and}
@@ -15,6 +16,8 @@ use Rattle.validate.proofs.symbols.symbols.Kinds as symbols-kinds
 use Rattle.validate.proofs.symbols.+symbol+symbols.Lts-symbols as symbols-lts
 use Rattle.parse_tree.proofs.refusal.at.Reads as at-reads
 use Rattle.validate.proofs.command.command.Reads as command-reads
+use Rattle.validate.proofs.quick.held.Reads as held-reads
+use Rattle.validate.proofs.quick.quick.Reads as quick-reads
 use Rattle.validate.proofs.symbols.inside.Reads as inside-reads
 use Rattle.validate.proofs.symbols.+symbol+symbols.{statement}
 use Rattle.validate.proofs.symbols.+symbol+symbols.Tie.{close}
@@ -41,7 +44,7 @@ abbrev symbol-calls : ℕ → symbol-lts.Claims
 symbol-calls t = (command-reads.Asked, command-reads.Learnt, at-reads.Asked, at-reads.Learnt, symbol-below t, symbol.Post, inside-reads.Asked, inside-reads.Learnt, symbols-below t, symbols.Post)
 
 abbrev symbols-calls : ℕ → symbols-lts.Claims
-symbols-calls t = (symbol-below t, symbol.Post)
+symbols-calls t = (quick-reads.Asked, quick-reads.Learnt, held-reads.Asked, held-reads.Learnt, symbols-below t, symbols.Post, symbol-below t, symbol.Post)
 
 symbol-command-requires : (t : ℕ) → symbol-lts.Need-command-requires (symbol-calls t) (symbol-at t) symbol.Post
 symbol-command-requires t c κs = search walking
@@ -110,33 +113,72 @@ abbrev symbols-μ-loop : symbols-lts.MeasureT-loop
 symbols-μ-loop tape work m at n left p₀ k₀ p k = k
 
 symbols-loop-holds : (t : ℕ) → symbols-lts.Need-loop-holds (symbols-calls t) (symbols-at t) symbols.Post symbols-Inv-loop symbols-μ-loop
-symbols-loop-holds t c = search walking
+symbols-loop-holds t c = search stepping
 
-symbols-symbol-requires : (t : ℕ) → symbols-lts.Need-symbol-requires (symbols-calls t) (symbols-at t) symbols.Post symbols-Inv-loop symbols-μ-loop
-symbols-symbol-requires t c κs = search walking
+symbols-quick-requires : (t : ℕ) → symbols-lts.Need-quick-requires (symbols-calls t) (symbols-at t) symbols.Post symbols-Inv-loop symbols-μ-loop
+symbols-quick-requires t c κs = search stepping
 
-symbols-enum-known-e : (t : ℕ) → symbols-lts.Need-enum-known-e (symbols-calls t) (symbols-at t) symbols.Post symbols-Inv-loop symbols-μ-loop
-symbols-enum-known-e t c = search walking
+symbols-held-requires : (t : ℕ) → symbols-lts.Need-held-requires (symbols-calls t) (symbols-at t) symbols.Post symbols-Inv-loop symbols-μ-loop
+symbols-held-requires t c κs = search stepping
 
 symbols-sub-k : (t : ℕ) → symbols-lts.Need-sub-k (symbols-calls t) (symbols-at t) symbols.Post symbols-Inv-loop symbols-μ-loop
-symbols-sub-k t c = search walking
+symbols-sub-k t c = search stepping
 
 symbols-loop-less : (t : ℕ) → symbols-lts.Need-loop-less (symbols-calls t) (symbols-at t) symbols.Post symbols-Inv-loop symbols-μ-loop
-symbols-loop-less t c = search walking
+symbols-loop-less t c = search stepping
 
 symbols-loop-again : (t : ℕ) → symbols-lts.Need-loop-again (symbols-calls t) (symbols-at t) symbols.Post symbols-Inv-loop symbols-μ-loop
-symbols-loop-again t c = search walking
+symbols-loop-again t c = search stepping
+
+symbols-sub-symbols : (t : ℕ) → symbols-lts.Need-sub-symbols (symbols-calls t) (symbols-at t) symbols.Post symbols-Inv-loop symbols-μ-loop
+symbols-sub-symbols t c = search stepping
+
+symbols-symbols-requires : (t : ℕ) → symbols-lts.Need-symbols-requires (symbols-calls t) (symbols-at t) symbols.Post symbols-Inv-loop symbols-μ-loop
+symbols-symbols-requires t c κs = search stepping
+
+symbols-enum-known-e : (t : ℕ) → symbols-lts.Need-enum-known-e (symbols-calls t) (symbols-at t) symbols.Post symbols-Inv-loop symbols-μ-loop
+symbols-enum-known-e t c = search stepping
+
+symbols-sub-k-2 : (t : ℕ) → symbols-lts.Need-sub-k-2 (symbols-calls t) (symbols-at t) symbols.Post symbols-Inv-loop symbols-μ-loop
+symbols-sub-k-2 t c = search stepping
+
+symbols-loop-less-2 : (t : ℕ) → symbols-lts.Need-loop-less-2 (symbols-calls t) (symbols-at t) symbols.Post symbols-Inv-loop symbols-μ-loop
+symbols-loop-less-2 t c = search stepping
+
+symbols-loop-again-2 : (t : ℕ) → symbols-lts.Need-loop-again-2 (symbols-calls t) (symbols-at t) symbols.Post symbols-Inv-loop symbols-μ-loop
+symbols-loop-again-2 t c = search stepping
 
 symbols-enum-known-why : (t : ℕ) → symbols-lts.Need-enum-known-why (symbols-calls t) (symbols-at t) symbols.Post symbols-Inv-loop symbols-μ-loop
-symbols-enum-known-why t c = search walking
+symbols-enum-known-why t c = search stepping
 
 symbols-returns : (t : ℕ) → symbols-lts.Need-returns (symbols-calls t) (symbols-at t) symbols.Post symbols-Inv-loop symbols-μ-loop
-symbols-returns t c = search walking
+symbols-returns t c = search stepping
+
+symbols-symbol-requires : (t : ℕ) → symbols-lts.Need-symbol-requires (symbols-calls t) (symbols-at t) symbols.Post symbols-Inv-loop symbols-μ-loop
+symbols-symbol-requires t c κs = search stepping
+
+symbols-enum-known-e-2 : (t : ℕ) → symbols-lts.Need-enum-known-e-2 (symbols-calls t) (symbols-at t) symbols.Post symbols-Inv-loop symbols-μ-loop
+symbols-enum-known-e-2 t c = search stepping
+
+symbols-sub-k-3 : (t : ℕ) → symbols-lts.Need-sub-k-3 (symbols-calls t) (symbols-at t) symbols.Post symbols-Inv-loop symbols-μ-loop
+symbols-sub-k-3 t c = search stepping
+
+symbols-loop-less-3 : (t : ℕ) → symbols-lts.Need-loop-less-3 (symbols-calls t) (symbols-at t) symbols.Post symbols-Inv-loop symbols-μ-loop
+symbols-loop-less-3 t c = search stepping
+
+symbols-loop-again-3 : (t : ℕ) → symbols-lts.Need-loop-again-3 (symbols-calls t) (symbols-at t) symbols.Post symbols-Inv-loop symbols-μ-loop
+symbols-loop-again-3 t c = search stepping
+
+symbols-enum-known-why-2 : (t : ℕ) → symbols-lts.Need-enum-known-why-2 (symbols-calls t) (symbols-at t) symbols.Post symbols-Inv-loop symbols-μ-loop
+symbols-enum-known-why-2 t c = search stepping
 
 symbols-returns-2 : (t : ℕ) → symbols-lts.Need-returns-2 (symbols-calls t) (symbols-at t) symbols.Post symbols-Inv-loop symbols-μ-loop
-symbols-returns-2 t c = search walking
+symbols-returns-2 t c = search stepping
+
+symbols-returns-3 : (t : ℕ) → symbols-lts.Need-returns-3 (symbols-calls t) (symbols-at t) symbols.Post symbols-Inv-loop symbols-μ-loop
+symbols-returns-3 t c = search stepping
 
 pub +symbol+symbols-spec : {M : Type 1} → statement M
 +symbol+symbols-spec = close μ-symbol μ-symbols
     (λ t. symbol-lts.spec (symbol-calls t) (symbol-at t) symbol.Post (symbol-command-requires t) (symbol-enum-known-why t) (symbol-enum-known-n t) (symbol-at-requires t) (symbol-returns t) (symbol-enum-known-n-2 t) (symbol-at-requires-2 t) (symbol-returns-2 t) (symbol-enum-told t) (symbol-enum-told-2 t) (symbol-sub-symbol t) (symbol-symbol-requires t) (symbol-enum-known-k t) (symbol-inside-requires t) (symbol-sub-symbols t) (symbol-symbols-requires t) (symbol-returns-3 t) (symbol-returns-4 t) (symbol-returns-5 t) (symbol-returns-6 t))
-    λ t. symbols-lts.spec (symbols-calls t) (symbols-at t) symbols.Post symbols-Inv-loop symbols-μ-loop (symbols-loop-holds t) (symbols-symbol-requires t) (symbols-enum-known-e t) (symbols-sub-k t) (symbols-loop-less t) (symbols-loop-again t) (symbols-enum-known-why t) (symbols-returns t) (symbols-returns-2 t)
+    λ t. symbols-lts.spec (symbols-calls t) (symbols-at t) symbols.Post symbols-Inv-loop symbols-μ-loop (symbols-loop-holds t) (symbols-quick-requires t) (symbols-held-requires t) (symbols-sub-k t) (symbols-loop-less t) (symbols-loop-again t) (symbols-sub-symbols t) (symbols-symbols-requires t) (symbols-enum-known-e t) (symbols-sub-k-2 t) (symbols-loop-less-2 t) (symbols-loop-again-2 t) (symbols-enum-known-why t) (symbols-returns t) (symbols-symbol-requires t) (symbols-enum-known-e-2 t) (symbols-sub-k-3 t) (symbols-loop-less-3 t) (symbols-loop-again-3 t) (symbols-enum-known-why-2 t) (symbols-returns-2 t) (symbols-returns-3 t)

@@ -1,0 +1,59 @@
+-- What a look at a symbol's bytes finds out. Assumes nothing: these are definitions.
+use mathlib.Core.Path.{_≡_}
+use mathlib.Core.Bool.{true}
+use mathlib.Core.List.{List}
+use Prim.Native.Nat.{ℕ, _+_, _<_, _≤_}
+use lib.ListN.{length, getD}
+use Rattle.octets.specs.working.Choice.{pick}
+use Rattle.parse_tree.specs.working.Nodes.{symbolNodeAt, spanIn, sizeOf}
+use Rattle.parse_tree.specs.working.Places.{symbolsPlace}
+use Rattle.parse_tree.specs.working.Questions.{symbolDefined, symbolSuits}
+use Rattle.parse_tree.specs.working.Operands.{insideOf}
+use Rattle.parse_tree.specs.plain.Reading.{got}
+use Rattle.parse_tree.specs.working.Decode.{ask}
+use Rattle.parse_tree.specs.declared.syntax.SymbolKind.{SymbolKind}
+use Rattle.parse_tree.specs.declared.syntax.Node.{Node}
+use Rattle.texts.specs.Atoms.{atomsOf}
+use Rattle.validate.specs.declared.Atoms.{Atoms}
+
+-- the symbol whose code is c and stands at a place passes 3 and 4, in r bytes
+pub record Kinded (s : List ℕ) (m : Atoms) (c at r : ℕ) : Type 0 where
+  pub kind : SymbolKind
+  pub is : symbolNodeAt (m .width) c s at ≡ Node.Symbol (spanIn s (at + 1)) kind
+  pub defined : symbolDefined (m .count) kind ≡ true
+  pub suited : pick (m .four) (symbolSuits (atomsOf s (m .count)) kind) true ≡ true
+  pub long : r ≡ sizeOf (m .width) (Node.Symbol (spanIn s (at + 1)) kind)
+
+-- where r isn't 0
+pub record Passing (s : List ℕ) (m : Atoms) (c at r : ℕ) : Type 0 where
+  pub yes : 0 < r → Kinded s m c at r
+  pub small : r ≤ 10 + m .width
+
+-- the symbol at a place passes 2, 3 and 4, and its command ends at r
+pub record QuickPassed (s : List ℕ) (m : Atoms) (left at r : ℕ) : Type 0 where
+  pub kind : SymbolKind
+  pub is : symbolNodeAt (m .width) (getD s at 0) s at ≡ Node.Symbol (spanIn s (at + 1)) kind
+  pub asked : ask (m .four) (m .width) s (atomsOf s (m .count)) symbolsPlace left at ≡ got (Node.Symbol (spanIn s (at + 1)) kind) r
+  pub room : at + (10 + m .width) ≤ length s
+  pub deep : 0 < left
+
+-- where r is behind it
+pub record Quick (s : List ℕ) (m : Atoms) (left at r : ℕ) : Type 0 where
+  pub passed : at < r → QuickPassed s m left at r
+
+-- how many symbols stand inside one
+unfoldable pub heldIn : SymbolKind → ℕ
+heldIn (SymbolKind.Leaf l) = 0
+heldIn (SymbolKind.Around a) = 1
+heldIn (SymbolKind.Over o) = insideOf o
+
+unfoldable pub heldOf : Node → ℕ
+heldOf (Node.Text n) = 0
+heldOf (Node.Nonterminal d) = 0
+heldOf (Node.Terminal t) = 0
+heldOf (Node.Argument n) = 0
+heldOf (Node.Alternative a) = 0
+heldOf (Node.Attribute a) = 0
+heldOf (Node.Condition c) = 0
+heldOf (Node.Symbol s k) = heldIn k
+heldOf Node.Unknown = 0

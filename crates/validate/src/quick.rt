@@ -1,0 +1,156 @@
+// A symbol's command by its bytes alone: nothing is built. What is not found out here is left to `command`.
+use crate::Atoms;
+use crate::suits::is_literal;
+use crate::suits::is_name;
+use octets::numbers::atom_at;
+use octets::numbers::u16_at;
+use octets::wide::from8;
+use octets::wide::from16;
+use octets::wide::from32;
+ghost use mathlib.Core.Path.{_≡_};
+ghost use mathlib.Core.Bool.{true, _&&_};
+ghost use mathlib.Core.List.{[]};
+ghost use Prim.Native.Nat.{_+_, _≤_, _<_};
+ghost use lib.Dec.{ltb};
+ghost use lib.ListN.{length, getD};
+ghost use Rattle.octets.specs.working.Choice.{pick};
+ghost use Rattle.parse_tree.specs.working.Nodes.{namedLeaf, symbolNodeAt};
+ghost use Rattle.parse_tree.specs.plain.Texts.{isName, isLiteral};
+ghost use Rattle.parse_tree.specs.working.Questions.{leafDefined, leafSuits};
+ghost use Rattle.texts.specs.Atoms.{atomsOf};
+ghost use Rattle.validate.specs.Steps.{Ready};
+ghost use Rattle.validate.specs.Quick.{Passing, Quick, heldOf};
+
+// Whether there is such an atom and, where question 4 is asked, its text is a name.
+fn names(tape: &[u8], work: &[u8], m: Atoms, k: u32) -> bool
+    requires { ⌜ Ready (now tape) (now work) m ⌝ }
+    ensures { λ r. ⌜ r ≡ (ltb k (m .count) && pick (m .four) (isName (getD (atomsOf (now (tape .entry)) (m .count)) k [])) true) ⌝ }
+{
+    if m.count <= from32(k) {
+        return false;
+    }
+    if !m.four {
+        return true;
+    }
+    is_name(tape, work, m, k)
+}
+
+// The same for a literal.
+fn quotes(tape: &[u8], work: &[u8], m: Atoms, k: u32) -> bool
+    requires { ⌜ Ready (now tape) (now work) m ⌝ }
+    ensures { λ r. ⌜ r ≡ (ltb k (m .count) && pick (m .four) (isLiteral (getD (atomsOf (now (tape .entry)) (m .count)) k [])) true) ⌝ }
+{
+    if m.count <= from32(k) {
+        return false;
+    }
+    if !m.four {
+        return true;
+    }
+    is_literal(tape, work, m, k)
+}
+
+// 20 to 24.
+fn named(tape: &[u8], work: &[u8], m: Atoms, c: u8, k: u32) -> bool
+    requires { ⌜ Ready (now tape) (now work) m ⌝ }
+    ensures { λ r. ⌜ r ≡ (leafDefined (m .count) (namedLeaf c k) && pick (m .four) (leafSuits (atomsOf (now (tape .entry)) (m .count)) (namedLeaf c k)) true) ⌝ }
+{
+    if c == 34 {
+        return quotes(tape, work, m, k);
+    }
+    if c == 35 {
+        return quotes(tape, work, m, k);
+    }
+    names(tape, work, m, k)
+}
+
+fn long(ok: bool, n: usize) -> usize
+    ensures { λ r. ⌜ r ≡ pick ok n 0 ⌝ }
+{
+    if ok {
+        return n;
+    }
+    0
+}
+
+// How long the command of a symbol is that passes 3 and 4; 0 where it doesn't. c is its code.
+fn passes(tape: &[u8], work: &[u8], m: Atoms, at: usize, c: u8) -> usize
+    requires { ⌜ Ready (now tape) (now work) m × (at + (10 + m .width) ≤ length (now tape)) ⌝ }
+    ensures { λ r. ⌜ Passing (now (tape .entry)) m c at r ⌝ }
+{
+    if c < 37 {
+        let k = atom_at(tape, at + 9, m.width);
+        return long(named(tape, work, m, c, k), 9 + m.width);
+    }
+    if c == 37 {
+        if tape[at + 9 + m.width] < 1 {
+            return 0;
+        }
+        let k = atom_at(tape, at + 9, m.width);
+        return long(names(tape, work, m, k), 10 + m.width);
+    }
+    if c == 38 {
+        if 2 < tape[at + 9] {
+            return 0;
+        }
+        return 10;
+    }
+    if c == 39 {
+        return 9;
+    }
+    if c == 40 {
+        if 1 < tape[at + 9] {
+            return 0;
+        }
+        let k = atom_at(tape, at + 10, m.width);
+        return long(names(tape, work, m, k), 10 + m.width);
+    }
+    if c == 41 {
+        return 11;
+    }
+    9
+}
+
+// The place behind the command of a symbol that passes 2, 3 and 4; `at` where that is not found out here.
+pub fn quick(tape: &[u8], work: &[u8], m: Atoms, at: usize, left: usize) -> usize
+    requires { ⌜ Ready (now tape) (now work) m ⌝ }
+    ensures { λ r. ⌜ Quick (now (tape .entry)) m left at r ⌝ }
+{
+    if left == 0 {
+        return at;
+    }
+    if tape.len() <= at {
+        return at;
+    }
+    if tape.len() - at < 10 + m.width {
+        return at;
+    }
+    let c = tape[at];
+    if c < 32 {
+        return at;
+    }
+    if 44 < c {
+        return at;
+    }
+    at + passes(tape, work, m, at, c)
+}
+
+// How many symbols stand inside the symbol at a place.
+pub fn held(tape: &[u8], at: usize, width: usize) -> usize
+    requires { ⌜ (2 ≤ width) × (width ≤ 3) × (at + (10 + width) ≤ length (now tape)) ⌝ }
+    ensures { λ r. ⌜ r ≡ heldOf (symbolNodeAt width (getD (now (tape .entry)) at 0) (now (tape .entry)) at) ⌝ }
+{
+    let c = tape[at];
+    if c < 37 {
+        return 0;
+    }
+    if 41 < c {
+        return 0;
+    }
+    if c == 37 {
+        return from8(tape[at + 9 + width]);
+    }
+    if c == 41 {
+        return from16(u16_at(tape, at + 9));
+    }
+    1
+}
