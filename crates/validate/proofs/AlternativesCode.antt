@@ -1,8 +1,12 @@
 -- The ways out of `alternative_parts`, `alternative` and `alternatives`. Assumes nothing.
-use mathlib.Core.Path.{_≡_, sym, ap, _∙_}
-use mathlib.Core.Bool.{Bool}
+use mathlib.Core.Path.{_≡_, refl, sym, ap, _∙_}
+use mathlib.Core.Bool.{Bool, true}
 use mathlib.Core.List.{List, [], _∷_}
-use Prim.Native.Nat.{ℕ, _-_, _<_, _≤_}
+use Prim.Native.Nat.{ℕ, _+_, _-_, _^_, _<_, _≤_}
+use native.Mathlib.Omega.{arith}
+use lib.ListN.{length}
+use mir.Syntax.{w64}
+use mir.Val.{Fits}
 use borrow.Author.Needs.{needs}
 use denote.Enum.Declared.{tagOf}
 use types.Run.{OneOf}
@@ -20,6 +24,8 @@ use Rattle.parse_tree.specs.declared.refusal.Refusal.{Refusal}
 use Rattle.parse_tree.specs.declared.syntax.Node.{Node}
 use Rattle.texts.specs.Atoms.{atomsOf}
 use Rattle.validate.specs.Steps.{askedOf, stepOf}
+use Rattle.validate.specs.Quick.{PassedAlternative, alternativeHere}
+use Rattle.validate.specs.declared.Atoms.{Atoms}
 use Rattle.validate.specs.declared.Asked.{Asked}
 use Rattle.validate.specs.declared.Step.{Step}
 use Rattle.validate.proofs.CommandKinds.{no-alternative}
@@ -82,7 +88,23 @@ module _ (four : Bool) (s : List ℕ) (w atoms at : ℕ) (r : Asked) (i : r ≡ 
     unfolding expectAlternative
     alternative-whole a y v o = o ∙ sym (ap stepOf (wanted ∙ ap (λ (x : Node). expectAlternative at (alternativeParts four w s (atomsOf s atoms)) x e) v))
 
-pub ruleset alternative = (needs, alternative-refused, alternative-other, alternative-whole)
+-- o is what the quick look answered
+module _ (s : List ℕ) (m : Atoms) (at : ℕ) (o : Bool) (g : PassedAlternative s m at o) (h : o ≡ true) where
+  pub alternative-room : at + (14 + m .width) ≤ length s
+  alternative-room = g .room h
+
+  pub alternative-fits : (z : ℕ) → z ≡ 14 + m .width → length s < 2 ^ 64 → Fits w64 (at + z)
+  alternative-fits z e l = record { fits = omega (arith, alternative-room) }
+
+  pub alternative-quick : (a : AlternativeNode) (y : Step) → a ≡ alternativeHere (m .width) s at → y ≡ stepOf (alternativeParts (m .four) (m .width) s (atomsOf s (m .count)) a (at + (14 + m .width)))
+      → y ≡ stepOf (readAlternative (m .four) (m .width) s (atomsOf s (m .count)) at)
+  unfolding askedOf
+  alternative-quick a y q p =
+      let e : ℕ = at + (14 + m .width) in
+      alternative-whole (m .four) s (m .width) (m .count) at (Asked.Is (Node.Alternative a) e)
+      (ap (λ (x : AlternativeNode). Asked.Is (Node.Alternative x) e) q ∙ sym (ap askedOf (g .asked h))) (Node.Alternative a) e refl a y refl p
+
+pub ruleset alternative = (needs, alternative-refused, alternative-other, alternative-whole, alternative-room, alternative-fits, alternative-quick)
 
 -- ---- `alternatives`
 module _ (four : Bool) (s : List ℕ) (w atoms k p : ℕ) (x : Step) (inv : stepOf (times (readAlternative four w s (atomsOf s atoms)) k p) ≡ x) (r : Step) (i : r ≡ stepOf (readAlternative four w s (atomsOf s atoms) p)) (h : 0 < k) where

@@ -1,4 +1,4 @@
--- The look at a symbol's bytes: one law for each way out. Assumes nothing.
+-- The look at the bytes of a symbol, or of an alternative: one law for each way out. Assumes nothing.
 use mathlib.Core.Path.{_≡_, refl, sym, ap, _∙_}
 use mathlib.Core.Bool.{Bool, true, false, not, _&&_, false≢true}
 use mathlib.Core.List.{List, [], _∷_}
@@ -13,9 +13,9 @@ use Rattle.octets.specs.plain.Numbers.{leAt, le}
 use Rattle.octets.proofs.ChoiceLaws.{by-pick}
 use Rattle.octets.proofs.NumbersLaws.{length-le}
 use Rattle.parse_tree.specs.plain.Texts.{isName, isLiteral}
-use Rattle.parse_tree.specs.working.Nodes.{nodeAt, nodeBy, symbolNodeAt, ifWhole, spanIn, namedLeaf, bareLeaf, leafOperand, sizeOf}
-use Rattle.parse_tree.specs.working.Places.{classOf, allowedAt, table, symbolsPlace}
-use Rattle.parse_tree.specs.working.Questions.{defined, suits, leafDefined, leafSuits, symbolDefined, symbolSuits}
+use Rattle.parse_tree.specs.working.Nodes.{nodeAt, nodeBy, alternativeNodeAt, symbolNodeAt, ifWhole, spanIn, namedLeaf, bareLeaf, leafOperand, sizeOf}
+use Rattle.parse_tree.specs.working.Places.{classOf, allowedAt, table, alternativesPlace, symbolsPlace}
+use Rattle.parse_tree.specs.working.Questions.{defined, suits, alternativeDefined, leafDefined, leafSuits, symbolDefined, symbolSuits}
 use Rattle.parse_tree.specs.working.Operands.{insideOf}
 use Rattle.parse_tree.specs.plain.Reading.{Reading, got, refused, then, times}
 use Rattle.parse_tree.specs.working.Decode.{ask, readSym}
@@ -23,12 +23,13 @@ use Rattle.parse_tree.specs.declared.syntax.Leaf.{Leaf}
 use Rattle.parse_tree.specs.declared.syntax.Around.{Around}
 use Rattle.parse_tree.specs.declared.syntax.Over.{Over}
 use Rattle.parse_tree.specs.declared.syntax.SymbolKind.{SymbolKind}
+use Rattle.parse_tree.specs.declared.syntax.Alternative.{Alternative}
 use Rattle.parse_tree.specs.declared.syntax.Node.{Node}
 use Rattle.parse_tree.specs.declared.refusal.Refusal.{Refusal}
-use Rattle.parse_tree.proofs.SizeLaws.{leaf-size, repeat-size, choose-size, name-size, macro-size, group-size}
+use Rattle.parse_tree.proofs.SizeLaws.{alternative-size, leaf-size, repeat-size, choose-size, name-size, macro-size, group-size}
 use Rattle.texts.specs.Atoms.{atomsOf}
 use Rattle.validate.specs.Steps.{Ready, askedOf, stepOf}
-use Rattle.validate.specs.Quick.{Kinded, Passing, QuickPassed, Quick, heldIn, heldOf}
+use Rattle.validate.specs.Quick.{Kinded, Passing, QuickPassed, Quick, WholeAlternative, PassedAlternative, alternativeHere, heldIn, heldOf}
 use Rattle.validate.specs.declared.Atoms.{Atoms}
 use Rattle.validate.specs.declared.Asked.{Asked}
 use Rattle.validate.specs.declared.Step.{Step}
@@ -320,3 +321,73 @@ module _ (s : List ℕ) (m : Atoms) (left at f : ℕ) (q : Quick s m left at f) 
         quick-stop z u = symbols-stop (m .four) s (m .width) (m .count) left k at x inv y (said y o) l z u
 
 pub ruleset stepping = (walking, quick-room, quick-deep, quick-falls, quick-next, quick-on, quick-stop)
+
+-- ---- `has_alternative`, `alternative_at`, `alternative_passes`
+module _ (w : ℕ) (s : List ℕ) (at : ℕ) where
+  pub alternative-not : WholeAlternative w s at false
+  alternative-not = record { node = λ h. absurd (false≢true h); room = λ h. absurd (false≢true h) }
+
+  pub alternative-stands : (c : ℕ) → at < length s → 14 + w ≤ length s - at → c ≡ getD s at 0 → c ≡ 18 → WholeAlternative w s at true
+  unfolding nodeAt nodeBy pick alternativeNodeAt alternativeHere
+  alternative-stands c h k e f =
+      let z : getD s at 0 ≡ 18 = sym e ∙ f in
+      record { node = λ _. simp (lt-leb (length s) at h, z) (wholly s at (14 + w) _ (omega arith)); room = λ _. omega arith }
+
+  pub alternative-read : (d : Alternative) → d .span .0 ≡ leAt 4 s (at + 1) → d .span .1 ≡ leAt 4 s (at + 1 + 4) → d .attributes ≡ getD s (at + 9) 0 → d .conditions ≡ getD s (at + 10) 0
+      → d .action ≡ getD s (at + 11) 0 → d .text .0 ≡ leAt w s (at + 12) → d .symbols ≡ leAt 2 s (at + 12 + w) → d ≡ alternativeHere w s at
+  unfolding alternativeHere spanIn
+  alternative-read d a b e f g h k = λ i. record { span = record { 0 = a i; 1 = b i }; attributes = e i; conditions = f i; action = g i; text = record { 0 = h i }; symbols = k i }
+
+pub ruleset whole-alternative = (needs, alternative-not, alternative-stands, alternative-read)
+
+-- d is whether the operands are defined
+module _ (n : ℕ) (a : Alternative) (d : Bool) (e : d ≡ alternativeDefined n a) where
+  pub alternative-undefined : (b : Bool) → not d ≡ true → false ≡ (alternativeDefined n a && b)
+  alternative-undefined b h = rw (← e, not-true d h)
+
+  module _ (four b : Bool) (h : not d ≡ false) where
+    pub alternative-unasked : not four ≡ true → true ≡ (alternativeDefined n a && pick four b true)
+    unfolding pick
+    alternative-unasked f = rw (← e, not-false d h, not-true four f)
+
+    pub alternative-asked : (r : Bool) → not four ≡ false → r ≡ b → r ≡ (alternativeDefined n a && pick four b true)
+    unfolding pick
+    alternative-asked r f p = rw (← e, not-false d h, not-false four f) p
+
+pub ruleset alternative-passing = (needs, alternative-undefined, alternative-unasked, alternative-asked)
+
+-- ---- `quick_alternative`
+and-left : (x y : Bool) → true ≡ (x && y) → x ≡ true
+and-left true y h = refl
+and-left false y h = sym h
+
+and-right : (x y : Bool) → true ≡ (x && y) → y ≡ true
+and-right true y h = sym h
+and-right false y h = absurd (false≢true (sym h))
+
+pub alternative-left : (s : List ℕ) (m : Atoms) (at : ℕ) → PassedAlternative s m at false
+alternative-left s m at = record { asked = λ h. absurd (false≢true h); room = λ h. absurd (false≢true h) }
+
+module _ (s : List ℕ) (m : Atoms) (at : ℕ) (o : Bool) (g : WholeAlternative (m .width) s at o) (h : not o ≡ false) where
+  pub alternative-room : at + (14 + m .width) ≤ length s
+  alternative-room = g .room (not-false o h)
+
+  pub alternative-passed : (a : Alternative) (r : Bool) → a ≡ alternativeHere (m .width) s at
+      → r ≡ (alternativeDefined (m .count) a && pick (m .four) (suits (atomsOf s (m .count)) (Node.Alternative a)) true) → PassedAlternative s m at r
+  unfolding classOf allowedAt table defined
+  alternative-passed a r q p =
+      let here : Node = Node.Alternative (alternativeHere (m .width) s at) in
+      let d : Bool = alternativeDefined (m .count) (alternativeHere (m .width) s at) in
+      let u : Bool = pick (m .four) (suits (atomsOf s (m .count)) here) true in
+      let both : r ≡ (d && u) =
+      p ∙ ap (λ (x : Alternative). alternativeDefined (m .count) x && pick (m .four) (suits (atomsOf s (m .count)) (Node.Alternative x)) true) q in
+      record {
+        asked = λ z.
+            asked-got (ask (m .four) (m .width) s (atomsOf s (m .count)) alternativesPlace 1 at) here (at + (14 + m .width))
+            (asked-is (m .four) s (m .width) (m .count) alternativesPlace 1 at here (sym (g .node (not-false o h))) 4 refl true refl refl
+            true (sym (and-left d u (sym z ∙ both))) refl (omega arith) true (sym (and-right d u (sym z ∙ both))) (14 + m .width) refl
+            (alternative-size (m .width) here (alternativeHere (m .width) s at) refl));
+        room = λ _. alternative-room;
+      }
+
+pub ruleset quick-alternative = (needs, alternative-left, alternative-room, alternative-passed)

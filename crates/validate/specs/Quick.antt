@@ -1,17 +1,19 @@
--- What a look at a symbol's bytes finds out. Assumes nothing: these are definitions.
+-- What a look at the bytes of a symbol, or of an alternative, finds out. Assumes nothing: these are definitions.
 use mathlib.Core.Path.{_≡_}
-use mathlib.Core.Bool.{true}
+use mathlib.Core.Bool.{Bool, true}
 use mathlib.Core.List.{List}
 use Prim.Native.Nat.{ℕ, _+_, _<_, _≤_}
 use lib.ListN.{length, getD}
 use Rattle.octets.specs.working.Choice.{pick}
-use Rattle.parse_tree.specs.working.Nodes.{symbolNodeAt, spanIn, sizeOf}
-use Rattle.parse_tree.specs.working.Places.{symbolsPlace}
+use Rattle.octets.specs.plain.Numbers.{leAt}
+use Rattle.parse_tree.specs.working.Nodes.{nodeAt, symbolNodeAt, spanIn, sizeOf}
+use Rattle.parse_tree.specs.working.Places.{alternativesPlace, symbolsPlace}
 use Rattle.parse_tree.specs.working.Questions.{symbolDefined, symbolSuits}
 use Rattle.parse_tree.specs.working.Operands.{insideOf}
 use Rattle.parse_tree.specs.plain.Reading.{got}
 use Rattle.parse_tree.specs.working.Decode.{ask}
 use Rattle.parse_tree.specs.declared.syntax.SymbolKind.{SymbolKind}
+use Rattle.parse_tree.specs.declared.syntax.Alternative.{Alternative}
 use Rattle.parse_tree.specs.declared.syntax.Node.{Node}
 use Rattle.texts.specs.Atoms.{atomsOf}
 use Rattle.validate.specs.declared.Atoms.{Atoms}
@@ -57,3 +59,24 @@ heldOf (Node.Attribute a) = 0
 heldOf (Node.Condition c) = 0
 heldOf (Node.Symbol s k) = heldIn k
 heldOf Node.Unknown = 0
+
+-- the alternative that the bytes at a place say
+unfoldable pub alternativeHere : ℕ → List ℕ → ℕ → Alternative
+alternativeHere w s at = record {
+  span = spanIn s (at + 1);
+  attributes = getD s (at + 9) 0;
+  conditions = getD s (at + 10) 0;
+  action = getD s (at + 11) 0;
+  text = record { 0 = leAt w s (at + 12) };
+  symbols = leAt 2 s (at + 12 + w);
+}
+
+-- where r holds, its command stands there whole
+pub record WholeAlternative (w : ℕ) (s : List ℕ) (at : ℕ) (r : Bool) : Type 0 where
+  pub node : r ≡ true → nodeAt w s at ≡ Node.Alternative (alternativeHere w s at)
+  pub room : r ≡ true → at + (14 + w) ≤ length s
+
+-- and passes 2, 3 and 4
+pub record PassedAlternative (s : List ℕ) (m : Atoms) (at : ℕ) (r : Bool) : Type 0 where
+  pub asked : r ≡ true → ask (m .four) (m .width) s (atomsOf s (m .count)) alternativesPlace 1 at ≡ got (Node.Alternative (alternativeHere (m .width) s at)) (at + (14 + m .width))
+  pub room : r ≡ true → at + (14 + m .width) ≤ length s

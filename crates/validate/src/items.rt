@@ -4,6 +4,8 @@ use crate::Atoms;
 use crate::Step;
 use crate::command::command;
 use crate::command::commands;
+use crate::quick::alternative_at;
+use crate::quick::quick_alternative;
 use crate::symbols::symbols;
 use octets::wide::from8;
 use octets::wide::from16;
@@ -42,6 +44,15 @@ fn alternative(tape: &[u8], work: &[u8], m: Atoms, at: usize) -> Step
     requires { ⌜ Ready (now tape) (now work) m ⌝ }
     ensures { λ r. ⌜ r ≡ stepOf (readAlternative (m .four) (m .width) (now (tape .entry)) (atomsOf (now (tape .entry)) (m .count)) at) ⌝ }
 {
+    if quick_alternative(tape, work, m, at) {
+        return alternative_parts(
+            tape,
+            work,
+            m,
+            alternative_at(tape, at, m.width),
+            at + (14 + m.width),
+        );
+    }
     match command(tape, work, m, ALTERNATIVES, 1, at) {
         Asked::Refused(why) => Step::Refused(why),
         Asked::Is(n, e) => {

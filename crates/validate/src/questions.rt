@@ -65,7 +65,7 @@ fn symbol_defined(k: SymbolKind, atoms: usize) -> bool
     }
 }
 
-fn alternative_defined(a: Alternative, atoms: usize) -> bool
+pub fn alternative_defined(a: Alternative, atoms: usize) -> bool
     ensures { λ r. ⌜ r ≡ alternativeDefined atoms a ⌝ }
 {
     if 1 < a.conditions {

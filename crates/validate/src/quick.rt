@@ -1,12 +1,18 @@
-// A symbol's command by its bytes alone: nothing is built. What is not found out here is left to `command`.
+// A symbol's command, or an alternative's, by its bytes: no node is built. What is not found out here is left to `command`.
 use crate::Atoms;
+use crate::questions::alternative_defined;
+use crate::suits::alternative_suits;
 use crate::suits::is_literal;
 use crate::suits::is_name;
 use octets::numbers::atom_at;
 use octets::numbers::u16_at;
+use octets::numbers::u32_at;
 use octets::wide::from8;
 use octets::wide::from16;
 use octets::wide::from32;
+use parse_tree::syntax::Alternative;
+use parse_tree::syntax::Atom;
+use parse_tree::syntax::Span;
 ghost use mathlib.Core.Path.{_≡_};
 ghost use mathlib.Core.Bool.{true, _&&_};
 ghost use mathlib.Core.List.{[]};
@@ -16,10 +22,11 @@ ghost use lib.ListN.{length, getD};
 ghost use Rattle.octets.specs.working.Choice.{pick};
 ghost use Rattle.parse_tree.specs.working.Nodes.{namedLeaf, symbolNodeAt};
 ghost use Rattle.parse_tree.specs.plain.Texts.{isName, isLiteral};
-ghost use Rattle.parse_tree.specs.working.Questions.{leafDefined, leafSuits};
+ghost use Rattle.parse_tree.specs.working.Questions.{alternativeDefined, leafDefined, leafSuits, suits};
+ghost use Rattle.parse_tree.specs.declared.syntax.Node.{Node};
 ghost use Rattle.texts.specs.Atoms.{atomsOf};
 ghost use Rattle.validate.specs.Steps.{Ready};
-ghost use Rattle.validate.specs.Quick.{Passing, Quick, heldOf};
+ghost use Rattle.validate.specs.Quick.{Passing, Quick, WholeAlternative, PassedAlternative, alternativeHere, heldOf};
 
 // Whether there is such an atom and, where question 4 is asked, its text is a name.
 fn names(tape: &[u8], work: &[u8], m: Atoms, k: u32) -> bool
@@ -153,4 +160,62 @@ pub fn held(tape: &[u8], at: usize, width: usize) -> usize
         return from16(u16_at(tape, at + 9));
     }
     1
+}
+
+// Whether the command at a place is an alternative, and whole.
+fn has_alternative(tape: &[u8], at: usize, width: usize) -> bool
+    requires { ⌜ width ≤ 3 ⌝ }
+    ensures { λ r. ⌜ WholeAlternative width (now (tape .entry)) at r ⌝ }
+{
+    if tape.len() <= at {
+        return false;
+    }
+    if tape.len() - at < 14 + width {
+        return false;
+    }
+    let c = tape[at];
+    if c == 18 {
+        return true;
+    }
+    false
+}
+
+// The alternative at a place where it is whole.
+pub fn alternative_at(tape: &[u8], at: usize, width: usize) -> Alternative
+    requires { ⌜ (2 ≤ width) × (width ≤ 3) × (at + (14 + width) ≤ length (now tape)) ⌝ }
+    ensures { λ r. ⌜ r ≡ alternativeHere width (now (tape .entry)) at ⌝ }
+{
+    Alternative {
+        span: Span(u32_at(tape, at + 1), u32_at(tape, at + 1 + 4)),
+        attributes: tape[at + 9],
+        conditions: tape[at + 10],
+        action: tape[at + 11],
+        text: Atom(atom_at(tape, at + 12, width)),
+        symbols: u16_at(tape, at + 12 + width),
+    }
+}
+
+// Whether an alternative passes 3 and 4.
+fn alternative_passes(tape: &[u8], work: &[u8], m: Atoms, a: Alternative) -> bool
+    requires { ⌜ Ready (now tape) (now work) m ⌝ }
+    ensures { λ r. ⌜ r ≡ (alternativeDefined (m .count) a && pick (m .four) (suits (atomsOf (now (tape .entry)) (m .count)) (Node.Alternative a)) true) ⌝ }
+{
+    if !alternative_defined(a, m.count) {
+        return false;
+    }
+    if !m.four {
+        return true;
+    }
+    alternative_suits(tape, work, m, a)
+}
+
+// Whether an alternative stands at a place that passes 2, 3 and 4; false where that is not found out here.
+pub fn quick_alternative(tape: &[u8], work: &[u8], m: Atoms, at: usize) -> bool
+    requires { ⌜ Ready (now tape) (now work) m ⌝ }
+    ensures { λ r. ⌜ PassedAlternative (now (tape .entry)) m at r ⌝ }
+{
+    if !has_alternative(tape, at, m.width) {
+        return false;
+    }
+    alternative_passes(tape, work, m, alternative_at(tape, at, m.width))
 }

@@ -87,7 +87,7 @@ fn symbol_suits(tape: &[u8], work: &[u8], m: Atoms, k: SymbolKind) -> bool
     }
 }
 
-fn alternative_suits(tape: &[u8], work: &[u8], m: Atoms, a: Alternative) -> bool
+pub fn alternative_suits(tape: &[u8], work: &[u8], m: Atoms, a: Alternative) -> bool
     requires { ⌜ Ready (now tape) (now work) m ⌝ }
     ensures { λ r. ⌜ r ≡ suits (atomsOf (now (tape .entry)) (m .count)) (Node.Alternative a) ⌝ }
 {
