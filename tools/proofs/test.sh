@@ -7,7 +7,7 @@
 set -euo pipefail
 
 plain_crate=notation plain_folder=words/find
-cycle_crate=validate cycle_folder=symbols/+symbol+symbols
+cycle_crate=validate cycle_folder=symbols/+symbol+symbols cycle_rules=walking
 # no function, as $! must be the script's own number
 remake=tools/proofs/remake_proof.py
 
@@ -45,10 +45,10 @@ age() {
     ! diff -q "$1" "before/$1" > /dev/null || fail "$1 could not be aged"
 }
 
-# made_again CRATE FOLDER
+# made_again CRATE FOLDER [RULES]: the rules answer the need that is missing
 made_again() {
     age "crates/$1/proofs/$2/Proof.antt"
-    $remake "$1" "$2" > said || fail "$1 $2: $(cat said)"
+    $remake "$@" > said || fail "$1 $2: $(cat said)"
     unchanged "$1 $2 is made again as it was"
 }
 
@@ -83,4 +83,4 @@ copy_repository
 made_again "$plain_crate" "$plain_folder"
 skeletons_name_no_places
 failures_keep_the_old_proof
-made_again "$cycle_crate" "$cycle_folder"
+made_again "$cycle_crate" "$cycle_folder" "$cycle_rules"
