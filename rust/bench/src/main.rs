@@ -107,9 +107,9 @@ fn line(name: &str, tape: &[u8]) -> [f64; 3] {
 
 /// Names that all fall into one bucket of the table of atoms.
 fn names() {
-    println!("\nNanoseconds for each of {} names of 24 letters.\n", tapes::NAMES);
+    println!("\nNanoseconds for each of {} names of {} letters.\n", tapes::NAMES, tapes::LENGTH);
     println!("| names | validating | resolving |\n|---|---|---|");
-    for (name, tape) in [("ordinary", tapes::names_of_many()), ("all of one hash", tapes::names_of_one_bucket())] {
+    for (name, tape) in [("ordinary", tapes::names_of_many()), ("all of one hash", tapes::names_of_one_hash())] {
         let [validating, resolving, _] = measure::least(&tape).map(|figure| figure / tapes::NAMES as f64);
         println!("| {name} | {validating:.0} | {resolving:.0} |");
     }

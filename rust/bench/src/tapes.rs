@@ -1,4 +1,5 @@
 //! Tapes made byte by byte: of symbols, atoms, items and arguments, up to any size, and of names that are hard on the table of atoms.
+use std::collections::HashMap;
 
 fn atom(tape: &mut Vec<u8>, text: &[u8]) {
     tape.push(0x01);
@@ -109,27 +110,49 @@ pub fn atoms(n: usize) -> Vec<u8> {
 }
 
 const BLOCKS: u32 = 12;
+const LETTERS: usize = 8;
+type Word = [u8; LETTERS];
 
-/// How many names `names_of_one_bucket` and `names_of_many` have.
+/// How many names `names_of_one_hash` and `names_of_many` have, and how many letters each.
 pub const NAMES: usize = 1 << BLOCKS;
+pub const LENGTH: usize = LETTERS * BLOCKS as usize;
 
-/// A tape of 4,096 names whose hashes are all the same: 31 × `A` + `a` is 31 × `B` + `B`, so that each pair of letters may be the one or the other.
-pub fn names_of_one_bucket() -> Vec<u8> {
-    names(|k, block| if k >> block & 1 == 0 { *b"Aa" } else { *b"BB" })
+/// A tape of 4,096 names whose hashes are all the same. The hash composes, so that of two words with one hash each may stand in the other's place.
+pub fn names_of_one_hash() -> Vec<u8> {
+    let alike = alike();
+    names(|k, block| alike[k >> block & 1])
 }
 
-/// A tape of as many names of the same lengths and of the same letters at their ends, whose hashes differ.
+/// A tape of as many names of the same length, whose hashes differ.
 pub fn names_of_many() -> Vec<u8> {
-    names(|k, block| if k >> block & 1 == 0 { *b"Aa" } else { *b"Bc" })
+    names(|k, block| word(k as u64 * u64::from(BLOCKS) + u64::from(block)))
 }
 
-fn names(pair: impl Fn(usize, u32) -> [u8; 2]) -> Vec<u8> {
+fn names(word: impl Fn(usize, u32) -> Word) -> Vec<u8> {
     let mut tape = Vec::new();
     for k in 0..NAMES {
-        let text: Vec<u8> = (0..BLOCKS).flat_map(|block| pair(k, block)).collect();
+        let text: Vec<u8> = (0..BLOCKS).flat_map(|block| word(k, block)).collect();
         atom(&mut tape, &text);
     }
     tape
+}
+
+/// Two words with one hash: the first that are met.
+fn alike() -> [Word; 2] {
+    let mut met = HashMap::new();
+    (0..).map(word).find_map(|word| met.insert(hash(&word), word).map(|before| [before, word])).expect("words without end")
+}
+
+/// The hash of crates/texts.
+fn hash(text: &[u8]) -> u32 {
+    text.iter().fold(0, |sum: u32, &byte| sum.wrapping_add(byte.into()).wrapping_mul(2_654_435_761))
+}
+
+/// A word of small letters that look drawn at random.
+fn word(k: u64) -> Word {
+    let mixed = (k + 1).wrapping_mul(0x9e37_79b9_7f4a_7c15);
+    let mixed = (mixed ^ mixed >> 31).wrapping_mul(0xbf58_476d_1ce4_e5b9);
+    std::array::from_fn(|place| b'a' + ((mixed >> (8 * place)) % 26) as u8)
 }
 
 #[cfg(test)]
@@ -137,16 +160,14 @@ mod tests {
     use super::*;
     use std::collections::HashSet;
 
-    /// The hashes of a tape of atoms, by the same sum as crates/texts.
+    /// The hashes of a tape of atoms.
     fn hashes(tape: &[u8]) -> HashSet<u32> {
-        let name = 3 + 2 * BLOCKS as usize;
-        let hash = |text: &[u8]| text.iter().fold(0u32, |sum, &byte| sum.wrapping_mul(31).wrapping_add(byte.into()));
-        tape.chunks(name).map(|atom| hash(&atom[3..])).collect()
+        tape.chunks(3 + LENGTH).map(|atom| hash(&atom[3..])).collect()
     }
 
     #[test]
     fn names_collide_as_said() {
-        assert_eq!(hashes(&names_of_one_bucket()).len(), 1);
+        assert_eq!(hashes(&names_of_one_hash()).len(), 1);
         assert_eq!(hashes(&names_of_many()).len(), NAMES);
     }
 }
