@@ -1,187 +1,74 @@
--- What is written of alternatives and items, and the tables afterwards. Assumes nothing: these are definitions.
+-- Items that stand in work, each resolved where it stands. Assumes nothing: these are definitions.
 use mathlib.Core.Path.{_≡_}
-use mathlib.Core.List.{List, [], _++_}
-use Prim.Native.Nat.{ℕ, zero, suc, _+_, _-_, _*_}
-use lib.Dec.{leb, eqb}
-use lib.ListN.{length, drop}
+use mathlib.Core.Bool.{Bool, true, false}
+use mathlib.Core.List.{List}
+use Prim.Native.Nat.{ℕ, zero, suc, _+_, _-_, _*_, _%_, _≤_, _<_}
+use lib.Dec.{leb, ltb, eqb}
+use lib.ListN.{getD}
 use Rattle.octets.specs.working.Choice.{pick}
-use Rattle.octets.specs.plain.Numbers.{le}
-use Rattle.octets.specs.plain.Runs.{part}
-use Rattle.octets.specs.working.Stores.{store}
-use Rattle.octets.specs.working.Sink.{adv, lay}
-use Rattle.parse_tree.specs.working.Nodes.{nodeAt, sizeOf}
-use Rattle.parse_tree.specs.working.Refusals.{refusalAt, refusalOver}
-use Rattle.parse_tree.specs.declared.refusal.Refusal.{Refusal}
-use Rattle.parse_tree.specs.declared.syntax.Span.{Span}
-use Rattle.parse_tree.specs.declared.syntax.NonterminalString.{NonterminalString}
-use Rattle.parse_tree.specs.declared.syntax.NonterminalData.{NonterminalData}
-use Rattle.parse_tree.specs.declared.syntax.Alternative.{Alternative}
-use Rattle.parse_tree.specs.declared.syntax.Condition.{Condition}
-use Rattle.parse_tree.specs.declared.syntax.Node.{Node}
-use Rattle.texts.specs.Entries.{entry}
-use Rattle.resolve.specs.declared.Scope.{Scope}
-use Rattle.resolve.specs.declared.Passed.{Passed}
-use Rattle.resolve.specs.declared.Verdict.{Verdict}
-use Rattle.resolve.specs.declared.Walked.{Walked}
-use Rattle.resolve.specs.Scopes.{base, tables}
-use Rattle.resolve.specs.Names.{conditionSays}
-use Rattle.resolve.specs.Walks.{Out, wrote, denied, prefix, many, astray, symOut}
-use Rattle.resolve.specs.Globals.{Kept}
+use Rattle.octets.specs.plain.Numbers.{leAt}
+use Rattle.parse_tree.specs.working.Nodes.{spanIn}
+use Rattle.texts.specs.declared.Map.{Map}
+use Rattle.resolve.specs.declared.Grammar.{Grammar}
+use Rattle.resolve.specs.Cells.{Room, knownAt, defineAt}
+use Rattle.resolve.specs.Commands.{Run, ran, stopped, runThen, runOut}
 
--- the place behind n commands
-unfoldable pub skipTo : ℕ → List ℕ → ℕ → ℕ → ℕ
-skipTo w s zero at = at
-skipTo w s (suc n) at = skipTo w s n (at + sizeOf w (nodeAt w s at))
+-- n bytes of work hold the records, the list of places, and the items with as much behind them as a command can have
+pub record Standing (m : Map) (t : Grammar) (n : ℕ) : Type 0 where
+  pub records : Room m n
+  pub listed : t .list + 8 * t .count ≤ n
+  pub ordered : t .at ≤ t .end
+  pub inside : 0 < t .count → t .end + 16 ≤ n
+  pub narrow : 2 ≤ t .width
+  pub wide : t .width ≤ 3
 
--- no command of the kind that is wanted: a tape that passed 2 to 4 has none such
-abbrev pub stray : Passed
-stray = Passed.Refused (refusalAt 2 0)
+-- the place of the i-th item, the end for the last and for any place behind it
+unfoldable pub placeIn : Grammar → List ℕ → ℕ → ℕ
+placeIn t w i = pick (leb (t .count) i) (t .end) (pick (ltb (t .end - t .at) (leAt 8 w (t .list + 8 * i))) (t .end) (t .at + leAt 8 w (t .list + 8 * i)))
 
--- ---- alternatives
-unfoldable pub passedBy : ℕ → Verdict → Passed
-passedBy e Verdict.Fine = Passed.Next e
-passedBy e (Verdict.Refused why) = Passed.Refused why
+-- ---- arguments: work with each marked, or one that was marked before
+pub data Marking : Type 0 where
+  marked : List ℕ → Marking
+  twice : Marking
 
-unfoldable pub conditionIn : (Condition → Passed) → Node → Passed
-conditionIn f (Node.Text k) = stray
-conditionIn f (Node.Nonterminal d) = stray
-conditionIn f (Node.Terminal t) = stray
-conditionIn f (Node.Argument a) = stray
-conditionIn f (Node.Alternative a) = stray
-conditionIn f (Node.Attribute a) = stray
-conditionIn f (Node.Condition c) = f c
-conditionIn f (Node.Symbol s k) = stray
-conditionIn f Node.Unknown = stray
+unfoldable pub marksOut : Map → ℕ → ℕ → List ℕ → ℕ → Marking
+marksOut m wd zero w at = marked w
+marksOut m wd (suc n) w at =
+    pick (leb 512 (knownAt m w (leAt wd w (at + 1)))) twice
+    (marksOut m wd n (defineAt m w (leAt wd w (at + 1)) (knownAt m w (leAt wd w (at + 1)) + 512)) (at + (1 + wd)))
 
-unfoldable pub alternativeIn : (Alternative → Out) → Node → Out
-alternativeIn f (Node.Text k) = astray
-alternativeIn f (Node.Nonterminal d) = astray
-alternativeIn f (Node.Terminal t) = astray
-alternativeIn f (Node.Argument a) = astray
-alternativeIn f (Node.Alternative a) = f a
-alternativeIn f (Node.Attribute a) = astray
-alternativeIn f (Node.Condition c) = astray
-alternativeIn f (Node.Symbol s k) = astray
-alternativeIn f Node.Unknown = astray
+unfoldable pub Marks : Marking → Bool → List ℕ → Type 0
+Marks (marked w) r w′ = (r ≡ true) × (w′ ≡ w)
+Marks twice r w′ = r ≡ false
 
-unfoldable pub passedThen : Passed → (ℕ → Out) → Out
-passedThen (Passed.Next e) f = f e
-passedThen (Passed.Refused why) f = denied why
+-- the marks taken away
+unfoldable pub unmarksOut : Map → ℕ → ℕ → List ℕ → ℕ → List ℕ
+unmarksOut m wd zero w at = w
+unmarksOut m wd (suc n) w at = unmarksOut m wd n (defineAt m w (leAt wd w (at + 1)) (knownAt m w (leAt wd w (at + 1)) % 512)) (at + (1 + wd))
 
-module _ (m : Scope) (t s : List ℕ) where
-  unfoldable pub conditionOut : ℕ → ℕ → Passed
-  conditionOut n at =
-      pick (eqb n 0) (Passed.Next at)
-      (conditionIn (λ c. passedBy (at + sizeOf (m .width) (nodeAt (m .width) s at)) (conditionSays m t c)) (nodeAt (m .width) s at))
+-- ---- items
+unfoldable pub markedThen : Marking → Run → (List ℕ → Run) → Run
+markedThen (marked w) x f = f w
+markedThen twice x f = x
 
-  unfoldable pub alternativeOut : ℕ → Out
-  alternativeOut at =
-      alternativeIn (λ a.
-      passedThen (conditionOut (a .conditions) (skipTo (m .width) s (a .attributes) (at + sizeOf (m .width) (nodeAt (m .width) s at)))) (λ p.
-      prefix (part at p s) (many (symOut m t s 64) (a .symbols) p)))
-      (nodeAt (m .width) s at)
+-- the n arguments stand at a, the commands behind them from p up to e; sp is the item's place
+unfoldable pub partsOut : Map → ℕ → List ℕ → ℕ → ℕ → ℕ → ℕ → ℕ → Run
+partsOut m wd w at n a p e =
+    markedThen (marksOut m wd n w a) (stopped 7 (spanIn w (at + 1))) (λ w₁.
+    runThen (runOut m wd e w₁ p e) (λ w₂.
+    ran (unmarksOut m wd n w₂ a)))
 
--- ---- arguments: the tables and the place behind, or a refusal
-pub data Stamped : Type 0 where
-  stamped : List ℕ → ℕ → Stamped
-  against : Refusal → Stamped
+-- the nonterminal from a place up to e; one whose arguments reach behind the items' end is none
+unfoldable pub itemOut : Map → Grammar → List ℕ → ℕ → ℕ → Run
+itemOut m t w at e =
+    let n = getD w (at + 10 + t .width) 0 in
+    let a = at + 13 + t .width in
+    pick (ltb (t .end) (a + n * (1 + t .width))) (ran w) (partsOut m (t .width) w at n a (a + n * (1 + t .width)) e)
 
-pub record Marked (m : Scope) (t : List ℕ) (e : ℕ) (w : List ℕ) (r : Passed) (w′ : List ℕ) : Type 0 where
-  pub answered : r ≡ Passed.Next e
-  pub kept : Kept m t w w′
-
-unfoldable pub Stamping : Scope → Stamped → List ℕ → Passed → List ℕ → Type 0
-Stamping m (stamped t e) w r w′ = Marked m t e w r w′
-Stamping m (against why) w r w′ = r ≡ Passed.Refused why
-
-abbrev pub lost : ℕ → Stamped
-lost q = against (refusalAt q 0)
-
-unfoldable pub argumentIn : (NonterminalString → Stamped) → Node → Stamped
-argumentIn f (Node.Text k) = lost 2
-argumentIn f (Node.Nonterminal d) = lost 2
-argumentIn f (Node.Terminal t) = lost 2
-argumentIn f (Node.Argument a) = f a
-argumentIn f (Node.Alternative a) = lost 2
-argumentIn f (Node.Attribute a) = lost 2
-argumentIn f (Node.Condition c) = lost 2
-argumentIn f (Node.Symbol s k) = lost 2
-argumentIn f Node.Unknown = lost 2
-
--- n arguments, marked one behind another; sp is the item's span
-unfoldable pub argumentsOut : Scope → List ℕ → Span → ℕ → List ℕ → ℕ → Stamped
-argumentsOut m s sp zero t at = stamped t at
-argumentsOut m s sp (suc n) t at =
-    argumentIn (λ a.
-    pick (leb (m .count) (a .0)) (lost 3)
-    (pick (eqb (entry t (m .room + m .room + a .0)) (m .first)) (against (refusalOver 7 sp))
-    (argumentsOut m s sp n (store t (8 * (m .room + m .room + a .0)) (le 8 (m .first))) (at + sizeOf (m .width) (nodeAt (m .width) s at)))))
-    (nodeAt (m .width) s at)
-
--- ---- items: the bytes written, the tables afterwards and the place to read on at; or a refusal
-pub data Put : Type 0 where
-  put : List ℕ → List ℕ → ℕ → Put
-  unput : Refusal → Put
-
--- what stands behind the tables, and the bytes laid there
-unfoldable pub behind : Scope → List ℕ → List ℕ
-behind m w = drop (base m) w
-
-pub record Laying (m : Scope) (xs t : List ℕ) (e : ℕ) (w : List ℕ) (to : ℕ) (r : Walked) (w′ : List ℕ) : Type 0 where
-  pub answered : r ≡ Walked.Next e (adv (m .lim) to (length xs))
-  pub tabled : tables m w′ ≡ t
-  pub bytes : behind m w′ ≡ lay (behind m w) (m .lim - base m) (to - base m) xs
-
-unfoldable pub PutOut : Scope → Put → List ℕ → ℕ → Walked → List ℕ → Type 0
-PutOut m (put xs t e) w to r w′ = Laying m xs t e w to r w′
-PutOut m (unput why) w to r w′ = r ≡ Walked.Refused why
-
--- an Out with tables that stay
-unfoldable pub putBy : List ℕ → Out → Put
-putBy t (wrote xs e) = put xs t e
-putBy t (denied why) = unput why
-
-unfoldable pub stampedThen : Stamped → (List ℕ → ℕ → Put) → Put
-stampedThen (stamped t e) f = f t e
-stampedThen (against why) f = unput why
-
-unfoldable pub prefixPut : List ℕ → Put → Put
-prefixPut xs (put ys t e) = put (xs ++ ys) t e
-prefixPut xs (unput why) = unput why
-
-unfoldable pub putThen : Put → (List ℕ → ℕ → Put) → Put
-putThen (put xs t e) f = prefixPut xs (f t e)
-putThen (unput why) f = unput why
-
--- with the arguments at another place
-unfoldable pub within : Scope → ℕ → Scope
-within m e = record { room = m .room; count = m .count; width = m .width; lim = m .lim; first = e }
-
-unfoldable pub dataOut : Scope → List ℕ → List ℕ → NonterminalData → ℕ → ℕ → Put
-dataOut m t s d at e =
-    stampedThen (argumentsOut m s (d .span) (d .args) t e) (λ t′ p.
-    putBy t′ (prefix (part at p s) (many (alternativeOut m t′ s) (d .alternatives) p)))
-
-abbrev pub putNothing : Put
-putNothing = unput (refusalAt 2 0)
-
-unfoldable pub itemIn : (NonterminalData → Put) → Put → Node → Put
-itemIn f x (Node.Text k) = putNothing
-itemIn f x (Node.Nonterminal d) = f d
-itemIn f x (Node.Terminal t) = x
-itemIn f x (Node.Argument a) = putNothing
-itemIn f x (Node.Alternative a) = putNothing
-itemIn f x (Node.Attribute a) = putNothing
-itemIn f x (Node.Condition c) = putNothing
-itemIn f x (Node.Symbol s k) = putNothing
-itemIn f x Node.Unknown = putNothing
-
-unfoldable pub itemOut : Scope → List ℕ → List ℕ → ℕ → Put
-itemOut m t s at =
-    let e = at + sizeOf (m .width) (nodeAt (m .width) s at) in
-    itemIn (λ d. dataOut (within m e) t s d at e) (put (part at e s) t e) (nodeAt (m .width) s at)
-
--- items to the tape's end; there are fewer than n, since each has a byte
-unfoldable pub itemsOut : Scope → List ℕ → ℕ → List ℕ → ℕ → Put
-itemsOut m s zero t at = put [] t at
-itemsOut m s (suc n) t at = pick (leb (length s) at) (put [] t at) (putThen (itemOut m t s at) (λ t′ e. pick (leb e at) putNothing (itemsOut m s n t′ e)))
+-- n items from the i-th on
+unfoldable pub itemsOut : Map → Grammar → ℕ → ℕ → List ℕ → Run
+itemsOut m t zero i w = ran w
+itemsOut m t (suc n) i w =
+    pick (eqb (getD w (placeIn t w i) 0) 16)
+    (runThen (itemOut m t w (placeIn t w i) (placeIn t w (i + 1))) (λ w′. itemsOut m t n (i + 1) w′))
+    (itemsOut m t n (i + 1) w)

@@ -1,53 +1,59 @@
--- What the pass says of a tape whose atoms and items were read: what `resolve` of the grammar's definitions says of its tree. Assumes nothing: these are definitions.
+-- What the pass says of items that stand in work: what `resolve` of the grammar's definitions says of their tree. Assumes nothing: these are definitions.
 use mathlib.Core.Path.{_≡_}
-use mathlib.Core.Bool.{true}
+use mathlib.Core.Bool.{Bool, true}
+use mathlib.Core.Logic.{_⊎_}
 use mathlib.Core.List.{List}
-use Prim.Native.Nat.{ℕ, _-_, _≤_}
-use lib.ListN.{length}
-use Rattle.octets.specs.plain.Runs.{part}
-use Rattle.octets.specs.working.Sink.{adv, lay}
-use Rattle.parse_tree.specs.plain.Tree.{Text, Item, Stage}
+use Prim.Native.Nat.{ℕ, _+_, _*_, _≤_, _<_}
+use lib.ListN.{length, take, getD}
+use Rattle.octets.specs.plain.Numbers.{leAt, Bytes}
+use Rattle.octets.specs.plain.Runs.{Lies}
+use Rattle.parse_tree.specs.plain.Tree.{Text, Item}
 use Rattle.parse_tree.specs.plain.Texts.{distinct}
-use Rattle.parse_tree.specs.plain.Reading.{Reading, got, refused}
-use Rattle.parse_tree.specs.working.Decode.{decode, readItems}
-use Rattle.parse_tree.specs.working.Encode.{stageBytes}
+use Rattle.parse_tree.specs.plain.WriteTape.{bytesOfEach}
+use Rattle.parse_tree.specs.working.Encode.{itemBytes}
 use Rattle.parse_tree.specs.working.Refusals.{refusalOver}
-use Rattle.texts.specs.Atoms.{atomsOf}
+use Rattle.parse_tree.specs.working.Within.{Each, ItemWithin}
+use Rattle.texts.specs.declared.Map.{Map}
+use Rattle.texts.specs.Fields.{cellAt}
 use Rattle.passes.specs.Outcome.{Outcome, yes, no}
 use Rattle.passes.specs.Resolve.{resolve}
-use Rattle.resolve.specs.declared.Scope.{Scope}
-use Rattle.resolve.specs.declared.Walked.{Walked}
-use Rattle.resolve.specs.Scopes.{Area, base}
-use Rattle.resolve.specs.Items.{Put, prefixPut, behind, itemsOut}
+use Rattle.resolve.specs.declared.Grammar.{Grammar}
+use Rattle.resolve.specs.declared.Verdict.{Verdict}
 
--- the tape holds these atoms, and items from a place on; the tree is written from `to` on
-pub record Resolving (s w : List ℕ) (m : Scope) (at to : ℕ) : Type 0 where
-  pub items : List Item
-  pub area : Area m to (length w)
-  pub inside : at ≤ length s
-  pub width : m .width ≡ 2
-  pub apart : distinct (atomsOf s (m .count)) ≡ true
-  pub read : readItems true 2 s (atomsOf s (m .count)) (length s) at ≡ got items (length s)
-  pub decoded : decode s ≡ got (record { atoms = atomsOf s (m .count); items = items }) (length s)
+-- two runs of bytes that share none
+abbrev pub Apart : ℕ → ℕ → ℕ → ℕ → Type 0
+Apart a b c d = (b ≤ c) ⊎ (d ≤ a)
 
--- the atoms, which stand before a place, then the items with tables t
-unfoldable pub treeOut : Scope → List ℕ → List ℕ → ℕ → Put
-treeOut m t s at = prefixPut (part 0 at s) (itemsOut m s (length s) t at)
+-- work w holds the items `is`, whose names are numbers in ts; their places are listed; nothing is known of a name yet
+pub record Holds (w : List ℕ) (m : Map) (t : Grammar) (ts : List Text) (is : List Item) : Type 0 where
+  pub four : Bool
+  pub bytes : Bytes w
+  pub lies : Lies w (t .at) (bytesOfEach (itemBytes (t .width) ts) is) (t .end)
+  pub within : Each (ItemWithin four (t .width) ts) is
+  pub many : t .count ≡ length is
+  pub places : (i : ℕ) → i < t .count → leAt 8 w (t .list + 8 * i) ≡ length (bytesOfEach (itemBytes (t .width) ts) (take i is))
+  pub distinct : distinct ts ≡ true
+  pub texts : m .count ≡ length ts
+  pub blank : (k : ℕ) → k < m .count → cellAt w (m .base) k ≡ 0
+  pub items-apart : Apart (t .at) (t .end) (m .base) (m .base + 24 * m .count)
+  pub list-apart : Apart (t .list) (t .list + 8 * t .count) (m .base) (m .base + 24 * m .count)
+  pub apart : Apart (t .at) (t .end) (t .list) (t .list + 8 * t .count)
 
--- xs is written to w from `to` on, as far as there is room, and nothing else is said of the tables
-pub record Written (m : Scope) (xs w : List ℕ) (to : ℕ) (r : Walked) (w′ : List ℕ) : Type 0 where
-  pub place : ℕ
-  pub answered : r ≡ Walked.Next place (adv (m .lim) to (length xs))
-  pub bytes : behind m w′ ≡ lay (behind m w) (m .lim - base m) (to - base m) xs
+-- a byte of work that is neither of an item nor of a text's cell
+pub record Free (m : Map) (t : Grammar) (i : ℕ) : Type 0 where
+  pub item : (i < t .at) ⊎ (t .end ≤ i)
+  pub cell : (k : ℕ) → k < m .count → (i < m .base + 24 * k + 20) ⊎ (m .base + 24 * k + 24 ≤ i)
 
--- a yes writes the tree's tape; a no gives the question's number and the span
-unfoldable pub Answers : Scope → List Text → Outcome (List Item) → List ℕ → ℕ → Walked → List ℕ → Type 0
-Answers m ts (yes R) w to r w′ = Written m (stageBytes 2 (record { atoms = ts; items = R })) w to r w′
-Answers m ts (no q p) w to r w′ = r ≡ Walked.Refused (refusalOver q p)
+-- from w to w′ the items became R, and nothing else changed but cells
+pub record Became (m : Map) (t : Grammar) (ts : List Text) (R : List Item) (w w′ : List ℕ) : Type 0 where
+  pub long : length w′ ≡ length w
+  pub lies : Lies w′ (t .at) (bytesOfEach (itemBytes (t .width) ts) R) (t .end)
+  pub others : (i : ℕ) → Free m t i → getD w′ i 0 ≡ getD w i 0
 
-unfoldable pub ResolvesRead : Scope → Reading Stage → List ℕ → ℕ → Walked → List ℕ → Type 0
-ResolvesRead m (got g e) w to r w′ = Answers m (g .atoms) (resolve (g .items)) w to r w′
-ResolvesRead m (refused q p) w to r w′ = Unit {0}
+-- a yes leaves the tree; a no gives the question's number and the span
+unfoldable pub Answers : Map → Grammar → List Text → Outcome (List Item) → List ℕ → Verdict → List ℕ → Type 0
+Answers m t ts (yes R) w r w′ = (r ≡ Verdict.Fine) × Became m t ts R w w′
+Answers m t ts (no q p) w r w′ = r ≡ Verdict.Refused (refusalOver q p)
 
-unfoldable pub Resolves : List ℕ → Scope → List ℕ → ℕ → Walked → List ℕ → Type 0
-Resolves s m w to r w′ = ResolvesRead m (decode s) w to r w′
+unfoldable pub Resolves : Map → Grammar → List ℕ → Verdict → List ℕ → Type 0
+Resolves m t w r w′ = (ts : List Text) (is : List Item) → Holds w m t ts is → Answers m t ts (resolve is) w r w′

@@ -1,139 +1,91 @@
-// The globals: nonterminals, then 30, then 31, each entered by the number of its name's atom. Questions 5 and 6.
-use crate::Def;
+// The globals: nonterminals, then 30, then 31, each entered in the cell of its name. Questions 5 and 6.
 use crate::Found;
-use crate::Global;
-use crate::Passed;
-use crate::Scope;
+use crate::Grammar;
 use crate::Verdict;
-use crate::scopes::by_code;
-use crate::scopes::code;
-use octets::runs::clear;
+use crate::cells::def;
+use crate::cells::define;
+use crate::commands::span_at;
+use crate::items::place;
+use octets::numbers::atom_at;
 use octets::wide::from8;
-use octets::wide::from32;
-use parse_tree::node::node;
 use parse_tree::refusal;
-use parse_tree::size::size;
-use parse_tree::syntax::Node;
-use parse_tree::syntax::Span;
-use texts::entries::get;
-use texts::entries::put;
+use texts::Map;
 ghost use mathlib.Core.Path.{_≡_};
-ghost use Prim.Native.Nat.{_≤_};
+ghost use Prim.Native.Nat.{_+_, _≤_, _<_};
 ghost use lib.ListN.{length};
-ghost use Rattle.resolve.specs.Scopes.{Tables, tables, codeOf};
-ghost use Rattle.resolve.specs.Globals.{Tabling, EnteringGlobals, describe, globalOf, declareOut, commandOut, scanOut, globalsOut};
+ghost use Rattle.resolve.specs.Cells.{Room};
+ghost use Rattle.resolve.specs.Commands.{Runs};
+ghost use Rattle.resolve.specs.Items.{Standing};
+ghost use Rattle.resolve.specs.Globals.{describe, declaredAt, declareOut, eachOut, globalsOut};
 
-// The tables of a tape's globals; the items stand from a place on. No atom is an argument yet.
-pub fn globals(tape: &[u8], work: &mut [u8], m: Scope, at: usize) -> Verdict
-    requires { ⌜ Tables m (length (now work)) × (at ≤ length (now tape)) ⌝ }
-    ensures { λ r. ⌜ Tabling m (globalsOut m (now (tape .entry)) (tables m (now (work .entry))) at) (now (work .entry)) r (now (work .exit)) ⌝ }
+// The kinds: terminal, nonterminal and macro.
+fn description(d: usize) -> usize
+    ensures { λ r. ⌜ r ≡ describe d ⌝ }
 {
-    let a = 8 * m.room;
-    let e = a + a + a;
-    clear(&mut work[a..e]);
-    match declare_each(tape, work, m, 0x10, at) {
-        Verdict::Refused(why) => Verdict::Refused(why),
-        Verdict::Fine => match declare_each(tape, work, m, 0x30, at) {
-            Verdict::Refused(why) => Verdict::Refused(why),
-            Verdict::Fine => declare_each(tape, work, m, 0x31, at),
-        },
+    if d < 3 {
+        return d;
     }
+    3
 }
 
-// All globals of this code: the commands from a place on, one behind another.
-fn declare_each(tape: &[u8], work: &mut [u8], m: Scope, which: u8, at: usize) -> Verdict
-    requires { ⌜ Tables m (length (now work)) × (at ≤ length (now tape)) ⌝ }
-    ensures { λ r. ⌜ Tabling m (scanOut m (now (tape .entry)) which (length (now (tape .entry))) (tables m (now (work .entry))) at) (now (work .entry)) r (now (work .exit)) ⌝ }
+// What the item at a place, whose code is c, defines its name to be.
+fn declared(work: &[u8], width: usize, at: usize, c: u8) -> usize
+    requires { ⌜ (2 ≤ width) × (width ≤ 3) × (at + 16 ≤ length (now work)) ⌝ }
+    ensures { λ r. ⌜ (r ≡ declaredAt width (now (work .entry)) at c) × (r < 4294967296) ⌝ }
 {
-    let mut p = at;
-    while p < tape.len() {
-        match declare_command(tape, work, m, which, p) {
-            Passed::Refused(why) => {
-                return Verdict::Refused(why);
-            }
-            Passed::Next(e) => {
-                if e <= p {
-                    return Verdict::Fine;
+    if c == 16 {
+        return from8(work[at + 10 + width]) + 2;
+    }
+    1
+}
+
+// Enters the global at a place, if its name is new.
+fn declare(work: &mut [u8], m: Map, width: usize, at: usize, d: usize) -> Verdict
+    requires { ⌜ Room m (length (now work)) × (2 ≤ width) × (width ≤ 3) × (at + 16 ≤ length (now work)) × (d < 4294967296) ⌝ }
+    ensures { λ r. ⌜ Runs (declareOut m width (now (work .entry)) at d) r (now (work .exit)) ⌝ }
+{
+    let id = atom_at(work, at + 9, width);
+    let Found::Is(old) = def(work, m, id) else {
+        define(work, m, id, d);
+        return Verdict::Fine;
+    };
+    if description(d) == description(old) {
+        return Verdict::Refused(refusal::over(5, span_at(work, at)));
+    }
+    Verdict::Refused(refusal::over(6, span_at(work, at)))
+}
+
+// All globals of this code.
+fn declare_each(work: &mut [u8], m: Map, t: Grammar, which: u8) -> Verdict
+    requires { ⌜ Standing m t (length (now work)) ⌝ }
+    ensures { λ r. ⌜ Runs (eachOut m t which (t .count) 0 (now (work .entry))) r (now (work .exit)) ⌝ }
+{
+    let mut i = 0;
+    while i < t.count {
+        let p = place(work, t, i);
+        if work[p] == which {
+            let d = declared(work, t.width, p, which);
+            match declare(work, m, t.width, p, d) {
+                Verdict::Refused(why) => {
+                    return Verdict::Refused(why);
                 }
-                p = e;
+                Verdict::Fine => {}
             }
         }
+        i += 1;
     }
     Verdict::Fine
 }
 
-// The command at a place, entered if it declares a global of this code.
-fn declare_command(tape: &[u8], work: &mut [u8], m: Scope, which: u8, at: usize) -> Passed
-    requires { ⌜ Tables m (length (now work)) ⌝ }
-    ensures { λ r. ⌜ EnteringGlobals m (commandOut m (tables m (now (work .entry))) (now (tape .entry)) which at) (now (work .entry)) r (now (work .exit)) ⌝ }
+pub fn globals(work: &mut [u8], m: Map, t: Grammar) -> Verdict
+    requires { ⌜ Standing m t (length (now work)) ⌝ }
+    ensures { λ r. ⌜ Runs (globalsOut m t (now (work .entry))) r (now (work .exit)) ⌝ }
 {
-    let n = node(tape, at, m.width);
-    let e = at + size(n, m.width);
-    let Global::Is(id, d, s) = global(n, which) else {
-        return Passed::Next(e);
-    };
-    match declare(work, m, id, d, s) {
-        Verdict::Fine => Passed::Next(e),
-        Verdict::Refused(why) => Passed::Refused(why),
-    }
-}
-
-// What a command declares, where commands of this code are asked.
-fn global(n: Node, which: u8) -> Global
-    ensures { λ r. ⌜ r ≡ globalOf which n ⌝ }
-{
-    match n {
-        Node::Nonterminal(d) => {
-            if which != 0x10 {
-                return Global::Nothing;
-            }
-            let name = d.name;
-            let s = d.span;
-            Global::Is(name.0, Def::Nonterminal(from8(d.args)), s)
-        }
-        Node::Terminal(t) => {
-            if which != t.source {
-                return Global::Nothing;
-            }
-            let name = t.name;
-            let s = t.span;
-            Global::Is(name.0, Def::Terminal, s)
-        }
-        _ => Global::Nothing,
-    }
-}
-
-// Enters a global, if its name is new.
-fn declare(work: &mut [u8], m: Scope, id: u32, d: Def, s: Span) -> Verdict
-    requires { ⌜ Tables m (length (now work)) × (codeOf d ≤ 257) ⌝ }
-    ensures { λ r. ⌜ Tabling m (declareOut m (tables m (now (work .entry))) id d s) (now (work .entry)) r (now (work .exit)) ⌝ }
-{
-    let k = from32(id);
-    if m.count <= k {
-        return Verdict::Fine;
-    }
-    let Found::Is(old) = by_code(get(work, m.room + k)) else {
-        put(work, m.room + k, code(d));
-        return Verdict::Fine;
-    };
-    if description(d) == description(old) {
-        return Verdict::Refused(refusal::over(5, s));
-    }
-    Verdict::Refused(refusal::over(6, s))
-}
-
-// The kinds: terminal, nonterminal, macro and macro argument.
-fn description(d: Def) -> u8
-    ensures { λ r. ⌜ r ≡ describe d ⌝ }
-{
-    match d {
-        Def::Terminal => 0,
-        Def::Nonterminal(n) => {
-            if 0 < n {
-                return 2;
-            }
-            1
-        }
-        Def::MacroArg => 3,
+    match declare_each(work, m, t, 0x10) {
+        Verdict::Refused(why) => Verdict::Refused(why),
+        Verdict::Fine => match declare_each(work, m, t, 0x30) {
+            Verdict::Refused(why) => Verdict::Refused(why),
+            Verdict::Fine => declare_each(work, m, t, 0x31),
+        },
     }
 }

@@ -1,50 +1,58 @@
-use lib.ListN.{length}
-use Prim.Native.Nat.{_-_}
-use Rattle.resolve.proofs.GlobalsCode.{Scanning, scanning}
 use Rattle.resolve.proofs.globals.declare_each.Statement.{statement}
 use Rattle.resolve.proofs.globals.declare_each.Tie as tie
+use Rattle.resolve.proofs.globals.declare_each.Reads as reads
+use Rattle.resolve.proofs.globals.declare_each.Lts as lts
+use Rattle.resolve.proofs.globals.declare.Reads as declare-reads
+use Rattle.resolve.proofs.globals.declared.Reads as declared-reads
+use Rattle.resolve.proofs.items.place.Reads as place-reads
 
 abbrev Inv-loop : tie.InvT-loop
-Inv-loop tape work₀ m which at p₀ work p = Scanning m tape work₀ which at work p
+Inv-loop work₀ m t which i₀ work i = ?
 
 abbrev μ-loop : tie.MeasureT-loop
-μ-loop tape work₀ m which at p₀ work p = length tape - p
+μ-loop work₀ m t which i₀ work i = ?
 
 loop-holds : tie.Need-loop-holds Inv-loop μ-loop
-loop-holds c = search scanning
+loop-holds c = ?
 
-declare-command-requires : tie.Need-declare-command-requires Inv-loop μ-loop
-declare-command-requires c κs = search scanning
+place-requires : tie.Need-place-requires Inv-loop μ-loop
+place-requires c κs = ?
+
+slice-read-if2 : tie.Need-slice-read-if2 Inv-loop μ-loop
+slice-read-if2 c = ?
+
+declared-requires : tie.Need-declared-requires Inv-loop μ-loop
+declared-requires c κs = ?
+
+declare-requires : tie.Need-declare-requires Inv-loop μ-loop
+declare-requires c κs = ?
 
 enum-known-why : tie.Need-enum-known-why Inv-loop μ-loop
-enum-known-why c = search scanning
+enum-known-why c = ?
 
 same-length : tie.Need-same-length Inv-loop μ-loop
-same-length c = search scanning
+same-length c = ?
 
 returns : tie.Need-returns Inv-loop μ-loop
-returns c = search scanning
+returns c = ?
 
-enum-known-e : tie.Need-enum-known-e Inv-loop μ-loop
-enum-known-e c = search scanning
+enum-told : tie.Need-enum-told Inv-loop μ-loop
+enum-told c = ?
 
-same-length-2 : tie.Need-same-length-2 Inv-loop μ-loop
-same-length-2 c = search scanning
-
-returns-2 : tie.Need-returns-2 Inv-loop μ-loop
-returns-2 c = search scanning
+add-i : tie.Need-add-i Inv-loop μ-loop
+add-i c = ?
 
 loop-less : tie.Need-loop-less Inv-loop μ-loop
-loop-less c = search scanning
+loop-less c = ?
 
 loop-again : tie.Need-loop-again Inv-loop μ-loop
-loop-again c = search scanning
+loop-again c = ?
 
-same-length-3 : tie.Need-same-length-3 Inv-loop μ-loop
-same-length-3 c = search scanning
+same-length-2 : tie.Need-same-length-2 Inv-loop μ-loop
+same-length-2 c = ?
 
-returns-3 : tie.Need-returns-3 Inv-loop μ-loop
-returns-3 c = search scanning
+returns-2 : tie.Need-returns-2 Inv-loop μ-loop
+returns-2 c = ?
 
 pub declare-each-spec : {M : Type 1} → statement M
 declare-each-spec =
@@ -53,14 +61,16 @@ declare-each-spec =
     Inv-loop
     μ-loop
     loop-holds
-    declare-command-requires
+    place-requires
+    slice-read-if2
+    declared-requires
+    declare-requires
     enum-known-why
     same-length
     returns
-    enum-known-e
-    same-length-2
-    returns-2
+    enum-told
+    add-i
     loop-less
     loop-again
-    same-length-3
-    returns-3)
+    same-length-2
+    returns-2)

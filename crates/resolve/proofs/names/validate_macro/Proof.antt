@@ -1,61 +1,34 @@
-use Rattle.resolve.proofs.NamesCode.{naming}
 use borrow.Author.Needs.{needs}
 use Rattle.resolve.proofs.names.validate_macro.Statement.{statement}
 use Rattle.resolve.proofs.names.validate_macro.Tie as tie
+use Rattle.resolve.proofs.names.validate_macro.Reads as reads
+use Rattle.resolve.proofs.names.validate_macro.Lts as lts
 
-validate-id-requires : tie.Need-validate-id-requires
-validate-id-requires c κs = search needs
+enum-known-f : tie.Need-enum-known-f
+enum-known-f c = search needs
 
-enum-known-why : tie.Need-enum-known-why
-enum-known-why c = search needs
-
-enum-known-d : tie.Need-enum-known-d
-enum-known-d c = search needs
-
-enum-known-d-2 : tie.Need-enum-known-d-2
-enum-known-d-2 c = search needs
-
-over-requires : tie.Need-over-requires
-over-requires c κs = search needs
+enum-told : tie.Need-enum-told
+enum-told c = search needs
 
 returns : tie.Need-returns
-returns c = search naming
-
-from8-requires : tie.Need-from8-requires
-from8-requires c κs = search needs
-
-over-requires-2 : tie.Need-over-requires-2
-over-requires-2 c κs = search needs
+returns c = ?
 
 returns-2 : tie.Need-returns-2
-returns-2 c = search naming
-
-over-requires-3 : tie.Need-over-requires-3
-over-requires-3 c κs = search needs
+returns-2 c = ?
 
 returns-3 : tie.Need-returns-3
-returns-3 c = search naming
+returns-3 c = ?
+
+sub-if3 : tie.Need-sub-if3
+sub-if3 c = search needs
 
 returns-4 : tie.Need-returns-4
-returns-4 c = search naming
+returns-4 c = ?
 
 returns-5 : tie.Need-returns-5
-returns-5 c = search naming
+returns-5 c = ?
 
 pub validate-macro-spec : {M : Type 1} → statement M
 validate-macro-spec =
     tie.close
-    (tie.spec
-    validate-id-requires
-    enum-known-why
-    enum-known-d
-    enum-known-d-2
-    over-requires
-    returns
-    from8-requires
-    over-requires-2
-    returns-2
-    over-requires-3
-    returns-3
-    returns-4
-    returns-5)
+    (tie.spec enum-known-f enum-told returns returns-2 returns-3 sub-if3 returns-4 returns-5)

@@ -1,61 +1,27 @@
-use Rattle.resolve.proofs.NamesCode.{naming}
 use borrow.Author.Needs.{needs}
 use Rattle.resolve.proofs.names.validate_nonterminal.Statement.{statement}
 use Rattle.resolve.proofs.names.validate_nonterminal.Tie as tie
+use Rattle.resolve.proofs.names.validate_nonterminal.Reads as reads
+use Rattle.resolve.proofs.names.validate_nonterminal.Lts as lts
 
-validate-id-requires : tie.Need-validate-id-requires
-validate-id-requires c κs = search needs
-
-enum-known-why : tie.Need-enum-known-why
-enum-known-why c = search needs
-
-enum-known-d : tie.Need-enum-known-d
-enum-known-d c = search needs
+enum-known-f : tie.Need-enum-known-f
+enum-known-f c = search needs
 
 enum-told : tie.Need-enum-told
 enum-told c = search needs
 
-over-requires : tie.Need-over-requires
-over-requires c κs = search needs
-
-enum-told-2 : tie.Need-enum-told-2
-enum-told-2 c = search needs
-
-enum-known-d-2 : tie.Need-enum-known-d-2
-enum-known-d-2 c = search needs
-
-over-requires-2 : tie.Need-over-requires-2
-over-requires-2 c κs = search needs
-
 returns : tie.Need-returns
-returns c = search naming
+returns c = ?
 
 returns-2 : tie.Need-returns-2
-returns-2 c = search naming
+returns-2 c = ?
 
 returns-3 : tie.Need-returns-3
-returns-3 c = search naming
+returns-3 c = ?
 
 returns-4 : tie.Need-returns-4
-returns-4 c = search naming
-
-returns-5 : tie.Need-returns-5
-returns-5 c = search naming
+returns-4 c = ?
 
 pub validate-nonterminal-spec : {M : Type 1} → statement M
 validate-nonterminal-spec =
-    tie.close
-    (tie.spec
-    validate-id-requires
-    enum-known-why
-    enum-known-d
-    enum-told
-    over-requires
-    enum-told-2
-    enum-known-d-2
-    over-requires-2
-    returns
-    returns-2
-    returns-3
-    returns-4
-    returns-5)
+    tie.close (tie.spec enum-known-f enum-told returns returns-2 returns-3 returns-4)
