@@ -1,1 +1,5 @@
 -- What the proofs of several functions use.
+pub mod CellsLaws
+pub mod GrammarLaws
+pub mod GlobalsTable
+pub mod GlobalsMean
