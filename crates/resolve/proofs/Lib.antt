@@ -1,1 +1,4 @@
 -- What the proofs of several functions use.
+mod CellsCode
+mod NamesCode
+mod CommandsCode

@@ -1,3 +1,4 @@
+use Rattle.resolve.proofs.CellsCode.{celling}
 use borrow.Author.Needs.{needs}
 use Rattle.resolve.proofs.cells.define.Statement.{statement}
 use Rattle.resolve.proofs.cells.define.Tie as tie
@@ -19,10 +20,10 @@ same-length : tie.Need-same-length
 same-length c = search needs
 
 returns : tie.Need-returns
-returns c = ?
+returns c = search celling
 
 returns-2 : tie.Need-returns-2
-returns-2 c = ?
+returns-2 c = search celling
 
 pub define-spec : {M : Type 1} → statement M
 define-spec =

@@ -1,3 +1,4 @@
+use Rattle.resolve.proofs.CellsCode.{celling}
 use borrow.Author.Needs.{needs}
 use Rattle.resolve.proofs.cells.known.Statement.{statement}
 use Rattle.resolve.proofs.cells.known.Tie as tie
@@ -10,7 +11,7 @@ from32-requires : tie.Need-from32-requires
 from32-requires c κs = search needs
 
 returns : tie.Need-returns
-returns c = ?
+returns c = (search celling, search needs)
 
 cell-requires : tie.Need-cell-requires
 cell-requires c κs = search needs
@@ -19,7 +20,7 @@ from32-requires-2 : tie.Need-from32-requires-2
 from32-requires-2 c κs = search needs
 
 returns-2 : tie.Need-returns-2
-returns-2 c = ?
+returns-2 c = (search celling, search needs)
 
 pub known-spec : {M : Type 1} → statement M
 known-spec = tie.close (tie.spec from32-requires returns cell-requires from32-requires-2 returns-2)

@@ -1,3 +1,4 @@
+use Rattle.resolve.proofs.CommandsCode.{asking}
 use borrow.Author.Needs.{needs}
 use Rattle.resolve.proofs.commands.asked.Statement.{statement}
 use Rattle.resolve.proofs.commands.asked.Tie as tie
@@ -24,7 +25,7 @@ rewrite-ambiguous-id-requires : tie.Need-rewrite-ambiguous-id-requires
 rewrite-ambiguous-id-requires c κs = search needs
 
 returns : tie.Need-returns
-returns c = ?
+returns c = search asking
 
 add-atom-at-2 : tie.Need-add-atom-at-2
 add-atom-at-2 c = search needs
@@ -39,7 +40,7 @@ validate-nonterminal-requires : tie.Need-validate-nonterminal-requires
 validate-nonterminal-requires c κs = search needs
 
 returns-2 : tie.Need-returns-2
-returns-2 c = ?
+returns-2 c = search asking
 
 add-atom-at-3 : tie.Need-add-atom-at-3
 add-atom-at-3 c = search needs
@@ -66,7 +67,7 @@ validate-macro-requires : tie.Need-validate-macro-requires
 validate-macro-requires c κs = search needs
 
 returns-3 : tie.Need-returns-3
-returns-3 c = ?
+returns-3 c = search asking
 
 add-atom-at-4 : tie.Need-add-atom-at-4
 add-atom-at-4 c = search needs
@@ -81,10 +82,10 @@ validate-condition-requires : tie.Need-validate-condition-requires
 validate-condition-requires c κs = search needs
 
 returns-4 : tie.Need-returns-4
-returns-4 c = ?
+returns-4 c = search asking
 
 returns-5 : tie.Need-returns-5
-returns-5 c = ?
+returns-5 c = search asking
 
 pub asked-spec : {M : Type 1} → statement M
 asked-spec =

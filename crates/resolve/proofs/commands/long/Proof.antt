@@ -1,3 +1,4 @@
+use Rattle.resolve.proofs.CommandsCode.{lengthening}
 use borrow.Author.Needs.{needs}
 use Rattle.resolve.proofs.commands.long.Statement.{statement}
 use Rattle.resolve.proofs.commands.long.Tie as tie
@@ -44,43 +45,43 @@ add-result-13 : tie.Need-add-result-13
 add-result-13 c = search needs
 
 returns : tie.Need-returns
-returns c = ?
+returns c = (search lengthening, search needs, search needs)
 
 returns-2 : tie.Need-returns-2
-returns-2 c = ?
+returns-2 c = (search lengthening, search needs, search needs)
 
 returns-3 : tie.Need-returns-3
-returns-3 c = ?
+returns-3 c = (search lengthening, search needs, search needs)
 
 returns-4 : tie.Need-returns-4
-returns-4 c = ?
+returns-4 c = (search lengthening, search needs, search needs)
 
 returns-5 : tie.Need-returns-5
-returns-5 c = ?
+returns-5 c = (search lengthening, search needs, search needs)
 
 returns-6 : tie.Need-returns-6
-returns-6 c = ?
+returns-6 c = (search lengthening, search needs, search needs)
 
 returns-7 : tie.Need-returns-7
-returns-7 c = ?
+returns-7 c = (search lengthening, search needs, search needs)
 
 returns-8 : tie.Need-returns-8
-returns-8 c = ?
+returns-8 c = (search lengthening, search needs, search needs)
 
 returns-9 : tie.Need-returns-9
-returns-9 c = ?
+returns-9 c = (search lengthening, search needs, search needs)
 
 returns-10 : tie.Need-returns-10
-returns-10 c = ?
+returns-10 c = (search lengthening, search needs, search needs)
 
 returns-11 : tie.Need-returns-11
-returns-11 c = ?
+returns-11 c = (search lengthening, search needs, search needs)
 
 returns-12 : tie.Need-returns-12
-returns-12 c = ?
+returns-12 c = (search lengthening, search needs, search needs)
 
 returns-13 : tie.Need-returns-13
-returns-13 c = ?
+returns-13 c = (search lengthening, search needs, search needs)
 
 pub long-spec : {M : Type 1} → statement M
 long-spec =

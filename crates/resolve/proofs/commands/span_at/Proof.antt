@@ -1,3 +1,4 @@
+use Rattle.resolve.proofs.CommandsCode.{spanning}
 use borrow.Author.Needs.{needs}
 use Rattle.resolve.proofs.commands.span_at.Statement.{statement}
 use Rattle.resolve.proofs.commands.span_at.Tie as tie
@@ -21,7 +22,7 @@ u32-at-requires-2 : tie.Need-u32-at-requires-2
 u32-at-requires-2 c κs = search needs
 
 returns : tie.Need-returns
-returns c = ?
+returns c = search spanning
 
 pub span-at-spec : {M : Type 1} → statement M
 span-at-spec =

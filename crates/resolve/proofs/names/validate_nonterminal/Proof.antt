@@ -1,3 +1,4 @@
+use Rattle.resolve.proofs.NamesCode.{naming}
 use borrow.Author.Needs.{needs}
 use Rattle.resolve.proofs.names.validate_nonterminal.Statement.{statement}
 use Rattle.resolve.proofs.names.validate_nonterminal.Tie as tie
@@ -11,16 +12,16 @@ enum-told : tie.Need-enum-told
 enum-told c = search needs
 
 returns : tie.Need-returns
-returns c = ?
+returns c = search naming
 
 returns-2 : tie.Need-returns-2
-returns-2 c = ?
+returns-2 c = search naming
 
 returns-3 : tie.Need-returns-3
-returns-3 c = ?
+returns-3 c = search naming
 
 returns-4 : tie.Need-returns-4
-returns-4 c = ?
+returns-4 c = search naming
 
 pub validate-nonterminal-spec : {M : Type 1} → statement M
 validate-nonterminal-spec =
