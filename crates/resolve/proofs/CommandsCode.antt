@@ -4,18 +4,20 @@ use mathlib.Core.List.{List}
 use Prim.Native.Nat.{ℕ, zero, suc, _+_, _-_, _≤_, _<_}
 use native.Mathlib.Omega.{arith}
 use borrow.Author.Needs.{needs}
-use borrow.Author.Tests.{lt-ltb, le-ltb, le-leb, lt-leb, eq-eqb, ne-eqb}
+use borrow.Author.Tests.{lt-ltb, le-ltb, le-leb, lt-leb, ne-eqb}
 use lib.ListN.{length, getD, set, length-set}
 use Rattle.octets.specs.working.Choice.{pick}
 use Rattle.octets.specs.plain.Numbers.{leAt}
-use Rattle.octets.proofs.ChoiceLaws.{tests}
 use Rattle.parse_tree.specs.working.Nodes.{spanIn}
+use Rattle.parse_tree.specs.working.Refusals.{refusalOver}
+use Rattle.parse_tree.specs.declared.refusal.Refusal.{Refusal}
 use Rattle.parse_tree.specs.declared.syntax.Span.{Span}
 use Rattle.texts.specs.declared.Map.{Map}
 use Rattle.resolve.specs.declared.Found.{Found}
-use Rattle.resolve.specs.Cells.{knownAt, foundBy}
+use Rattle.resolve.specs.declared.Verdict.{Verdict}
+use Rattle.resolve.specs.Cells.{Room, knownAt, foundBy}
 use Rattle.resolve.specs.Names.{conditionSays, nonterminalSays, macroSays, ambiguousSays}
-use Rattle.resolve.specs.Commands.{longOf, askedAt}
+use Rattle.resolve.specs.Commands.{longOf, askedAt, Run, ran, stopped, Runs, runOut}
 
 -- ---- span_at
 pub span-is : (w : List ℕ) (at x y : ℕ) → x ≡ leAt 4 w (at + 1) → y ≡ leAt 4 w (at + 1 + 4) → record { 0 = x; 1 = y } ≡ spanIn w (at + 1)
@@ -105,3 +107,91 @@ module _ (m : Map) (wd : ℕ) (w : List ℕ) (at c : ℕ) where
   asked-other a b d e = cc (ne-eqb c 32 a, ne-eqb c 36 b, ne-eqb c 37 d, ne-eqb c 20 e)
 
 pub ruleset asking = (needs, asked-ambiguous, asked-nonterminal, asked-macro, asked-condition, asked-other)
+
+-- ---- validate_commands
+runs-fine : (x : Run) (w : List ℕ) → x ≡ ran w → Runs x Verdict.Fine w
+unfolding Runs
+runs-fine x w e = rw e (refl, refl)
+
+runs-refused : (x : Run) (q : ℕ) (s : Span) (w : List ℕ) → x ≡ stopped q s → Runs x (Verdict.Refused (refusalOver q s)) w
+unfolding Runs
+runs-refused x q s w e = rw e refl
+
+-- with `fuel` commands to come at the most, the rest is what the whole is
+pub record Running (m : Map) (wd e at : ℕ) (w₀ w : List ℕ) (p : ℕ) : Type 0 where
+  pub room : Room m (length w)
+  pub narrow : 2 ≤ wd
+  pub wide : wd ≤ 3
+  pub inside : e + 16 ≤ length w
+  pub same : length w ≡ length w₀
+  pub fuel : ℕ
+  pub enough : e ≤ fuel + p
+  pub rest : runOut m wd fuel w p e ≡ runOut m wd e w₀ at e
+
+pub run-start : (m : Map) (wd e at : ℕ) (w : List ℕ) → Room m (length w) → 2 ≤ wd → wd ≤ 3 → e + 16 ≤ length w → Running m wd e at w w at
+run-start m wd e at w r n o i = record { room = r; narrow = n; wide = o; inside = i; same = refl; fuel = e; enough = omega arith; rest = refl }
+
+run-end : (m : Map) (wd n : ℕ) (w : List ℕ) (p e : ℕ) → e ≤ p → runOut m wd n w p e ≡ ran w
+unfolding runOut pick
+run-end m wd zero w p e h = refl
+run-end m wd (suc n) w p e h = cc (le-leb e p h)
+
+module _ (m : Map) (wd e at : ℕ) (w₀ w : List ℕ) (p : ℕ) (g : Running m wd e at w₀ w p) where
+  pub run-done : e ≤ p → Runs (runOut m wd e w₀ at e) Verdict.Fine w
+  run-done h = runs-fine _ w (sym (g .rest) ∙ run-end m wd (g .fuel) w p e h)
+
+  module _ (h : p < e) (c : ℕ) (i : c ≡ getD w p 0) (q : ℕ) (j : q ≡ askedAt m wd w p c) where
+    abbrev left : ℕ
+    left = g .fuel - 1
+
+    opened : runOut m wd (g .fuel) w p e ≡ runOut m wd (suc left) w p e
+    opened = let z : g .fuel ≡ suc left = omega (arith, g .enough) in ap (λ (n : ℕ). runOut m wd n w p e) z
+
+    asked-is : askedAt m wd w p (getD w p 0) ≡ q
+    asked-is = cc
+
+    asked-next : q ≡ 0 → (l : ℕ) → l ≡ longOf wd c → runOut m wd (suc left) w p e ≡ runOut m wd left w (p + l) e
+    unfolding runOut pick
+    asked-next z l k = cc (lt-leb e p h, asked-is)
+
+    pub run-next : q ≡ 0 → (l : ℕ) → l ≡ longOf wd c → 0 < l → Running m wd e at w₀ w (p + l)
+    run-next z l k o = record {
+      room = g .room;
+      narrow = g .narrow;
+      wide = g .wide;
+      inside = g .inside;
+      same = g .same;
+      fuel = left;
+      enough = omega (arith, g .enough);
+      rest = sym (asked-next z l k) ∙ sym opened ∙ g .rest;
+    }
+
+    asked-stop : (q ≡ 0 → ⊥) → q < 32 → runOut m wd (suc left) w p e ≡ stopped q (spanIn w (p + 1))
+    unfolding runOut pick
+    asked-stop z l = cc (lt-leb e p h, asked-is, ne-eqb q 0 z, lt-ltb q 32 l)
+
+    pub run-refused : (q ≡ 0 → ⊥) → q < 32 → (n : ℕ) → n ≡ q → (s : Span) → s ≡ spanIn w (p + 1) → (why : Refusal) → why ≡ refusalOver n s → (w′ : List ℕ)
+        → Runs (runOut m wd e w₀ at e) (Verdict.Refused why) w′
+    run-refused z l n k s o why u w′ =
+        let v : why ≡ refusalOver q (spanIn w (p + 1)) = cc in
+        rw v (runs-refused _ q (spanIn w (p + 1)) w′ (sym (g .rest) ∙ opened ∙ asked-stop z l))
+
+    asked-rewritten : (q ≡ 0 → ⊥) → 32 ≤ q → runOut m wd (suc left) w p e ≡ runOut m wd left (set w p q) (p + (9 + wd)) e
+    unfolding runOut pick
+    asked-rewritten z l = cc (lt-leb e p h, asked-is, ne-eqb q 0 z, le-ltb q 32 l)
+
+    pub run-rewritten : (q ≡ 0 → ⊥) → 32 ≤ q → Running m wd e at w₀ (set w p q) (p + (9 + wd))
+    run-rewritten z l =
+        let k = length-set w p q in
+        record {
+          room = rw k (g .room);
+          narrow = g .narrow;
+          wide = g .wide;
+          inside = rw k (g .inside);
+          same = k ∙ g .same;
+          fuel = left;
+          enough = omega (arith, g .enough);
+          rest = sym (asked-rewritten z l) ∙ sym opened ∙ g .rest;
+        }
+
+pub ruleset running = (needs, run-start, run-done, run-next, run-refused, run-rewritten)
