@@ -17,7 +17,7 @@ use Rattle.resolve.specs.declared.Found.{Found}
 use Rattle.resolve.specs.declared.Verdict.{Verdict}
 use Rattle.resolve.specs.Cells.{Room, knownAt, foundBy}
 use Rattle.resolve.specs.Names.{conditionSays, nonterminalSays, macroSays, ambiguousSays}
-use Rattle.resolve.specs.Commands.{longOf, askedAt, Run, ran, stopped, Runs, runOut}
+use Rattle.resolve.specs.Commands.{longOf, askedAt, Run, ran, stopped, runThen, Runs, runOut}
 
 -- ---- span_at
 pub span-is : (w : List ℕ) (at x y : ℕ) → x ≡ leAt 4 w (at + 1) → y ≡ leAt 4 w (at + 1 + 4) → record { 0 = x; 1 = y } ≡ spanIn w (at + 1)
@@ -108,15 +108,29 @@ module _ (m : Map) (wd : ℕ) (w : List ℕ) (at c : ℕ) where
 
 pub ruleset asking = (needs, asked-ambiguous, asked-nonterminal, asked-macro, asked-condition, asked-other)
 
--- ---- validate_commands
-runs-fine : (x : Run) (w : List ℕ) → x ≡ ran w → Runs x Verdict.Fine w
+-- ---- runs
+pub runs-fine : (x : Run) (w : List ℕ) → x ≡ ran w → Runs x Verdict.Fine w
 unfolding Runs
 runs-fine x w e = rw e (refl, refl)
 
-runs-refused : (x : Run) (q : ℕ) (s : Span) (w : List ℕ) → x ≡ stopped q s → Runs x (Verdict.Refused (refusalOver q s)) w
+pub runs-refused : (x : Run) (q : ℕ) (s : Span) (w : List ℕ) → x ≡ stopped q s → Runs x (Verdict.Refused (refusalOver q s)) w
 unfolding Runs
 runs-refused x q s w e = rw e refl
 
+fine-not : {why : Refusal} → Verdict.Fine ≡ Verdict.Refused why → ⊥
+fine-not {why} e = let z : _≡_ {A = ℕ} 0 1 = cc in omega arith
+
+pub then-refused : (x : Run) (f : List ℕ → Run) (why : Refusal) (w w′ : List ℕ) → Runs x (Verdict.Refused why) w → Runs (runThen x f) (Verdict.Refused why) w′
+unfolding Runs runThen
+then-refused (ran v) f why w w′ h = absurd (fine-not (sym (h .0)))
+then-refused (stopped q s) f why w w′ h = h
+
+pub then-fine : (x : Run) (f : List ℕ → Run) (w : List ℕ) → Runs x Verdict.Fine w → runThen x f ≡ f w
+unfolding Runs runThen
+then-fine (ran v) f w h = ap f (sym (h .1))
+then-fine (stopped q s) f w h = absurd (fine-not h)
+
+-- ---- validate_commands
 -- with `fuel` commands to come at the most, the rest is what the whole is
 pub record Running (m : Map) (wd e at : ℕ) (w₀ w : List ℕ) (p : ℕ) : Type 0 where
   pub room : Room m (length w)

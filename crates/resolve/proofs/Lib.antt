@@ -2,3 +2,4 @@
 mod CellsCode
 mod NamesCode
 mod CommandsCode
+mod ItemsCode

@@ -40,11 +40,11 @@ add-p-2 c = ?
 returns : tie.Need-returns
 returns c = ?
 
-validate-macro-args-requires : tie.Need-validate-macro-args-requires
-validate-macro-args-requires c κs = ?
-
 span-at-requires : tie.Need-span-at-requires
 span-at-requires c κs = search needs
+
+validate-macro-args-requires : tie.Need-validate-macro-args-requires
+validate-macro-args-requires c κs = ?
 
 over-requires : tie.Need-over-requires
 over-requires c κs = search needs
@@ -93,8 +93,8 @@ validate-item-spec =
     mul-p
     add-p-2
     returns
-    validate-macro-args-requires
     span-at-requires
+    validate-macro-args-requires
     over-requires
     same-length
     returns-2
