@@ -1,22 +1,29 @@
 -- Items: the ways out of place, of the walks over arguments, of validate_item and validate. Assumes nothing.
 use mathlib.Core.Path.{_≡_, refl, sym, ap, _∙_}
-use mathlib.Core.Bool.{Bool, true, false}
+use mathlib.Core.Bool.{Bool, true, false, not, false≢true}
 use mathlib.Core.List.{List}
 use Prim.Native.Nat.{ℕ, zero, suc, _+_, _-_, _*_, _%_, _^_, _≤_, _<_}
 use native.Mathlib.Omega.{arith}
-use native.Mathlib.Nat.{suc-mul}
+use native.Mathlib.Nat.{suc-mul, mul-le-mul}
 use borrow.Author.Needs.{needs}
-use borrow.Author.Tests.{lt-ltb, le-ltb, le-leb, lt-leb}
+use borrow.Author.Tests.{lt-ltb, le-ltb, le-leb, lt-leb, ne-eqb, not-true, not-false}
 use mir.Syntax.{w64}
 use mir.Val.{Fits}
 use lib.ListN.{length, getD}
 use Rattle.octets.specs.working.Choice.{pick}
 use Rattle.octets.specs.plain.Numbers.{leAt}
+use Rattle.parse_tree.specs.working.Nodes.{spanIn}
+use Rattle.parse_tree.specs.working.Refusals.{refusalOver}
+use Rattle.parse_tree.specs.declared.refusal.Refusal.{Refusal}
+use Rattle.parse_tree.specs.declared.syntax.Span.{Span}
 use Rattle.texts.specs.declared.Map.{Map}
 use Rattle.resolve.specs.declared.Grammar.{Grammar}
 use Rattle.resolve.specs.Cells.{Room, knownAt, defineAt}
-use Rattle.resolve.specs.Items.{placeIn, Marking, marked, twice, marksOut, Marks, unmarksOut}
+use Rattle.resolve.specs.declared.Verdict.{Verdict}
+use Rattle.resolve.specs.Commands.{ran, stopped, runThen, Runs, runOut}
+use Rattle.resolve.specs.Items.{Standing, placeIn, Marking, marked, twice, marksOut, Marks, unmarksOut, markedThen, partsOut, itemOut, itemsOut}
 use Rattle.resolve.proofs.CellsCode.{length-define}
+use Rattle.resolve.proofs.CommandsCode.{runs-fine, runs-refused, then-refused, then-fine}
 
 -- ---- place
 module _ (t : Grammar) (w : List ℕ) (i : ℕ) where
@@ -145,3 +152,145 @@ unmark-next m wd n at w₀ w p k g h id i d j w′ e = record {
 }
 
 pub ruleset unmarking = (needs, argument-inside, argument-fits, argument-ends, unmark-start, unmark-done, unmark-next)
+
+-- ---- validate_item
+module _ (m : Map) (t : Grammar) (n : ℕ) (g : Standing m t n) where
+  pub width-narrow : 2 ≤ t .width
+  width-narrow = g .narrow
+
+  pub width-wide : t .width ≤ 3
+  width-wide = g .wide
+
+marked-from : (x : Marking) (r : Bool) (w : List ℕ) → Marks x r w → r ≡ true → x ≡ marked w
+unfolding Marks
+marked-from (marked v) r w h e = ap marked (sym (h .1))
+marked-from twice r w h e = absurd (false≢true (sym h ∙ e))
+
+twice-from : (x : Marking) (r : Bool) (w : List ℕ) → Marks x r w → r ≡ false → x ≡ twice
+unfolding Marks
+twice-from (marked v) r w h e = absurd (false≢true (sym e ∙ h .0))
+twice-from twice r w h e = refl
+
+few : (n wd : ℕ) → n < 256 → wd ≤ 3 → n * (1 + wd) ≤ 1020
+few n wd a b = mul-le-mul {n₁ = n} {m₁ = 1 + wd} {n₂ = 255} {m₂ = 4} (omega arith) (omega arith)
+
+pub item-times : (n wd : ℕ) → n < 256 → wd ≤ 3 → Fits w64 (n * (1 + wd))
+item-times n wd a b = record { fits = omega (arith, few n wd a b) }
+
+module _ (m : Map) (t : Grammar) (w : List ℕ) (g : Standing m t (length w)) where
+  pub item-fits : (n at : ℕ) → n < 256 → at + 16 ≤ length w → length w * 1 < 2 ^ 63 → Fits w64 (at + 13 + t .width + n * (1 + t .width))
+  item-fits n at a b l = record { fits = omega (arith, few n (t .width) a (g .wide), g .wide) }
+
+  -- w′ is work after some calls
+  module _ (w′ : List ℕ) (l : length w′ ≡ length w) where
+    pub item-room : Room m (length w′)
+    item-room = rw l (g .records)
+
+    module _ (h : 0 < t .count) (p : ℕ) (k : p ≤ t .end) where
+      pub item-inside : p ≤ length w′
+      item-inside = omega (arith, g .inside h)
+
+      pub item-behind : p + 16 ≤ length w′
+      item-behind = omega (arith, g .inside h)
+
+    -- and w″ after one more
+    module _ (w″ : List ℕ) (k : length w″ ≡ length w′) where
+      pub after-room : Room m (length w″)
+      after-room = rw k item-room
+
+      pub after-inside : 0 < t .count → (p : ℕ) → p ≤ t .end → p ≤ length w″
+      after-inside h p o = omega (arith, item-inside h p o)
+
+module _ (m : Map) (t : Grammar) (w : List ℕ) (at e n b : ℕ) (i : b ≡ getD w (at + 10 + t .width) 0) (j : n ≡ b) where
+  abbrev args : ℕ
+  args = at + 13 + t .width
+
+  pub item-none : t .end < at + 13 + t .width + n * (1 + t .width) → Runs (itemOut m t w at e) Verdict.Fine w
+  unfolding itemOut pick
+  item-none h = runs-fine _ w (cc (lt-ltb (t .end) (args + n * (1 + t .width)) h))
+
+  module _ (h : at + 13 + t .width + n * (1 + t .width) ≤ t .end) (r : Bool) (w1 : List ℕ) (k : Marks (marksOut m (t .width) n w (at + 13 + t .width)) r w1) where
+    parts : itemOut m t w at e ≡ partsOut m (t .width) w at n args (args + n * (1 + t .width)) e
+    unfolding itemOut pick
+    parts = cc (le-ltb (t .end) (args + n * (1 + t .width)) h)
+
+    pub item-twice : not r ≡ true → (s : Span) → s ≡ spanIn w (at + 1) → (why : Refusal) → why ≡ refusalOver 7 s → (w′ : List ℕ) → Runs (itemOut m t w at e) (Verdict.Refused why) w′
+    unfolding partsOut markedThen
+    item-twice x s o why u w′ =
+        let v : why ≡ refusalOver 7 (spanIn w (at + 1)) = cc in
+        let y = twice-from (marksOut m (t .width) n w args) r w1 k (not-true r x) in
+        rw v (runs-refused _ 7 (spanIn w (at + 1)) w′ (parts ∙ cc))
+
+    module _ (x : not r ≡ false) (v : Verdict) (w2 : List ℕ) (o : Runs (runOut m (t .width) e w1 (at + 13 + t .width + n * (1 + t .width)) e) v w2) where
+      going : itemOut m t w at e ≡ runThen (runOut m (t .width) e w1 (args + n * (1 + t .width)) e) (λ w₂. ran (unmarksOut m (t .width) n w₂ args))
+      unfolding partsOut markedThen
+      going = let y = marked-from (marksOut m (t .width) n w args) r w1 k (not-false r x) in parts ∙ cc
+
+      pub item-refused : (why : Refusal) → v ≡ Verdict.Refused why → (w′ : List ℕ) → Runs (itemOut m t w at e) (Verdict.Refused why) w′
+      item-refused why u w′ = rw going (then-refused _ _ why w2 w′ (rw u at o))
+
+      pub item-done : v ≡ Verdict.Fine → (w3 : List ℕ) → w3 ≡ unmarksOut m (t .width) n w2 (at + 13 + t .width) → Runs (itemOut m t w at e) Verdict.Fine w3
+      item-done u w3 z = runs-fine _ w3 (going ∙ then-fine _ _ w2 (rw u at o) ∙ ap ran (sym z))
+
+pub ruleset itemizing = (needs, item-times, item-fits, item-room, item-inside, item-behind, item-none, item-twice, item-refused, item-done)
+
+pub ruleset forgetting = (after-room, width-narrow, width-wide, after-inside)
+
+-- ---- validate
+-- the items from the i-th on leave what all leave
+pub record ItemsLeft (m : Map) (t : Grammar) (w₀ w : List ℕ) (i : ℕ) : Type 0 where
+  pub standing : Standing m t (length w)
+  pub same : length w ≡ length w₀
+  pub rest : itemsOut m t (t .count - i) i w ≡ itemsOut m t (t .count) 0 w₀
+
+pub items-start : (m : Map) (t : Grammar) (w : List ℕ) → Standing m t (length w) → ItemsLeft m t w w 0
+items-start m t w g = record { standing = g; same = refl; rest = ap (λ (n : ℕ). itemsOut m t n 0 w) (omega arith) }
+
+none-left : (m : Map) (t : Grammar) (n i : ℕ) (w : List ℕ) → n ≡ 0 → itemsOut m t n i w ≡ ran w
+unfolding itemsOut
+none-left m t n i w e = rw e refl
+
+module _ (m : Map) (t : Grammar) (w₀ w : List ℕ) (i : ℕ) (g : ItemsLeft m t w₀ w i) where
+  pub items-done : t .count ≤ i → Runs (itemsOut m t (t .count) 0 w₀) Verdict.Fine w
+  items-done h = runs-fine _ w (sym (g .rest) ∙ none-left m t (t .count - i) i w (omega arith))
+
+  module _ (h : i < t .count) where
+    pub items-fits : length w < 2 ^ 64 → Fits w64 (i + 1)
+    items-fits l = record { fits = omega (arith, g .standing .listed) }
+
+    pub items-some : 0 < t .count
+    items-some = omega arith
+
+    module _ (p : ℕ) (k : p ≤ t .end) where
+      pub items-read : p < length w
+      items-read = omega (arith, g .standing .inside items-some)
+
+      pub items-room : p + 16 ≤ length w
+      items-room = omega (arith, g .standing .inside items-some)
+
+    opened : itemsOut m t (t .count - i) i w ≡ itemsOut m t (suc (t .count - (i + 1))) i w
+    opened = ap (λ (n : ℕ). itemsOut m t n i w) (omega arith)
+
+    module _ (p : ℕ) (x : p ≡ placeIn t w i) where
+      items-kept : (w′ : List ℕ) → length w′ ≡ length w → itemsOut m t (suc (t .count - (i + 1))) i w ≡ itemsOut m t (t .count - (i + 1)) (i + 1) w′ → ItemsLeft m t w₀ w′ (i + 1)
+      items-kept w′ l e = record { standing = rw l (g .standing); same = l ∙ g .same; rest = sym e ∙ sym opened ∙ g .rest }
+
+      skipped : (getD w p 0 ≡ 16 → ⊥) → itemsOut m t (suc (t .count - (i + 1))) i w ≡ itemsOut m t (t .count - (i + 1)) (i + 1) w
+      unfolding itemsOut pick
+      skipped n = cc (ne-eqb (getD w p 0) 16 n)
+
+      pub items-skip : (getD w p 0 ≡ 16 → ⊥) → (w″ : List ℕ) → w″ ≡ w → ItemsLeft m t w₀ w″ (i + 1)
+      items-skip n w″ a = rw a (items-kept w refl (skipped n))
+
+      module _ (z : getD w p 0 ≡ 16) (e : ℕ) (q : e ≡ placeIn t w (i + 1)) (v : Verdict) (w′ : List ℕ) (o : Runs (itemOut m t w p e) v w′) where
+        one : itemsOut m t (suc (t .count - (i + 1))) i w ≡ runThen (itemOut m t w p e) (λ w″. itemsOut m t (t .count - (i + 1)) (i + 1) w″)
+        unfolding itemsOut pick
+        one = cc
+
+        pub items-refused : (why : Refusal) → v ≡ Verdict.Refused why → (w″ : List ℕ) → Runs (itemsOut m t (t .count) 0 w₀) (Verdict.Refused why) w″
+        items-refused why u w″ = rw (← g .rest, opened, one) (then-refused _ _ why w′ w″ (rw u at o))
+
+        pub items-next : v ≡ Verdict.Fine → length w′ ≡ length w → (w″ : List ℕ) → w″ ≡ w′ → ItemsLeft m t w₀ w″ (i + 1)
+        items-next u l w″ a = rw a (items-kept w′ l (one ∙ then-fine _ _ w′ (rw u at o)))
+
+pub ruleset iterating = (needs, items-start, items-done, items-fits, items-some, items-read, items-room, items-skip, items-refused, items-next)

@@ -1,3 +1,4 @@
+use Rattle.resolve.proofs.ItemsCode.{itemizing, forgetting}
 use borrow.Author.Needs.{needs}
 use Rattle.resolve.proofs.items.validate_item.Statement.{statement}
 use Rattle.resolve.proofs.items.validate_item.Tie as tie
@@ -32,19 +33,19 @@ add-p : tie.Need-add-p
 add-p c = search needs
 
 mul-p : tie.Need-mul-p
-mul-p c = ?
+mul-p c = search itemizing
 
 add-p-2 : tie.Need-add-p-2
-add-p-2 c = ?
+add-p-2 c = search itemizing
 
 returns : tie.Need-returns
-returns c = ?
+returns c = search itemizing
 
 span-at-requires : tie.Need-span-at-requires
 span-at-requires c κs = search needs
 
 validate-macro-args-requires : tie.Need-validate-macro-args-requires
-validate-macro-args-requires c κs = ?
+validate-macro-args-requires c κs = search itemizing
 
 over-requires : tie.Need-over-requires
 over-requires c κs = search needs
@@ -53,10 +54,10 @@ same-length : tie.Need-same-length
 same-length c = search needs
 
 returns-2 : tie.Need-returns-2
-returns-2 c = ?
+returns-2 c = search itemizing
 
 validate-commands-requires : tie.Need-validate-commands-requires
-validate-commands-requires c κs = ?
+validate-commands-requires c κs = search itemizing
 
 enum-known-why : tie.Need-enum-known-why
 enum-known-why c = search needs
@@ -65,19 +66,19 @@ enum-told : tie.Need-enum-told
 enum-told c = search needs
 
 forget-macro-args-requires : tie.Need-forget-macro-args-requires
-forget-macro-args-requires c κs = ?
+forget-macro-args-requires c κs = search forgetting
 
 same-length-2 : tie.Need-same-length-2
 same-length-2 c = search needs
 
 returns-3 : tie.Need-returns-3
-returns-3 c = ?
+returns-3 c = search itemizing
 
 same-length-3 : tie.Need-same-length-3
 same-length-3 c = search needs
 
 returns-4 : tie.Need-returns-4
-returns-4 c = ?
+returns-4 c = search itemizing
 
 pub validate-item-spec : {M : Type 1} → statement M
 validate-item-spec =
