@@ -3,3 +3,4 @@ mod CellsCode
 mod NamesCode
 mod CommandsCode
 mod ItemsCode
+mod GlobalsCode

@@ -12,7 +12,7 @@ use Rattle.resolve.proofs.Found.{the-type as found-type}
 use Rattle.resolve.specs.Names.{conditionSays, nonterminalSays, macroSays, ambiguousSays}
 
 -- ---- no definition
-is-nothing : (f : Found) → OneOf (1 ∷ []) (tagOf found-type f) → f ≡ Found.Nothing
+pub is-nothing : (f : Found) → OneOf (1 ∷ []) (tagOf found-type f) → f ≡ Found.Nothing
 is-nothing (Found.Is d) h = absurd (miss (1 ∷ []) 0 tt h)
 is-nothing Found.Nothing h = refl
 

@@ -1,3 +1,4 @@
+use Rattle.resolve.proofs.GlobalsCode.{entering}
 use borrow.Author.Needs.{needs}
 use Rattle.resolve.proofs.globals.declare.Statement.{statement}
 use Rattle.resolve.proofs.globals.declare.Tie as tie
@@ -32,7 +33,7 @@ same-length : tie.Need-same-length
 same-length c = search needs
 
 returns : tie.Need-returns
-returns c = ?
+returns c = search entering
 
 description-requires : tie.Need-description-requires
 description-requires c κs = search needs
@@ -50,7 +51,7 @@ same-length-2 : tie.Need-same-length-2
 same-length-2 c = search needs
 
 returns-2 : tie.Need-returns-2
-returns-2 c = ?
+returns-2 c = search entering
 
 span-at-requires-2 : tie.Need-span-at-requires-2
 span-at-requires-2 c κs = search needs
@@ -62,7 +63,7 @@ same-length-3 : tie.Need-same-length-3
 same-length-3 c = search needs
 
 returns-3 : tie.Need-returns-3
-returns-3 c = ?
+returns-3 c = search entering
 
 pub declare-spec : {M : Type 1} → statement M
 declare-spec =

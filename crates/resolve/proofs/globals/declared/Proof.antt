@@ -1,3 +1,4 @@
+use Rattle.resolve.proofs.GlobalsCode.{declaring}
 use borrow.Author.Needs.{needs}
 use Rattle.resolve.proofs.globals.declared.Statement.{statement}
 use Rattle.resolve.proofs.globals.declared.Tie as tie
@@ -21,10 +22,10 @@ add-result : tie.Need-add-result
 add-result c = search needs
 
 returns : tie.Need-returns
-returns c = ?
+returns c = (search declaring, search needs)
 
 returns-2 : tie.Need-returns-2
-returns-2 c = ?
+returns-2 c = (search declaring, search needs)
 
 pub declared-spec : {M : Type 1} → statement M
 declared-spec =
