@@ -1,8 +1,7 @@
 -- What is known of a name: the ways out of known, def and define. Assumes nothing.
-use mathlib.Core.Path.{_≡_, refl, ap, _∙_}
+use mathlib.Core.Path.{_≡_, refl}
 use mathlib.Core.List.{List}
 use Prim.Native.Nat.{ℕ, _+_, _*_, _≤_, _<_}
-use native.Mathlib.Omega.{arith}
 use borrow.Author.Needs.{needs}
 use borrow.Author.Tests.{le-leb, lt-leb, ne-eqb}
 use lib.ListN.{length}
@@ -14,7 +13,7 @@ use Rattle.octets.proofs.StoreLaws.{length-store}
 use Rattle.texts.specs.declared.Map.{Map}
 use Rattle.texts.specs.Fields.{cellAt}
 use Rattle.resolve.specs.declared.Found.{Found}
-use Rattle.resolve.specs.Cells.{Room, knownAt, foundBy, defineAt}
+use Rattle.resolve.specs.Cells.{knownAt, foundBy, defineAt}
 
 module _ (m : Map) (w : List ℕ) (id k : ℕ) (e : k ≡ id) where
   -- ---- known
@@ -35,10 +34,6 @@ module _ (m : Map) (w : List ℕ) (id k : ℕ) (e : k ≡ id) where
   unfolding defineAt pick
   define-none h d = cc (le-leb (m .count) k h)
 
--- a record's cell stands within the records
-pub cell-room : (m : Map) (k n : ℕ) → Room m n → k < m .count → m .base + 24 * k + 24 ≤ n
-cell-room m k n r h = omega arith
-
 -- ---- def
 pub def-nothing : (d x : ℕ) → d ≡ x → d ≡ 0 → Found.Nothing ≡ foundBy x
 unfolding foundBy pick
@@ -48,7 +43,7 @@ pub def-is : (d x : ℕ) → d ≡ x → (d ≡ 0 → ⊥) → Found.Is d ≡ fo
 unfolding foundBy pick
 def-is d x e h = cc (ne-eqb d 0 h)
 
-pub ruleset celling = (needs, known-none, known-is, define-is, define-none, cell-room, def-nothing, def-is)
+pub ruleset celling = (needs, known-none, known-is, define-is, define-none, def-nothing, def-is)
 
 -- ---- what a definition leaves
 pub length-define : (m : Map) (w : List ℕ) (k d : ℕ) → length (defineAt m w k d) ≡ length w

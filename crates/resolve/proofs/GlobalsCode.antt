@@ -22,8 +22,8 @@ use Rattle.texts.specs.declared.Map.{Map}
 use Rattle.resolve.specs.declared.Found.{Found}
 use Rattle.resolve.specs.declared.Grammar.{Grammar}
 use Rattle.resolve.specs.declared.Verdict.{Verdict}
-use Rattle.resolve.specs.Cells.{Room, knownAt, foundBy, defineAt}
-use Rattle.resolve.specs.Commands.{ran, stopped, runThen, Runs}
+use Rattle.resolve.specs.Cells.{knownAt, foundBy, defineAt}
+use Rattle.resolve.specs.Commands.{ran, runThen, Runs}
 use Rattle.resolve.specs.Items.{Standing, placeIn}
 use Rattle.resolve.specs.Globals.{describe, declaredAt, declareOut, eachOut, globalsOut}
 use Rattle.resolve.proofs.Found.{the-type as found-type}

@@ -20,7 +20,7 @@ use Rattle.texts.specs.declared.Map.{Map}
 use Rattle.resolve.specs.declared.Grammar.{Grammar}
 use Rattle.resolve.specs.Cells.{Room, knownAt, defineAt}
 use Rattle.resolve.specs.declared.Verdict.{Verdict}
-use Rattle.resolve.specs.Commands.{ran, stopped, runThen, Runs, runOut}
+use Rattle.resolve.specs.Commands.{ran, runThen, Runs, runOut}
 use Rattle.resolve.specs.Items.{Standing, placeIn, Marking, marked, twice, marksOut, Marks, unmarksOut, markedThen, partsOut, itemOut, itemsOut}
 use Rattle.resolve.proofs.CellsCode.{length-define}
 use Rattle.resolve.proofs.CommandsCode.{runs-fine, runs-refused, then-refused, then-fine}
@@ -258,7 +258,7 @@ module _ (m : Map) (t : Grammar) (w₀ w : List ℕ) (i : ℕ) (g : ItemsLeft m 
     pub items-fits : length w < 2 ^ 64 → Fits w64 (i + 1)
     items-fits l = record { fits = omega (arith, g .standing .listed) }
 
-    pub items-some : 0 < t .count
+    items-some : 0 < t .count
     items-some = omega arith
 
     module _ (p : ℕ) (k : p ≤ t .end) where
@@ -293,4 +293,4 @@ module _ (m : Map) (t : Grammar) (w₀ w : List ℕ) (i : ℕ) (g : ItemsLeft m 
         pub items-next : v ≡ Verdict.Fine → length w′ ≡ length w → (w″ : List ℕ) → w″ ≡ w′ → ItemsLeft m t w₀ w″ (i + 1)
         items-next u l w″ a = rw a (items-kept w′ l (one ∙ then-fine _ _ w′ (rw u at o)))
 
-pub ruleset iterating = (needs, items-start, items-done, items-fits, items-some, items-read, items-room, items-skip, items-refused, items-next)
+pub ruleset iterating = (needs, items-start, items-done, items-fits, items-read, items-room, items-skip, items-refused, items-next)
