@@ -255,9 +255,6 @@ module _ (m : Map) (t : Grammar) (w₀ w : List ℕ) (i : ℕ) (g : ItemsLeft m 
   items-done h = runs-fine _ w (sym (g .rest) ∙ none-left m t (t .count - i) i w (omega arith))
 
   module _ (h : i < t .count) where
-    pub items-fits : length w < 2 ^ 64 → Fits w64 (i + 1)
-    items-fits l = record { fits = omega (arith, g .standing .listed) }
-
     items-some : 0 < t .count
     items-some = omega arith
 
@@ -293,4 +290,4 @@ module _ (m : Map) (t : Grammar) (w₀ w : List ℕ) (i : ℕ) (g : ItemsLeft m 
         pub items-next : v ≡ Verdict.Fine → length w′ ≡ length w → (w″ : List ℕ) → w″ ≡ w′ → ItemsLeft m t w₀ w″ (i + 1)
         items-next u l w″ a = rw a (items-kept w′ l (one ∙ then-fine _ _ w′ (rw u at o)))
 
-pub ruleset iterating = (needs, items-start, items-done, items-fits, items-read, items-room, items-skip, items-refused, items-next)
+pub ruleset iterating = (needs, items-start, items-done, items-read, items-room, items-skip, items-refused, items-next)
