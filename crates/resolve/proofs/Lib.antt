@@ -1,5 +1,10 @@
 -- What the proofs of several functions use.
-pub mod CellsLaws
-pub mod GrammarLaws
-pub mod GlobalsTable
-pub mod GlobalsMean
+mod CellsCode
+mod NamesCode
+mod CommandsCode
+mod ItemsCode
+mod GlobalsCode
+mod CellsLaws
+mod GrammarLaws
+mod GlobalsTable
+mod GlobalsMean

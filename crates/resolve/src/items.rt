@@ -79,8 +79,9 @@ fn validate_item(work: &mut [u8], m: Map, t: Grammar, at: usize, e: usize) -> Ve
     if t.end < p {
         return Verdict::Fine;
     }
+    let span = span_at(work, at);
     if !validate_macro_args(work, m, t.width, n, a) {
-        return Verdict::Refused(refusal::over(7, span_at(work, at)));
+        return Verdict::Refused(refusal::over(7, span));
     }
     match validate_commands(work, m, t.width, p, e) {
         Verdict::Refused(why) => Verdict::Refused(why),
