@@ -8,3 +8,4 @@ mod CellsLaws
 mod GrammarLaws
 mod GlobalsTable
 mod GlobalsMean
+mod ArgumentsMean
