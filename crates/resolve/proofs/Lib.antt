@@ -1,1 +1,4 @@
 -- What the proofs of several functions use.
+-- What the definitions that follow the code mean on trees:
+mod NamesMean
+mod CommandsStep
