@@ -2,3 +2,4 @@
 -- What the definitions that follow the code mean on trees:
 mod NamesMean
 mod CommandsStep
+mod SymbolsMean
