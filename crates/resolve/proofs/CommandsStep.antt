@@ -23,7 +23,7 @@ use Rattle.parse_tree.specs.declared.syntax.SymbolKind.{SymbolKind}
 use Rattle.parse_tree.specs.declared.syntax.Node.{Node}
 use Rattle.parse_tree.proofs.SizeLaws.{length-span}
 use Rattle.parse_tree.proofs.NodeFits.{LeafFits, KindFits}
-use Rattle.parse_tree.proofs.FieldLaws.{byte-read, le-read-then, span-read, le-read-last}
+use Rattle.parse_tree.proofs.FieldLaws.{byte-read, le-read-then, span-read}
 use Rattle.passes.specs.Resolve.{Def, terminalDef, nonterminalDef, argumentDef}
 use Rattle.laws.specs.Names.{State, fine, refused, askAmbiguous, askNonterminal, askMacro, askLeaf, askOver, askKind}
 use Rattle.texts.specs.declared.Map.{Map}
@@ -78,9 +78,13 @@ module _ (m : Map) (wd e : ℕ) where
   turn w p c a h i j = enough m wd e (suc e) w p e (omega arith) (omega arith) ∙ simp (lt-leb e p h, i, j)
 
   -- a yes: on behind the command
-  pub goes : (w : List ℕ) (p c d : ℕ) → p < e → getD w p 0 ≡ c → askedAt m wd w p c ≡ 0 → d ≡ p + longOf wd c → upTo w p ≡ upTo w d
+  goes : (w : List ℕ) (p c d : ℕ) → p < e → getD w p 0 ≡ c → askedAt m wd w p c ≡ 0 → d ≡ p + longOf wd c → upTo w p ≡ upTo w d
   unfolding pick
   goes w p c d h i j z = turn w p c 0 h i j ∙ ap (upTo w) (sym z)
+
+  -- a command that is asked nothing
+  pub passes : (w : List ℕ) (p d c : ℕ) (ys : List ℕ) → p < e → askedAt m wd w p c ≡ 0 → longOf wd c ≡ 1 + length ys → Lies w p (c ∷ ys) d → upTo w p ≡ upTo w d
+  passes w p d c ys h j z l = goes w p c d h (lies-first w p c ys d l .1) j (omega (arith, l .end))
 
   -- a condition; its span is sp
   pub condition-step : (w : List ℕ) (p d v : ℕ) (sp : Span) → p < e → getD w p 0 ≡ 20 → spanIn w (p + 1) ≡ sp → leAt wd w (p + 9) ≡ v → d ≡ p + (10 + wd + wd)
@@ -130,10 +134,6 @@ module _ (m : Map) (wd e : ℕ) where
 
   -- where the cells say what `look` says
   module _ (look : ℕ → Option Def) (w : List ℕ) (sees : (k : ℕ) → meant (knownAt m w k) ≡ look k) (p d : ℕ) (h : p < e) (sp : Span) (f : SpanWithin sp) where
-    -- a code that is asked nothing
-    passes : (c : ℕ) (ys : List ℕ) → askedAt m wd w p c ≡ 0 → longOf wd c ≡ 1 + length ys → Lies w p (c ∷ ys) d → upTo w p ≡ upTo w d
-    passes c ys j z l = goes w p c d h (lies-first w p c ys d l .1) j (omega (arith, l .end))
-
     -- the code, the span and the name that are read there
     named : (c v : ℕ) (ys : List ℕ) → v < 256 ^ wd → Lies w p (c ∷ (spanBytes sp ++ (le wd v ++ ys))) d
         → (getD w p 0 ≡ c) × (spanIn w (p + 1) ≡ sp) × (meant (knownAt m w (leAt wd w (p + 9))) ≡ look v) × Lies w (p + 9 + wd) ys d
@@ -156,24 +156,24 @@ module _ (m : Map) (wd e : ℕ) where
     leaf-step (Leaf.AmbiguousId a) k l =
         let x = named-last 32 (a .0) k l in
         ambiguous-step w p d h sp (x .1) (look (a .0)) (x .0) (ambiguous-says (knownAt m w (leAt wd w (p + 9))) ∙ ap ambiguousCode (x .2)) (x .3)
-    leaf-step (Leaf.Bare a) k l = passes 33 _ refl (simp (length-append, length-span, length-le) (omega arith)) l
-    leaf-step (Leaf.Quoted a) k l = passes 34 _ refl (simp (length-append, length-span, length-le) (omega arith)) l
-    leaf-step (Leaf.Regex a) k l = passes 35 _ refl (simp (length-append, length-span, length-le) (omega arith)) l
+    leaf-step (Leaf.Bare a) k l = passes w p d 33 _ h refl (simp (length-append, length-span, length-le) (omega arith)) l
+    leaf-step (Leaf.Quoted a) k l = passes w p d 34 _ h refl (simp (length-append, length-span, length-le) (omega arith)) l
+    leaf-step (Leaf.Regex a) k l = passes w p d 35 _ h refl (simp (length-append, length-span, length-le) (omega arith)) l
     leaf-step (Leaf.Nonterminal a) k l =
         let x = named-last 36 (a .0) k l in
         nonterminal-step w p d h sp (x .1) (look (a .0)) (x .0) (nonterminal-says (knownAt m w (leAt wd w (p + 9))) ∙ ap nonterminalCode (x .2)) (x .3)
-    leaf-step Leaf.Lookahead k l = passes 42 _ refl (simp (length-append, length-span) (omega arith)) l
-    leaf-step Leaf.Lookbehind k l = passes 43 _ refl (simp (length-append, length-span) (omega arith)) l
-    leaf-step Leaf.Error k l = passes 44 _ refl (simp (length-append, length-span) (omega arith)) l
+    leaf-step Leaf.Lookahead k l = passes w p d 42 _ h refl (simp (length-append, length-span) (omega arith)) l
+    leaf-step Leaf.Lookbehind k l = passes w p d 43 _ h refl (simp (length-append, length-span) (omega arith)) l
+    leaf-step Leaf.Error k l = passes w p d 44 _ h refl (simp (length-append, length-span) (omega arith)) l
 
     pub symbol-step : (k : SymbolKind) → KindFits wd k → Lies w p (nodeBytes wd (Node.Symbol sp k)) d → upTo w p ≡ stateThen (askKind look w p sp k) (λ w′. upTo w′ d)
     unfolding nodeBytes symbolBytes askOver askedAt longOf pick
     symbol-step (SymbolKind.Leaf x) k l = leaf-step x k l
-    symbol-step (SymbolKind.Around (Around.Repeat op)) k l = passes 38 _ refl (simp (length-append, length-span) (omega arith)) l
-    symbol-step (SymbolKind.Around Around.Choose) k l = passes 39 _ refl (simp length-span (omega arith)) l
-    symbol-step (SymbolKind.Around (Around.Name n a)) k l = passes 40 _ refl (simp (length-append, length-span, length-le) (omega arith)) l
+    symbol-step (SymbolKind.Around (Around.Repeat op)) k l = passes w p d 38 _ h refl (simp (length-append, length-span) (omega arith)) l
+    symbol-step (SymbolKind.Around Around.Choose) k l = passes w p d 39 _ h refl (simp length-span (omega arith)) l
+    symbol-step (SymbolKind.Around (Around.Name n a)) k l = passes w p d 40 _ h refl (simp (length-append, length-span, length-le) (omega arith)) l
     symbol-step (SymbolKind.Over (Over.Macro a n)) k l =
         let x = named 37 (a .0) (n ∷ []) (k .0) l in
         let y = byte-read w d (p + 9 + wd) (p + 10 + wd) (omega arith) (x .3) in
         macro-step w p d h sp (x .1) n (look (a .0)) (x .0) (macro-says (knownAt m w (leAt wd w (p + 9))) (getD w (p + 9 + wd) 0) ∙ cc (y .0, x .2)) (omega (arith, y .1 .end))
-    symbol-step (SymbolKind.Over (Over.Group n)) k l = passes 41 _ refl (simp (length-append, length-span, length-le) (omega arith)) l
+    symbol-step (SymbolKind.Over (Over.Group n)) k l = passes w p d 41 _ h refl (simp (length-append, length-span, length-le) (omega arith)) l

@@ -3,3 +3,4 @@
 mod NamesMean
 mod CommandsStep
 mod SymbolsMean
+mod CommandsMean

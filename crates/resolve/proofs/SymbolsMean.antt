@@ -1,13 +1,13 @@
 -- The run over commands, at symbols: it asks each in prefix order, and goes on behind them. Assumes nothing.
 use mathlib.Core.Path.{_≡_, refl, sym, ap, _∙_}
-use mathlib.Core.Logic.{_⊎_, inl, inr}
+use mathlib.Core.Logic.{inl, inr}
 use mathlib.Core.Bool.{Bool, true, false}
 use mathlib.Core.List.{List, [], _∷_, _++_, append-assoc}
 use mathlib.Core.Option.{Option, none, some}
 use Prim.Native.Nat.{ℕ, zero, suc, _+_, _*_, _<_, _≤_}
 use native.Mathlib.Omega.{arith}
 use lib.Dec.{leb}
-use lib.ListN.{length, drop, getD, set, length-append}
+use lib.ListN.{length, getD, set}
 use lib.Seq.{set-getD}
 use borrow.Author.Tests.{leb-false}
 use Rattle.octets.specs.working.Choice.{pick}
@@ -23,7 +23,6 @@ use Rattle.parse_tree.specs.declared.syntax.Span.{Span}
 use Rattle.parse_tree.specs.declared.syntax.Leaf.{Leaf as LeafNode}
 use Rattle.parse_tree.specs.declared.syntax.Over.{Over as OverNode}
 use Rattle.parse_tree.specs.declared.syntax.SymbolKind.{SymbolKind}
-use Rattle.parse_tree.specs.declared.syntax.Node.{Node}
 use Rattle.passes.specs.Outcome.{Tree, Outcome, yes, no}
 use Rattle.passes.specs.Resolve.{Def, terminalDef, nonterminalDef, argumentDef, lookup, validateSymbols}
 use Rattle.laws.specs.Flat.{symNode, children, joined, nodes, nodesAll, foldSyms}
@@ -33,7 +32,7 @@ use Rattle.laws.proofs.Names.{Told, nonterminal-bytes, macro-bytes, ask-keeps, 
 use Rattle.texts.specs.declared.Map.{Map}
 use Rattle.texts.specs.Fields.{cellAt}
 use Rattle.resolve.specs.Cells.{knownAt}
-use Rattle.resolve.specs.Commands.{Run, stopped}
+use Rattle.resolve.specs.Commands.{stopped}
 use Rattle.resolve.specs.Whole.{Apart}
 use Rattle.resolve.proofs.NamesMean.{meant}
 use Rattle.resolve.proofs.CommandsStep.{upTo, stateThen, symbol-step}
