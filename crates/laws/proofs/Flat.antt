@@ -215,7 +215,7 @@ module _ (w : ℕ) {A : Type 0} (effect : A → ℕ → Node → A) (ts : List T
     abbrev pub Keeps : Type 0
     Keeps = (acc : A) (at : ℕ) (s : Span) (k : SymbolKind) → drop (at + sizeOf w (Node.Symbol s k)) (bytes (effect acc at (Node.Symbol s k))) ≡ drop (at + sizeOf w (Node.Symbol s k)) (bytes acc)
 
-    keeps-node : Keeps → (x : Sym) (acc : A) (at : ℕ) → drop (at + size x) (bytes (effect acc at (symNode ts x))) ≡ drop (at + size x) (bytes acc)
+    pub keeps-node : Keeps → (x : Sym) (acc : A) (at : ℕ) → drop (at + size x) (bytes (effect acc at (symNode ts x))) ≡ drop (at + size x) (bytes acc)
     unfolding symNode
     keeps-node h (leaf s l) acc at = h acc at s _
     keeps-node h (around s a x) acc at = h acc at s _

@@ -50,7 +50,7 @@ module _ (look : ℕ → Option Def) (w : ℕ) where
   ambiguous-keeps s at n sp (some (nonterminalDef (suc k))) h = refl
   ambiguous-keeps s at n sp (some argumentDef) h = drop-set-lt n s at 36 h
 
-  nonterminal-bytes : (s : List ℕ) (sp : Span) (d : Option Def) → bytesOf (askNonterminal s sp d) ≡ s
+  pub nonterminal-bytes : (s : List ℕ) (sp : Span) (d : Option Def) → bytesOf (askNonterminal s sp d) ≡ s
   unfolding askNonterminal
   nonterminal-bytes s sp none = refl
   nonterminal-bytes s sp (some terminalDef) = refl
@@ -58,7 +58,7 @@ module _ (look : ℕ → Option Def) (w : ℕ) where
   nonterminal-bytes s sp (some (nonterminalDef (suc k))) = refl
   nonterminal-bytes s sp (some argumentDef) = refl
 
-  macro-bytes : (s : List ℕ) (sp : Span) (k : ℕ) (d : Option Def) → bytesOf (askMacro s sp k d) ≡ s
+  pub macro-bytes : (s : List ℕ) (sp : Span) (k : ℕ) (d : Option Def) → bytesOf (askMacro s sp k d) ≡ s
   unfolding askMacro
   macro-bytes s sp k none = refl
   macro-bytes s sp k (some terminalDef) = refl
@@ -99,7 +99,7 @@ module _ (look : ℕ → Option Def) (w : ℕ) where
       stays (around sq a x) q sp s at = stays x q sp s _
       stays (over sq o xs) q sp s at = stay xs q sp s _
 
-      stay : (xs : Syms) (q : ℕ) (sp : Span) (s : List ℕ) (at : ℕ) → foldSyms w (askName look) ts xs (refused q sp s) at ≡ refused q sp s
+      pub stay : (xs : Syms) (q : ℕ) (sp : Span) (s : List ℕ) (at : ℕ) → foldSyms w (askName look) ts xs (refused q sp s) at ≡ refused q sp s
       stay nil q sp s at = refl
       stay (cons x xs) q sp s at = ap (λ (σ : State). foldSyms w (askName look) ts xs σ (at + length (symBytes w ts x))) (stays x q sp s at) ∙ stay xs q sp s _
 
@@ -160,7 +160,7 @@ module _ (look : ℕ → Option Def) (w : ℕ) where
       asked-over sp group k s = refl
 
       -- resolving keeps how many symbols there are
-      count-kept : (xs ys : Syms) → validateSymbols G ps xs ≡ yes ys → count ys ≡ count xs
+      pub count-kept : (xs ys : Syms) → validateSymbols G ps xs ≡ yes ys → count ys ≡ count xs
       unfolding validateSymbols count
       count-kept nil ys p = ap count (sym (yes-inj nil ys p))
       count-kept (cons x xs) ys p =

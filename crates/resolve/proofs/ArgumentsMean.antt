@@ -134,7 +134,8 @@ module _ (m : Map) (ts : List Text) where
         let v = defineAt m w (number ts x) (kn w x % 512) in
         let c = define-cellwise m w (number ts x) (kn w x % 512) in
         let b : Apart (a + (1 + wd)) e (m .base) (m .base + 24 * m .count) = later a e (m .base) (m .base + 24 * m .count) (1 + wd) o in
-        rw (q .0) (unmarks-are xs (u .1) v (a + (1 + wd)) e b (omega (arith, c .long)) (off-lies m w v c (a + (1 + wd)) e (bytesOfEach (argumentBytes wd ts) xs) b r (q .1)))
+        ap (λ (k : ℕ). unmarksOut m wd (length xs) (defineAt m w k (knownAt m w k % 512)) (a + (1 + wd))) (q .0)
+        ∙ unmarks-are xs (u .1) v (a + (1 + wd)) e b (omega (arith, c .long)) (off-lies m w v c (a + (1 + wd)) e (bytesOfEach (argumentBytes wd ts) xs) b r (q .1))
 
   -- ---- what is known then: H says which texts are marked
   abbrev pub Marked : List ℕ → (Text → Bool) → List ℕ → Type 0

@@ -1,4 +1,4 @@
--- What the proofs of several functions use.
+-- What the proofs of several functions use: NameCode of code, NameLaws of lists, NameMean of what the definitions that follow the code mean on trees.
 mod CellsCode
 mod NamesCode
 mod CommandsCode
@@ -9,3 +9,7 @@ mod GrammarLaws
 mod GlobalsTable
 mod GlobalsMean
 mod ArgumentsMean
+mod NamesMean
+mod CommandsStep
+mod SymbolsMean
+mod CommandsMean
