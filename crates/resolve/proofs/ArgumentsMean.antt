@@ -9,7 +9,7 @@ use borrow.Author.Tests.{le-leb, lt-leb, leb-true, leb-false, eqb-true, eqb-fals
 use lib.Dec.{leb, eqb}
 use lib.ListN.{length, getD}
 use Rattle.octets.specs.working.Choice.{pick}
-use Rattle.octets.specs.plain.Numbers.{leAt, le, Bytes}
+use Rattle.octets.specs.plain.Numbers.{leAt, le}
 use Rattle.octets.specs.plain.Runs.{Lies, sameAs}
 use Rattle.octets.specs.working.Stores.{store}
 use Rattle.octets.proofs.NumbersLaws.{length-le}
@@ -26,7 +26,7 @@ use Rattle.texts.specs.declared.Map.{Map}
 use Rattle.resolve.specs.Cells.{Room, knownAt, defineAt}
 use Rattle.resolve.specs.Items.{Marking, marked, twice, marksOut, unmarksOut}
 use Rattle.resolve.specs.Whole.{Apart}
-use Rattle.resolve.proofs.CellsLaws.{known-same, known-other, known-off, length-define, define-store, define-past, define-over, define-known, define-cellwise, off-lies}
+use Rattle.resolve.proofs.CellsLaws.{known-same, known-other, known-off, length-define, define-store, define-past, define-over, define-known, Cellwise, cellwise-same, cellwise-then, define-cellwise, Sound, off-lies}
 
 -- ---- the marks go from the front, each against those before it
 unfoldable apart : List Text → List Text → Bool
@@ -191,6 +191,16 @@ module _ (m : Map) (ts : List Text) where
     unfolding has pick
     marks-mean xs u = rw (← apart-distinct xs) (marks-from xs u w refl [] (λ x t. refl))
 
+  pub marks-cellwise : (xs : List Text) (w v : List ℕ) → marksFor xs w ≡ marked v → Cellwise m w v
+  unfolding marksFor pick
+  marks-cellwise [] w v e = let z : w ≡ v = cc in rw (← z) (cellwise-same m w)
+  marks-cellwise (x ∷ xs) w v e = go (leb 512 (kn w x)) (λ q. marks-cellwise xs (defineAt m w (number ts x) (kn w x + 512)) v q) e
+    where
+      go : (b : Bool) → (marksFor xs (defineAt m w (number ts x) (kn w x + 512)) ≡ marked v → Cellwise m (defineAt m w (number ts x) (kn w x + 512)) v)
+          → pick b twice (marksFor xs (defineAt m w (number ts x) (kn w x + 512))) ≡ marked v → Cellwise m w v
+      go true f e = absurd (let y : _≡_ {A = ℕ} 0 1 = cc in omega arith)
+      go false f e = cellwise-then m w (defineAt m w (number ts x) (kn w x + 512)) v (define-cellwise m w (number ts x) (kn w x + 512)) (f e)
+
   -- ---- the marks taken away
   -- a cell that is marked already may as well be written afterwards
   marks-past : (xs : List Text) (w v : List ℕ) (k d : ℕ) → 512 ≤ knownAt m w k → marksFor xs w ≡ marked v → (knownAt m v k ≡ knownAt m w k) × (marksFor xs (defineAt m w k d) ≡ marked (defineAt m v k d))
@@ -213,7 +223,7 @@ module _ (m : Map) (ts : List Text) where
           let i = f (omega arith) e in
           (i .0 ∙ b, rw (c, q, define-past m w k d (number ts x) (kn w x + 512) n) (i .1))
 
-  pub marks-gone : (xs : List Text) → Each (λ x. number ts x < m .count) xs → (w v : List ℕ) → Bytes w → Room m (length w) → marksFor xs w ≡ marked v → unmarksFor xs v ≡ w
+  pub marks-gone : (xs : List Text) → Each (λ x. number ts x < m .count) xs → (w v : List ℕ) → Sound m w → Room m (length w) → marksFor xs w ≡ marked v → unmarksFor xs v ≡ w
   unfolding marksFor unmarksFor pick
   marks-gone [] u w v b r e = cc
   marks-gone (x ∷ xs) u w v b r e = go (leb 512 (kn w x)) refl (λ y q. marks-gone xs (u .1) w y b r q) e
@@ -225,7 +235,7 @@ module _ (m : Map) (ts : List Text) where
           let l = leb-false 512 (kn w x) q in
           let s = known-same m w r (number ts x) (kn w x + 512) (u .0) (omega arith) in
           let p = marks-past xs (defineAt m w (number ts x) (kn w x + 512)) v (number ts x) (kn w x) (omega arith) e in
-          let o : defineAt m (defineAt m w (number ts x) (kn w x + 512)) (number ts x) (kn w x) ≡ w = define-over m w (number ts x) (kn w x + 512) (kn w x) ∙ define-known m w b r (number ts x) (u .0) in
+          let o : defineAt m (defineAt m w (number ts x) (kn w x + 512)) (number ts x) (kn w x) ≡ w = define-over m w (number ts x) (kn w x + 512) (kn w x) ∙ define-known m w b (number ts x) (u .0) in
           let z : kn v x % 512 ≡ kn w x = ap (λ (k : ℕ). k % 512) (p .0 ∙ s) ∙ modulo (kn w x) l in
           rw z (f (defineAt m v (number ts x) (kn w x)) (ap (marksFor xs) (sym o) ∙ p .1))
 

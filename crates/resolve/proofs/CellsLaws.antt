@@ -5,8 +5,8 @@ use mathlib.Core.Logic.{_⊎_, inl, inr}
 use mathlib.Core.List.{List, [], _∷_}
 use Prim.Native.Nat.{ℕ, suc, _+_, _*_, _<_, _≤_}
 use native.Mathlib.Omega.{arith}
-use borrow.Author.Tests.{lt-leb, leb-false, leb-true}
-use lib.Dec.{leb}
+use borrow.Author.Tests.{lt-leb, leb-false, leb-true, ltb-true, ltb-false, eqb-true, eqb-false}
+use lib.Dec.{leb, ltb, eqb}
 use lib.ListN.{length, getD, set}
 use lib.Seq.{sets, set-set, set-comm}
 use Rattle.octets.specs.working.Choice.{pick}
@@ -14,8 +14,8 @@ use Rattle.octets.specs.plain.Numbers.{leAt, le, Bytes}
 use Rattle.octets.specs.plain.Runs.{Lies, part}
 use Rattle.octets.specs.working.Stores.{store}
 use Rattle.octets.proofs.NumbersLaws.{length-le}
-use Rattle.octets.proofs.LiesLaws.{lies-part, part-lies, lies-le}
-use Rattle.octets.proofs.StoreLaws.{length-store, leAt-other, leAt-same, getD-store-before, getD-store-after}
+use Rattle.octets.proofs.LiesLaws.{lies-part, part-lies, lies-le, lies-to}
+use Rattle.octets.proofs.StoreLaws.{length-store, leAt-other, leAt-same, getD-store-before, getD-store-after, lies-store}
 use Rattle.texts.specs.declared.Map.{Map}
 use Rattle.texts.specs.Fields.{cellAt}
 use Rattle.texts.proofs.FieldsCode.{cell-other}
@@ -91,6 +91,25 @@ module _ (m : Map) where
       go true = refl
       go false = length-store w _ _
 
+  -- a byte that isn't of the cell
+  define-other : (w : List ℕ) (k d i : ℕ) → (k < m .count → (i < m .base + 24 * k + 20) ⊎ (m .base + 24 * k + 24 ≤ i)) → getD (defineAt m w k d) i 0 ≡ getD w i 0
+  unfolding defineAt pick
+  define-other w k d i h = go (leb (m .count) k) refl
+    where
+      go : (b : Bool) → leb (m .count) k ≡ b → getD (pick b w (store w (m .base + 24 * k + 20) (le 4 d))) i 0 ≡ getD w i 0
+      go true e = refl
+      go false e =
+          let z = leb-false (m .count) k e in
+          elim (h (omega arith)) [ inl l ↦ getD-store-before w _ (le 4 d) i (omega arith) | inr l ↦ getD-store-after w _ (le 4 d) i (omega (arith, length-le 4 d)) ]
+
+  beside : (k j : ℕ) → (k ≡ j → ⊥) → (i : ℕ) → m .base + 24 * k + 20 ≤ i → i < m .base + 24 * k + 24 → (i < m .base + 24 * j + 20) ⊎ (m .base + 24 * j + 24 ≤ i)
+  beside k j n i a b = go (ltb k j) refl (ltb j k) refl
+    where
+      go : (s : Bool) → ltb k j ≡ s → (t : Bool) → ltb j k ≡ t → (i < m .base + 24 * j + 20) ⊎ (m .base + 24 * j + 24 ≤ i)
+      go true e t f = let z = ltb-true k j e in inl (omega arith)
+      go false e true f = let z = ltb-true j k f in inr (omega arith)
+      go false e false f = let y = ltb-false k j e in let z = ltb-false j k f in absurd (n (omega arith))
+
   pub known-same : (w : List ℕ) → Room m (length w) → (k d : ℕ) → k < m .count → d < 4294967296 → knownAt m (defineAt m w k d) k ≡ d
   unfolding cellAt
   known-same w r k d h f = known-is (defineAt m w k d) k h ∙ ap (λ (v : List ℕ). cellAt v (m .base) k) (define-is w k d h) ∙ leAt-same 4 w (cellPlace k) d (omega arith) f
@@ -161,12 +180,38 @@ module _ (m : Map) where
       go true = refl
       go false = store-over w (m .base + 24 * k + 20) (le 4 d) (le 4 c) (length-le 4 d ∙ sym (length-le 4 c))
 
-  -- a cell written with what it holds
-  pub define-known : (w : List ℕ) → Bytes w → Room m (length w) → (k : ℕ) → k < m .count → defineAt m w k (knownAt m w k) ≡ w
+  -- ---- each cell's bytes are those of its number
+  abbrev pub Sound : List ℕ → Type 0
+  Sound w = (k : ℕ) → k < m .count → Lies w (m .base + 24 * k + 20) (le 4 (knownAt m w k)) (m .base + 24 * k + 24)
+
+  pub bytes-sound : (w : List ℕ) → Bytes w → Room m (length w) → Sound w
   unfolding cellAt
-  define-known w b r k h =
-      define-is w k (knownAt m w k) h ∙ ap (λ (v : ℕ). store w (cellPlace k) (le 4 v)) (known-is w k h)
-      ∙ store-same w (cellPlace k) (cellPlace k + 4) (le 4 (leAt 4 w (cellPlace k))) (lies-le 4 w (cellPlace k) b (omega arith))
+  bytes-sound w b r k h =
+      let z : cellPlace k + 4 ≡ m .base + 24 * k + 24 = omega arith in
+      rw (known-is w k h) (lies-to z (lies-le 4 w (cellPlace k) b (omega arith)))
+
+  pub define-sound : (w : List ℕ) → Room m (length w) → (j d : ℕ) → d < 4294967296 → Sound w → Sound (defineAt m w j d)
+  define-sound w r j d f s k h = go (eqb k j) refl
+    where
+      go : (b : Bool) → eqb k j ≡ b → Lies (defineAt m w j d) (m .base + 24 * k + 20) (le 4 (knownAt m (defineAt m w j d) k)) (m .base + 24 * k + 24)
+      go true e =
+          let z = eqb-true k j e in
+          let q = length-le 4 d in
+          let y : cellPlace k + length (le 4 d) ≡ m .base + 24 * k + 24 = omega arith in
+          rw (← z, known-same w r k d h f, define-is w k d h) (lies-to y (lies-store w (cellPlace k) (le 4 d) (omega arith)))
+      go false e =
+          let n = eqb-false k j e in
+          rw (known-other w j d k n) (lies-agree w (defineAt m w j d) (m .base + 24 * k + 20) (m .base + 24 * k + 24) (le 4 (knownAt m w k)) (length-define w j d) (omega arith)
+          (λ i a b. define-other w j d i (λ q. beside k j n i a b)) (s k h))
+
+  pub store-sound : (w : List ℕ) (at : ℕ) (vs : List ℕ) → Room m (length w) → Apart at (at + length vs) (m .base) (m .base + 24 * m .count) → Sound w → Sound (store w at vs)
+  store-sound w at vs r o s k h =
+      rw (known-off w at vs k o) (lies-agree w (store w at vs) (m .base + 24 * k + 20) (m .base + 24 * k + 24) (le 4 (knownAt m w k)) (length-store w at vs) (omega arith)
+      (λ i a b. elim o [ inl l ↦ getD-store-after w at vs i (omega arith) | inr l ↦ getD-store-before w at vs i (omega arith) ]) (s k h))
+
+  -- a cell written with what it holds
+  pub define-known : (w : List ℕ) → Sound w → (k : ℕ) → k < m .count → defineAt m w k (knownAt m w k) ≡ w
+  define-known w s k h = define-is w k (knownAt m w k) h ∙ store-same w (cellPlace k) (m .base + 24 * k + 24) (le 4 (knownAt m w k)) (s k h)
 
   -- ---- nothing but cells is written
   abbrev pub Uncelled : ℕ → Type 0
@@ -183,14 +228,7 @@ module _ (m : Map) where
   cellwise-then u v w p q = record { long = q .long ∙ p .long; others = λ i h. q .others i h ∙ p .others i h }
 
   pub define-cellwise : (w : List ℕ) (k d : ℕ) → Cellwise w (defineAt m w k d)
-  unfolding defineAt pick
-  define-cellwise w k d = record { long = length-define w k d; others = λ i h. go i h (leb (m .count) k) refl }
-    where
-      go : (i : ℕ) → Uncelled i → (b : Bool) → leb (m .count) k ≡ b → getD (defineAt m w k d) i 0 ≡ getD w i 0
-      go i h true e = rw e refl
-      go i h false e =
-          let z = leb-false (m .count) k e in
-          rw e (elim (h k (omega arith)) [ inl l ↦ getD-store-before w _ (le 4 d) i (omega arith) | inr l ↦ getD-store-after w _ (le 4 d) i (omega (arith, length-le 4 d)) ])
+  define-cellwise w k d = record { long = length-define w k d; others = λ i h. define-other w k d i (h k) }
 
   -- so bytes off the records stay
   module _ (w w′ : List ℕ) (c : Cellwise w w′) where

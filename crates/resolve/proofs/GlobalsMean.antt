@@ -26,9 +26,9 @@ use Rattle.resolve.specs.Commands.{Run, ran, stopped, runThen}
 use Rattle.resolve.specs.Items.{placeIn}
 use Rattle.resolve.specs.Globals.{declaredAt, declareOut, eachOut, globalsOut}
 use Rattle.resolve.specs.Whole.{Apart}
-use Rattle.resolve.proofs.CellsLaws.{Cellwise, cellwise-same, cellwise-then, off-same}
+use Rattle.resolve.proofs.CellsLaws.{Cellwise, cellwise-same, cellwise-then, off-same, Sound}
 use Rattle.resolve.proofs.GrammarLaws.{Row, row-place, row-same, Headed, headed, Named, terminal-headed}
-use Rattle.resolve.proofs.GlobalsTable.{codeOf, Coded, Proper, declareBy, entered, then-same, then-ran, entered-append, entered-cellwise, Says, says-as, entered-says}
+use Rattle.resolve.proofs.GlobalsTable.{codeOf, Coded, Proper, declareBy, entered, then-same, then-ran, entered-append, entered-cellwise, entered-sound, Says, says-as, entered-says}
 
 -- ---- the globals of one code
 abbrev metOf : Nonterminal → Global
@@ -170,6 +170,9 @@ module _ (four : Bool) (m : Map) (t : Grammar) (ts : List Text) (is : List Item)
 
   pub globals-cellwise : (u : List ℕ) → globalsOut m t w ≡ ran u → Cellwise m w u
   globals-cellwise u e = entered-cellwise m ts (globals is) w u (sym globals-are ∙ e)
+
+  pub globals-sound : (u : List ℕ) → Room m (length w) → Sound m w → globalsOut m t w ≡ ran u → Sound m u
+  globals-sound u r s e = entered-sound m ts (globals is) (globals-proper four (t .width) ts is within) w u r s (sym globals-are ∙ e)
 
   pub globals-mean : distinct ts ≡ true → m .count ≡ length ts → Room m (length w) → Coded m ts w [] → Says m ts (globals is) (checkGlobals [] (globals is)) (globalsOut m t w)
   globals-mean d c r h =

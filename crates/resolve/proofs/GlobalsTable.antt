@@ -22,7 +22,7 @@ use Rattle.passes.specs.Resolve.{Def, terminalDef, nonterminalDef, argumentDef,
 use Rattle.resolve.specs.Cells.{Room, knownAt, defineAt}
 use Rattle.resolve.specs.Commands.{Run, ran, stopped, runThen}
 use Rattle.resolve.specs.Globals.{describe}
-use Rattle.resolve.proofs.CellsLaws.{known-same, known-other, length-define, Cellwise, cellwise-same, cellwise-then, define-cellwise}
+use Rattle.resolve.proofs.CellsLaws.{known-same, known-other, length-define, Cellwise, cellwise-same, cellwise-then, define-cellwise, Sound, define-sound}
 
 -- ---- definitions as cells
 abbrev pub codeOf : Def → ℕ
@@ -123,6 +123,27 @@ entered-cellwise m ts (g ∷ gs) w w′ e = go (declareBy m w (number ts (g .nam
     go (ran w₁) p f q = cellwise-then m w w₁ w′ (declare-cellwise m w (number ts (g .name)) (codeOf (g .def)) (g .span) w₁ p) (f w₁ q)
     go (stopped n s) p f q = absurd (let y : _≡_ {A = ℕ} 0 1 = cc in omega arith)
 
+-- and leaves each cell the bytes of its number
+declare-sound : (m : Map) (w : List ℕ) (k d : ℕ) (sp : Span) (w′ : List ℕ) → Room m (length w) → d < 512 → Sound m w → declareBy m w k d sp ≡ ran w′ → Sound m w′
+unfolding declareBy pick
+declare-sound m w k d sp w′ r f s = go (eqb (knownAt m w k) 0) (eqb (describe d) (describe (knownAt m w k)))
+  where
+    go : (b c : Bool) → pick b (ran (defineAt m w k d)) (pick c (stopped 5 sp) (stopped 6 sp)) ≡ ran w′ → Sound m w′
+    go true c e = let z : defineAt m w k d ≡ w′ = cc in rw (← z) (define-sound m w r k d (omega arith) s)
+    go false true e = absurd (let y : _≡_ {A = ℕ} 0 1 = cc in omega arith)
+    go false false e = absurd (let y : _≡_ {A = ℕ} 0 1 = cc in omega arith)
+
+pub entered-sound : (m : Map) (ts : List Text) (gs : List Global) → Each (Proper ts) gs → (w w′ : List ℕ) → Room m (length w) → Sound m w → entered m ts w gs ≡ ran w′ → Sound m w′
+unfolding entered runThen
+entered-sound m ts [] u w w′ r s e = let z : w ≡ w′ = cc in rw (← z) s
+entered-sound m ts (g ∷ gs) u w w′ r s e = go (declareBy m w (number ts (g .name)) (codeOf (g .def)) (g .span)) refl (λ w₁ r₁ s₁ q. entered-sound m ts gs (u .1) w₁ w′ r₁ s₁ q) e
+  where
+    go : (x : Run) → declareBy m w (number ts (g .name)) (codeOf (g .def)) (g .span) ≡ x → ((w₁ : List ℕ) → Room m (length w₁) → Sound m w₁ → entered m ts w₁ gs ≡ ran w′ → Sound m w′)
+        → runThen x (λ w₁. entered m ts w₁ gs) ≡ ran w′ → Sound m w′
+    go (ran w₁) p f q =
+        f w₁ (omega (arith, declare-cellwise m w (number ts (g .name)) (codeOf (g .def)) (g .span) w₁ p .long)) (declare-sound m w (number ts (g .name)) (codeOf (g .def)) (g .span) w₁ r (u .0 .small) s p) q
+    go (stopped n sp) p f q = absurd (let y : _≡_ {A = ℕ} 0 1 = cc in omega arith)
+
 -- what entering gs leaves, by what `checkGlobals` says
 abbrev pub Says : Map → List Text → List Global → Outcome (Unit {0}) → Run → Type 0
 Says m ts gs (yes u) x = (w : List ℕ) × (x ≡ ran w) × Coded m ts w gs
@@ -171,13 +192,13 @@ def-onto n (g ∷ gs) before e =
         sym (ap (λ (o : Option Def). orElse o (some (g .def))) x)
     go false q y = refl
 
--- a definition among the globals is no argument
-plain-in : (ts : List Text) (n : Text) (gs : List Global) (d : Def) → Each (Proper ts) gs → defIn n gs ≡ some d → Plain d
-plain-in ts n [] d h e = absurd (let y : _≡_ {A = ℕ} 0 1 = cc in omega arith)
-plain-in ts n (g ∷ gs) d h e = go (sameAs n (g .name)) (λ q. plain-in ts n gs d (h .1) q) e
+-- a definition among the globals is no argument, and fits
+pub def-proper : (ts : List Text) (n : Text) (gs : List Global) (d : Def) → Each (Proper ts) gs → defIn n gs ≡ some d → Plain d × (codeOf d < 512)
+def-proper ts n [] d h e = absurd (let y : _≡_ {A = ℕ} 0 1 = cc in omega arith)
+def-proper ts n (g ∷ gs) d h e = go (sameAs n (g .name)) (λ q. def-proper ts n gs d (h .1) q) e
   where
-    go : (b : Bool) → (defIn n gs ≡ some d → Plain d) → cond b (some (g .def)) (defIn n gs) ≡ some d → Plain d
-    go true f q = let z : g .def ≡ d = cc in rw (← z) (h .0 .plain)
+    go : (b : Bool) → (defIn n gs ≡ some d → Plain d × (codeOf d < 512)) → cond b (some (g .def)) (defIn n gs) ≡ some d → Plain d × (codeOf d < 512)
+    go true f q = let z : g .def ≡ d = cc in rw (← z) (h .0 .plain, h .0 .small)
     go false f q = f q
 
 module _ (m : Map) (ts : List Text) (d : distinct ts ≡ true) (c : m .count ≡ length ts) where
@@ -196,7 +217,7 @@ module _ (m : Map) (ts : List Text) (d : distinct ts ≡ true) (c : m .count ≡
         → declareBy m w at (codeOf (g .def)) (g .span) ≡ pick (eqb (kind (g .def)) (kind old)) (stopped 5 (g .span)) (stopped 6 (g .span))
     unfolding declareBy pick
     met-again old e =
-        let q = plain-in ts (g .name) before old p e in
+        let q = def-proper ts (g .name) before old p e .0 in
         let z : knownAt m w at ≡ codeOf old = here ∙ ap codeOfOption e in
         rw (z, ne-eqb (codeOf old) 0 (λ y. omega (arith, code-some old q)), describe-kind (g .def) (u .plain), describe-kind old q, eqb-suc (kind (g .def)) (kind old)) refl
 

@@ -13,7 +13,7 @@ use Rattle.octets.specs.working.Choice.{pick}
 use Rattle.octets.specs.plain.Numbers.{leAt, le}
 use Rattle.octets.specs.plain.Runs.{Lies}
 use Rattle.octets.proofs.NumbersLaws.{length-le}
-use Rattle.octets.proofs.LiesLaws.{lies-split, lies-first, lies-from, le-read}
+use Rattle.octets.proofs.LiesLaws.{lies-split, lies-first, lies-from, lies-to, lies-append, le-read}
 use Rattle.parse_tree.specs.plain.Tree.{Text, Item, Nonterminal, Source, item, terminal}
 use Rattle.parse_tree.specs.plain.Texts.{number}
 use Rattle.parse_tree.specs.plain.WriteTape.{bytesOfEach, bit}
@@ -92,8 +92,7 @@ module _ (t : Grammar) (ts : List Text) where
         let v : leAt 8 w (t .list + 8 * length front) ≡ size front = places (length front) b ∙ ap size (ap (take (length front)) e ∙ take-append-seam front (x ∷ rest)) in
         let n = bytes-more (itemBytes (t .width) ts) front x in
         let q : length (front ++ (x ∷ [])) ≡ length front + 1 = omega (arith, length-append front (x ∷ [])) in
-        let o : p + length (bytesOf x) ≡ t .at + size (front ++ (x ∷ [])) = omega (arith, ap length n, length-append (bytesOfEach (itemBytes (t .width) ts) front) (bytesOf x)) in
-        (
+        let o : p + length (bytesOf x) ≡ t .at + size (front ++ (x ∷ [])) = omega (arith, ap length n, length-append (bytesOfEach (itemBytes (t .width) ts) front) (bytesOf x)) in (
           place-listed w (length front) (size front) b v (omega (arith, s .1 .end, z)) ∙ sym z,
           s .0,
           rw (← q) (rows (front ++ (x ∷ [])) rest (e ∙ sym (append-assoc front (x ∷ []) rest)) (p + length (bytesOf x)) o (s .1)),
@@ -130,6 +129,7 @@ pub record Headed (w : List ℕ) (wd : ℕ) (ts : List Text) (at : ℕ) (d : Non
   pub span : spanIn w (at + 1) ≡ d .span
   pub name : leAt wd w (at + 9) ≡ number ts (d .name)
   pub args : getD w (at + 10 + wd) 0 ≡ length (d .args)
+  pub front : Lies w at (nodeBytes wd (nonterminalNode ts d) ++ bytesOfEach (argumentBytes wd ts) (d .args)) (at + 13 + wd + length (bytesOfEach (argumentBytes wd ts) (d .args)))
   pub arguments : Lies w (at + 13 + wd) (bytesOfEach (argumentBytes wd ts) (d .args)) (at + 13 + wd + length (bytesOfEach (argumentBytes wd ts) (d .args)))
   pub alternatives : Lies w (at + 13 + wd + length (bytesOfEach (argumentBytes wd ts) (d .args))) (bytesOfEach (alternativeBytes wd ts) (d .alternatives)) e
 
@@ -155,6 +155,7 @@ module _ (four : Bool) (w : List ℕ) (wd : ℕ) (ts : List Text) where
         span = a .span;
         name = a .name;
         args = ap (λ (i : ℕ). getD w i 0) (sym x) ∙ c .1;
+        front = lies-append (s .0) (lies-to q (m .0));
         arguments = rw (← y) (m .0);
         alternatives = rw (← y) (m .1);
       }

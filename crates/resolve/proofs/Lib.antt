@@ -13,3 +13,6 @@ mod NamesMean
 mod CommandsStep
 mod SymbolsMean
 mod CommandsMean
+mod ScopeMean
+mod ItemsMean
+mod WholeMean

@@ -29,6 +29,7 @@ pub record Holds (w : List ℕ) (m : Map) (t : Grammar) (ts : List Text) (is : L
   pub four : Bool
   pub bytes : Bytes w
   pub lies : Lies w (t .at) (bytesOfEach (itemBytes (t .width) ts) is) (t .end)
+  pub inside : t .end ≤ length w
   pub within : Each (ItemWithin four (t .width) ts) is
   pub many : t .count ≡ length is
   pub places : (i : ℕ) → i < t .count → leAt 8 w (t .list + 8 * i) ≡ length (bytesOfEach (itemBytes (t .width) ts) (take i is))
