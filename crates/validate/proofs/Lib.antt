@@ -13,3 +13,4 @@ mod EntryCode
 mod CommandMean
 mod AlternativesCode
 mod ItemsCode
+mod NotesCode
