@@ -1,8 +1,12 @@
 -- The ways out of `nonterminal_parts` and `item`. Assumes nothing.
-use mathlib.Core.Path.{_≡_, sym, ap, _∙_}
-use mathlib.Core.Bool.{Bool}
+use mathlib.Core.Path.{_≡_, refl, sym, ap, _∙_}
+use mathlib.Core.Bool.{Bool, true}
 use mathlib.Core.List.{List, [], _∷_}
-use Prim.Native.Nat.{ℕ}
+use Prim.Native.Nat.{ℕ, _+_, _^_, _<_, _≤_}
+use native.Mathlib.Omega.{arith}
+use lib.ListN.{length}
+use mir.Syntax.{w64}
+use mir.Val.{Fits}
 use borrow.Author.Needs.{needs}
 use denote.Enum.Declared.{tagOf}
 use types.Run.{OneOf}
@@ -20,6 +24,8 @@ use Rattle.parse_tree.specs.declared.refusal.Refusal.{Refusal}
 use Rattle.parse_tree.specs.declared.syntax.Node.{Node}
 use Rattle.texts.specs.Atoms.{atomsOf}
 use Rattle.validate.specs.Steps.{askedOf, stepOf}
+use Rattle.validate.specs.Quick.{PassedNonterminal, PassedTerminal, nonterminalHere, terminalHere}
+use Rattle.validate.specs.declared.Atoms.{Atoms}
 use Rattle.validate.specs.declared.Asked.{Asked}
 use Rattle.validate.specs.declared.Step.{Step}
 use Rattle.validate.proofs.CommandKinds.{no-item}
@@ -71,4 +77,31 @@ module _ (four : Bool) (s : List ℕ) (w atoms at : ℕ) (r : Asked) (i : r ≡ 
     unfolding expectItem
     item-whole d y v o = o ∙ sym (ap stepOf (kind (Node.Nonterminal d) v))
 
-pub ruleset item = (needs, item-refused, item-other, item-terminal, item-whole)
+-- o is what the quick look at a nonterminal answered
+module _ (s : List ℕ) (m : Atoms) (at : ℕ) (o : Bool) (g : PassedNonterminal s m at o) (h : o ≡ true) where
+  pub nonterminal-room : at + (13 + m .width) ≤ length s
+  nonterminal-room = g .room h
+
+  pub nonterminal-fits : (z : ℕ) → z ≡ 13 + m .width → length s < 2 ^ 64 → Fits w64 (at + z)
+  nonterminal-fits z e l = record { fits = omega (arith, nonterminal-room) }
+
+  pub nonterminal-quick : (d : NonterminalData) (y : Step) → d ≡ nonterminalHere (m .width) s at → y ≡ stepOf (nonterminalParts (m .four) (m .width) s (atomsOf s (m .count)) d (at + (13 + m .width)))
+      → y ≡ stepOf (readItem (m .four) (m .width) s (atomsOf s (m .count)) at)
+  unfolding askedOf
+  nonterminal-quick d y q p =
+      let e : ℕ = at + (13 + m .width) in
+      item-whole (m .four) s (m .width) (m .count) at (Asked.Is (Node.Nonterminal d) e)
+      (ap (λ (x : NonterminalData). Asked.Is (Node.Nonterminal x) e) q ∙ sym (ap askedOf (g .asked h))) (Node.Nonterminal d) e refl d y refl p
+
+-- or at a terminal
+module _ (s : List ℕ) (m : Atoms) (at : ℕ) (o : Bool) (g : PassedTerminal s m at o) (h : o ≡ true) where
+  pub terminal-fits : (z : ℕ) → z ≡ 9 + m .width → length s < 2 ^ 64 → Fits w64 (at + z)
+  terminal-fits z e l = record { fits = omega (arith, g .room h) }
+
+  pub terminal-quick : Step.Next (at + (9 + m .width)) ≡ stepOf (readItem (m .four) (m .width) s (atomsOf s (m .count)) at)
+  unfolding askedOf
+  terminal-quick =
+      item-terminal (m .four) s (m .width) (m .count) at (Asked.Is (Node.Terminal (terminalHere (m .width) s at)) (at + (9 + m .width)))
+      (sym (ap askedOf (g .asked h))) (Node.Terminal (terminalHere (m .width) s at)) (at + (9 + m .width)) refl (terminalHere (m .width) s at) refl
+
+pub ruleset item = (needs, item-refused, item-other, item-terminal, item-whole, nonterminal-room, nonterminal-fits, nonterminal-quick, terminal-fits, terminal-quick)

@@ -6,7 +6,10 @@ use crate::Step;
 use crate::command::command;
 use crate::command::commands;
 use crate::quick::alternative_at;
+use crate::quick::nonterminal_at;
 use crate::quick::quick_alternative;
+use crate::quick::quick_nonterminal;
+use crate::quick::quick_terminal;
 use crate::symbols::symbols;
 use octets::numbers::store64;
 use octets::wide::from8;
@@ -106,6 +109,18 @@ fn item(tape: &[u8], work: &[u8], m: Atoms, at: usize) -> Step
     requires { ⌜ Ready (now tape) (now work) m ⌝ }
     ensures { λ r. ⌜ r ≡ stepOf (readItem (m .four) (m .width) (now (tape .entry)) (atomsOf (now (tape .entry)) (m .count)) at) ⌝ }
 {
+    if quick_nonterminal(tape, work, m, at) {
+        return nonterminal_parts(
+            tape,
+            work,
+            m,
+            nonterminal_at(tape, at, m.width),
+            at + (13 + m.width),
+        );
+    }
+    if quick_terminal(tape, work, m, at) {
+        return Step::Next(at + (9 + m.width));
+    }
     match command(tape, work, m, ITEMS, 1, at) {
         Asked::Refused(why) => Step::Refused(why),
         Asked::Is(n, e) => match n {
