@@ -32,7 +32,7 @@ module _ (w : ℕ) (s : List ℕ) where
   pub skip-lies : (ts : List Text) (xs : Syms) (f at e : ℕ) → SymsFits w ts xs → nodesAll xs ≤ f → Lies s at (symsBytes w ts xs) e → skip w s f (count xs) at ≡ e
   skip-lies ts xs f at e h k l = skip-run f (count xs) at ∙ ap (λ (r : Unit {0} × ℕ). r .1) (run-whole w still ts (λ u. s) (λ u p sp n. refl) xs h f tt at e k l)
 
-  -- and that is the place behind the symbols that are read there, at any depth
+  -- theorem: that is the place behind the symbols that are read there, at any depth
   pub skip-reads : (four : Bool) (ts : List Text) (left k at : ℕ) (xs : List Sym) (e : ℕ) → Bytes s → distinct ts ≡ true → times (λ p. readSym four w s ts left p) k at ≡ got xs e → skip w s (length s) k at ≡ e
   skip-reads four ts left k at xs e b d p =
       let h = syms-found four w s ts b d left k at xs e p in

@@ -43,7 +43,7 @@ use Rattle.resolve.specs.Whole.{Resolving, Answers, ResolvesRead, Resolves}
 use Rattle.resolve.specs.declared.Scope.{Scope}
 use Rattle.resolve.specs.declared.Walked.{Walked}
 use Rattle.normalize.specs.plain.Answers.{answerOf}
-use Rattle.normalize.specs.working.Stages.{sized, staged, Holds, Resolved}
+use Rattle.normalize.specs.working.Stages.{sized, staged, Holds, Resolved, ValidTape}
 use Rattle.normalize.specs.declared.Answer.{Answer}
 use Rattle.normalize.proofs.ResolvingMean.{admit-many, admit-long, admit-done}
 
@@ -95,7 +95,10 @@ over to cap n e h k = go (leb n cap) refl
     go false x = leb-false n cap x
 
 -- ---- a tape that was validated
-module _ (s : List ℕ) (cap : ℕ) (w : List ℕ) (a : Atoms) (at : ℕ) (v : Valid true 2 s w a at) where
+module _ (s : List ℕ) (cap : ℕ) (w : List ℕ) (a : Atoms) (at : ℕ) (valid : ValidTape s w a at) where
+  abbrev v : Valid true 2 s w a at (valid .many)
+  v = valid .valid
+
   abbrev tape : Stage
   tape = record { atoms = atomsOf s (a .count); items = v .items }
 
@@ -208,9 +211,9 @@ module _ (s : List ℕ) (cap : ℕ) (w : List ℕ) (x : Validated) (i : Validate
       let z = says-no s cap w (why .number) (record { 0 = why .from; 1 = why .from }) (rw (n .is)) in
       record { answered = ap (λ (k : ℕ). Answer.No (record { number = why .number; from = why .from; to = k })) (n .twice) ∙ z .answered; holds = z .holds }
 
-  pub stage-valid : (a : Atoms) (at : ℕ) → x ≡ Validated.Valid a at → Valid true 2 s w a at
+  pub stage-valid : (a : Atoms) (at k : ℕ) → x ≡ Validated.Valid a at k → ValidTape s w a at
   unfolding Validates
-  stage-valid a at e = rw e at i
+  stage-valid a at k e = let v : Valid true 2 s w a at k = rw e at i in record { many = k; valid = v }
 
 pub stage-room : (s : List ℕ) (cap : ℕ) (w w₁ : List ℕ) → 8 * (length s + cap) ≤ length w → length w₁ ≡ length w → 8 * (length s + cap) ≤ length w₁
 stage-room s cap w w₁ h e = omega arith

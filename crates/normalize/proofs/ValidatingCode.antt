@@ -38,10 +38,10 @@ module _ (s w w₁ w₂ : List ℕ) (x : Validated) (i : Validates true 2 s x w�
       judged (Answer.No why) (ap (λ (k : ℕ). Answer.No (record { number = why .number; from = why .from; to = k })) (n .twice)
       ∙ sym (ap (λ (r : Reading Stage). answerOf (readAs r)) (read-is true 2 s ∙ n .is)))
 
-  pub tape-valid : (m : Atoms) (at : ℕ) → x ≡ Validated.Valid m at → ((j : ℕ) → Bound.Fits w8 (getD s j 0)) → Judged s w (Answer.Yes (length s)) w₂
+  pub tape-valid : (m : Atoms) (at k : ℕ) → x ≡ Validated.Valid m at k → ((j : ℕ) → Bound.Fits w8 (getD s j 0)) → Judged s w (Answer.Yes (length s)) w₂
   unfolding Validates answerOf
-  tape-valid m at e b =
-      let v : Valid true 2 s w₁ m at = rw e at i in
+  tape-valid m at k e b =
+      let v : Valid true 2 s w₁ m at k = rw e at i in
       let g : Stage = record { atoms = atomsOf s (m .count); items = v .items } in
       let t : tapeOf 2 g ≡ s = tape-is 2 g ∙ written true 2 s g (length s) (λ j. b j .fits) (v .decoded) .bytes in
       judged (Answer.Yes (length s)) (ap (λ (y : List ℕ). Answer.Yes (length y)) (sym t) ∙ sym (ap (λ (r : Reading Stage). answerOf (readAs r)) (read-is true 2 s ∙ v .decoded)))

@@ -7,15 +7,13 @@ use resolve::whole::resolve;
 use validate::Atoms;
 use validate::Validated;
 use validate::entry::validate;
-ghost use mathlib.Core.Bool.{true};
 ghost use Prim.Native.Nat.{_+_, _*_, _≤_};
 ghost use lib.ListN.{length};
-ghost use Rattle.validate.specs.Whole.{Valid};
-ghost use Rattle.normalize.specs.working.Stages.{Resolved};
+ghost use Rattle.normalize.specs.working.Stages.{Resolved, ValidTape};
 
 // The stage of a tape that was validated.
 fn resolve_valid(tape: &[u8], cap: usize, work: &mut [u8], a: Atoms, at: usize) -> Answer
-    requires { ⌜ Valid true 2 (now tape) (now work) a at × (8 * (length (now tape) + cap) ≤ length (now work)) ⌝ }
+    requires { ⌜ ValidTape (now tape) (now work) a at × (8 * (length (now tape) + cap) ≤ length (now work)) ⌝ }
     ensures { λ r. ⌜ Resolved (now (tape .entry)) cap r (now (work .exit)) ⌝ }
 {
     let to = 8 * tape.len();
@@ -40,6 +38,6 @@ pub fn resolve_stage(tape: &[u8], cap: usize, work: &mut [u8]) -> Answer
 {
     match validate(tape, work, 2, true) {
         Validated::Refused(why) => Answer::No(why),
-        Validated::Valid(a, at) => resolve_valid(tape, cap, work, a, at),
+        Validated::Valid(a, at, _) => resolve_valid(tape, cap, work, a, at),
     }
 }

@@ -16,6 +16,6 @@ pub fn validate_tape(tape: &[u8], work: &mut [u8]) -> Answer
     clear(work);
     match v {
         Validated::Refused(why) => Answer::No(why),
-        Validated::Valid(_, _) => Answer::Yes(tape.len()),
+        Validated::Valid(_, _, _) => Answer::Yes(tape.len()),
     }
 }

@@ -9,4 +9,5 @@ pub mod SinkStores
 pub mod SameLaws
 mod RunsSameCode
 mod RunsClearCode
+mod RunsCopyCode
 mod SinkCode

@@ -1,6 +1,6 @@
 -- The laws of little-endian numbers: one for every width. Assumes nothing.
 use mathlib.Core.Path.{_≡_, refl, ap}
-use mathlib.Core.List.{List, [], _∷_, _++_, append-assoc}
+use mathlib.Core.List.{List, _++_, append-assoc}
 use Prim.Native.Nat.{ℕ, zero, suc, _+_, _*_, _/_, _%_, _≤_}
 use native.Mathlib.Omega.{arith}
 use borrow.Author.Needs.{needs}
@@ -55,14 +55,6 @@ module _ (s : List ℕ) (at : ℕ) where
       rw e (omega (arith, two-at 1 s at))
 
 -- ---- the writers' bytes
-pub le-16 : (v : ℕ) → le 2 v ≡ le 2 (v % 65536)
-unfolding le
-le-16 v = two-le 0 v
-
-pub le-24 : (v : ℕ) → le 3 v ≡ le 2 (v % 65536) ++ (v / 65536 % 256 ∷ [])
-unfolding le
-le-24 v = two-le 1 v
-
 pub le-32 : (v : ℕ) → le 4 v ≡ le 2 (v % 65536) ++ le 2 (v / 65536)
 le-32 v = two-le 2 v
 

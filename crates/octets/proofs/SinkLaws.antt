@@ -1,15 +1,13 @@
 -- The laws of `lay` and `adv`: none has a side condition. Assumes nothing.
 use mathlib.Core.Path.{_≡_, refl}
 use mathlib.Core.List.{List, [], _∷_, _++_}
-use Prim.Native.Nat.{ℕ, zero, suc, _+_, _/_, _%_, _<_, _≤_}
+use Prim.Native.Nat.{ℕ, zero, suc, _+_, _<_, _≤_}
 use native.Mathlib.Omega.{arith}
 use borrow.Author.Needs.{needs}
 use borrow.Author.Tests.{lt-ltb, le-ltb}
 use lib.ListN.{length, set, length-append}
 use Rattle.octets.specs.working.Choice.{pick}
-use Rattle.octets.specs.plain.Numbers.{le}
 use Rattle.octets.specs.working.Sink.{step, adv, lay1, lay, Laid}
-use Rattle.octets.proofs.NumbersLaws.{le-16, le-24, le-32}
 
 pub adv-append : (lim to n m : ℕ) → adv lim (adv lim to n) m ≡ adv lim to (n + m)
 unfolding adv
@@ -46,21 +44,4 @@ module _ (w : List ℕ) (lim to b : ℕ) where
   unfolding lay adv lay1 step pick
   put8-end g h = record { bytes = cc (le-ltb to lim h); after = cc (le-ltb lim to g) }
 
--- ---- two calls
-module _ (w w1 w2 : List ℕ) (lim to r1 r2 v : ℕ) where
-  pub two-bytes : Laid w lim to (v % 256 ∷ []) r1 w1 → Laid w1 lim r1 (v / 256 % 256 ∷ []) r2 w2 → Laid w lim to (le 2 v) r2 w2
-  unfolding le
-  two-bytes p q = laid-append w w1 w2 lim to r1 r2 (v % 256 ∷ []) (v / 256 % 256 ∷ []) p q
-
-  pub two-words : Laid w lim to (le 2 (v % 65536)) r1 w1 → Laid w1 lim r1 (le 2 (v / 65536)) r2 w2 → Laid w lim to (le 4 v) r2 w2
-  two-words p q = rw (le-32 v) (laid-append w w1 w2 lim to r1 r2 (le 2 (v % 65536)) (le 2 (v / 65536)) p q)
-
-  pub atom-three : (width : ℕ) → 2 ≤ width → width ≤ 3 → (width ≡ 2 → ⊥) → Laid w lim to (le 2 (v % 65536)) r1 w1 → Laid w1 lim r1 (v / 65536 % 256 ∷ []) r2 w2 → Laid w lim to (le width v) r2 w2
-  atom-three width g h n p q =
-      let e : width ≡ 3 = omega arith in
-      rw (e, le-24 v) (laid-append w w1 w2 lim to r1 r2 (le 2 (v % 65536)) (v / 65536 % 256 ∷ []) p q)
-
-pub atom-two : (w w1 : List ℕ) (lim to r1 v width : ℕ) → width ≡ 2 → Laid w lim to (le 2 (v % 65536)) r1 w1 → Laid w lim to (le width v) r1 w1
-atom-two w w1 lim to r1 v width e p = rw (e, le-16 v) p
-
-pub ruleset laying = (needs, put8-over, put8-in, put8-end, two-bytes, two-words, atom-two, atom-three)
+pub ruleset laying = (needs, put8-over, put8-in, put8-end)

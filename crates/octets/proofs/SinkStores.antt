@@ -7,7 +7,7 @@ use native.Mathlib.Omega.{arith}
 use native.Mathlib.Numerals.{add-one}
 use borrow.Author.Tests.{lt-ltb, le-ltb, ltb-true}
 use lib.Dec.{ltb}
-use lib.ListN.{length, set, take, drop, length-set}
+use lib.ListN.{length, set, take, drop}
 use lib.Seq.{drop-at, length-take-le, take-append-seam}
 use Rattle.octets.specs.working.Choice.{pick}
 use Rattle.octets.specs.working.Stores.{store}
@@ -27,12 +27,6 @@ pub adv-le : (lim to n : ℕ) → to ≤ adv lim to n
 unfolding adv
 adv-le lim to zero = omega arith
 adv-le lim to (suc n) = omega (arith, step-le lim to, adv-le lim (step lim to) n)
-
--- once over, it stays
-pub adv-over : (lim to n : ℕ) → lim < to → adv lim to n ≡ to
-unfolding adv step pick
-adv-over lim to zero h = refl
-adv-over lim to (suc n) h = let z : step lim to ≡ to = cc (lt-ltb lim to h) in rw z (adv-over lim to n h)
 
 pub adv-in : (lim to n : ℕ) → to + n ≤ lim + 1 → adv lim to n ≡ to + n
 unfolding adv step pick
@@ -58,20 +52,6 @@ lay-fits w lim to (x ∷ xs) h =
     let a : lay1 w lim to x ≡ set w to x = cc (lt-ltb to lim (omega arith)) in
     let b : step lim to ≡ suc to = cc (le-ltb lim to (omega arith), add-one to) in
     rw (a, b) (lay-fits (set w to x) lim (suc to) xs (omega arith))
-
--- from lim on nothing is written
-pub lay-over : (w : List ℕ) (lim to : ℕ) (xs : List ℕ) → lim ≤ to → lay w lim to xs ≡ w
-unfolding lay lay1 pick
-lay-over w lim to [] h = refl
-lay-over w lim to (x ∷ xs) h =
-    let a : lay1 w lim to x ≡ w = cc (le-ltb to lim h) in
-    rw a (lay-over w lim (step lim to) xs (omega (arith, step-le lim to)))
-
-pub length-lay : (w : List ℕ) (lim to : ℕ) (xs : List ℕ) → length (lay w lim to xs) ≡ length w
-unfolding lay lay1
-length-lay w lim to [] = refl
-length-lay w lim to (x ∷ xs) =
-    length-lay (lay1 w lim to x) lim (step lim to) xs ∙ by-pick (λ (r : List ℕ). length r ≡ length w) (ltb to lim) (λ _. length-set w to x) (λ _. refl)
 
 -- what was written, read back
 pub lay-part : (w : List ℕ) (lim to : ℕ) (xs : List ℕ) → to + length xs ≤ lim → lim ≤ length w → take (to + length xs - to) (drop to (lay w lim to xs)) ≡ xs

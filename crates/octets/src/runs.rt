@@ -1,8 +1,9 @@
-// Runs of bytes in slices: compared, and set to zero.
+// Runs of bytes in slices: compared, copied, and set to zero.
 ghost use mathlib.Core.Path.{_≡_};
-ghost use Prim.Native.Nat.{_+_, _≤_};
+ghost use Prim.Native.Nat.{_+_, _-_, _≤_};
 ghost use lib.ListN.{length, replicate};
 ghost use Rattle.octets.specs.plain.Runs.{part, sameAs};
+ghost use Rattle.octets.specs.working.Stores.{store};
 
 // Whether the n bytes of s from a on are the n bytes of t from b on.
 pub fn same(s: &[u8], a: usize, t: &[u8], b: usize, n: usize) -> bool
@@ -42,5 +43,19 @@ pub fn clear(w: &mut [u8])
     while i < w.len() {
         w[i] = 0;
         i += 1;
+    }
+}
+
+// The bytes of src from a up to e, to out from `to` on. There is room, so that the loop becomes moves of many bytes.
+pub fn copy(src: &[u8], a: usize, e: usize, out: &mut [u8], to: usize)
+    requires { ⌜ (a ≤ e) × (e ≤ length (now src)) × (to + (e - a) ≤ length (now out)) ⌝ }
+    ensures { λ _. ⌜ now (out .exit) ≡ store (now (out .entry)) to (part a e (now (src .entry))) ⌝ }
+{
+    let mut i = a;
+    let mut q = to;
+    while i < e {
+        out[q] = src[i];
+        i += 1;
+        q += 1;
     }
 }

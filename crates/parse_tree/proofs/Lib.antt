@@ -6,7 +6,6 @@ pub mod FieldLaws
 pub mod NodeSays
 pub mod NodeBack
 mod NodeCode
-mod PutCode
 mod Refusing
 pub mod SizeLaws
 -- Trees and their tapes; RoundTrip has the theorems.

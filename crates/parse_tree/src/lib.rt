@@ -1,7 +1,6 @@
-// One command of a tape, to and from an enum; which command may stand where; how long a command is.
+// One command of a tape, as an enum; which command may stand where; how long a command is.
 pub mod node;
 pub mod places;
-pub mod put;
 pub mod refusal;
 pub mod size;
 pub mod syntax;

@@ -24,7 +24,8 @@ ghost use Rattle.octets.specs.plain.Numbers.{leAt};
 ghost use Rattle.parse_tree.specs.working.Nodes.{nodeAt, textNode, nonterminalNodeAt, terminalNodeAt, argumentNodeAt, alternativeNodeAt, attributeNodeAt, conditionNodeAt};
 ghost use Rattle.parse_tree.specs.working.Nodes.{ifWhole, spanIn, symbolNodeAt, namedLeaf, bareLeaf};
 
-fn span_at(tape: &[u8], at: usize) -> Span
+// The span at a place.
+pub fn span_at(tape: &[u8], at: usize) -> Span
     requires { ⌜ at + 8 ≤ length (now tape) ⌝ }
     ensures { λ r. ⌜ r ≡ spanIn (now (tape .entry)) at ⌝ }
 {

@@ -4,7 +4,7 @@ use mathlib.Core.Bool.{Bool, true, false}
 use mathlib.Core.List.{List, [], _∷_, _++_}
 use Prim.Native.Nat.{ℕ, zero, suc, _+_, _*_, _/_, _%_, _^_, _<_, _≤_}
 use native.Mathlib.Omega.{arith}
-use native.Mathlib.Nat.{mod-lt, mod-mod, div-add-mod, mul-le-mul, mul-lt-mul-of-pos-right}
+use native.Mathlib.Nat.{mod-lt, mod-mod, div-add-mod, mul-le-mul}
 use borrow.Author.Tests.{lt-ltb, le-ltb, ltb-true, ltb-false}
 use lib.Dec.{ltb}
 use lib.ListN.{length, length-append}
@@ -154,10 +154,6 @@ module _ (B : ℕ) where
   -- theorem: a byte more: B is at most 2^32 - 255
   pub more-fits : (h b : ℕ) → h < 4294967296 → b < 256 → B ≤ 4294967041 → (h + b) * B < 2 ^ 64
   more-fits h b l k c = let m = mul-le-mul {n₁ = h + b} {m₁ = B} {n₂ = 4294967550} {m₂ = 4294967041} (omega arith) c in omega arith
-
-  -- the bucket of a hash is one of n
-  pub bucket-small : (h n : ℕ) → h < 4294967296 → 0 < n → h * n / 4294967296 < n
-  bucket-small h n l k = let m = mul-lt-mul-of-pos-right {m = h} {n = 4294967296} {k = n} l k in omega arith
 
   -- theorem
   pub bucket-fits : (h n : ℕ) → h < 4294967296 → n ≤ 4294967296 → h * n < 2 ^ 64

@@ -2,7 +2,6 @@
 mod ClassCode
 pub mod ClassByCode
 pub mod AtomsLaws
-pub mod EntriesLaws
 pub mod FormLaws
 pub mod HashLaws
 pub mod HashComposes

@@ -1,7 +1,6 @@
 -- What the contracts of texts, and of the crates above it, cite.
 pub mod Atoms
 pub mod Classes
-pub mod Entries
 pub mod Hash
 pub mod Forms
 pub mod Scan

@@ -4,7 +4,6 @@
 // an 01 on the tape, and a class; any other is the place of an 01 in work, less four times the tape's length.
 pub mod chain;
 pub mod class;
-pub mod entries;
 pub mod fields;
 pub mod hash;
 pub mod scan;

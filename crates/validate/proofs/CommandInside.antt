@@ -1,25 +1,17 @@
 -- What was read lies in the tape, behind its place. Assumes nothing.
 use mathlib.Core.Path.{_≡_}
-use mathlib.Core.Bool.{Bool, true}
+use mathlib.Core.Bool.{true}
 use mathlib.Core.List.{List}
-use Prim.Native.Nat.{ℕ, _+_, _<_, _≤_}
-use native.Mathlib.Omega.{arith}
+use Prim.Native.Nat.{ℕ, _+_, _≤_}
 use lib.ListN.{length}
 use Rattle.octets.specs.plain.Numbers.{Bytes}
 use Rattle.octets.proofs.LiesLaws.{lies-inside}
-use Rattle.parse_tree.specs.plain.Tree.{Text, Item}
-use Rattle.parse_tree.specs.plain.Texts.{distinct}
 use Rattle.parse_tree.specs.working.Nodes.{nodeAt, nodeBytes, sizeOf}
 use Rattle.parse_tree.specs.working.Questions.{defined}
-use Rattle.parse_tree.specs.plain.Reading.{got}
-use Rattle.parse_tree.specs.working.Decode.{readItem}
-use Rattle.parse_tree.specs.working.Encode.{itemBytes}
 use Rattle.parse_tree.specs.declared.syntax.Node.{Node}
 use Rattle.parse_tree.proofs.Asking.{stands}
 use Rattle.parse_tree.proofs.NodeFits.{Stands}
 use Rattle.parse_tree.proofs.NodeSays.{node-says}
-use Rattle.parse_tree.proofs.ItemFound.{item-finds}
-use Rattle.parse_tree.proofs.ReadBack.{item-size}
 use Rattle.parse_tree.proofs.SizeLaws.{node-positive}
 
 -- a command that is known lies inside
@@ -27,10 +19,3 @@ pub node-inside : (w : ℕ) (s : List ℕ) → Bytes s → (k a : ℕ) (n : Node
 node-inside w s b k a n e d =
     let h : Stands w s a n = stands k w s a n d (rw e (node-says w s a b)) in
     lies-inside s a (a + sizeOf w n) (nodeBytes w n) (node-positive w k n d) (h .lies)
-
--- where an item that was read ends
-pub item-inside : (four : Bool) (w : ℕ) (s : List ℕ) → Bytes s → (ts : List Text) → distinct ts ≡ true → (a : ℕ) (i : Item) (e : ℕ) → readItem four w s ts a ≡ got i e → (a < e) × (e ≤ length s)
-item-inside four w s b ts d a i e q =
-    let f = item-finds four w s ts b d a i e q in
-    let p = item-size w ts i in
-    (omega (arith, f .lies .end, p), lies-inside s a e (itemBytes w ts i) p (f .lies))

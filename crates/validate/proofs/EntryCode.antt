@@ -1,4 +1,4 @@
--- The ways out of `validate`. Assumes nothing.
+-- The ways out of `validate` and `validate_items`. Assumes nothing.
 use mathlib.Core.Path.{_≡_, refl, sym, ap, _∙_}
 use mathlib.Core.Bool.{Bool, true}
 use mathlib.Core.List.{List, []}
@@ -8,6 +8,7 @@ use borrow.Author.Needs.{needs}
 use lib.ListN.{length, getD}
 use mir.Syntax.{w8}
 use mir.Val.{Fits}
+use Rattle.parse_tree.specs.plain.Tree.{Stage}
 use Rattle.parse_tree.specs.plain.Reading.{got, then}
 use Rattle.parse_tree.specs.working.Decode.{readAtoms, readItems, decodeBy}
 use Rattle.parse_tree.proofs.Written.{written}
@@ -16,14 +17,14 @@ use Rattle.parse_tree.specs.plain.Texts.{distinct}
 use Rattle.texts.specs.Atoms.{atomsOf, placeOf}
 use Rattle.texts.specs.declared.Map.{Map}
 use Rattle.texts.specs.Table.{linked}
-use Rattle.validate.specs.Steps.{mapOf, Itemed, stepOf}
+use Rattle.validate.specs.Steps.{mapOf, Refuses, Noted, Lists}
 use Rattle.validate.specs.Front.{Counted, Starts, All, Twice, Fronted}
-use Rattle.validate.specs.Whole.{Validates}
+use Rattle.validate.specs.Whole.{Fronts, Validates}
 use Rattle.validate.specs.declared.Atoms.{Atoms}
-use Rattle.validate.specs.declared.Step.{Step}
+use Rattle.validate.specs.declared.Listed.{Listed}
 use Rattle.validate.specs.declared.Gathered.{Gathered}
 use Rattle.validate.specs.declared.Validated.{Validated}
-use Rattle.validate.proofs.CommandCode.{step-got, step-refused, then-is, refuses-then, refuses-as}
+use Rattle.validate.proofs.CommandCode.{then-is, refuses-then, refuses-as}
 use Rattle.validate.proofs.FrontReads.{reads-all, reads-again}
 
 -- the table of the atoms with the width of their numbers
@@ -49,50 +50,63 @@ module _ (four : Bool) (width : ℕ) (s w : List ℕ) (at n : ℕ) (g : Counted 
     apart-now : distinct (atomsOf s (t .count)) ≡ true
     apart-now = ap (λ (k : ℕ). distinct (atomsOf s k)) (all .count) ∙ all .apart
 
-    pub items-ready : 2 ≤ width → width ≤ 3 → Itemed s w (tableOf four width t) at
+    pub items-ready : ((j : ℕ) → Fits w8 (getD s j 0)) → 2 ≤ width → width ≤ 3 → Fronts s w (tableOf four width t) at
     unfolding mapOf
-    items-ready h k = record {
-      ready = record {
-        table = all .table;
-        same = all .same ∙ ap (atomsOf s) (sym (all .count));
-        classes = λ j l. all .classes j (omega (arith, all .count));
-        narrow = h;
-        wide = k;
+    items-ready b h k = record {
+      listing = record {
+        ready = record {
+          ready = record {
+            table = all .table;
+            same = all .same ∙ ap (atomsOf s) (sym (all .count));
+            classes = λ j l. all .classes j (omega (arith, all .count));
+            narrow = h;
+            wide = k;
+          };
+          apart = apart-now;
+          inside = g .inside;
+        };
+        above = all .above;
+        base = all .base;
       };
-      apart = apart-now;
-      inside = g .inside;
+      here = g .here ∙ ap (placeOf s) (sym (all .count));
+      buckets = all .buckets ∙ ap linked (sym (all .count));
+      read = reads-all four width s at n g (λ j. b j .fits) (all .apart) ∙ ap (λ (k : ℕ). got (atomsOf s k) at) (sym (all .count));
     }
 
-    module _ (b : (j : ℕ) → Fits w8 (getD s j 0)) where
-      behind : decodeBy four width s ≡ then (readItems four width s (atomsOf s (t .count)) (length s) at) (λ is d. got (record { atoms = atomsOf s (t .count); items = is }) d)
-      unfolding decodeBy
-      behind = then-is (readAtoms four width s (length s) [] 0) _ (atomsOf s (t .count)) at
-          (reads-all four width s at n g (λ j. b j .fits) (all .apart) ∙ ap (λ (k : ℕ). got (atomsOf s k) at) (sym (all .count)))
+pub ruleset wholes = (needs, front-starts, atoms-refused, items-ready)
 
-      -- y is what `items` answered
-      module _ (y : Step) (j : y ≡ stepOf (readItems four width s (atomsOf s (t .count)) (length s) at)) where
-        pub items-refused : (z : Refusal) → y ≡ Step.Refused z → Validates four width s (Validated.Refused z) w
-        unfolding Validates
-        items-refused z f =
-            let n = refuses-then (readItems four width s (atomsOf s (t .count)) (length s) at) _ z (step-refused (readItems four width s (atomsOf s (t .count)) (length s) at) z (sym f ∙ j)) in
-            record { is = behind ∙ n .is; twice = n .twice }
+-- ---- `validate_items`: y is what `items` answered, w1 what it left
+module _ (s w : List ℕ) (m : Atoms) (at : ℕ) (g : Fronts s w m at) (y : Listed) (w1 : List ℕ) (j : Lists s m at y w1) where
+  behind : decodeBy (m .four) (m .width) s ≡ then (readItems (m .four) (m .width) s (atomsOf s (m .count)) (length s) at) (λ is d. got (record { atoms = atomsOf s (m .count); items = is }) d)
+  unfolding decodeBy
+  behind = then-is (readAtoms (m .four) (m .width) s (length s) [] 0) _ (atomsOf s (m .count)) at (g .read)
 
-        pub items-valid : 2 ≤ width → width ≤ 3 → (d : ℕ) → y ≡ Step.Next d → Validates four width s (Validated.Valid (tableOf four width t) at) w
-        unfolding Validates mapOf
-        items-valid h k d f =
-            let x = step-got (readItems four width s (atomsOf s (t .count)) (length s) at) d (sym f ∙ j) in
-            let z : decodeBy four width s ≡ got (record { atoms = atomsOf s (t .count); items = x .value }) d = behind ∙ then-is (readItems four width s (atomsOf s (t .count)) (length s) at) _ (x .value) d (x .is) in
-            let l : d ≡ length s = written four width s (record { atoms = atomsOf s (t .count); items = x .value }) d (λ n. b n .fits) z .end in
-            record {
-              items = x .value;
-              wide = refl;
-              here = g .here ∙ ap (placeOf s) (sym (all .count));
-              base = all .base;
-              buckets = all .buckets ∙ ap linked (sym (all .count));
-              above = all .above;
-              ready = items-ready h k;
-              read = x .is ∙ ap (got (x .value)) l;
-              decoded = z ∙ ap (got (record { atoms = atomsOf s (t .count); items = x .value })) l;
-            }
+  pub items-refused : (z : Refusal) → y ≡ Listed.Refused z → Validates (m .four) (m .width) s (Validated.Refused z) w1
+  unfolding Lists Validates
+  items-refused z f =
+      let q : Refuses (readItems (m .four) (m .width) s (atomsOf s (m .count)) (length s) at) z = rw f at j in
+      let n = refuses-then (readItems (m .four) (m .width) s (atomsOf s (m .count)) (length s) at) _ z q in
+      record { is = behind ∙ n .is; twice = n .twice }
 
-pub ruleset wholes = (needs, front-starts, atoms-refused, items-ready, items-refused, items-valid)
+  pub items-valid : (k : ℕ) → y ≡ Listed.All k → ((i : ℕ) → Fits w8 (getD s i 0)) → Validates (m .four) (m .width) s (Validated.Valid m at k) w1
+  unfolding Lists Validates
+  items-valid k f b =
+      let x : Noted s w1 m at k = rw f at j in
+      let tree : Stage = record { atoms = atomsOf s (m .count); items = x .items } in
+      let z : decodeBy (m .four) (m .width) s ≡ got tree (x .end) = behind ∙ then-is (readItems (m .four) (m .width) s (atomsOf s (m .count)) (length s) at) _ (x .items) (x .end) (x .read) in
+      let l : x .end ≡ length s = written (m .four) (m .width) s tree (x .end) (λ n. b n .fits) z .end in
+      record {
+        items = x .items;
+        wide = refl;
+        here = g .here;
+        base = x .tabled .base;
+        buckets = g .buckets;
+        above = x .tabled .above;
+        ready = x .tabled .ready;
+        read = x .read ∙ ap (got (x .items)) l;
+        decoded = z ∙ ap (got tree) l;
+        many = x .many;
+        noted = x .noted;
+      }
+
+pub ruleset behind-atoms = (needs, items-refused, items-valid)

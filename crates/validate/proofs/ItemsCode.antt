@@ -1,38 +1,36 @@
--- The ways out of `nonterminal_parts`, `item` and `items`. Assumes nothing.
+-- The ways out of `nonterminal_parts` and `item`. Assumes nothing.
 use mathlib.Core.Path.{_≡_, refl, sym, ap, _∙_}
 use mathlib.Core.Bool.{Bool, true}
 use mathlib.Core.List.{List, [], _∷_}
-use Prim.Native.Nat.{ℕ, zero, suc, _+_, _-_, _<_, _≤_}
+use Prim.Native.Nat.{ℕ, _+_, _^_, _<_, _≤_}
 use native.Mathlib.Omega.{arith}
-use borrow.Author.Needs.{needs}
-use borrow.Author.Tests.{le-leb, lt-leb}
-use denote.Enum.Declared.{tagOf}
-use lib.ListN.{length, getD}
-use mir.Syntax.{w8}
+use lib.ListN.{length}
+use mir.Syntax.{w64}
 use mir.Val.{Fits}
+use borrow.Author.Needs.{needs}
+use denote.Enum.Declared.{tagOf}
 use types.Run.{OneOf}
 use Rattle.parse_tree.proofs.syntax.Node.{the-type}
 use Rattle.parse_tree.specs.plain.Tree.{Item}
-use Rattle.parse_tree.specs.plain.Texts.{distinct}
 use Rattle.parse_tree.specs.working.Places.{itemsPlace, argumentsPlace}
-use Rattle.parse_tree.specs.plain.Reading.{got, then, times}
+use Rattle.parse_tree.specs.plain.Reading.{got, times}
 use Rattle.parse_tree.specs.working.Expect.{expectItem}
 use Rattle.parse_tree.specs.working.Operands.{nonterminalOf, terminalOf}
-use Rattle.parse_tree.specs.working.Decode.{ask, readArgument, readAlternative, readItem, readItems, nonterminalParts}
+use Rattle.parse_tree.specs.working.Decode.{ask, readArgument, readAlternative, readItem, nonterminalParts}
 use Rattle.parse_tree.specs.declared.syntax.NonterminalData.{NonterminalData}
 use Rattle.parse_tree.specs.declared.syntax.TerminalData.{TerminalData}
 use Rattle.parse_tree.specs.working.Refusals.{refusalAt}
 use Rattle.parse_tree.specs.declared.refusal.Refusal.{Refusal}
 use Rattle.parse_tree.specs.declared.syntax.Node.{Node}
 use Rattle.texts.specs.Atoms.{atomsOf}
-use Rattle.validate.specs.Steps.{Itemed, askedOf, stepOf}
+use Rattle.validate.specs.Steps.{askedOf, stepOf}
+use Rattle.validate.specs.Quick.{PassedNonterminal, PassedTerminal, nonterminalHere, terminalHere}
 use Rattle.validate.specs.declared.Atoms.{Atoms}
 use Rattle.validate.specs.declared.Asked.{Asked}
 use Rattle.validate.specs.declared.Step.{Step}
 use Rattle.validate.proofs.CommandKinds.{no-item}
-use Rattle.validate.proofs.CommandInside.{item-inside}
 use Rattle.validate.proofs.CommandMean.{arguments-alike}
-use Rattle.validate.proofs.CommandCode.{asked-got, asked-refused, step-got, refuses-step, then-is, refuses-then, step-then}
+use Rattle.validate.proofs.CommandCode.{asked-got, asked-refused, refuses-step, then-is, refuses-then, step-then}
 use Rattle.validate.proofs.AlternativesCode.{step-on, step-off}
 
 -- ---- `nonterminal_parts`: r is the step over the arguments
@@ -79,54 +77,31 @@ module _ (four : Bool) (s : List ℕ) (w atoms at : ℕ) (r : Asked) (i : r ≡ 
     unfolding expectItem
     item-whole d y v o = o ∙ sym (ap stepOf (kind (Node.Nonterminal d) v))
 
-pub ruleset item = (needs, item-refused, item-other, item-terminal, item-whole)
+-- o is what the quick look at a nonterminal answered
+module _ (s : List ℕ) (m : Atoms) (at : ℕ) (o : Bool) (g : PassedNonterminal s m at o) (h : o ≡ true) where
+  pub nonterminal-room : at + (13 + m .width) ≤ length s
+  nonterminal-room = g .room h
 
--- ---- `items`: what is left from p on; x is what all of the items say
-pub record Left (four : Bool) (s : List ℕ) (w atoms p : ℕ) (x : Step) : Type 0 where
-  pub fuel : ℕ
-  pub enough : length s ≤ p + fuel
-  pub rest : stepOf (readItems four w s (atomsOf s atoms) fuel p) ≡ x
-  pub inside : p ≤ length s
+  pub nonterminal-fits : (z : ℕ) → z ≡ 13 + m .width → length s < 2 ^ 64 → Fits w64 (at + z)
+  nonterminal-fits z e l = record { fits = omega (arith, nonterminal-room) }
 
-pub items-all : (s work : List ℕ) (m : Atoms) (at : ℕ) → Itemed s work m at → Left (m .four) s (m .width) (m .count) at (stepOf (readItems (m .four) (m .width) s (atomsOf s (m .count)) (length s) at))
-items-all s work m at h = record { fuel = length s; enough = omega arith; rest = refl; inside = h .inside }
+  pub nonterminal-quick : (d : NonterminalData) (y : Step) → d ≡ nonterminalHere (m .width) s at → y ≡ stepOf (nonterminalParts (m .four) (m .width) s (atomsOf s (m .count)) d (at + (13 + m .width)))
+      → y ≡ stepOf (readItem (m .four) (m .width) s (atomsOf s (m .count)) at)
+  unfolding askedOf
+  nonterminal-quick d y q p =
+      let e : ℕ = at + (13 + m .width) in
+      item-whole (m .four) s (m .width) (m .count) at (Asked.Is (Node.Nonterminal d) e)
+      (ap (λ (x : NonterminalData). Asked.Is (Node.Nonterminal x) e) q ∙ sym (ap askedOf (g .asked h))) (Node.Nonterminal d) e refl d y refl p
 
-module _ (four : Bool) (s : List ℕ) (w atoms p : ℕ) (x : Step) (inv : Left four s w atoms p x) where
-  pub items-none : length s ≤ p → Step.Next p ≡ x
-  unfolding readItems stepOf
-  items-none h = go (inv .fuel) (inv .rest)
-    where
-      go : (n : ℕ) → stepOf (readItems four w s (atomsOf s atoms) n p) ≡ x → Step.Next p ≡ x
-      go zero z = z
-      go (suc n) z = cc (le-leb (length s) p h)
+-- or at a terminal
+module _ (s : List ℕ) (m : Atoms) (at : ℕ) (o : Bool) (g : PassedTerminal s m at o) (h : o ≡ true) where
+  pub terminal-fits : (z : ℕ) → z ≡ 9 + m .width → length s < 2 ^ 64 → Fits w64 (at + z)
+  terminal-fits z e l = record { fits = omega (arith, g .room h) }
 
-  -- r is the step over the next item
-  module _ (h : p < length s) (r : Step) (i : r ≡ stepOf (readItem four w s (atomsOf s atoms) p)) where
-    opened : readItems four w s (atomsOf s atoms) (inv .fuel) p ≡ then (readItem four w s (atomsOf s atoms) p) (λ y e. then (readItems four w s (atomsOf s atoms) (inv .fuel - 1) e) (λ ys d. got (y ∷ ys) d))
-    unfolding readItems
-    opened = go (inv .fuel) (inv .enough)
-      where
-        go : (n : ℕ) → length s ≤ p + n → readItems four w s (atomsOf s atoms) n p ≡ then (readItem four w s (atomsOf s atoms) p) (λ y e. then (readItems four w s (atomsOf s atoms) (n - 1) e) (λ ys d. got (y ∷ ys) d))
-        go zero z = absurd (omega arith)
-        go (suc n) z = let q : suc n - 1 ≡ n = omega arith in rw q (cc (lt-leb (length s) p h))
+  pub terminal-quick : Step.Next (at + (9 + m .width)) ≡ stepOf (readItem (m .four) (m .width) s (atomsOf s (m .count)) at)
+  unfolding askedOf
+  terminal-quick =
+      item-terminal (m .four) s (m .width) (m .count) at (Asked.Is (Node.Terminal (terminalHere (m .width) s at)) (at + (9 + m .width)))
+      (sym (ap askedOf (g .asked h))) (Node.Terminal (terminalHere (m .width) s at)) (at + (9 + m .width)) refl (terminalHere (m .width) s at) refl
 
-    pub items-stop : (z : Refusal) → r ≡ Step.Refused z → Step.Refused z ≡ x
-    items-stop z u = step-off (readItem four w s (atomsOf s atoms) p) _ z (sym u ∙ i) ∙ sym (ap stepOf opened) ∙ inv .rest
-
-    module _ (b : (k : ℕ) → Fits w8 (getD s k 0)) (apart : distinct (atomsOf s atoms) ≡ true) (e : ℕ) (u : r ≡ Step.Next e) where
-      behind : (p < e) × (e ≤ length s)
-      behind = let y = step-got (readItem four w s (atomsOf s atoms) p) e (sym u ∙ i) in item-inside four w s (λ k. b k .fits) (atomsOf s atoms) apart p (y .value) e (y .is)
-
-      onward : stepOf (readItems four w s (atomsOf s atoms) (inv .fuel - 1) e) ≡ x
-      onward =
-          step-on (readItem four w s (atomsOf s atoms) p) _ e (stepOf (readItems four w s (atomsOf s atoms) (inv .fuel - 1) e)) (sym u ∙ i)
-          (λ y. sym (step-then (readItems four w s (atomsOf s atoms) (inv .fuel - 1) e) (λ ys. y ∷ ys)))
-          ∙ sym (ap stepOf opened) ∙ inv .rest
-
-      pub items-next : Left four s w atoms e x
-      items-next = record { fuel = inv .fuel - 1; enough = omega (arith, inv .enough, behind .0); rest = onward; inside = behind .1 }
-
-      pub items-less : length s - e < length s - p
-      items-less = omega (arith, behind .0, behind .1)
-
-pub ruleset items = (needs, items-all, items-none, items-stop, items-next, items-less)
+pub ruleset item = (needs, item-refused, item-other, item-terminal, item-whole, nonterminal-room, nonterminal-fits, nonterminal-quick, terminal-fits, terminal-quick)

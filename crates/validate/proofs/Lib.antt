@@ -5,6 +5,7 @@ pub mod CommandInside
 pub mod CommandCode
 mod SymbolsCode
 mod QuickCode
+mod QuickItemsCode
 mod CommandKinds
 pub mod FrontCode
 mod FrontReads
@@ -13,3 +14,4 @@ mod EntryCode
 mod CommandMean
 mod AlternativesCode
 mod ItemsCode
+mod NotesCode

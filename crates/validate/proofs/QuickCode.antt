@@ -97,7 +97,7 @@ module _ (s : List ℕ) (m : Atoms) (c at : ℕ) (k : SymbolKind) (i : symbolNod
 pub passes-not : (s : List ℕ) (m : Atoms) (c at : ℕ) → Passing s m c at 0
 passes-not s m c at = record { yes = λ h. absurd (omega arith); small = omega arith }
 
-wholly : (s : List ℕ) (at n : ℕ) (x : Node) → at + n ≤ length s → ifWhole s at n x ≡ x
+pub wholly : (s : List ℕ) (at n : ℕ) (x : Node) → at + n ≤ length s → ifWhole s at n x ≡ x
 unfolding ifWhole pick
 wholly s at n x h = simp (le-ltb (length s - at) n (omega arith))
 
@@ -357,11 +357,11 @@ module _ (n : ℕ) (a : Alternative) (d : Bool) (e : d ≡ alternativeDefined n 
 pub ruleset alternative-passing = (needs, alternative-undefined, alternative-unasked, alternative-asked)
 
 -- ---- `quick_alternative`
-and-left : (x y : Bool) → true ≡ (x && y) → x ≡ true
+pub and-left : (x y : Bool) → true ≡ (x && y) → x ≡ true
 and-left true y h = refl
 and-left false y h = sym h
 
-and-right : (x y : Bool) → true ≡ (x && y) → y ≡ true
+pub and-right : (x y : Bool) → true ≡ (x && y) → y ≡ true
 and-right true y h = sym h
 and-right false y h = absurd (false≢true (sym h))
 

@@ -1,4 +1,4 @@
--- What a look at the bytes of a symbol, or of an alternative, finds out. Assumes nothing: these are definitions.
+-- What a look at the bytes of a symbol, an alternative or an item finds out. Assumes nothing: these are definitions.
 use mathlib.Core.Path.{_≡_}
 use mathlib.Core.Bool.{Bool, true}
 use mathlib.Core.List.{List}
@@ -7,13 +7,15 @@ use lib.ListN.{length, getD}
 use Rattle.octets.specs.working.Choice.{pick}
 use Rattle.octets.specs.plain.Numbers.{leAt}
 use Rattle.parse_tree.specs.working.Nodes.{nodeAt, symbolNodeAt, spanIn, sizeOf}
-use Rattle.parse_tree.specs.working.Places.{alternativesPlace, symbolsPlace}
+use Rattle.parse_tree.specs.working.Places.{itemsPlace, alternativesPlace, symbolsPlace}
 use Rattle.parse_tree.specs.working.Questions.{symbolDefined, symbolSuits}
 use Rattle.parse_tree.specs.working.Operands.{insideOf}
 use Rattle.parse_tree.specs.plain.Reading.{got}
 use Rattle.parse_tree.specs.working.Decode.{ask}
 use Rattle.parse_tree.specs.declared.syntax.SymbolKind.{SymbolKind}
 use Rattle.parse_tree.specs.declared.syntax.Alternative.{Alternative}
+use Rattle.parse_tree.specs.declared.syntax.NonterminalData.{NonterminalData}
+use Rattle.parse_tree.specs.declared.syntax.TerminalData.{TerminalData}
 use Rattle.parse_tree.specs.declared.syntax.Node.{Node}
 use Rattle.texts.specs.Atoms.{atomsOf}
 use Rattle.validate.specs.declared.Atoms.{Atoms}
@@ -80,3 +82,26 @@ pub record WholeAlternative (w : ℕ) (s : List ℕ) (at : ℕ) (r : Bool) : Typ
 pub record PassedAlternative (s : List ℕ) (m : Atoms) (at : ℕ) (r : Bool) : Type 0 where
   pub asked : r ≡ true → ask (m .four) (m .width) s (atomsOf s (m .count)) alternativesPlace 1 at ≡ got (Node.Alternative (alternativeHere (m .width) s at)) (at + (14 + m .width))
   pub room : r ≡ true → at + (14 + m .width) ≤ length s
+
+-- the nonterminal that the bytes at a place say
+unfoldable pub nonterminalHere : ℕ → List ℕ → ℕ → NonterminalData
+nonterminalHere w s at = record {
+  span = spanIn s (at + 1);
+  name = record { 0 = leAt w s (at + 9) };
+  flags = getD s (at + 9 + w) 0;
+  args = getD s (at + 10 + w) 0;
+  alternatives = leAt 2 s (at + 11 + w);
+}
+
+-- where r holds, its command stands there whole, and passes 2, 3 and 4
+pub record PassedNonterminal (s : List ℕ) (m : Atoms) (at : ℕ) (r : Bool) : Type 0 where
+  pub asked : r ≡ true → ask (m .four) (m .width) s (atomsOf s (m .count)) itemsPlace 1 at ≡ got (Node.Nonterminal (nonterminalHere (m .width) s at)) (at + (13 + m .width))
+  pub room : r ≡ true → at + (13 + m .width) ≤ length s
+
+-- the terminal that they say, and its command
+unfoldable pub terminalHere : ℕ → List ℕ → ℕ → TerminalData
+terminalHere w s at = record { span = spanIn s (at + 1); name = record { 0 = leAt w s (at + 9) }; source = getD s at 0 }
+
+pub record PassedTerminal (s : List ℕ) (m : Atoms) (at : ℕ) (r : Bool) : Type 0 where
+  pub asked : r ≡ true → ask (m .four) (m .width) s (atomsOf s (m .count)) itemsPlace 1 at ≡ got (Node.Terminal (terminalHere (m .width) s at)) (at + (9 + m .width))
+  pub room : r ≡ true → at + (9 + m .width) ≤ length s

@@ -1,14 +1,25 @@
 // A tape as a whole.
 use crate::Atoms;
 use crate::Gathered;
-use crate::Step;
+use crate::Listed;
 use crate::Validated;
 use crate::front::atoms;
 use crate::front::front;
 use crate::items::items;
 ghost use Prim.Native.Nat.{_*_, _≤_};
 ghost use lib.ListN.{length};
-ghost use Rattle.validate.specs.Whole.{Validates};
+ghost use Rattle.validate.specs.Whole.{Fronts, Validates};
+
+// The items behind the atoms, whose table stands.
+fn validate_items(tape: &[u8], work: &mut [u8], m: Atoms, at: usize) -> Validated
+    requires { ⌜ Fronts (now tape) (now work) m at ⌝ }
+    ensures { λ r. ⌜ Validates (m .four) (m .width) (now (tape .entry)) r (now (work .exit)) ⌝ }
+{
+    match items(tape, work, m, at) {
+        Listed::Refused(why) => Validated::Refused(why),
+        Listed::All(n) => Validated::Valid(m, at, n),
+    }
+}
 
 // The tape's atoms and items; work is long enough for the table. An atom's number has `width` bytes; `four` says whether question 4 is asked.
 pub fn validate(tape: &[u8], work: &mut [u8], width: usize, four: bool) -> Validated
@@ -26,10 +37,7 @@ pub fn validate(tape: &[u8], work: &mut [u8], width: usize, four: bool) -> Valid
                 width: width,
                 four: four,
             };
-            match items(tape, work, m, f.at) {
-                Step::Refused(why) => Validated::Refused(why),
-                Step::Next(_) => Validated::Valid(m, f.at),
-            }
+            validate_items(tape, work, m, f.at)
         }
     }
 }

@@ -1,12 +1,17 @@
 // Alternatives, nonterminals and the items of a tape.
 use crate::Asked;
 use crate::Atoms;
+use crate::Listed;
 use crate::Step;
 use crate::command::command;
 use crate::command::commands;
 use crate::quick::alternative_at;
+use crate::quick::nonterminal_at;
 use crate::quick::quick_alternative;
+use crate::quick::quick_nonterminal;
+use crate::quick::quick_terminal;
 use crate::symbols::symbols;
+use octets::numbers::store64;
 use octets::wide::from8;
 use octets::wide::from16;
 use parse_tree::places::ALTERNATIVES;
@@ -19,11 +24,14 @@ use parse_tree::syntax::Alternative;
 use parse_tree::syntax::Node;
 use parse_tree::syntax::NonterminalData;
 ghost use mathlib.Core.Path.{_≡_};
+ghost use Prim.Native.Nat.{_+_, _*_, _≤_};
 ghost use lib.ListN.{length};
-ghost use Rattle.parse_tree.specs.working.Decode.{alternativeParts, nonterminalParts, readAlternative, readItem, readItems};
+ghost use Rattle.octets.specs.plain.Numbers.{le};
+ghost use Rattle.octets.specs.working.Stores.{store};
+ghost use Rattle.parse_tree.specs.working.Decode.{alternativeParts, nonterminalParts, readAlternative, readItem};
 ghost use Rattle.parse_tree.specs.plain.Reading.{times};
 ghost use Rattle.texts.specs.Atoms.{atomsOf};
-ghost use Rattle.validate.specs.Steps.{Itemed, Ready, stepOf};
+ghost use Rattle.validate.specs.Steps.{Listing, Lists, Ready, stepOf};
 
 // What stands behind the command of an alternative: attributes, condition, symbols.
 fn alternative_parts(tape: &[u8], work: &[u8], m: Atoms, a: Alternative, at: usize) -> Step
@@ -101,6 +109,18 @@ fn item(tape: &[u8], work: &[u8], m: Atoms, at: usize) -> Step
     requires { ⌜ Ready (now tape) (now work) m ⌝ }
     ensures { λ r. ⌜ r ≡ stepOf (readItem (m .four) (m .width) (now (tape .entry)) (atomsOf (now (tape .entry)) (m .count)) at) ⌝ }
 {
+    if quick_nonterminal(tape, work, m, at) {
+        return nonterminal_parts(
+            tape,
+            work,
+            m,
+            nonterminal_at(tape, at, m.width),
+            at + (13 + m.width),
+        );
+    }
+    if quick_terminal(tape, work, m, at) {
+        return Step::Next(at + (9 + m.width));
+    }
     match command(tape, work, m, ITEMS, 1, at) {
         Asked::Refused(why) => Step::Refused(why),
         Asked::Is(n, e) => match n {
@@ -111,21 +131,32 @@ fn item(tape: &[u8], work: &[u8], m: Atoms, at: usize) -> Step
     }
 }
 
-// The items from a place to the tape's end.
-pub fn items(tape: &[u8], work: &[u8], m: Atoms, at: usize) -> Step
-    requires { ⌜ Itemed (now tape) (now work) m at ⌝ }
-    ensures { λ r. ⌜ r ≡ stepOf (readItems (m .four) (m .width) (now (tape .entry)) (atomsOf (now (tape .entry)) (m .count)) (length (now (tape .entry))) at) ⌝ }
+// The place of the k-th item, counted from the first, into its eight bytes of the list.
+fn note(work: &mut [u8], k: usize, v: usize)
+    requires { ⌜ 48 + 8 * k + 8 ≤ length (now work) ⌝ }
+    ensures { λ _. ⌜ now (work .exit) ≡ store (now (work .entry)) (48 + 8 * k) (le 8 v) ⌝ }
+{
+    store64(work, 48 + 8 * k, v as u64);
+}
+
+// The items from a place to the tape's end. An item's place is noted behind its reading: so many bytes were read that there is room.
+pub fn items(tape: &[u8], work: &mut [u8], m: Atoms, at: usize) -> Listed
+    requires { ⌜ Listing (now tape) (now work) m at ⌝ }
+    ensures { λ r. ⌜ Lists (now (tape .entry)) m at r (now (work .exit)) ⌝ }
 {
     let mut p = at;
+    let mut k = 0;
     while p < tape.len() {
         match item(tape, work, m, p) {
             Step::Next(e) => {
+                note(work, k, p - at);
                 p = e;
+                k += 1;
             }
             Step::Refused(why) => {
-                return Step::Refused(why);
+                return Listed::Refused(why);
             }
         }
     }
-    Step::Next(p)
+    Listed::All(k)
 }

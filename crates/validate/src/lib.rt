@@ -1,4 +1,5 @@
-// Questions 2, 3 and 4 of every command of a tape, in one pass. Touches the work buffer only, for the table of atoms.
+// Questions 2, 3 and 4 of every command of a tape, in one pass. Touches the work buffer only: from 48 on it notes the items' places, and
+// behind eight bytes for each of the items' bytes stands the table of atoms.
 use parse_tree::refusal::Refusal;
 use parse_tree::syntax::Node;
 use texts::Map;
@@ -52,8 +53,14 @@ pub enum Gathered {
     Refused(Refusal),
 }
 
-// The table of the atoms and the place of the first item, or a refusal.
+// The number of items, or a refusal.
+pub enum Listed {
+    All(usize),
+    Refused(Refusal),
+}
+
+// The table of the atoms, the place of the first item, and the number of items; or a refusal.
 pub enum Validated {
-    Valid(Atoms, usize),
+    Valid(Atoms, usize, usize),
     Refused(Refusal),
 }

@@ -1,4 +1,4 @@
-// A symbol's command, or an alternative's, by its bytes: no node is built. What is not found out here is left to `command`.
+// A symbol's command, an alternative's or an item's, by its bytes: no node is built. What is not found out here is left to `command`.
 use crate::Atoms;
 use crate::questions::alternative_defined;
 use crate::suits::alternative_suits;
@@ -12,6 +12,8 @@ use octets::wide::from16;
 use octets::wide::from32;
 use parse_tree::syntax::Alternative;
 use parse_tree::syntax::Atom;
+use parse_tree::syntax::NonterminalData;
+use parse_tree::syntax::NonterminalString;
 use parse_tree::syntax::Span;
 ghost use mathlib.Core.Path.{_≡_};
 ghost use mathlib.Core.Bool.{true, _&&_};
@@ -26,7 +28,7 @@ ghost use Rattle.parse_tree.specs.working.Questions.{alternativeDefined, leafDe
 ghost use Rattle.parse_tree.specs.declared.syntax.Node.{Node};
 ghost use Rattle.texts.specs.Atoms.{atomsOf};
 ghost use Rattle.validate.specs.Steps.{Ready};
-ghost use Rattle.validate.specs.Quick.{Passing, Quick, WholeAlternative, PassedAlternative, alternativeHere, heldOf};
+ghost use Rattle.validate.specs.Quick.{Passing, Quick, WholeAlternative, PassedAlternative, PassedNonterminal, PassedTerminal, alternativeHere, nonterminalHere, heldOf};
 
 // Whether there is such an atom and, where question 4 is asked, its text is a name.
 fn names(tape: &[u8], work: &[u8], m: Atoms, k: u32) -> bool
@@ -218,4 +220,59 @@ pub fn quick_alternative(tape: &[u8], work: &[u8], m: Atoms, at: usize) -> bool
         return false;
     }
     alternative_passes(tape, work, m, alternative_at(tape, at, m.width))
+}
+
+// The nonterminal at a place where its command is whole.
+pub fn nonterminal_at(tape: &[u8], at: usize, width: usize) -> NonterminalData
+    requires { ⌜ (2 ≤ width) × (width ≤ 3) × (at + (13 + width) ≤ length (now tape)) ⌝ }
+    ensures { λ r. ⌜ r ≡ nonterminalHere width (now (tape .entry)) at ⌝ }
+{
+    NonterminalData {
+        span: Span(u32_at(tape, at + 1), u32_at(tape, at + 1 + 4)),
+        name: NonterminalString(atom_at(tape, at + 9, width)),
+        flags: tape[at + 9 + width],
+        args: tape[at + 10 + width],
+        alternatives: u16_at(tape, at + 11 + width),
+    }
+}
+
+// Whether the command of a nonterminal stands at a place that passes 2, 3 and 4; false where that is not found out here.
+pub fn quick_nonterminal(tape: &[u8], work: &[u8], m: Atoms, at: usize) -> bool
+    requires { ⌜ Ready (now tape) (now work) m ⌝ }
+    ensures { λ r. ⌜ PassedNonterminal (now (tape .entry)) m at r ⌝ }
+{
+    if tape.len() <= at {
+        return false;
+    }
+    if tape.len() - at < 13 + m.width {
+        return false;
+    }
+    if tape[at] != 16 {
+        return false;
+    }
+    if 3 < tape[at + 9 + m.width] {
+        return false;
+    }
+    names(tape, work, m, atom_at(tape, at + 9, m.width))
+}
+
+// The same for a terminal.
+pub fn quick_terminal(tape: &[u8], work: &[u8], m: Atoms, at: usize) -> bool
+    requires { ⌜ Ready (now tape) (now work) m ⌝ }
+    ensures { λ r. ⌜ PassedTerminal (now (tape .entry)) m at r ⌝ }
+{
+    if tape.len() <= at {
+        return false;
+    }
+    if tape.len() - at < 9 + m.width {
+        return false;
+    }
+    let c = tape[at];
+    if c < 48 {
+        return false;
+    }
+    if 49 < c {
+        return false;
+    }
+    names(tape, work, m, atom_at(tape, at + 9, m.width))
 }

@@ -12,6 +12,8 @@ use Rattle.parse_tree.specs.plain.ReadTape.{readTape}
 use Rattle.parse_tree.specs.plain.WriteTape.{tapeOf}
 use Rattle.parse_tree.specs.working.Decode.{decode}
 use Rattle.parse_tree.specs.working.Refusals.{refusalAt}
+use Rattle.validate.specs.Whole.{Valid}
+use Rattle.validate.specs.declared.Atoms.{Atoms}
 use Rattle.passes.specs.Outcome.{Outcome, yes, no, after}
 use Rattle.passes.specs.Stages.{resolveStage}
 use Rattle.passes.specs.Calls.{readAs, sizes}
@@ -22,6 +24,11 @@ use Rattle.normalize.specs.declared.Answer.{Answer}
 pub record Judged (s w : List ℕ) (r : Answer) (w′ : List ℕ) : Type 0 where
   pub answered : r ≡ answerOf (readAs (readTape true 2 s))
   pub zeroed : w′ ≡ replicate (length w) 0
+
+-- a tape that was validated, and has so many items
+pub record ValidTape (s w : List ℕ) (m : Atoms) (at : ℕ) : Type 0 where
+  pub many : ℕ
+  pub valid : Valid true 2 s w m at many
 
 -- 20 and 21 of a stage written from a to e, where lim is the end of its room
 unfoldable pub sized : ℕ → ℕ → ℕ → ℕ → Answer
