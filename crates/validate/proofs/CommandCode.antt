@@ -21,6 +21,8 @@ use Rattle.parse_tree.specs.declared.syntax.Node.{Node}
 use Rattle.texts.specs.Atoms.{atomsOf}
 use Rattle.texts.proofs.AtomsLaws.{length-atoms}
 use Rattle.validate.specs.Steps.{askedOf, stepOf, Refuses}
+use Rattle.validate.specs.Quick.{QuickCommand}
+use Rattle.validate.specs.declared.Atoms.{Atoms}
 use Rattle.validate.specs.declared.Asked.{Asked}
 use Rattle.validate.specs.declared.Step.{Step}
 use Rattle.validate.proofs.CommandInside.{node-inside}
@@ -166,4 +168,10 @@ module _ (four : Bool) (s : List ℕ) (w atoms place k p : ℕ) (x : Step) (inv 
 pub commands-none : (four : Bool) (s : List ℕ) (w atoms place k p : ℕ) (x : Step) → stepOf (times (ask four w s (atomsOf s atoms) place 1) k p) ≡ x → k ≤ 0 → Step.Next p ≡ x
 commands-none four s w atoms place k p x inv h = times-none (ask four w s (atomsOf s atoms) place 1) k p x inv h
 
-pub ruleset commands = (needs, commands-next, commands-stop, commands-none)
+-- f is what the quick look answered
+pub commands-quick : (s : List ℕ) (m : Atoms) (place k p f : ℕ) (x : Step) → stepOf (times (ask (m .four) (m .width) s (atomsOf s (m .count)) place 1) k p) ≡ x → QuickCommand s m place p f → p < f → 0 < k
+    → stepOf (times (ask (m .four) (m .width) s (atomsOf s (m .count)) place 1) (k - 1) f) ≡ x
+unfolding stepOf
+commands-quick s m place k p f x inv g h l = times-next (ask (m .four) (m .width) s (atomsOf s (m .count)) place 1) k p x inv f (rw (g .passed h .asked)) l
+
+pub ruleset commands = (needs, commands-next, commands-stop, commands-none, commands-quick)

@@ -322,7 +322,7 @@ module _ (s : List ℕ) (m : Atoms) (left at f : ℕ) (q : Quick s m left at f) 
 
 pub ruleset stepping = (walking, quick-room, quick-deep, quick-falls, quick-next, quick-on, quick-stop)
 
--- ---- `has_alternative`, `alternative_at`, `alternative_passes`
+-- ---- `has_alternative`, `alternative_at`
 module _ (w : ℕ) (s : List ℕ) (at : ℕ) where
   pub alternative-not : WholeAlternative w s at false
   alternative-not = record { node = λ h. absurd (false≢true h); room = λ h. absurd (false≢true h) }
@@ -340,21 +340,21 @@ module _ (w : ℕ) (s : List ℕ) (at : ℕ) where
 
 pub ruleset whole-alternative = (needs, alternative-not, alternative-stands, alternative-read)
 
--- d is whether the operands are defined
-module _ (n : ℕ) (a : Alternative) (d : Bool) (e : d ≡ alternativeDefined n a) where
-  pub alternative-undefined : (b : Bool) → not d ≡ true → false ≡ (alternativeDefined n a && b)
-  alternative-undefined b h = rw (← e, not-true d h)
+-- ---- `alternative_passes`, `attribute_passes`: d is whether the operands are defined
+module _ (x d : Bool) (e : d ≡ x) where
+  pub passing-undefined : (b : Bool) → not d ≡ true → false ≡ (x && b)
+  passing-undefined b h = rw (← e, not-true d h)
 
   module _ (four b : Bool) (h : not d ≡ false) where
-    pub alternative-unasked : not four ≡ true → true ≡ (alternativeDefined n a && pick four b true)
+    pub passing-unasked : not four ≡ true → true ≡ (x && pick four b true)
     unfolding pick
-    alternative-unasked f = rw (← e, not-false d h, not-true four f)
+    passing-unasked f = rw (← e, not-false d h, not-true four f)
 
-    pub alternative-asked : (r : Bool) → not four ≡ false → r ≡ b → r ≡ (alternativeDefined n a && pick four b true)
+    pub passing-asked : (r : Bool) → not four ≡ false → r ≡ b → r ≡ (x && pick four b true)
     unfolding pick
-    alternative-asked r f p = rw (← e, not-false d h, not-false four f) p
+    passing-asked r f p = rw (← e, not-false d h, not-false four f) p
 
-pub ruleset alternative-passing = (needs, alternative-undefined, alternative-unasked, alternative-asked)
+pub ruleset passing-both = (needs, passing-undefined, passing-unasked, passing-asked)
 
 -- ---- `quick_alternative`
 pub and-left : (x y : Bool) → true ≡ (x && y) → x ≡ true

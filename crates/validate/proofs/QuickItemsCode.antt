@@ -1,4 +1,4 @@
--- The look at the bytes of an item: one law for each way out. Assumes nothing.
+-- The look at the bytes of an item, an argument or an attribute: one law for each way out. Assumes nothing.
 use mathlib.Core.Path.{_≡_, refl, sym, _∙_}
 use mathlib.Core.Bool.{Bool, true, false, _&&_, false≢true}
 use mathlib.Core.List.{List, []}
@@ -12,15 +12,16 @@ use Rattle.octets.specs.working.Choice.{pick}
 use Rattle.octets.specs.plain.Numbers.{leAt}
 use Rattle.parse_tree.specs.plain.Texts.{isName}
 use Rattle.parse_tree.specs.plain.Reading.{got}
-use Rattle.parse_tree.specs.working.Nodes.{nodeAt, nodeBy, nonterminalNodeAt, terminalNodeAt, spanIn, sizeOf}
-use Rattle.parse_tree.specs.working.Places.{classOf, allowedAt, table, itemsPlace}
-use Rattle.parse_tree.specs.working.Questions.{defined, suits}
+use Rattle.parse_tree.specs.working.Nodes.{nodeAt, nodeBy, nonterminalNodeAt, terminalNodeAt, argumentNodeAt, attributeNodeAt, spanIn, sizeOf}
+use Rattle.parse_tree.specs.working.Places.{classOf, allowedAt, table, itemsPlace, argumentsPlace, attributesPlace}
+use Rattle.parse_tree.specs.working.Questions.{defined, suits, attributeDefined}
 use Rattle.parse_tree.specs.working.Decode.{ask}
 use Rattle.parse_tree.specs.declared.syntax.NonterminalData.{NonterminalData}
+use Rattle.parse_tree.specs.declared.syntax.Attribute.{Attribute}
 use Rattle.parse_tree.specs.declared.syntax.Node.{Node}
-use Rattle.parse_tree.proofs.SizeLaws.{nonterminal-size, terminal-size}
+use Rattle.parse_tree.proofs.SizeLaws.{nonterminal-size, terminal-size, argument-size, attribute-size}
 use Rattle.texts.specs.Atoms.{atomsOf}
-use Rattle.validate.specs.Quick.{PassedNonterminal, PassedTerminal, nonterminalHere, terminalHere}
+use Rattle.validate.specs.Quick.{PassedNonterminal, PassedTerminal, QuickCommand, nonterminalHere, terminalHere, attributeHere}
 use Rattle.validate.specs.declared.Atoms.{Atoms}
 use Rattle.validate.proofs.CommandCode.{asked-got, asked-is}
 use Rattle.validate.proofs.QuickCode.{wholly, and-left, and-right}
@@ -98,3 +99,51 @@ module _ (s : List ℕ) (m : Atoms) (at : ℕ) where
       }
 
 pub ruleset quick-terminal = (needs, terminal-left, terminal-passed)
+
+-- ---- `attribute_at`, `quick_attribute`, `quick_argument`, `quick_command`
+pub attribute-read : (w : ℕ) (s : List ℕ) (at : ℕ) (d : Attribute) → d .id .0 ≡ leAt w s (at + 1) → d .kind ≡ getD s (at + 1 + w) 0 → d .key .0 ≡ leAt w s (at + 2 + w)
+    → d .value .0 ≡ leAt w s (at + 2 + w + w) → d ≡ attributeHere w s at
+unfolding attributeHere
+attribute-read w s at d a b e f = λ i. record { id = record { 0 = a i }; kind = b i; key = record { 0 = e i }; value = record { 0 = f i } }
+
+pub ruleset reading-attribute = (needs, attribute-read)
+
+pub command-left : (s : List ℕ) (m : Atoms) (place at : ℕ) → QuickCommand s m place at at
+command-left s m place at = record { passed = λ h. absurd (omega arith) }
+
+module _ (s : List ℕ) (m : Atoms) (at c : ℕ) (h : at < length s) (e : c ≡ getD s at 0) where
+  pub attribute-passed : (a : Attribute) (r : Bool) → 2 + m .width + m .width + m .width ≤ length s - at → c ≡ 19 → a ≡ attributeHere (m .width) s at
+      → r ≡ (attributeDefined (m .count) a && pick (m .four) (suits (atomsOf s (m .count)) (Node.Attribute a)) true) → r ≡ true → QuickCommand s m attributesPlace at (at + (2 + m .width + m .width + m .width))
+  unfolding nodeAt nodeBy pick attributeNodeAt attributeHere defined classOf allowedAt table
+  attribute-passed a r l f q p o =
+      let z : getD s at 0 ≡ 19 = sym e ∙ f in
+      let i : nodeAt (m .width) s at ≡ Node.Attribute a = simp (lt-leb (length s) at h, z, q) (wholly s at (2 + m .width + m .width + m .width) _ (omega arith)) in
+      let d : Bool = attributeDefined (m .count) a in
+      let u : Bool = pick (m .four) (suits (atomsOf s (m .count)) (Node.Attribute a)) true in
+      record {
+        passed = λ _. record {
+          command = Node.Attribute a;
+          asked = asked-here s m attributesPlace at (Node.Attribute a) i refl (2 + m .width + m .width + m .width) (attribute-size (m .width) (Node.Attribute a) a refl) (and-left d u (sym o ∙ p)) (and-right d u (sym o ∙ p));
+        };
+      }
+
+  pub argument-passed : (k : ℕ) (r : Bool) → 1 + m .width ≤ length s - at → c ≡ 17 → k ≡ leAt (m .width) s (at + 1)
+      → r ≡ (ltb k (m .count) && pick (m .four) (isName (getD (atomsOf s (m .count)) k [])) true) → r ≡ true → QuickCommand s m argumentsPlace at (at + (1 + m .width))
+  unfolding nodeAt nodeBy pick argumentNodeAt defined suits classOf allowedAt table
+  argument-passed k r l f q p o =
+      let z : getD s at 0 ≡ 17 = sym e ∙ f in
+      let n : Node = Node.Argument (record { 0 = k }) in
+      let i : nodeAt (m .width) s at ≡ Node.Argument (record { 0 = k }) = simp (lt-leb (length s) at h, z, q) (wholly s at (1 + m .width) _ (omega arith)) in
+      let d : Bool = ltb k (m .count) in
+      let u : Bool = pick (m .four) (isName (getD (atomsOf s (m .count)) k [])) true in
+      record {
+        passed = λ _. record {
+          command = n;
+          asked = asked-here s m argumentsPlace at n i refl (1 + m .width) (argument-size (m .width) n (record { 0 = k }) refl) (and-left d u (sym o ∙ p)) (and-right d u (sym o ∙ p));
+        };
+      }
+
+pub command-placed : (s : List ℕ) (m : Atoms) (place q at r : ℕ) → QuickCommand s m q at r → place ≡ q → QuickCommand s m place at r
+command-placed s m place q at r g e = rw e g
+
+pub ruleset quick-command = (needs, command-left, attribute-passed, argument-passed, command-placed)

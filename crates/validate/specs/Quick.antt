@@ -1,4 +1,4 @@
--- What a look at the bytes of a symbol, an alternative or an item finds out. Assumes nothing: these are definitions.
+-- What a look at the bytes of a command finds out. Assumes nothing: these are definitions.
 use mathlib.Core.Path.{_≡_}
 use mathlib.Core.Bool.{Bool, true}
 use mathlib.Core.List.{List}
@@ -14,6 +14,7 @@ use Rattle.parse_tree.specs.plain.Reading.{got}
 use Rattle.parse_tree.specs.working.Decode.{ask}
 use Rattle.parse_tree.specs.declared.syntax.SymbolKind.{SymbolKind}
 use Rattle.parse_tree.specs.declared.syntax.Alternative.{Alternative}
+use Rattle.parse_tree.specs.declared.syntax.Attribute.{Attribute}
 use Rattle.parse_tree.specs.declared.syntax.NonterminalData.{NonterminalData}
 use Rattle.parse_tree.specs.declared.syntax.TerminalData.{TerminalData}
 use Rattle.parse_tree.specs.declared.syntax.Node.{Node}
@@ -105,3 +106,21 @@ terminalHere w s at = record { span = spanIn s (at + 1); name = record { 0 = leA
 pub record PassedTerminal (s : List ℕ) (m : Atoms) (at : ℕ) (r : Bool) : Type 0 where
   pub asked : r ≡ true → ask (m .four) (m .width) s (atomsOf s (m .count)) itemsPlace 1 at ≡ got (Node.Terminal (terminalHere (m .width) s at)) (at + (9 + m .width))
   pub room : r ≡ true → at + (9 + m .width) ≤ length s
+
+-- the attribute that they say
+unfoldable pub attributeHere : ℕ → List ℕ → ℕ → Attribute
+attributeHere w s at = record {
+  id = record { 0 = leAt w s (at + 1) };
+  kind = getD s (at + 1 + w) 0;
+  key = record { 0 = leAt w s (at + 2 + w) };
+  value = record { 0 = leAt w s (at + 2 + w + w) };
+}
+
+-- a command stands at a place that passes 2, 3 and 4, and ends at r
+pub record PassedCommand (s : List ℕ) (m : Atoms) (place at r : ℕ) : Type 0 where
+  pub command : Node
+  pub asked : ask (m .four) (m .width) s (atomsOf s (m .count)) place 1 at ≡ got command r
+
+-- where r is behind it
+pub record QuickCommand (s : List ℕ) (m : Atoms) (place at r : ℕ) : Type 0 where
+  pub passed : at < r → PassedCommand s m place at r

@@ -3,6 +3,7 @@ use crate::Asked;
 use crate::Atoms;
 use crate::Step;
 use crate::questions::is_defined;
+use crate::quick::quick_command;
 use crate::suits::is_apt;
 use parse_tree::node::node;
 use parse_tree::places::allowed;
@@ -45,13 +46,19 @@ pub fn commands(tape: &[u8], work: &[u8], m: Atoms, place: usize, n: usize, at: 
     let mut p = at;
     let mut k = n;
     while 0 < k {
-        match command(tape, work, m, place, 1, p) {
-            Asked::Is(_, e) => {
-                p = e;
-                k -= 1;
-            }
-            Asked::Refused(why) => {
-                return Step::Refused(why);
+        let f = quick_command(tape, work, m, place, p);
+        if p < f {
+            p = f;
+            k -= 1;
+        } else {
+            match command(tape, work, m, place, 1, p) {
+                Asked::Is(_, e) => {
+                    p = e;
+                    k -= 1;
+                }
+                Asked::Refused(why) => {
+                    return Step::Refused(why);
+                }
             }
         }
     }

@@ -84,7 +84,7 @@ pub fn alternative_defined(a: Alternative, atoms: usize) -> bool
     text.0 == 0
 }
 
-fn attribute_defined(a: Attribute, atoms: usize) -> bool
+pub fn attribute_defined(a: Attribute, atoms: usize) -> bool
     ensures { λ r. ⌜ r ≡ attributeDefined atoms a ⌝ }
 {
     let id = a.id;

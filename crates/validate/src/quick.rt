@@ -1,7 +1,9 @@
-// A symbol's command, an alternative's or an item's, by its bytes: no node is built. What is not found out here is left to `command`.
+// The command of a symbol, an alternative, an item, an argument or an attribute, by its bytes: no node is built. What is not found out here is left to `command`.
 use crate::Atoms;
 use crate::questions::alternative_defined;
+use crate::questions::attribute_defined;
 use crate::suits::alternative_suits;
+use crate::suits::attribute_suits;
 use crate::suits::is_literal;
 use crate::suits::is_name;
 use octets::numbers::atom_at;
@@ -10,8 +12,11 @@ use octets::numbers::u32_at;
 use octets::wide::from8;
 use octets::wide::from16;
 use octets::wide::from32;
+use parse_tree::places::ARGUMENTS;
+use parse_tree::places::ATTRIBUTES;
 use parse_tree::syntax::Alternative;
 use parse_tree::syntax::Atom;
+use parse_tree::syntax::Attribute;
 use parse_tree::syntax::NonterminalData;
 use parse_tree::syntax::NonterminalString;
 use parse_tree::syntax::Span;
@@ -24,11 +29,12 @@ ghost use lib.ListN.{length, getD};
 ghost use Rattle.octets.specs.working.Choice.{pick};
 ghost use Rattle.parse_tree.specs.working.Nodes.{namedLeaf, symbolNodeAt};
 ghost use Rattle.parse_tree.specs.plain.Texts.{isName, isLiteral};
-ghost use Rattle.parse_tree.specs.working.Questions.{alternativeDefined, leafDefined, leafSuits, suits};
+ghost use Rattle.parse_tree.specs.working.Places.{argumentsPlace, attributesPlace};
+ghost use Rattle.parse_tree.specs.working.Questions.{alternativeDefined, attributeDefined, leafDefined, leafSuits, suits};
 ghost use Rattle.parse_tree.specs.declared.syntax.Node.{Node};
 ghost use Rattle.texts.specs.Atoms.{atomsOf};
 ghost use Rattle.validate.specs.Steps.{Ready};
-ghost use Rattle.validate.specs.Quick.{Passing, Quick, WholeAlternative, PassedAlternative, PassedNonterminal, PassedTerminal, alternativeHere, nonterminalHere, heldOf};
+ghost use Rattle.validate.specs.Quick.{Passing, Quick, WholeAlternative, PassedAlternative, PassedNonterminal, PassedTerminal, QuickCommand, alternativeHere, attributeHere, nonterminalHere, heldOf};
 
 // Whether there is such an atom and, where question 4 is asked, its text is a name.
 fn names(tape: &[u8], work: &[u8], m: Atoms, k: u32) -> bool
@@ -275,4 +281,86 @@ pub fn quick_terminal(tape: &[u8], work: &[u8], m: Atoms, at: usize) -> bool
         return false;
     }
     names(tape, work, m, atom_at(tape, at + 9, m.width))
+}
+
+// The attribute at a place where its command is whole.
+fn attribute_at(tape: &[u8], at: usize, width: usize) -> Attribute
+    requires { ⌜ (2 ≤ width) × (width ≤ 3) × (at + (2 + width + width + width) ≤ length (now tape)) ⌝ }
+    ensures { λ r. ⌜ r ≡ attributeHere width (now (tape .entry)) at ⌝ }
+{
+    Attribute {
+        id: Atom(atom_at(tape, at + 1, width)),
+        kind: tape[at + 1 + width],
+        key: Atom(atom_at(tape, at + 2 + width, width)),
+        value: Atom(atom_at(tape, at + 2 + width + width, width)),
+    }
+}
+
+// Whether an attribute passes 3 and 4.
+fn attribute_passes(tape: &[u8], work: &[u8], m: Atoms, a: Attribute) -> bool
+    requires { ⌜ Ready (now tape) (now work) m ⌝ }
+    ensures { λ r. ⌜ r ≡ (attributeDefined (m .count) a && pick (m .four) (suits (atomsOf (now (tape .entry)) (m .count)) (Node.Attribute a)) true) ⌝ }
+{
+    if !attribute_defined(a, m.count) {
+        return false;
+    }
+    if !m.four {
+        return true;
+    }
+    attribute_suits(tape, work, m, a)
+}
+
+// The place behind the command of an attribute that passes 2, 3 and 4; `at` where that is not found out here.
+fn quick_attribute(tape: &[u8], work: &[u8], m: Atoms, at: usize) -> usize
+    requires { ⌜ Ready (now tape) (now work) m ⌝ }
+    ensures { λ r. ⌜ QuickCommand (now (tape .entry)) m attributesPlace at r ⌝ }
+{
+    if tape.len() <= at {
+        return at;
+    }
+    let n = 2 + m.width + m.width + m.width;
+    if tape.len() - at < n {
+        return at;
+    }
+    if tape[at] != 19 {
+        return at;
+    }
+    if attribute_passes(tape, work, m, attribute_at(tape, at, m.width)) {
+        return at + n;
+    }
+    at
+}
+
+// The same for an argument.
+fn quick_argument(tape: &[u8], work: &[u8], m: Atoms, at: usize) -> usize
+    requires { ⌜ Ready (now tape) (now work) m ⌝ }
+    ensures { λ r. ⌜ QuickCommand (now (tape .entry)) m argumentsPlace at r ⌝ }
+{
+    if tape.len() <= at {
+        return at;
+    }
+    if tape.len() - at < 1 + m.width {
+        return at;
+    }
+    if tape[at] != 17 {
+        return at;
+    }
+    if names(tape, work, m, atom_at(tape, at + 1, m.width)) {
+        return at + (1 + m.width);
+    }
+    at
+}
+
+// The same for a place where nothing stands inside a command.
+pub fn quick_command(tape: &[u8], work: &[u8], m: Atoms, place: usize, at: usize) -> usize
+    requires { ⌜ Ready (now tape) (now work) m ⌝ }
+    ensures { λ r. ⌜ QuickCommand (now (tape .entry)) m place at r ⌝ }
+{
+    if place == ARGUMENTS {
+        return quick_argument(tape, work, m, at);
+    }
+    if place == ATTRIBUTES {
+        return quick_attribute(tape, work, m, at);
+    }
+    at
 }

@@ -101,7 +101,7 @@ pub fn alternative_suits(tape: &[u8], work: &[u8], m: Atoms, a: Alternative) -> 
     true
 }
 
-fn attribute_suits(tape: &[u8], work: &[u8], m: Atoms, a: Attribute) -> bool
+pub fn attribute_suits(tape: &[u8], work: &[u8], m: Atoms, a: Attribute) -> bool
     requires { ⌜ Ready (now tape) (now work) m ⌝ }
     ensures { λ r. ⌜ r ≡ suits (atomsOf (now (tape .entry)) (m .count)) (Node.Attribute a) ⌝ }
 {

@@ -6,6 +6,10 @@ use mathlib.Core.Path.{_≡_}
 use Rattle.validate.proofs.CommandCode.{commands}
 use Rattle.validate.proofs.command.commands.Statement.{statement}
 use Rattle.validate.proofs.command.commands.Tie as tie
+use Rattle.validate.proofs.command.commands.Reads as reads
+use Rattle.validate.proofs.command.commands.Lts as lts
+use Rattle.validate.proofs.command.command.Reads as command-reads
+use Rattle.validate.proofs.quick.quick_command.Reads as quick-command-reads
 
 abbrev Inv-loop : tie.InvT-loop
 Inv-loop tape work m place n at p₀ k₀ p k = stepOf (times (ask (m .four) (m .width) tape (atomsOf tape (m .count)) place 1) k p) ≡ stepOf (times (ask (m .four) (m .width) tape (atomsOf tape (m .count)) place 1) n at)
@@ -16,11 +20,8 @@ abbrev μ-loop : tie.MeasureT-loop
 loop-holds : tie.Need-loop-holds Inv-loop μ-loop
 loop-holds c = search commands
 
-command-requires : tie.Need-command-requires Inv-loop μ-loop
-command-requires c κs = search commands
-
-enum-known-e : tie.Need-enum-known-e Inv-loop μ-loop
-enum-known-e c = search commands
+quick-command-requires : tie.Need-quick-command-requires Inv-loop μ-loop
+quick-command-requires c κs = search commands
 
 sub-k : tie.Need-sub-k Inv-loop μ-loop
 sub-k c = search commands
@@ -30,6 +31,21 @@ loop-less c = search commands
 
 loop-again : tie.Need-loop-again Inv-loop μ-loop
 loop-again c = search commands
+
+command-requires : tie.Need-command-requires Inv-loop μ-loop
+command-requires c κs = search commands
+
+enum-known-e : tie.Need-enum-known-e Inv-loop μ-loop
+enum-known-e c = search commands
+
+sub-k-2 : tie.Need-sub-k-2 Inv-loop μ-loop
+sub-k-2 c = search commands
+
+loop-less-2 : tie.Need-loop-less-2 Inv-loop μ-loop
+loop-less-2 c = search commands
+
+loop-again-2 : tie.Need-loop-again-2 Inv-loop μ-loop
+loop-again-2 c = search commands
 
 enum-known-why : tie.Need-enum-known-why Inv-loop μ-loop
 enum-known-why c = search commands
@@ -47,11 +63,15 @@ commands-spec =
     Inv-loop
     μ-loop
     loop-holds
-    command-requires
-    enum-known-e
+    quick-command-requires
     sub-k
     loop-less
     loop-again
+    command-requires
+    enum-known-e
+    sub-k-2
+    loop-less-2
+    loop-again-2
     enum-known-why
     returns
     returns-2)

@@ -1,4 +1,4 @@
-use Rattle.validate.proofs.QuickCode.{alternative-passing}
+use Rattle.validate.proofs.QuickCode.{passing-both}
 use borrow.Author.Needs.{needs}
 use Rattle.validate.proofs.quick.alternative_passes.Statement.{statement}
 use Rattle.validate.proofs.quick.alternative_passes.Tie as tie
@@ -11,16 +11,16 @@ alternative-defined-requires : tie.Need-alternative-defined-requires
 alternative-defined-requires c κs = search needs
 
 returns : tie.Need-returns
-returns c = search alternative-passing
+returns c = search passing-both
 
 returns-2 : tie.Need-returns-2
-returns-2 c = search alternative-passing
+returns-2 c = search passing-both
 
 alternative-suits-requires : tie.Need-alternative-suits-requires
 alternative-suits-requires c κs = search needs
 
 returns-3 : tie.Need-returns-3
-returns-3 c = search alternative-passing
+returns-3 c = search passing-both
 
 pub alternative-passes-spec : {M : Type 1} → statement M
 alternative-passes-spec =
