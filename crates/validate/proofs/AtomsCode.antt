@@ -24,7 +24,7 @@ use Rattle.texts.proofs.AtomsLaws.{class-small}
 use Rattle.texts.specs.declared.Map.{Map}
 use Rattle.texts.specs.declared.Found.{Found}
 use Rattle.texts.specs.Hash.{hashOf}
-use Rattle.texts.specs.Fields.{classAt}
+use Rattle.texts.specs.Fields.{classAt, cellAt}
 use Rattle.texts.specs.Texts.{markedText, textsOf}
 use Rattle.texts.specs.Table.{texts, linked, Finds, Entering, Entered, Started}
 use Rattle.texts.proofs.TableFindCode.{answer-none, answer-has, linked-few, linked-many}
@@ -164,6 +164,10 @@ module _ (s w : List ℕ) (m : Map) (at end n : ℕ) (g : Going s w m at end n) 
             let f = class-few in
             rw (z, ← g .here) (omega (arith, x .mark) ∙ class-is)
 
+        blank-then : (i : ℕ) (u : Bool) → ltb i (m .count) ≡ u → i < suc (m .count) → cellAt w1 (m .base) i ≡ 0
+        blank-then i true q l = let k = ltb-true i (m .count) q in x .cells i k ∙ g .blank i k
+        blank-then i false q l = let z : i ≡ m .count = omega (arith, ltb-false i (m .count) q) in rw z (x .cell)
+
         pub next-more : (r : Found) → Finds (texts s w m) t r → r ≡ Found.Nothing → length w1 ≡ length w → Nexts s m at end n (Next.Atom m1 (at + 3 + length t)) w1
         unfolding Nexts
         next-more r a p l =
@@ -180,6 +184,7 @@ module _ (s w : List ℕ) (m : Map) (at end n : ℕ) (g : Going s w m at end n) 
                 same = same-then;
                 apart = apart-then none;
                 classes = λ i k. rw (x .base) (class-then i (ltb i (m .count)) refl (rw count-then at k));
+                blank = λ i k. rw (x .base) (blank-then i (ltb i (m .count)) refl (rw count-then at k));
               };
               on = omega arith;
             }
@@ -210,6 +215,7 @@ module _ (s w : List ℕ) (end n : ℕ) (g : Starts s w end n) where
     same = rw (x .count);
     apart = rw (x .count);
     classes = λ i k. absurd (omega (arith, x .count));
+    blank = λ i k. absurd (omega (arith, x .count));
   }
 
 module _ (s w : List ℕ) (m : Map) (at end n : ℕ) (g : Going s w m at end n) where
@@ -247,6 +253,7 @@ module _ (s w : List ℕ) (m : Map) (at end n : ℕ) (g : Going s w m at end n) 
         same = g .same ∙ ap (atomsOf s) z;
         apart = ap (λ (k : ℕ). distinct (atomsOf s k)) (sym z) ∙ g .apart;
         classes = λ i k. g .classes i (omega arith);
+        blank = λ i k. g .blank i (omega arith);
       }
 
 pub ruleset fronting = (needs, start-fits, start-inside, start-room, start-going, going-next, going-less, going-again, going-done)

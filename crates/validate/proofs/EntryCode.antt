@@ -59,6 +59,7 @@ module _ (four : Bool) (width : ℕ) (s w : List ℕ) (at n : ℕ) (g : Counted 
             table = all .table;
             same = all .same ∙ ap (atomsOf s) (sym (all .count));
             classes = λ j l. all .classes j (omega (arith, all .count));
+            blank = λ j l. all .blank j (omega (arith, all .count));
             narrow = h;
             wide = k;
           };

@@ -60,6 +60,7 @@ module _ (s w w1 : List ℕ) (m : Atoms) (at to : ℕ) (vs : List ℕ) (g : List
             table = t .table;
             same = t .same ∙ g .ready .ready .same;
             classes = λ i k. ap (λ (n : ℕ). n % 4) (t .marks i k) ∙ g .ready .ready .classes i k;
+            blank = λ i k. t .cells i k ∙ g .ready .ready .blank i k;
             narrow = g .ready .ready .narrow;
             wide = g .ready .ready .wide;
           };

@@ -13,7 +13,7 @@ use Rattle.parse_tree.specs.declared.refusal.Refusal.{Refusal}
 use Rattle.texts.specs.Atoms.{atomEnd, atomText, atomsOf, placeOf}
 use Rattle.texts.specs.Classes.{textClass}
 use Rattle.texts.specs.declared.Map.{Map}
-use Rattle.texts.specs.Fields.{classAt}
+use Rattle.texts.specs.Fields.{classAt, cellAt}
 use Rattle.texts.specs.Table.{Table, Above, texts, linked}
 use Rattle.validate.specs.declared.Next.{Next}
 use Rattle.validate.specs.declared.Gathered.{Gathered}
@@ -35,7 +35,7 @@ pub record Starts (s w : List ℕ) (end n : ℕ) : Type 0 where
   pub inside : end ≤ length s
   pub small : 8 * length s ≤ length w
 
--- the atoms before `at` are entered
+-- the atoms before `at` are entered, and their cells are blank
 pub record Going (s w : List ℕ) (m : Map) (at end n : ℕ) : Type 0 where
   pub starts : Starts s w end n
   pub table : Table s w m
@@ -47,6 +47,7 @@ pub record Going (s w : List ℕ) (m : Map) (at end n : ℕ) : Type 0 where
   pub same : texts s w m ≡ atomsOf s (m .count)
   pub apart : distinct (atomsOf s (m .count)) ≡ true
   pub classes : (i : ℕ) → i < m .count → classAt w (m .base) i ≡ textClass (atomText s (placeOf s i))
+  pub blank : (i : ℕ) → i < m .count → cellAt w (m .base) i ≡ 0
 
 -- the atom at p, the first of n that is one of those before it
 pub record Again (s : List ℕ) (n p : ℕ) : Type 0 where
@@ -75,6 +76,7 @@ pub record All (s w : List ℕ) (m : Map) (end n : ℕ) : Type 0 where
   pub same : texts s w m ≡ atomsOf s n
   pub apart : distinct (atomsOf s n) ≡ true
   pub classes : (i : ℕ) → i < n → classAt w (m .base) i ≡ textClass (atomText s (placeOf s i))
+  pub blank : (i : ℕ) → i < n → cellAt w (m .base) i ≡ 0
 
 -- or the refusal of an atom
 pub record Twice (s : List ℕ) (n : ℕ) (z : Refusal) : Type 0 where

@@ -17,7 +17,7 @@ use Rattle.parse_tree.specs.declared.syntax.Node.{Node}
 use Rattle.texts.specs.Atoms.{atomText, atomsOf, placeOf}
 use Rattle.texts.specs.Classes.{textClass}
 use Rattle.texts.specs.declared.Map.{Map}
-use Rattle.texts.specs.Fields.{classAt}
+use Rattle.texts.specs.Fields.{classAt, cellAt}
 use Rattle.texts.specs.Table.{Table, Above, texts}
 use Rattle.validate.specs.declared.Atoms.{Atoms}
 use Rattle.validate.specs.declared.Asked.{Asked}
@@ -28,11 +28,12 @@ use Rattle.validate.specs.declared.Listed.{Listed}
 unfoldable pub mapOf : Atoms → Map
 mapOf m = record { base = m .base; count = m .count; buckets = m .buckets }
 
--- w holds the table of the first atoms of s with the classes of their texts; their numbers have two or three bytes
+-- w holds the table of the first atoms of s with the classes of their texts and blank cells; their numbers have two or three bytes
 pub record Ready (s w : List ℕ) (m : Atoms) : Type 0 where
   pub table : Table s w (mapOf m)
   pub same : texts s w (mapOf m) ≡ atomsOf s (m .count)
   pub classes : (i : ℕ) → i < m .count → classAt w (m .base) i ≡ textClass (atomText s (placeOf s i))
+  pub blank : (i : ℕ) → i < m .count → cellAt w (m .base) i ≡ 0
   pub narrow : 2 ≤ m .width
   pub wide : m .width ≤ 3
 
