@@ -24,7 +24,7 @@ use Rattle.parse_tree.specs.declared.syntax.SymbolKind.{SymbolKind}
 use Rattle.parse_tree.specs.declared.syntax.Node.{Node}
 use Rattle.passes.specs.Outcome.{Tree, Outcome, yes, no, after}
 use Rattle.passes.specs.Resolve.{Def, terminalDef, nonterminalDef, argumentDef, lookup, validateNonterminal, rewriteAmbiguousId, validateMacro, validateLeaf, validateOver, validateSymbol, validateSymbols}
-use Rattle.passes.proofs.Outcomes.{yes-inj, after-yes}
+use Rattle.passes.proofs.ResolveKeeps.{count-kept}
 use Rattle.laws.specs.Flat.{symNode, nodesAll, foldSym, foldSyms, run}
 use Rattle.laws.specs.Names.{State, fine, refused, bytesOf, askAmbiguous, askNonterminal, askMacro, askLeaf, askOver, askName}
 use Rattle.laws.proofs.Flat.{lies-kept, SymsFits, symbol-size, Keeps, kept, run-whole}
@@ -159,15 +159,6 @@ module _ (look : ℕ → Option Def) (w : ℕ) where
       asked-over sp (macro n) k s = rw (agree n) (asked-macro sp k (lookup G ps n) s)
       asked-over sp group k s = refl
 
-      -- resolving keeps how many symbols there are
-      pub count-kept : (xs ys : Syms) → validateSymbols G ps xs ≡ yes ys → count ys ≡ count xs
-      unfolding validateSymbols count
-      count-kept nil ys p = ap count (sym (yes-inj nil ys p))
-      count-kept (cons x xs) ys p =
-          let (y, _, q) = after-yes (validateSymbol G ps x) (λ y. after (validateSymbols G ps xs) (λ zs. yes (cons y zs))) ys p in
-          let (zs, r, t) = after-yes (validateSymbols G ps xs) (λ zs. yes (cons y zs)) ys q in
-          ap count (sym (yes-inj (cons y zs) ys t)) ∙ ap suc (count-kept xs zs r)
-
       around-told : (sp : Span) (a : Around) (x : Sym) (n s : List ℕ) (at : ℕ) (r : Outcome Sym) (σ : State) → n ≡ nodeBytes w (Node.Symbol sp (SymbolKind.Around (aroundNode ts a)))
           → Lies s at n (at + length n) → Told (symBytes w ts) s (at + length n) (length (symBytes w ts x)) σ r
           → Told (symBytes w ts) s at (length (symBytes w ts (around sp a x))) σ (after r (λ y. yes (around sp a y)))
@@ -182,7 +173,7 @@ module _ (look : ℕ → Option Def) (w : ℕ) where
           → Told (symBytes w ts) s at (length (symBytes w ts (over sp o xs))) (foldSyms w (askName look) ts xs σ (at + length n)) (after v (λ u. after r (λ ys. yes (over sp o ys))))
       unfolding symBytes
       over-told sp o xs n s at (yes u) (yes ys) σ z c a i t =
-          let k = count-kept xs ys c in
+          let k = count-kept G ps xs ys c in
           rw (k, ← z) (
             ap (λ (τ : State). foldSyms w (askName look) ts xs τ (at + length n)) a ∙ t .0 ∙ ap fine (behind-node s at (at + length n) n (symsBytes w ts ys) i refl),
             length-append n (symsBytes w ts ys) ∙ ap (λ (z : ℕ). length n + z) (t .1) ∙ sym (length-append n (symsBytes w ts xs)),

@@ -1,29 +1,45 @@
 // The calls as Rattle has them: each for every tape, output and work.
 use crate::Answer;
-use crate::resolving::resolve_stage;
+use crate::Resolved;
+use crate::resolving::resolve_tape;
 use crate::room::enough;
+use crate::room::judge;
 use crate::validating::validate_tape;
 use octets::runs::clear;
-use octets::sink::put_run;
+use octets::runs::copy;
 use parse_tree::refusal;
 ghost use mathlib.Core.Path.{_≡_};
 ghost use mathlib.Core.Bool.{true};
+ghost use Prim.Native.Nat.{_+_, _-_, _*_, _≤_};
 ghost use lib.ListN.{length};
 ghost use Rattle.passes.specs.Calls.{validateCall, resolveCall};
 ghost use Rattle.normalize.specs.plain.Answers.{Called, Checked};
-ghost use Rattle.normalize.specs.working.Handing.{Fits, handed};
+ghost use Rattle.normalize.specs.working.Stages.{resolved, Staged};
+ghost use Rattle.normalize.specs.working.Handing.{handed};
 
-// At a yes the tree, which stands in work from a on, goes to the front of the output.
-fn hand_over(r: Answer, work: &[u8], a: usize, output: &mut [u8])
-    requires { ⌜ Fits r a (length (now output)) (length (now work)) ⌝ }
-    ensures { λ _. ⌜ now (output .exit) ≡ handed r a (now (work .entry)) (now (output .entry)) ⌝ }
+// The tree goes to the front of the output: its atoms as they stand on the tape, its items as they stand in work from a on.
+fn hand_over(tape: &[u8], at: usize, work: &[u8], a: usize, output: &mut [u8])
+    requires { ⌜ (at ≤ length (now tape)) × (a + (length (now tape) - at) ≤ length (now work)) × (length (now tape) ≤ length (now output)) ⌝ }
+    ensures { λ _. ⌜ now (output .exit) ≡ handed at (now (tape .entry)) a (now (work .entry)) (now (output .entry)) ⌝ }
 {
-    match r {
-        Answer::No(_) => {}
-        Answer::Yes(n) => {
-            let lim = output.len();
-            put_run(work, a, a + n, output, lim, 0);
-        }
+    copy(tape, 0, at, output, 0);
+    copy(work, a, a + (tape.len() - at), output, at);
+}
+
+// The resolved stage, handed over if its size is admitted.
+fn resolve_stage(tape: &[u8], output: &mut [u8], work: &mut [u8]) -> Answer
+    requires { ⌜ 8 * (length (now tape) + length (now output)) ≤ length (now work) ⌝ }
+    ensures { λ r. ⌜ Staged (resolved (now (tape .entry)) (length (now (output .entry)))) (now (output .entry)) r (now (output .exit)) ⌝ }
+{
+    match resolve_tape(tape, work) {
+        Resolved::Refused(why) => Answer::No(why),
+        Resolved::Is(m, t, at) => match judge(m.count, tape.len(), output.len()) {
+            Answer::No(why) => Answer::No(why),
+            Answer::Yes(n) => {
+                hand_over(tape, at, work, t.at, output);
+                Answer::Yes(n)
+            }
+        },
     }
 }
 
@@ -42,8 +58,7 @@ pub fn resolve(tape: &[u8], output: &mut [u8], work: &mut [u8]) -> Answer
     ensures { λ r. ⌜ Called (resolveCall true 2 (now (tape .entry)) (length (now (output .entry))) (length (now (work .entry)))) (now (tape .entry)) (now (output .entry)) (now (work .entry)) r (now (output .exit)) (now (work .exit)) ⌝ }
 {
     if enough(tape.len(), output.len(), work.len()) {
-        let r = resolve_stage(tape, output.len(), work);
-        hand_over(r, work, 8 * tape.len(), output);
+        let r = resolve_stage(tape, output, work);
         clear(work);
         r
     } else {

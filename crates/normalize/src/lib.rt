@@ -1,5 +1,7 @@
 // The calls: a tape, an output and a work buffer in; the answer, the tree in the output, and work at zero out.
 use parse_tree::refusal::Refusal;
+use resolve::Grammar;
+use texts::Map;
 
 pub mod calls;
 pub mod export;
@@ -11,4 +13,10 @@ pub mod validating;
 pub enum Answer {
     Yes(usize),
     No(Refusal),
+}
+
+// The table of a tape's texts, its grammar resolved in work, and the place of the first item on the tape; or why the tape is refused.
+pub enum Resolved {
+    Is(Map, Grammar, usize),
+    Refused(Refusal),
 }

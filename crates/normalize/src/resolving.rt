@@ -1,43 +1,52 @@
-// Questions 2 to 13, 20 and 21 of one tape: the resolved stage, in the work buffer behind the tables.
-use crate::Answer;
-use crate::room::judge;
-use resolve::Scope;
-use resolve::Walked;
+// Questions 2 to 13 of one tape: its items are copied to work behind the list of their places, and resolved there.
+use crate::Resolved;
+use octets::runs::copy;
+use resolve::Grammar;
+use resolve::Verdict;
 use resolve::whole::resolve;
+use texts::Map;
 use validate::Atoms;
 use validate::Validated;
 use validate::entry::validate;
-ghost use Prim.Native.Nat.{_+_, _*_, _≤_};
+ghost use mathlib.Core.Bool.{true};
+ghost use Prim.Native.Nat.{_*_, _≤_};
 ghost use lib.ListN.{length};
-ghost use Rattle.normalize.specs.working.Stages.{Resolved, ValidTape};
+ghost use Rattle.validate.specs.Whole.{Valid};
+ghost use Rattle.normalize.specs.working.Stages.{TapeResolves};
 
-// The stage of a tape that was validated.
-fn resolve_valid(tape: &[u8], cap: usize, work: &mut [u8], a: Atoms, at: usize) -> Answer
-    requires { ⌜ ValidTape (now tape) (now work) a at × (8 * (length (now tape) + cap) ≤ length (now work)) ⌝ }
-    ensures { λ r. ⌜ Resolved (now (tape .entry)) cap r (now (work .exit)) ⌝ }
+// A tape that was validated: n items stand from a place on.
+fn resolve_valid(tape: &[u8], work: &mut [u8], a: Atoms, at: usize, n: usize) -> Resolved
+    requires { ⌜ Valid true 2 (now tape) (now work) a at n × (8 * length (now tape) ≤ length (now work)) ⌝ }
+    ensures { λ r. ⌜ TapeResolves (now (tape .entry)) r (now (work .exit)) ⌝ }
 {
-    let to = 8 * tape.len();
-    let room = tape.len() / 3;
-    let m = Scope {
-        room: room,
+    let size = tape.len() - at;
+    let to = 7 * size;
+    copy(tape, at, tape.len(), work, to);
+    let m = Map {
+        base: a.base,
         count: a.count,
-        width: a.width,
-        lim: to + cap,
-        first: 0,
+        buckets: a.buckets,
     };
-    match resolve(tape, work, m, at, to) {
-        Walked::Refused(why) => Answer::No(why),
-        Walked::Next(_, e) => judge(a.count, to, e, m.lim),
+    let t = Grammar {
+        at: to,
+        end: to + size,
+        list: 48,
+        count: n,
+        width: a.width,
+    };
+    match resolve(work, m, t) {
+        Verdict::Refused(why) => Resolved::Refused(why),
+        Verdict::Fine => Resolved::Is(m, t, at),
     }
 }
 
-// The stage of a tape; work is long enough, and at a yes holds the tree behind 8 bytes for each byte of the tape.
-pub fn resolve_stage(tape: &[u8], cap: usize, work: &mut [u8]) -> Answer
-    requires { ⌜ 8 * (length (now tape) + cap) ≤ length (now work) ⌝ }
-    ensures { λ r. ⌜ Resolved (now (tape .entry)) cap r (now (work .exit)) ⌝ }
+// Work has eight bytes for each of the tape's.
+pub fn resolve_tape(tape: &[u8], work: &mut [u8]) -> Resolved
+    requires { ⌜ 8 * length (now tape) ≤ length (now work) ⌝ }
+    ensures { λ r. ⌜ TapeResolves (now (tape .entry)) r (now (work .exit)) ⌝ }
 {
     match validate(tape, work, 2, true) {
-        Validated::Refused(why) => Answer::No(why),
-        Validated::Valid(a, at, _) => resolve_valid(tape, cap, work, a, at),
+        Validated::Refused(why) => Resolved::Refused(why),
+        Validated::Valid(a, at, n) => resolve_valid(tape, work, a, at, n),
     }
 }

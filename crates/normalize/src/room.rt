@@ -2,7 +2,7 @@
 use crate::Answer;
 use parse_tree::refusal;
 ghost use mathlib.Core.Path.{_≡_};
-ghost use Prim.Native.Nat.{_+_, _*_, _≤_};
+ghost use Prim.Native.Nat.{_+_, _*_};
 ghost use lib.Dec.{leb};
 ghost use Rattle.normalize.specs.working.Stages.{sized};
 
@@ -17,16 +17,15 @@ pub fn enough(tape: usize, output: usize, work: usize) -> bool
     output <= k - tape
 }
 
-// "atoms at most 65,536 .. 20. Tape no longer than the output buffer? 21": the stage was written from a to e, where lim is the end of its room.
-pub fn judge(atoms: usize, a: usize, e: usize, lim: usize) -> Answer
-    requires { ⌜ a ≤ e ⌝ }
-    ensures { λ r. ⌜ r ≡ sized atoms a e lim ⌝ }
+// "atoms at most 65,536 .. 20. Tape no longer than the output buffer? 21": a stage of so many atoms and n bytes.
+pub fn judge(atoms: usize, n: usize, output: usize) -> Answer
+    ensures { λ r. ⌜ r ≡ sized atoms n output ⌝ }
 {
     if 65536 < atoms {
         return Answer::No(refusal::at(20, 0));
     }
-    if lim < e {
+    if output < n {
         return Answer::No(refusal::at(21, 0));
     }
-    Answer::Yes(e - a)
+    Answer::Yes(n)
 }

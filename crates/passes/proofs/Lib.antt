@@ -8,3 +8,4 @@ mod Asked
 pub mod Build
 mod Starred
 mod Chosen
+pub mod ResolveKeeps

@@ -27,9 +27,9 @@ use Rattle.parse_tree.specs.declared.syntax.Node.{Node}
 use Rattle.parse_tree.proofs.SizeLaws.{length-span}
 use Rattle.parse_tree.proofs.FieldLaws.{le-read-then, span-read}
 use Rattle.passes.specs.Outcome.{Tree, Outcome, yes, no, after, withSymbols}
+use Rattle.passes.proofs.ResolveKeeps.{count-kept}
 use Rattle.passes.specs.Resolve.{Def, terminalDef, nonterminalDef, argumentDef, kind, lookup, checkCondition, validateSymbols, validateAlternatives}
 use Rattle.laws.proofs.Flat.{lies-kept, syms-fit}
-use Rattle.laws.proofs.Names.{count-kept}
 use Rattle.laws.proofs.Patch.{behind-node}
 use Rattle.texts.specs.declared.Map.{Map}
 use Rattle.resolve.specs.Cells.{knownAt}
@@ -163,7 +163,7 @@ module _ (m : Map) (wd e : ℕ) (ts : List Text) where
     both-told a cs w agree p d d′ H z y y′ l (yes u) (yes ys) (no q s) i c t f = c ∙ t .0 ∙ f ys (t .1)
     both-told a cs w agree p d d′ H z y y′ l (yes u) (yes ys) (yes bs) i c t f =
         let g = f ys (t .1) in
-        let n = count-kept (λ k. meant (knownAt m w k)) wd ts G ps agree (a .symbols) ys i in
+        let n = count-kept G ps (a .symbols) ys i in
         let Y = symsBytes wd ts ys in
         let new : alternativeBytes wd ts (withSymbols a ys) ≡ H ++ symsBytes wd ts ys = with-bytes wd ts a ys n ∙ ap (λ (x : List ℕ). x ++ symsBytes wd ts ys) (sym z) in
         let old : alternativeBytes wd ts a ≡ H ++ symsBytes wd ts (a .symbols) = with-bytes wd ts a (a .symbols) refl ∙ ap (λ (x : List ℕ). x ++ symsBytes wd ts (a .symbols)) (sym z) in

@@ -26,8 +26,8 @@ use Rattle.parse_tree.proofs.TextLaws.{number-below}
 use Rattle.texts.specs.declared.Map.{Map}
 use Rattle.laws.proofs.Patch.{behind-node}
 use Rattle.passes.specs.Outcome.{Tree, Outcome, yes, no, after, withAlternatives}
-use Rattle.passes.specs.Resolve.{globals, checkCondition, validateSymbols, validateAlternatives, validateMacroArgs, validateItems}
-use Rattle.passes.proofs.Outcomes.{yes-inj, after-yes}
+use Rattle.passes.specs.Resolve.{globals, validateAlternatives, validateMacroArgs, validateItems}
+use Rattle.passes.proofs.ResolveKeeps.{alternatives-kept}
 use Rattle.resolve.specs.declared.Grammar.{Grammar}
 use Rattle.resolve.specs.Cells.{Room, knownAt}
 use Rattle.resolve.specs.Commands.{Run, ran, stopped, runThen, runOut}
@@ -42,16 +42,6 @@ use Rattle.resolve.proofs.CommandsMean.{RunTold, alternatives-run}
 
 abbrev Yes : Outcome (Unit {0})
 Yes = yes tt
-
--- resolving keeps how many alternatives there are
-alternatives-kept : (G : Tree) (ps : List Text) (cs bs : List Alternative) → validateAlternatives G ps cs ≡ yes bs → length bs ≡ length cs
-unfolding validateAlternatives
-alternatives-kept G ps [] bs e = ap length (sym (yes-inj [] bs e))
-alternatives-kept G ps (c ∷ cs) bs e =
-    let (u, _, q) = after-yes (checkCondition G ps (c .condition)) _ bs e in
-    let (ys, _, r) = after-yes (validateSymbols G ps (c .symbols)) _ bs q in
-    let (ds, i, s) = after-yes (validateAlternatives G ps cs) _ bs r in
-    ap length (sym (yes-inj _ bs s)) ∙ ap suc (alternatives-kept G ps cs ds i)
 
 -- arguments have one length
 arguments-size : (wd : ℕ) (ts : List Text) (xs : List Text) → length (bytesOfEach (argumentBytes wd ts) xs) ≡ length xs * (1 + wd)

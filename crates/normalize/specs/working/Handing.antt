@@ -1,18 +1,13 @@
 -- A tree handed over to the output, and an answer to its words. Assumes nothing: these are definitions.
 use mathlib.Core.List.{List, [], _∷_, _++_}
-use Prim.Native.Nat.{ℕ, _+_, _≤_}
-use lib.ListN.{drop}
+use Prim.Native.Nat.{ℕ, _+_, _-_}
+use lib.ListN.{length, drop}
 use Rattle.octets.specs.plain.Runs.{part}
 use Rattle.normalize.specs.declared.Answer.{Answer}
 
--- a yes whose tree stands from a on in work of w bytes, and goes into o bytes of output
-unfoldable pub Fits : Answer → ℕ → ℕ → ℕ → Type 0
-Fits (Answer.Yes n) a o w = (a + n ≤ w) × (n ≤ o)
-Fits (Answer.No why) a o w = Unit {0}
-
-unfoldable pub handed : Answer → ℕ → List ℕ → List ℕ → List ℕ
-handed (Answer.Yes n) a w o = part a (a + n) w ++ drop n o
-handed (Answer.No why) a w o = o
+-- the tape's bytes before `at`, then as many of work from a on as the tape has behind `at`, at the front of the output
+unfoldable pub handed : ℕ → List ℕ → ℕ → List ℕ → List ℕ → List ℕ
+handed at s a w o = part 0 at s ++ (part a (a + (length s - at)) w ++ drop (length s) o)
 
 -- the five words of an answer
 unfoldable pub wordsOf : Answer → List ℕ

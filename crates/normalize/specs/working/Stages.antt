@@ -1,47 +1,69 @@
--- A finished stage in work, and what is answered to it. Assumes nothing: these are definitions.
+-- A stage in work, and what is answered to it. Assumes nothing: these are definitions.
 use mathlib.Core.Path.{_≡_}
 use mathlib.Core.Bool.{true}
 use mathlib.Core.List.{List}
-use Prim.Native.Nat.{ℕ, _+_, _-_, _*_}
+use Prim.Native.Nat.{ℕ, _+_, _-_, _≤_}
 use lib.Dec.{ltb}
 use lib.ListN.{length, replicate}
 use Rattle.octets.specs.working.Choice.{pick}
 use Rattle.octets.specs.plain.Runs.{part}
 use Rattle.parse_tree.specs.plain.Tree.{Stage}
+use Rattle.parse_tree.specs.plain.Reading.{Reading, got, refused}
 use Rattle.parse_tree.specs.plain.ReadTape.{readTape}
-use Rattle.parse_tree.specs.plain.WriteTape.{tapeOf}
+use Rattle.parse_tree.specs.plain.WriteTape.{bytesOfEach}
 use Rattle.parse_tree.specs.working.Decode.{decode}
-use Rattle.parse_tree.specs.working.Refusals.{refusalAt}
-use Rattle.validate.specs.Whole.{Valid}
-use Rattle.validate.specs.declared.Atoms.{Atoms}
-use Rattle.passes.specs.Outcome.{Outcome, yes, no, after}
+use Rattle.parse_tree.specs.working.Encode.{atomBytes, itemBytes}
+use Rattle.parse_tree.specs.working.Refusals.{refusalAt, refusalOver}
+use Rattle.parse_tree.specs.working.Within.{StageWithin}
+use Rattle.texts.specs.declared.Map.{Map}
+use Rattle.passes.specs.Outcome.{Tree, Outcome, yes, no, after}
+use Rattle.passes.specs.Resolve.{resolve}
 use Rattle.passes.specs.Stages.{resolveStage}
-use Rattle.passes.specs.Calls.{readAs, sizes}
+use Rattle.passes.specs.Calls.{readAs, sizes, written}
+use Rattle.resolve.specs.declared.Grammar.{Grammar}
 use Rattle.normalize.specs.plain.Answers.{answerOf}
 use Rattle.normalize.specs.declared.Answer.{Answer}
+use Rattle.normalize.specs.declared.Resolved.{Resolved}
 
 -- behind question 1, without an output: the answer to 2 to 4, and work cleared
 pub record Judged (s w : List ℕ) (r : Answer) (w′ : List ℕ) : Type 0 where
   pub answered : r ≡ answerOf (readAs (readTape true 2 s))
   pub zeroed : w′ ≡ replicate (length w) 0
 
--- a tape that was validated, and has so many items
-pub record ValidTape (s w : List ℕ) (m : Atoms) (at : ℕ) : Type 0 where
-  pub many : ℕ
-  pub valid : Valid true 2 s w m at many
+-- ---- a tape resolved: g is its tree, R the items resolved
+pub record Stands (s : List ℕ) (g : Stage) (R : Tree) (r : Resolved) (w : List ℕ) : Type 0 where
+  pub table : Map
+  pub grammar : Grammar
+  pub place : ℕ
+  pub is : r ≡ Resolved.Is table grammar place
+  pub within : StageWithin true 2 g
+  pub many : table .count ≡ length (g .atoms)
+  pub inside : place ≤ length s
+  pub atoms : part 0 place s ≡ bytesOfEach (atomBytes 2) (g .atoms)
+  pub room : grammar .at + (length s - place) ≤ length w
+  pub items : part (grammar .at) (grammar .at + (length s - place)) w ≡ bytesOfEach (itemBytes 2 (g .atoms)) R
 
--- 20 and 21 of a stage written from a to e, where lim is the end of its room
-unfoldable pub sized : ℕ → ℕ → ℕ → ℕ → Answer
-sized atoms a e lim = pick (ltb 65536 atoms) (Answer.No (refusalAt 20 0)) (pick (ltb lim e) (Answer.No (refusalAt 21 0)) (Answer.Yes (e - a)))
+unfoldable pub StandsBy : List ℕ → Stage → Outcome Tree → Resolved → List ℕ → Type 0
+StandsBy s g (yes R) r w = Stands s g R r w
+StandsBy s g (no q p) r w = r ≡ Resolved.Refused (refusalOver q p)
 
--- behind question 1: what the call says of the tape, and at a yes the tree's bytes behind 8 bytes for each byte of the tape
-unfoldable pub staged : List ℕ → ℕ → Outcome Stage
-staged s cap = after (readAs (decode s)) (resolveStage (sizes 2 cap))
+-- questions 2 to 4, then 5 to 13
+unfoldable pub TapeReads : List ℕ → Reading Stage → Resolved → List ℕ → Type 0
+TapeReads s (got g e) r w = StandsBy s g (resolve (g .items)) r w
+TapeReads s (refused q p) r w = r ≡ Resolved.Refused (refusalAt q p)
 
-unfoldable pub Holds : List ℕ → Outcome Stage → List ℕ → Type 0
-Holds s (yes g) w = (part (8 * length s) (8 * length s + length (tapeOf 2 g)) w ≡ tapeOf 2 g)
-Holds s (no n sp) w = Unit {0}
+unfoldable pub TapeResolves : List ℕ → Resolved → List ℕ → Type 0
+TapeResolves s r w = TapeReads s (decode s) r w
 
-pub record Resolved (s : List ℕ) (cap : ℕ) (r : Answer) (w : List ℕ) : Type 0 where
-  pub answered : r ≡ answerOf (staged s cap)
-  pub holds : Holds s (staged s cap) w
+-- ---- 20 and 21 of a stage of so many atoms and n bytes
+unfoldable pub sized : ℕ → ℕ → ℕ → Answer
+sized atoms n output = pick (ltb 65536 atoms) (Answer.No (refusalAt 20 0)) (pick (ltb output n) (Answer.No (refusalAt 21 0)) (Answer.Yes n))
+
+-- behind question 1: what the call says of the tape
+unfoldable pub resolved : List ℕ → ℕ → Outcome Stage
+resolved s cap = after (readAs (decode s)) (resolveStage (sizes 2 cap))
+
+-- what is answered to a stage, and the output afterwards
+pub record Staged (x : Outcome Stage) (o : List ℕ) (r : Answer) (o′ : List ℕ) : Type 0 where
+  pub answered : r ≡ answerOf x
+  pub tree : o′ ≡ written 2 x o
