@@ -1,71 +1,195 @@
 -- The ways out of the calls. Assumes nothing.
-use mathlib.Core.Path.{_≡_, refl, sym, ap, _∙_}
-use mathlib.Core.Bool.{Bool, true, false, cond}
-use mathlib.Core.List.{List}
-use Prim.Native.Nat.{ℕ, _+_, _*_, _^_, _<_, _≤_}
+use mathlib.Core.Path.{_≡_, refl, sym, ap, subst, _∙_}
+use mathlib.Core.Bool.{Bool, true, false}
+use mathlib.Core.List.{List, _++_, append-assoc}
+use Prim.Native.Nat.{ℕ, _+_, _-_, _*_, _<_, _≤_}
 use native.Mathlib.Omega.{arith}
 use borrow.Author.Needs.{needs}
-use borrow.Author.Tests.{leb-true}
-use lib.Dec.{leb}
-use lib.ListN.{length, replicate}
-use mir.Syntax.{w64}
-use mir.Val as Bound
+use borrow.Author.Tests.{leb-true, ltb-true, ltb-false}
+use lib.Dec.{leb, ltb}
+use lib.ListN.{length, drop, replicate, length-append}
+use Rattle.octets.specs.working.Choice.{pick}
+use Rattle.octets.specs.plain.Runs.{part}
+use Rattle.octets.proofs.PartLaws.{part-length}
 use Rattle.parse_tree.specs.plain.Tree.{Stage}
-use Rattle.parse_tree.specs.working.Decode.{decode}
-use Rattle.parse_tree.specs.plain.WriteTape.{tapeOf}
+use Rattle.parse_tree.specs.plain.Reading.{Reading, got, refused}
+use Rattle.parse_tree.specs.plain.WriteTape.{bytesOfEach, tapeOf}
 use Rattle.parse_tree.specs.plain.References.{stageOf}
-use Rattle.passes.specs.Resolve.{resolve}
-use Rattle.passes.specs.Sizes.{stageFits}
-use Rattle.parse_tree.specs.working.Refusals.{refusalAt}
+use Rattle.parse_tree.specs.working.Decode.{decode}
+use Rattle.parse_tree.specs.working.Encode.{stageBytes, atomBytes, itemBytes}
+use Rattle.parse_tree.specs.working.Within.{StageWithin}
+use Rattle.parse_tree.specs.working.Refusals.{refusalAt, refusalOver}
 use Rattle.parse_tree.specs.declared.refusal.Refusal.{Refusal}
 use Rattle.parse_tree.proofs.ReadTapeIs.{read-is}
-use Rattle.passes.specs.Outcome.{Outcome, yes, no, after}
-use Rattle.passes.specs.Stages.{resolveStage}
-use Rattle.passes.specs.Calls.{nowhere, readAs, sizes, validateCall, resolveCall, written, workAfter}
+use Rattle.parse_tree.proofs.WriteTapeIs.{tape-is}
+use Rattle.texts.specs.declared.Map.{Map}
+use Rattle.passes.specs.Outcome.{Tree, Outcome, yes, no, after}
+use Rattle.passes.specs.Resolve.{resolve}
+use Rattle.passes.specs.Stages.{stage, resolveStage}
+use Rattle.passes.specs.Calls.{readAs, sizes, validateCall, resolveCall, written, workAfter}
+use Rattle.resolve.specs.declared.Grammar.{Grammar}
 use Rattle.normalize.specs.plain.Answers.{answerOf, Called, Checked}
-use Rattle.normalize.specs.working.Stages.{Judged, staged, Holds, Resolved}
-use Rattle.normalize.specs.working.Handing.{Fits, handed}
+use Rattle.normalize.specs.working.Stages.{Judged, StandsBy, TapeReads, TapeResolves, sized, resolved, Staged}
+use Rattle.normalize.specs.working.Handing.{handed}
 use Rattle.normalize.specs.declared.Answer.{Answer}
+use Rattle.normalize.specs.declared.Resolved.{Resolved}
+use Rattle.normalize.proofs.ResolvingMean.{admit-many, admit-long, admit-done}
 
--- ---- a yes has at most cap bytes
-Small : ℕ → Outcome Stage → Type 0
-Small cap (yes g) = length (tapeOf 2 g) ≤ cap
-Small cap (no n s) = Unit {0}
+-- ---- `resolve_stage`: a tape that was resolved, its grammar t standing in w
+record Stood (s w : List ℕ) (m : Map) (t : Grammar) (at : ℕ) : Type 0 where
+  tape : Stage
+  end : ℕ
+  tree : Tree
+  decoded : decode s ≡ got tape end
+  is : resolve (tape .items) ≡ yes tree
+  within : StageWithin true 2 tape
+  many : m .count ≡ length (tape .atoms)
+  inside : at ≤ length s
+  atoms : part 0 at s ≡ bytesOfEach (atomBytes 2) (tape .atoms)
+  room : t .at + (length s - at) ≤ length w
+  items : part (t .at) (t .at + (length s - at)) w ≡ bytesOfEach (itemBytes 2 (tape .atoms)) tree
 
-sizes-small : (cap : ℕ) (g : Stage) → Small cap (sizes 2 cap g)
-unfolding sizes Small
-sizes-small cap g = go (stageFits 2 g) (leb (length (tapeOf 2 g)) cap) refl
-  where
-    go : (a b : Bool) → leb (length (tapeOf 2 g)) cap ≡ b → Small cap (cond a (cond b (yes g) (no 21 nowhere)) (no 20 nowhere))
-    go true true e = leb-true (length (tapeOf 2 g)) cap e
-    go true false e = tt
-    go false b e = tt
+is-no : (m : Map) (t : Grammar) (at : ℕ) (why : Refusal) → Resolved.Is m t at ≡ Resolved.Refused why → ⊥
+is-no m t at why e = let z : _≡_ {A = ℕ} 0 1 = cc in omega arith
 
-after-small : {A : Type 0} (cap : ℕ) (x : Outcome A) (f : A → Outcome Stage) → ((a : A) → Small cap (f a)) → Small cap (after x f)
-unfolding Small
-after-small cap (yes a) f h = h a
-after-small cap (no n s) f h = tt
+-- x is what `resolve_tape` answered, and w what it left
+module _ (s : List ℕ) (x : Resolved) (w : List ℕ) (i : TapeResolves s x w) where
+  resolved-as : (o : Outcome (Stage)) (cap : ℕ) → readAs (decode s) ≡ o → resolved s cap ≡ after o (resolveStage (sizes 2 cap))
+  unfolding resolved
+  resolved-as o cap e = rw e refl
 
-resolved-small : (cap : ℕ) (g : Stage) → Small cap (resolveStage (sizes 2 cap) g)
-unfolding resolveStage
-resolved-small cap g = after-small cap (resolve (g .items)) _ (λ R. sizes-small cap (stageOf (g .atoms) R))
+  pub stage-refused : (o : List ℕ) (why : Refusal) → x ≡ Resolved.Refused why → Staged (resolved s (length o)) o (Answer.No why) o
+  unfolding TapeResolves TapeReads StandsBy resolved resolveStage answerOf written refusalAt refusalOver
+  stage-refused o why e = go (decode s) refl i
+    where
+      by : (g : Stage) (z : Outcome Tree) → StandsBy s g z x w → Staged (after z (λ R. stage (sizes 2 (length o)) (g .atoms) R)) o (Answer.No why) o
+      by g (yes R) k = absurd (is-no (k .table) (k .grammar) (k .place) why (sym (k .is) ∙ e))
+      by g (no q p) k = let z : why ≡ refusalOver q p = cc in record { answered = rw z refl; tree = refl }
 
-staged-small : (s : List ℕ) (cap : ℕ) → Small cap (staged s cap)
-unfolding staged
-staged-small s cap = after-small cap (readAs (decode s)) _ (λ g. resolved-small cap g)
+      go : (z : Reading Stage) → decode s ≡ z → TapeReads s z x w → Staged (after (readAs z) (resolveStage (sizes 2 (length o)))) o (Answer.No why) o
+      go (got g k) p h = by g (resolve (g .items)) h
+      go (refused q k) p h = let z : why ≡ refusalAt q k = cc in record { answered = rw z refl; tree = refl }
 
--- ---- so it fits, and is handed over
-small-fits : (x : Outcome Stage) (a cap n : ℕ) → Small cap x → a + cap ≤ n → Fits (answerOf x) a cap n
-unfolding Small Fits answerOf
-small-fits (yes g) a cap n h k = (omega arith, h)
-small-fits (no q sp) a cap n h k = tt
+  stood : (m : Map) (t : Grammar) (at : ℕ) → x ≡ Resolved.Is m t at → Stood s w m t at
+  unfolding TapeResolves TapeReads StandsBy
+  stood m t at e = go (decode s) refl i
+    where
+      by : (g : Stage) (k : ℕ) → decode s ≡ got g k → (z : Outcome Tree) → resolve (g .items) ≡ z → StandsBy s g z x w → Stood s w m t at
+      by g k p (no q sp) y h = absurd (is-no m t at (refusalOver q sp) (sym e ∙ h))
+      by g k p (yes R) y h =
+          let c : h .table ≡ m = cc (h .is) in
+          let d : h .grammar ≡ t = cc (h .is) in
+          let f : h .place ≡ at = cc (h .is) in
+          record {
+            tape = g;
+            end = k;
+            tree = R;
+            decoded = p;
+            is = y;
+            within = h .within;
+            many = ap (λ (u : Map). u .count) (sym c) ∙ h .many;
+            inside = subst (λ (u : ℕ). u ≤ length s) f (h .inside);
+            atoms = ap (λ (u : ℕ). part 0 u s) (sym f) ∙ h .atoms;
+            room = subst (λ (u : Grammar). u .at + (length s - at) ≤ length w) d (subst (λ (u : ℕ). h .grammar .at + (length s - u) ≤ length w) f (h .room));
+            items = subst (λ (u : Grammar). part (u .at) (u .at + (length s - at)) w ≡ bytesOfEach (itemBytes 2 (g .atoms)) R) d
+                (subst (λ (u : ℕ). part (h .grammar .at) (h .grammar .at + (length s - u)) w ≡ bytesOfEach (itemBytes 2 (g .atoms)) R) f (h .items));
+          }
 
-holds-written : (s : List ℕ) (x : Outcome Stage) (w o : List ℕ) → Holds s x w → handed (answerOf x) (8 * length s) w o ≡ written 2 x o
-unfolding Holds handed answerOf written
-holds-written s (yes g) w o h = rw h
-holds-written s (no q sp) w o h = refl
+      go : (z : Reading Stage) → decode s ≡ z → TapeReads s z x w → Stood s w m t at
+      go (got g k) p h = by g k p (resolve (g .items)) refl h
+      go (refused q k) p h = absurd (is-no m t at (refusalAt q k) (sym e ∙ h))
 
--- ---- ok is what `enough` answered
+  pub stage-stands : (m : Map) (t : Grammar) (at : ℕ) → x ≡ Resolved.Is m t at → TapeResolves s (Resolved.Is m t at) w
+  stage-stands m t at e = rw (← e) i
+
+-- ---- `admit`
+module _ (s w : List ℕ) (m : Map) (t : Grammar) (at : ℕ) (i : TapeResolves s (Resolved.Is m t at) w) where
+  pub hand-inside : at ≤ length s
+  hand-inside = stood s (Resolved.Is m t at) w i m t at refl .inside
+
+  pub hand-room : t .at + (length s - at) ≤ length w
+  hand-room = stood s (Resolved.Is m t at) w i m t at refl .room
+
+  -- y is what `judge` answered
+  module _ (o : List ℕ) (y : Answer) (j : y ≡ sized (m .count) (length s) (length o)) where
+    abbrev d : Stood s w m t at
+    d = stood s (Resolved.Is m t at) w i m t at refl
+
+    abbrev tree : Stage
+    tree = record { atoms = d .tape .atoms; items = d .tree }
+
+    bytes-are : stageBytes 2 tree ≡ part 0 at s ++ part (t .at) (t .at + (length s - at)) w
+    unfolding stageBytes
+    bytes-are = rw (d .atoms, d .items) refl
+
+    size-is : length (stageBytes 2 tree) ≡ length s
+    size-is =
+        ap length bytes-are
+        ∙ omega (arith, d .inside, length-append (part 0 at s) (part (t .at) (t .at + (length s - at)) w), part-length 0 at s (d .inside), part-length (t .at) (t .at + (length s - at)) w (d .room))
+
+    said : resolved s (length o) ≡ sizes 2 (length o) (stageOf (d .tape .atoms) (d .tree))
+    unfolding resolved resolveStage
+    said = rw (d .decoded, d .is) refl
+
+    -- by what is asked of the sizes
+    Judges : Bool → Bool → Type 0
+    Judges many long = y ≡ pick many (Answer.No (refusalAt 20 0)) (pick long (Answer.No (refusalAt 21 0)) (Answer.Yes (length s)))
+
+    judges : Judges (ltb 65536 (m .count)) (ltb (length o) (length s))
+    unfolding sized Judges
+    judges = j
+
+    yes-no : (n : ℕ) (why : Refusal) → Answer.Yes n ≡ Answer.No why → ⊥
+    yes-no n why z = let q : _≡_ {A = ℕ} 0 1 = cc in omega arith
+
+    pub stage-no : (why : Refusal) → y ≡ Answer.No why → Staged (resolved s (length o)) o (Answer.No why) o
+    unfolding Judges pick answerOf written refusalAt
+    stage-no why z = rw said (go (ltb 65536 (m .count)) refl (ltb (length o) (length s)) refl judges)
+      where
+        go : (a : Bool) → ltb 65536 (m .count) ≡ a → (b : Bool) → ltb (length o) (length s) ≡ b → Judges a b → Staged (sizes 2 (length o) (stageOf (d .tape .atoms) (d .tree))) o (Answer.No why) o
+        go true p b q k =
+            let h = ltb-true 65536 (m .count) p in
+            let u : why ≡ refusalAt 20 0 = cc in
+            rw (admit-many (d .tape) (d .tree) (d .is) (d .within) (length o) (omega (arith, d .many))) (record { answered = rw u refl; tree = refl })
+        go false p true q k =
+            let h = ltb-false 65536 (m .count) p in
+            let l = ltb-true (length o) (length s) q in
+            let u : why ≡ refusalAt 21 0 = cc in
+            rw (admit-long (d .tape) (d .tree) (d .is) (d .within) (length o) (omega (arith, d .many)) (omega (arith, size-is))) (record { answered = rw u refl; tree = refl })
+        go false p false q k = absurd (yes-no (length s) why (sym k ∙ z))
+
+    module _ (n : ℕ) (z : y ≡ Answer.Yes n) where
+      judged : (m .count ≤ 65536) × (length s ≤ length o) × (n ≡ length s)
+      unfolding Judges pick
+      judged = go (ltb 65536 (m .count)) refl (ltb (length o) (length s)) refl judges
+        where
+          go : (a : Bool) → ltb 65536 (m .count) ≡ a → (b : Bool) → ltb (length o) (length s) ≡ b → Judges a b → (m .count ≤ 65536) × (length s ≤ length o) × (n ≡ length s)
+          go true p b q k = absurd (yes-no n (refusalAt 20 0) (sym z ∙ k))
+          go false p true q k = absurd (yes-no n (refusalAt 21 0) (sym z ∙ k))
+          go false p false q k = (ltb-false 65536 (m .count) p, ltb-false (length o) (length s) q, (let c : Answer.Yes n ≡ Answer.Yes (length s) = sym z ∙ k in cc))
+
+      pub hand-fits : length s ≤ length o
+      hand-fits = judged .1
+
+      pub stage-yes : (o′ : List ℕ) → o′ ≡ handed at s (t .at) w o → Staged (resolved s (length o)) o (Answer.Yes n) o′
+      unfolding answerOf written handed
+      stage-yes o′ h =
+          let u : tapeOf 2 tree ≡ part 0 at s ++ part (t .at) (t .at + (length s - at)) w = tape-is 2 tree ∙ bytes-are in
+          let l : length (tapeOf 2 tree) ≡ length s = ap length (tape-is 2 tree) ∙ size-is in
+          rw (said, admit-done (d .tape) (d .tree) (d .is) (d .within) (length o) (omega (arith, d .many, judged .0)) (omega (arith, size-is, judged .1)))
+          (record {
+            answered = ap Answer.Yes (judged .2 ∙ sym l);
+            tree = h ∙ sym (append-assoc (part 0 at s) (part (t .at) (t .at + (length s - at)) w) (drop (length s) o)) ∙ (let g : drop (length (tapeOf 2 tree)) o ≡ drop (length s) o = ap (λ (k : ℕ). drop k o) l in cc);
+          })
+
+pub ruleset admitting = (needs, stage-no, hand-inside, hand-room, hand-fits, stage-yes)
+
+pub stage-room : (s o w : List ℕ) → 8 * (length s + length o) ≤ length w → 8 * length s ≤ length w
+stage-room s o w h = omega arith
+
+pub ruleset staging = (needs, stage-room, stage-refused, stage-stands)
+
+-- ---- `resolve`: ok is what `enough` answered
 module _ (s o w : List ℕ) (ok : Bool) (i : ok ≡ leb (8 * (length s + length o)) (length w)) where
   pub call-short : (why : Refusal) → why ≡ refusalAt 1 0 → ok ≡ false → Called (resolveCall true 2 s (length o) (length w)) s o w (Answer.No why) o w
   unfolding refusalAt resolveCall validateCall answerOf written workAfter
@@ -78,29 +202,21 @@ module _ (s o w : List ℕ) (ok : Bool) (i : ok ≡ leb (8 * (length s + length 
     pub call-room : 8 * (length s + length o) ≤ length w
     call-room = leb-true (8 * (length s + length o)) (length w) long
 
-    pub call-start : length w < 2 ^ 64 → Bound.Fits w64 (8 * length s)
-    call-start h = let z = call-room in record { fits = omega arith }
+    resolved-is : resolveCall true 2 s (length o) (length w) ≡ resolved s (length o)
+    unfolding resolveCall validateCall resolved decode
+    resolved-is = rw (long, read-is true 2 s)
 
-    staged-is : resolveCall true 2 s (length o) (length w) ≡ staged s (length o)
-    unfolding resolveCall validateCall staged decode
-    staged-is = rw (long, read-is true 2 s)
+    -- r is the answer of the stage, o′ and w₁ what it left
+    pub call-done : (r : Answer) (o′ w₁ w₂ : List ℕ) → Staged (resolved s (length o)) o r o′ → length w₁ ≡ length w → w₂ ≡ replicate (length w₁) 0
+        → Called (resolveCall true 2 s (length o) (length w)) s o w r o′ w₂
+    unfolding workAfter
+    call-done r o′ w₁ w₂ d l q = record {
+      answered = rw resolved-is (d .answered);
+      tree = rw resolved-is (d .tree);
+      zeroed = rw long (q ∙ ap (λ (n : ℕ). replicate n 0) l);
+    }
 
-    -- r is the answer of the stage, which stands in w₁
-    module _ (r : Answer) (w₁ : List ℕ) (d : Resolved s (length o) r w₁) (l : length w₁ ≡ length w) where
-      pub call-fits : Fits r (8 * length s) (length o) (length w₁)
-      call-fits = let z = call-room in rw (d .answered) (small-fits (staged s (length o)) (8 * length s) (length o) (length w₁) (staged-small s (length o)) (omega arith))
-
-      pub call-done : (o′ w₂ : List ℕ) → o′ ≡ handed r (8 * length s) w₁ o → w₂ ≡ replicate (length w₁) 0 → Called (resolveCall true 2 s (length o) (length w)) s o w r o′ w₂
-      unfolding workAfter
-      call-done o′ w₂ p q =
-          let t : o′ ≡ written 2 (staged s (length o)) o = p ∙ ap (λ (y : Answer). handed y (8 * length s) w₁ o) (d .answered) ∙ holds-written s (staged s (length o)) w₁ o (d .holds) in
-          record {
-            answered = rw staged-is (d .answered);
-            tree = rw staged-is t;
-            zeroed = rw long (q ∙ ap (λ (n : ℕ). replicate n 0) l);
-          }
-
-pub ruleset calling = (needs, call-short, call-room, call-start, call-fits, call-done)
+pub ruleset calling = (needs, call-short, call-room, call-done)
 
 -- ---- `validate`, which has no output
 module _ (s w : List ℕ) (ok : Bool) (i : ok ≡ leb (8 * (length s + 0)) (length w)) where

@@ -1,221 +1,235 @@
--- The ways out of `resolve_valid` and `resolve_stage`. Assumes nothing.
-use mathlib.Core.Path.{_≡_, refl, sym, ap, _∙_}
+-- The ways out of `resolve_valid` and `resolve_tape`: the items of a validated tape, copied to work, are a grammar that `resolve` takes. Assumes nothing.
+use mathlib.Core.Path.{_≡_, refl, sym, ap, subst, _∙_}
 use mathlib.Core.Bool.{Bool, true, false}
-use mathlib.Core.List.{List}
-use Prim.Native.Nat.{ℕ, _+_, _-_, _*_, _/_, _<_, _≤_}
+use mathlib.Core.Logic.{inl, inr}
+use mathlib.Core.List.{List, [], _∷_, _++_}
+use Prim.Native.Nat.{ℕ, zero, suc, _+_, _-_, _*_, _<_, _≤_}
 use native.Mathlib.Omega.{arith}
 use borrow.Author.Needs.{needs}
-use borrow.Author.Tests.{leb-true, leb-false, ltb-true, ltb-false}
-use lib.Dec.{leb, ltb}
-use lib.ListN.{length, drop, getD, length-drop}
-use lib.Seq.{drop-drop}
+use lib.ListN.{length, take, drop, getD, length-append}
+use lib.Dec.{leb}
+use lib.Seq.{take-append-seam, drop-append-seam, take-all}
 use mir.Syntax.{w8}
 use mir.Val as Bound
-use Rattle.octets.specs.working.Choice.{pick}
-use Rattle.octets.specs.plain.Runs.{part}
-use Rattle.octets.specs.working.Sink.{adv, lay}
-use Rattle.octets.proofs.SinkStores.{adv-le, adv-fits, adv-in, lay-part}
-use Rattle.parse_tree.specs.plain.Tree.{Text, Item, Stage}
-use Rattle.parse_tree.specs.plain.Reading.{got}
-use Rattle.parse_tree.specs.working.Decode.{decodeBy, decode}
-use Rattle.parse_tree.specs.working.Encode.{stageBytes}
-use Rattle.parse_tree.specs.plain.References.{stageOf}
-use Rattle.parse_tree.specs.working.Within.{StageWithin}
-use Rattle.parse_tree.specs.declared.syntax.Span.{Span}
+use Rattle.octets.specs.plain.Numbers.{leAt}
+use Rattle.octets.specs.plain.Runs.{Lies, part}
+use Rattle.octets.specs.working.Stores.{store}
+use Rattle.octets.proofs.PartLaws.{part-length}
+use Rattle.octets.proofs.LiesLaws.{lies-part, lies-to}
+use Rattle.octets.proofs.StoreLaws.{length-store, lies-store, leAt-other}
+use Rattle.parse_tree.specs.plain.Tree.{Text, Item, Stage, item, terminal}
+use Rattle.parse_tree.specs.plain.Reading.{got, then}
+use Rattle.parse_tree.specs.plain.WriteTape.{bytesOfEach}
+use Rattle.parse_tree.specs.working.Decode.{decodeBy, decode, readItem, readItems}
+use Rattle.parse_tree.specs.working.Encode.{stageBytes, atomBytes, itemBytes}
+use Rattle.parse_tree.specs.working.Within.{Each, ItemWithin, StageWithin}
 use Rattle.parse_tree.specs.working.Refusals.{refusalAt, refusalOver}
 use Rattle.parse_tree.specs.declared.refusal.Refusal.{Refusal}
+use Rattle.parse_tree.proofs.TextLaws.{number-below}
 use Rattle.parse_tree.proofs.Written.{written}
-use Rattle.parse_tree.proofs.WriteTapeIs.{tape-is}
+use Rattle.parse_tree.proofs.ReadingLaws.{then-got, got-as}
+use Rattle.parse_tree.proofs.ItemFound.{item-finds}
 use Rattle.texts.specs.Atoms.{atomsOf}
+use Rattle.texts.specs.Fields.{cellAt}
+use Rattle.texts.specs.declared.Map.{Map}
 use Rattle.texts.proofs.AtomsLaws.{length-atoms}
-use Rattle.validate.specs.Steps.{Refuses}
+use Rattle.validate.specs.Steps.{Refuses, mapOf}
 use Rattle.validate.specs.Whole.{Valid, Validates}
 use Rattle.validate.specs.declared.Atoms.{Atoms}
 use Rattle.validate.specs.declared.Validated.{Validated}
-use Rattle.validate.proofs.FrontCode.{place-three}
-use Rattle.passes.specs.Outcome.{Outcome, yes, no, after}
+use Rattle.validate.proofs.NotesCode.{item-long}
+use Rattle.passes.specs.Outcome.{Tree, Outcome, yes, no}
 use Rattle.passes.specs.Resolve.{resolve}
-use Rattle.passes.specs.Stages.{stage, resolveStage}
-use Rattle.passes.specs.Calls.{nowhere, sizes}
-use Rattle.resolve.specs.Scopes.{base}
-use Rattle.resolve.specs.Items.{behind}
-use Rattle.resolve.specs.Whole.{Resolving, Answers, ResolvesRead, Resolves}
-use Rattle.resolve.specs.declared.Scope.{Scope}
-use Rattle.resolve.specs.declared.Walked.{Walked}
-use Rattle.normalize.specs.plain.Answers.{answerOf}
-use Rattle.normalize.specs.working.Stages.{sized, staged, Holds, Resolved, ValidTape}
-use Rattle.normalize.specs.declared.Answer.{Answer}
-use Rattle.normalize.proofs.ResolvingMean.{admit-many, admit-long, admit-done}
+use Rattle.resolve.specs.Items.{Standing}
+use Rattle.resolve.specs.Whole.{Holds, Became, Answers, Resolves}
+use Rattle.resolve.specs.declared.Grammar.{Grammar}
+use Rattle.resolve.specs.declared.Verdict.{Verdict}
+use Rattle.normalize.specs.working.Stages.{Stands, StandsBy, TapeReads, TapeResolves}
+use Rattle.normalize.specs.declared.Resolved.{Resolved}
 
--- the tables of a tape of n bytes, and behind them cap bytes for the tree
-abbrev scopeOf : Atoms → ℕ → ℕ → Scope
-scopeOf a n cap = record { room = n / 3; count = a .count; width = a .width; lim = 8 * n + cap; first = 0 }
+-- ---- an item has eleven bytes or more, and a name
+items-long : (ts : List Text) (is : List Item) → 11 * length is ≤ length (bytesOfEach (itemBytes 2 ts) is)
+unfolding bytesOfEach
+items-long ts [] = omega arith
+items-long ts (x ∷ xs) = omega (arith, item-long 2 ts x (omega arith), items-long ts xs, length-append (itemBytes 2 ts x) (bytesOfEach (itemBytes 2 ts) xs))
 
--- ---- what the call says is what was answered
-module _ (s : List ℕ) (cap : ℕ) (w : List ℕ) where
-  says-no : (q : ℕ) (sp : Span) → staged s cap ≡ no q sp → Resolved s cap (Answer.No (refusalOver q sp)) w
-  unfolding refusalOver answerOf Holds
-  says-no q sp e = record { answered = rw e; holds = rw e tt }
-
-  says-yes : (h : Stage) (n : ℕ) → staged s cap ≡ yes h → n ≡ length (stageBytes 2 h)
-      → part (8 * length s) (8 * length s + length (stageBytes 2 h)) w ≡ stageBytes 2 h → Resolved s cap (Answer.Yes n) w
-  unfolding answerOf Holds
-  says-yes h n e l p = record { answered = rw (e, l, tape-is 2 h); holds = rw e (rw (tape-is 2 h) p) }
-
--- ---- the bytes laid behind the tables, read from `to` on
-behind-part : (m : Scope) (w w′ xs : List ℕ) (to : ℕ) → base m ≤ to → to + length xs ≤ m .lim → m .lim ≤ length w
-    → behind m w′ ≡ lay (behind m w) (m .lim - base m) (to - base m) xs → part to (to + length xs) w′ ≡ xs
-unfolding behind part
-behind-part m w w′ xs to h k l e =
-    let z : base m + (to - base m) ≡ to = omega arith in
-    let y : drop to w′ ≡ drop (to - base m) (drop (base m) w′) = sym (drop-drop (to - base m) (base m) w′ ∙ ap (λ (n : ℕ). drop n w′) z) in
-    let x : to + length xs - to ≡ to - base m + length xs - (to - base m) = omega arith in
-    rw (y, x, e) (lay-part (drop (base m) w) (m .lim - base m) (to - base m) xs (omega arith) (omega (arith, length-drop (base m) w)))
-
--- ---- a pass's answer taken apart
-next-no : {p e : ℕ} {why : Refusal} → Walked.Next p e ≡ Walked.Refused why → ⊥
-next-no {p} {e} {why} h = let z : _≡_ {A = ℕ} 0 1 = cc in omega arith
-
-next-end : {p e p′ e′ : ℕ} → Walked.Next p e ≡ Walked.Next p′ e′ → e ≡ e′
-next-end {p} {e} {p′} {e′} h = cc
-
--- a yes: the tree, and the bytes written
-record Put (m : Scope) (ts : List Text) (items : List Item) (w : List ℕ) (to e : ℕ) (w′ : List ℕ) : Type 0 where
-  tree : List Item
-  is : resolve items ≡ yes tree
-  end : e ≡ adv (m .lim) to (length (stageBytes 2 (record { atoms = ts; items = tree })))
-  bytes : behind m w′ ≡ lay (behind m w) (m .lim - base m) (to - base m) (stageBytes 2 (record { atoms = ts; items = tree }))
-
--- a cursor behind the limit has counted too many
-over : (to cap n e : ℕ) → e ≡ adv (to + cap) to n → to + cap < e → cap < n
-over to cap n e h k = go (leb n cap) refl
-  where
-    go : (b : Bool) → leb n cap ≡ b → cap < n
-    go true x = let z = leb-true n cap x in let y = adv-in (to + cap) to n (omega arith) in absurd (omega arith)
-    go false x = leb-false n cap x
+items-named : (ts : List Text) (is : List Item) → Each (ItemWithin true 2 ts) is → 0 < length is → 0 < length ts
+items-named ts [] w h = absurd (omega arith)
+items-named ts (item d ∷ is) w h = omega (arith, number-below ts (d .name) (w .0 .name .0))
+items-named ts (terminal s o x ∷ is) w h = omega (arith, number-below ts x (w .0 .1 .0))
 
 -- ---- a tape that was validated
-module _ (s : List ℕ) (cap : ℕ) (w : List ℕ) (a : Atoms) (at : ℕ) (valid : ValidTape s w a at) where
-  abbrev v : Valid true 2 s w a at (valid .many)
-  v = valid .valid
+module _ (s w : List ℕ) (a : Atoms) (at n : ℕ) (v : Valid true 2 s w a at n) (b : (j : ℕ) → Bound.Fits w8 (getD s j 0)) where
+  abbrev ts : List Text
+  ts = atomsOf s (a .count)
 
   abbrev tape : Stage
   tape = record { atoms = atomsOf s (a .count); items = v .items }
 
-  decoded : decode s ≡ got tape (length s)
-  unfolding decode
-  decoded = v .decoded
+  abbrev atoms : List ℕ
+  atoms = bytesOfEach (atomBytes 2) ts
 
-  module _ (room : 8 * (length s + cap) ≤ length w) where
-    pub valid-resolving : Resolving s w (scopeOf a (length s) cap) at (8 * length s)
-    valid-resolving = record {
-      items = v .items;
-      area = record {
-        tabled = record {
-          few = omega (arith, v .here, v .ready .inside, place-three s (a .count));
-          fits = omega arith;
-          narrow = v .ready .ready .narrow;
-          wide = v .ready .ready .wide;
-        };
-        end = omega arith;
-        apart = omega arith;
-      };
-      inside = v .ready .inside;
-      width = v .wide;
-      apart = v .ready .apart;
-      read = v .read;
-      decoded = decoded;
+  abbrev each : List Item → List ℕ
+  each is = bytesOfEach (itemBytes 2 ts) is
+
+  abbrev size : ℕ
+  size = length s - at
+
+  stage : stageBytes 2 tape ≡ s
+  stage = written true 2 s tape (length s) (λ j. b j .fits) (v .decoded) .bytes
+
+  within : StageWithin true 2 tape
+  within = written true 2 s tape (length s) (λ j. b j .fits) (v .decoded) .within
+
+  -- ---- where the tape's atoms end, its items begin
+  items-end : (k p : ℕ) (is : List Item) (e : ℕ) → readItems true 2 s ts k p ≡ got is e → e ≡ p + length (each is)
+  unfolding readItems bytesOfEach
+  items-end zero p is e q = got-as (λ js d. d ≡ p + length (each js)) q (omega arith)
+  items-end (suc k) p is e q = go (leb (length s) p) q (λ m js f. items-end k m js f)
+    where
+      go : (t : Bool) → elim t [ true ↦ got [] p | false ↦ then (readItem true 2 s ts p) (λ i m. then (readItems true 2 s ts k m) (λ js f. got (i ∷ js) f)) ] ≡ got is e
+          → ((m : ℕ) (js : List Item) (f : ℕ) → readItems true 2 s ts k m ≡ got js f → f ≡ m + length (each js)) → e ≡ p + length (each is)
+      go true q f = got-as (λ js d. d ≡ p + length (each js)) q (omega arith)
+      go false q f =
+          let r₁ = then-got (readItem true 2 s ts p) _ q in
+          let r₂ = then-got (readItems true 2 s ts k (r₁ .mid)) _ (r₁ .second) in
+          let l = item-finds true 2 s ts (λ j. b j .fits) (v .ready .apart) p (r₁ .value) (r₁ .mid) (r₁ .first) .lies in
+          got-as (λ js d. d ≡ p + length (each js)) (r₂ .second)
+          (omega (arith, l .end, f (r₁ .mid) (r₂ .value) (r₂ .mid) (r₂ .first), length-append (itemBytes 2 ts (r₁ .value)) (each (r₂ .value))))
+
+  ends : length s ≡ at + length (each (v .items))
+  ends = items-end (length s) at (v .items) (length s) (v .read)
+
+  begins : at ≡ length atoms
+  unfolding stageBytes
+  begins = omega (arith, ends, length-append atoms (each (v .items)), ap length stage)
+
+  atoms-part : part 0 at s ≡ atoms
+  unfolding part stageBytes
+  atoms-part =
+      let z : at - 0 ≡ at = omega arith in
+      ap (λ (i : ℕ). take i (drop 0 s)) z ∙ ap (λ (x : List ℕ). take at (drop 0 x)) (sym stage) ∙ ap (λ (i : ℕ). take i (atoms ++ each (v .items))) begins ∙ take-append-seam atoms (each (v .items))
+
+  items-part : part at (length s) s ≡ each (v .items)
+  unfolding part stageBytes
+  items-part =
+      ap (λ (x : List ℕ). take (length s - at) (drop at x)) (sym stage) ∙ ap (λ (i : ℕ). take (length s - at) (drop i (atoms ++ each (v .items)))) begins
+      ∙ ap (take (length s - at)) (drop-append-seam atoms (each (v .items))) ∙ take-all (length s - at) (each (v .items)) (omega (arith, ends))
+
+  -- ---- the grammar in work: w₁ is work with the items
+  abbrev table : Map
+  table = record { base = a .base; count = a .count; buckets = a .buckets }
+
+  abbrev grammar : Grammar
+  grammar = record { at = 7 * size; end = 7 * size + size; list = 48; count = n; width = a .width }
+
+  module _ (room : 8 * length s ≤ length w) (w₁ : List ℕ) (copied : w₁ ≡ store w (7 * size) (part at (length s) s)) where
+    long : length w₁ ≡ length w
+    long = ap length copied ∙ length-store w (7 * size) (part at (length s) s)
+
+    copied-long : length (part at (length s) s) ≡ size
+    copied-long = part-length at (length s) s (omega arith)
+
+    records : a .base + 24 * a .count ≤ length w₁
+    unfolding mapOf
+    records = let z = v .ready .ready .table .room in omega (arith, long)
+
+    many-fit : 0 < n → 48 + 8 * n ≤ 7 * size
+    many-fit h = omega (arith, items-long ts (v .items), v .many, ends)
+
+    named : 0 < n → 0 < a .count
+    named h = omega (arith, items-named ts (v .items) (within .items) (omega (arith, v .many)), length-atoms s (a .count))
+
+    pub valid-standing : Standing table grammar (length w₁)
+    valid-standing = record {
+      records = records;
+      listed = λ h. omega (arith, many-fit h, long, v .ready .inside);
+      ordered = omega arith;
+      inside = λ h. let z = records in omega (arith, named h, v .base);
+      narrow = v .ready .ready .narrow;
+      wide = v .ready .ready .wide;
     }
 
-  -- r is what the pass answered, and w′ what it left
-  module _ (r : Walked) (w′ : List ℕ) (i : Resolves s (scopeOf a (length s) cap) w (8 * length s) r w′) where
-    answers : Answers (scopeOf a (length s) cap) (atomsOf s (a .count)) (resolve (v .items)) w (8 * length s) r w′
-    unfolding Resolves ResolvesRead
-    answers = rw decoded at i
+    -- what stands apart from the copied items is as it was
+    before-same : (k x : ℕ) → x + k ≤ 7 * size → leAt k w₁ x ≡ leAt k w x
+    before-same k x h = ap (λ (u : List ℕ). leAt k u x) copied ∙ leAt-other k w (7 * size) (part at (length s) s) x (inl h)
 
-    staged-as : (x : Outcome (List Item)) → resolve (v .items) ≡ x → staged s cap ≡ after x (λ R. stage (sizes 2 cap) (atomsOf s (a .count)) R)
-    unfolding staged resolveStage
-    staged-as x e = rw (decoded, e)
+    behind-same : (k x : ℕ) → 7 * size + size ≤ x → leAt k w₁ x ≡ leAt k w x
+    behind-same k x h = ap (λ (u : List ℕ). leAt k u x) copied ∙ leAt-other k w (7 * size) (part at (length s) s) x (inr (omega (arith, copied-long)))
 
-    pub valid-no : (why : Refusal) → r ≡ Walked.Refused why → Resolved s cap (Answer.No why) w′
-    unfolding Answers
-    valid-no why e = go (resolve (v .items)) refl answers
-      where
-        go : (z : Outcome (List Item)) → resolve (v .items) ≡ z → Answers (scopeOf a (length s) cap) (atomsOf s (a .count)) z w (8 * length s) r w′ → Resolved s cap (Answer.No why) w′
-        go (yes R) p k = absurd (next-no (sym (k .answered) ∙ e))
-        go (no q′ sp′) p k =
-            let t : why ≡ refusalOver q′ sp′ = cc in
-            rw t (says-no s cap w′ q′ sp′ (staged-as (no q′ sp′) p))
+    holds : ((j : ℕ) → Bound.Fits w8 (getD w₁ j 0)) → Holds w₁ table grammar ts (v .items)
+    unfolding cellAt
+    holds f =
+        let y : 7 * size + length (part at (length s) s) ≡ 7 * size + size = omega (arith, copied-long) in
+        let l : Lies (store w (7 * size) (part at (length s) s)) (7 * size) (part at (length s) s) (7 * size + size) = lies-to y (lies-store w (7 * size) (part at (length s) s) (omega (arith, copied-long))) in
+        record {
+          four = true;
+          bytes = λ j. f j .fits;
+          lies = rw (v .wide, copied, ← items-part) l;
+          inside = omega (arith, long);
+          within = rw (v .wide) (within .items);
+          many = v .many;
+          places = λ i h. rw (v .wide) (before-same 8 (48 + 8 * i) (omega (arith, many-fit (omega arith))) ∙ v .noted i h);
+          distinct = v .ready .apart;
+          texts = sym (length-atoms s (a .count));
+          blank = λ k h. behind-same 4 (a .base + 24 * k + 20) (omega (arith, v .base)) ∙ v .ready .ready .blank k h;
+          items-apart = inl (omega (arith, v .base));
+          list-apart = λ h. inl (omega (arith, many-fit h, v .base));
+          apart = λ h. inr (omega (arith, many-fit h));
+        }
 
-    module _ (p e : ℕ) (n : r ≡ Walked.Next p e) where
-      written-as : Put (scopeOf a (length s) cap) (atomsOf s (a .count)) (v .items) w (8 * length s) e w′
-      unfolding Answers
-      written-as = go (resolve (v .items)) refl answers
+    -- r is what the pass answered, and w₂ what it left
+    module _ (f : (j : ℕ) → Bound.Fits w8 (getD w₁ j 0)) (r : Verdict) (w₂ : List ℕ) (i : Resolves table grammar w₁ r w₂) where
+      answers : Answers table grammar ts (resolve (v .items)) w₁ r w₂
+      unfolding Resolves
+      answers = i ts (v .items) (holds f)
+
+      reads : (x : Resolved) → StandsBy s tape (resolve (v .items)) x w₂ → TapeResolves s x w₂
+      unfolding TapeResolves TapeReads decode
+      reads x k = rw (v .decoded) k
+
+      fine-no : (why : Refusal) → Verdict.Fine ≡ Verdict.Refused why → ⊥
+      fine-no why e = let z : _≡_ {A = ℕ} 0 1 = cc in omega arith
+
+      pub valid-refused : (why : Refusal) → r ≡ Verdict.Refused why → TapeResolves s (Resolved.Refused why) w₂
+      unfolding Answers StandsBy
+      valid-refused why e = reads (Resolved.Refused why) (go (resolve (v .items)) answers)
         where
-          go : (z : Outcome (List Item)) → resolve (v .items) ≡ z → Answers (scopeOf a (length s) cap) (atomsOf s (a .count)) z w (8 * length s) r w′
-              → Put (scopeOf a (length s) cap) (atomsOf s (a .count)) (v .items) w (8 * length s) e w′
-          go (no q sp) x k = absurd (next-no (sym n ∙ k))
-          go (yes R) x k = record { tree = R; is = x; end = next-end (sym n ∙ k .answered); bytes = k .bytes }
+          go : (o : Outcome Tree) → Answers table grammar ts o w₁ r w₂ → StandsBy s tape o (Resolved.Refused why) w₂
+          go (yes R) k = absurd (fine-no why (sym (k .0) ∙ e))
+          go (no q p) k = let z : why ≡ refusalOver q p = cc in rw z refl
 
-      pub valid-from : 8 * length s ≤ e
-      valid-from = let k = written-as in omega (arith, k .end, adv-le (8 * length s + cap) (8 * length s) (length (stageBytes 2 (record { atoms = atomsOf s (a .count); items = k .tree }))))
+      pub valid-fine : r ≡ Verdict.Fine → TapeResolves s (Resolved.Is table grammar at) w₂
+      unfolding Answers StandsBy
+      valid-fine e = reads (Resolved.Is table grammar at) (go (resolve (v .items)) answers)
+        where
+          go : (o : Outcome Tree) → Answers table grammar ts o w₁ r w₂ → StandsBy s tape o (Resolved.Is table grammar at) w₂
+          go (yes R) k = record {
+            table = table;
+            grammar = grammar;
+            place = at;
+            is = refl;
+            within = within;
+            many = sym (length-atoms s (a .count));
+            inside = v .ready .inside;
+            atoms = atoms-part;
+            room = omega (arith, long, k .1 .long);
+            items = rw (v .wide) at (lies-part w₂ (7 * size) (7 * size + size) (bytesOfEach (itemBytes (a .width) ts) R) (k .1 .lies));
+          }
+          go (no q p) k = absurd (fine-no (refusalOver q p) (sym e ∙ k))
 
-      module _ (b : (j : ℕ) → Bound.Fits w8 (getD s j 0)) (room : 8 * (length s + cap) ≤ length w) where
-        within : StageWithin true 2 tape
-        unfolding decode
-        within = written true 2 s tape (length s) (λ j. b j .fits) (v .decoded) .within
+pub ruleset validated = (needs, valid-standing, valid-refused, valid-fine)
 
-        judged : Resolved s cap (sized (a .count) (8 * length s) e (8 * length s + cap)) w′
-        unfolding sized pick base refusalAt refusalOver
-        judged = go (ltb 65536 (a .count)) refl (ltb (8 * length s + cap) e) refl
-          where
-            k : Put (scopeOf a (length s) cap) (atomsOf s (a .count)) (v .items) w (8 * length s) e w′
-            k = written-as
-
-            xs : List ℕ
-            xs = stageBytes 2 (record { atoms = atomsOf s (a .count); items = k .tree })
-
-            many : length (tape .atoms) ≡ a .count
-            many = length-atoms s (a .count)
-
-            is : staged s cap ≡ sizes 2 cap (stageOf (atomsOf s (a .count)) (k .tree))
-            is = staged-as (yes (k .tree)) (k .is)
-
-            go : (c : Bool) → ltb 65536 (a .count) ≡ c → (d : Bool) → ltb (8 * length s + cap) e ≡ d
-                → Resolved s cap (pick c (Answer.No (refusalAt 20 0)) (pick d (Answer.No (refusalAt 21 0)) (Answer.Yes (e - 8 * length s)))) w′
-            go true x d y = let h = ltb-true 65536 (a .count) x in says-no s cap w′ 20 nowhere (is ∙ admit-many tape (k .tree) (k .is) within cap (omega (arith, many)))
-            go false x true y =
-                let h = ltb-false 65536 (a .count) x in
-                let g = ltb-true (8 * length s + cap) e y in
-                let l : cap < length xs = over (8 * length s) cap (length xs) e (k .end) g in
-                says-no s cap w′ 21 nowhere (is ∙ admit-long tape (k .tree) (k .is) within cap (omega (arith, many)) l)
-            go false x false y =
-                let h = ltb-false 65536 (a .count) x in
-                let g = ltb-false (8 * length s + cap) e y in
-                let f : 8 * length s + length xs ≤ 8 * length s + cap = adv-fits (8 * length s + cap) (8 * length s) (length xs) (omega (arith, k .end)) in
-                let l : e ≡ 8 * length s + length xs = k .end ∙ adv-in (8 * length s + cap) (8 * length s) (length xs) (omega arith) in
-                says-yes s cap w′ (record { atoms = atomsOf s (a .count); items = k .tree }) (e - 8 * length s) (is ∙ admit-done tape (k .tree) (k .is) within cap (omega (arith, many)) (omega arith)) (omega arith)
-                (behind-part (scopeOf a (length s) cap) w w′ xs (8 * length s) (omega arith) (omega arith) (omega arith) (k .bytes))
-
-        pub valid-yes : (y : Answer) → y ≡ sized (a .count) (8 * length s) e (8 * length s + cap) → Resolved s cap y w′
-        valid-yes y h = rw h judged
-
-pub ruleset validated = (needs, valid-resolving, valid-no, valid-from, valid-yes)
-
--- ---- `resolve_stage`: x is what `validate` answered
-module _ (s : List ℕ) (cap : ℕ) (w : List ℕ) (x : Validated) (i : Validates true 2 s x w) where
-  pub stage-refused : (why : Refusal) → x ≡ Validated.Refused why → Resolved s cap (Answer.No why) w
-  unfolding Validates staged decode refusalOver
-  stage-refused why e =
+-- ---- `resolve_tape`: x is what `validate` answered
+module _ (s w : List ℕ) (x : Validated) (i : Validates true 2 s x w) where
+  pub tape-refused : (why : Refusal) → x ≡ Validated.Refused why → TapeResolves s (Resolved.Refused why) w
+  unfolding Validates TapeResolves TapeReads decode refusalAt
+  tape-refused why e =
       let n : Refuses (decodeBy true 2 s) why = rw e at i in
-      let z = says-no s cap w (why .number) (record { 0 = why .from; 1 = why .from }) (rw (n .is)) in
-      record { answered = ap (λ (k : ℕ). Answer.No (record { number = why .number; from = why .from; to = k })) (n .twice) ∙ z .answered; holds = z .holds }
+      rw (n .is) (ap (λ (k : ℕ). Resolved.Refused (record { number = why .number; from = why .from; to = k })) (n .twice))
 
-  pub stage-valid : (a : Atoms) (at k : ℕ) → x ≡ Validated.Valid a at k → ValidTape s w a at
+  pub tape-valid : (a : Atoms) (at n : ℕ) → x ≡ Validated.Valid a at n → Valid true 2 s w a at n
   unfolding Validates
-  stage-valid a at k e = let v : Valid true 2 s w a at k = rw e at i in record { many = k; valid = v }
+  tape-valid a at n e = rw e at i
 
-pub stage-room : (s : List ℕ) (cap : ℕ) (w w₁ : List ℕ) → 8 * (length s + cap) ≤ length w → length w₁ ≡ length w → 8 * (length s + cap) ≤ length w₁
-stage-room s cap w w₁ h e = omega arith
-
-pub ruleset stages = (needs, stage-refused, stage-valid, stage-room)
+pub ruleset tapes-resolved = (needs, tape-refused, tape-valid)

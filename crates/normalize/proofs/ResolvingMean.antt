@@ -18,14 +18,14 @@ use Rattle.passes.specs.Outcome.{yes, no}
 use Rattle.passes.specs.Resolve.{globals, checkGlobals, validateItems, resolve}
 use Rattle.passes.specs.Sizes.{each, itemFits, stageFits}
 use Rattle.passes.specs.Calls.{nowhere, sizes}
-use Rattle.resolve.proofs.SymbolsMean.{after-yes}
-use Rattle.resolve.proofs.WholeKeeps.{resolve-keeps, resolve-fits, stage-fits}
+use Rattle.passes.proofs.Outcomes.{after-yes}
+use Rattle.passes.proofs.ResolveKeeps.{resolve-keeps, resolve-fits, stage-fits}
 
 -- R are the items of the stage g, resolved
 module _ (g : Stage) (R : List Item) (p : resolve (g .items) ≡ yes R) (k : StageWithin true 2 g) where
   validated : validateItems (g .items) (g .items) ≡ yes R
   unfolding resolve
-  validated = after-yes (checkGlobals _ (globals (g .items))) _ p .second
+  validated = after-yes (checkGlobals _ (globals (g .items))) _ R p .2
 
   pub stage-is : stageOf (g .atoms) R ≡ record { atoms = g .atoms; items = R }
   unfolding stageOf

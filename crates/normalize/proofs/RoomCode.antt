@@ -24,16 +24,16 @@ enough-is tape output work h = go (leb output (work / 8 - tape)) refl
     go false e = let x = leb-false output (work / 8 - tape) e in sym (lt-leb (8 * (tape + output)) work (omega arith))
 
 -- ---- `judge`
-pub judge-many : (n a e lim : ℕ) (why : Refusal) → why ≡ refusalAt 20 0 → 65536 < n → Answer.No why ≡ sized n a e lim
+pub judge-many : (atoms n cap : ℕ) (why : Refusal) → why ≡ refusalAt 20 0 → 65536 < atoms → Answer.No why ≡ sized atoms n cap
 unfolding sized pick
-judge-many n a e lim why o h = cc (lt-ltb 65536 n h)
+judge-many atoms n cap why o h = cc (lt-ltb 65536 atoms h)
 
-pub judge-long : (n a e lim : ℕ) (why : Refusal) → why ≡ refusalAt 21 0 → n ≤ 65536 → lim < e → Answer.No why ≡ sized n a e lim
+pub judge-long : (atoms n cap : ℕ) (why : Refusal) → why ≡ refusalAt 21 0 → atoms ≤ 65536 → cap < n → Answer.No why ≡ sized atoms n cap
 unfolding sized pick
-judge-long n a e lim why o h k = cc (le-ltb 65536 n h, lt-ltb lim e k)
+judge-long atoms n cap why o h k = cc (le-ltb 65536 atoms h, lt-ltb cap n k)
 
-pub judge-fits : (n a e lim : ℕ) → n ≤ 65536 → e ≤ lim → Answer.Yes (e - a) ≡ sized n a e lim
+pub judge-fits : (atoms n cap : ℕ) → atoms ≤ 65536 → n ≤ cap → Answer.Yes n ≡ sized atoms n cap
 unfolding sized pick
-judge-fits n a e lim h k = cc (le-ltb 65536 n h, le-ltb lim e k)
+judge-fits atoms n cap h k = cc (le-ltb 65536 atoms h, le-ltb cap n k)
 
 pub ruleset rooms = (needs, enough-no, enough-is, judge-many, judge-long, judge-fits)

@@ -8,13 +8,16 @@ use crate::validating::validate_tape;
 use octets::runs::clear;
 use octets::runs::copy;
 use parse_tree::refusal;
+use resolve::Grammar;
+use texts::Map;
 ghost use mathlib.Core.Path.{_≡_};
 ghost use mathlib.Core.Bool.{true};
 ghost use Prim.Native.Nat.{_+_, _-_, _*_, _≤_};
 ghost use lib.ListN.{length};
 ghost use Rattle.passes.specs.Calls.{validateCall, resolveCall};
 ghost use Rattle.normalize.specs.plain.Answers.{Called, Checked};
-ghost use Rattle.normalize.specs.working.Stages.{resolved, Staged};
+ghost use Rattle.normalize.specs.working.Stages.{TapeResolves, resolved, Staged};
+ghost use Rattle.normalize.specs.declared.Resolved.{Resolved};
 ghost use Rattle.normalize.specs.working.Handing.{handed};
 
 // The tree goes to the front of the output: its atoms as they stand on the tape, its items as they stand in work from a on.
@@ -26,20 +29,28 @@ fn hand_over(tape: &[u8], at: usize, work: &[u8], a: usize, output: &mut [u8])
     copy(work, a, a + (tape.len() - at), output, at);
 }
 
-// The resolved stage, handed over if its size is admitted.
+// The tree of a tape that was resolved, handed over if its size is admitted.
+fn admit(tape: &[u8], output: &mut [u8], work: &[u8], m: Map, t: Grammar, at: usize) -> Answer
+    requires { ⌜ TapeResolves (now tape) (Resolved.Is m t at) (now work) ⌝ }
+    ensures { λ r. ⌜ Staged (resolved (now (tape .entry)) (length (now (output .entry)))) (now (output .entry)) r (now (output .exit)) ⌝ }
+{
+    match judge(m.count, tape.len(), output.len()) {
+        Answer::No(why) => Answer::No(why),
+        Answer::Yes(n) => {
+            hand_over(tape, at, work, t.at, output);
+            Answer::Yes(n)
+        }
+    }
+}
+
+// The resolved stage of a tape; work is long enough.
 fn resolve_stage(tape: &[u8], output: &mut [u8], work: &mut [u8]) -> Answer
     requires { ⌜ 8 * (length (now tape) + length (now output)) ≤ length (now work) ⌝ }
     ensures { λ r. ⌜ Staged (resolved (now (tape .entry)) (length (now (output .entry)))) (now (output .entry)) r (now (output .exit)) ⌝ }
 {
     match resolve_tape(tape, work) {
         Resolved::Refused(why) => Answer::No(why),
-        Resolved::Is(m, t, at) => match judge(m.count, tape.len(), output.len()) {
-            Answer::No(why) => Answer::No(why),
-            Answer::Yes(n) => {
-                hand_over(tape, at, work, t.at, output);
-                Answer::Yes(n)
-            }
-        },
+        Resolved::Is(m, t, at) => admit(tape, output, work, m, t, at),
     }
 }
 

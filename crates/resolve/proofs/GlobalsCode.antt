@@ -2,7 +2,7 @@
 use mathlib.Core.Path.{_≡_, refl, sym, ap, _∙_}
 use mathlib.Core.Bool.{Bool, true, false}
 use mathlib.Core.List.{List, [], _∷_}
-use Prim.Native.Nat.{ℕ, suc, _+_, _-_, _≤_, _<_}
+use Prim.Native.Nat.{ℕ, suc, _+_, _-_, _*_, _≤_, _<_}
 use native.Mathlib.Omega.{arith}
 use borrow.Author.Needs.{needs}
 use borrow.Author.Tests.{lt-ltb, le-ltb, eq-eqb, ne-eqb}
@@ -115,6 +115,9 @@ module _ (m : Map) (t : Grammar) (which : ℕ) (w₀ w : List ℕ) (i : ℕ) (g 
   each-done h = runs-fine _ w (sym (g .rest) ∙ none-left m t which (t .count - i) i w (omega arith))
 
   module _ (h : i < t .count) where
+    pub each-listed : t .list + 8 * t .count ≤ length w
+    each-listed = g .standing .listed (omega arith)
+
     module _ (p : ℕ) (k : p ≤ t .end) where
       pub each-read : p < length w
       each-read = omega (arith, g .standing .inside (omega arith))
@@ -147,7 +150,7 @@ module _ (m : Map) (t : Grammar) (which : ℕ) (w₀ w : List ℕ) (i : ℕ) (g 
         pub each-next : v ≡ Verdict.Fine → length w′ ≡ length w → (w″ : List ℕ) → w″ ≡ w′ → EachLeft m t which w₀ w″ (i + 1)
         each-next u l w″ a = rw a (each-kept w′ l (one ∙ then-fine _ _ w′ (rw u at o)))
 
-pub ruleset enumerating = (needs, each-start, each-done, each-read, each-room, each-skip, each-refused, each-next)
+pub ruleset enumerating = (needs, each-start, each-done, each-listed, each-read, each-room, each-skip, each-refused, each-next)
 
 -- ---- globals
 pub standing-as : (m : Map) (t : Grammar) (w w1 : List ℕ) → Standing m t (length w) → length w1 ≡ length w → Standing m t (length w1)

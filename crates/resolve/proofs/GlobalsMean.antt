@@ -95,10 +95,10 @@ module _ (four : Bool) (m : Map) (t : Grammar) (ts : List Text) (which : ℕ) wh
       entered-one (namedOf s x) w p 49 (z .code) (z .name) (z .span) (λ q. rw q refl)
 
   -- ---- items one behind another, off the records
-  module _ (u : List ℕ) (off : Apart (t .at) (t .end) (m .base) (m .base + 24 * m .count)) (listed : Apart (t .list) (t .list + 8 * t .count) (m .base) (m .base + 24 * m .count)) (inside : t .end ≤ length u) where
+  module _ (u : List ℕ) (off : Apart (t .at) (t .end) (m .base) (m .base + 24 * m .count)) (listed : 0 < t .count → Apart (t .list) (t .list + 8 * t .count) (m .base) (m .base + 24 * m .count)) (inside : t .end ≤ length u) where
     cells-row : (w : List ℕ) → Cellwise m u w → (i p : ℕ) (xs : List Item) → t .at ≤ p → Row t ts u i p xs → Row t ts w i p xs
     cells-row w c i p xs a r =
-        row-same t ts u w (c .long) inside (λ j k l. off-same m u w c (t .list) (t .list + 8 * t .count) j listed k l) i p xs
+        row-same t ts u w (c .long) inside (λ j k l. off-same m u w c (t .list) (t .list + 8 * t .count) j (listed (omega arith)) k l) i p xs
         (λ j k l. off-same m u w c (t .at) (t .end) j off (omega arith) l) r
 
     turn : (n i : ℕ) (w : List ℕ) → eachOut m t which (suc n) i w ≡ runThen (step w (placeIn t w i)) (λ w′. eachOut m t which n (i + 1) w′)
@@ -147,7 +147,7 @@ module _ (four : Bool) (wd : ℕ) (ts : List Text) where
 
 -- ---- the theorem
 module _ (four : Bool) (m : Map) (t : Grammar) (ts : List Text) (is : List Item) (within : Each (ItemWithin four (t .width) ts) is) (many : t .count ≡ length is) (w : List ℕ)
-    (off : Apart (t .at) (t .end) (m .base) (m .base + 24 * m .count)) (listed : Apart (t .list) (t .list + 8 * t .count) (m .base) (m .base + 24 * m .count)) (inside : t .end ≤ length w)
+    (off : Apart (t .at) (t .end) (m .base) (m .base + 24 * m .count)) (listed : 0 < t .count → Apart (t .list) (t .list + 8 * t .count) (m .base) (m .base + 24 * m .count)) (inside : t .end ≤ length w)
     (row : Row t ts w 0 (t .at) is) where
   scan : (which : ℕ) (u : List ℕ) → Cellwise m w u → eachOut m t which (t .count) 0 u ≡ entered m ts u (select which is)
   scan which u c = ap (λ (n : ℕ). eachOut m t which n 0 u) many ∙ each-is four m t ts which w off listed inside is within 0 (t .at) (omega arith) row u c

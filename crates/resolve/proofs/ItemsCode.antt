@@ -258,6 +258,9 @@ module _ (m : Map) (t : Grammar) (w₀ w : List ℕ) (i : ℕ) (g : ItemsLeft m 
     items-some : 0 < t .count
     items-some = omega arith
 
+    pub items-listed : t .list + 8 * t .count ≤ length w
+    items-listed = g .standing .listed items-some
+
     module _ (p : ℕ) (k : p ≤ t .end) where
       pub items-read : p < length w
       items-read = omega (arith, g .standing .inside items-some)
@@ -290,4 +293,4 @@ module _ (m : Map) (t : Grammar) (w₀ w : List ℕ) (i : ℕ) (g : ItemsLeft m 
         pub items-next : v ≡ Verdict.Fine → length w′ ≡ length w → (w″ : List ℕ) → w″ ≡ w′ → ItemsLeft m t w₀ w″ (i + 1)
         items-next u l w″ a = rw a (items-kept w′ l (one ∙ then-fine _ _ w′ (rw u at o)))
 
-pub ruleset iterating = (needs, items-start, items-done, items-read, items-room, items-skip, items-refused, items-next)
+pub ruleset iterating = (needs, items-start, items-done, items-listed, items-read, items-room, items-skip, items-refused, items-next)

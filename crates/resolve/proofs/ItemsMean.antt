@@ -208,7 +208,7 @@ module _ (four : Bool) (m : Map) (t : Grammar) (ts : List Text) (c : m .count �
   after-item (yes u) (no q s) f R = refl
   after-item (no q s) B f R = refl
 
-  module _ (apart : Apart (t .at) (t .end) (t .list) (t .list + 8 * t .count)) where
+  module _ (apart : 0 < t .count → Apart (t .at) (t .end) (t .list) (t .list + 8 * t .count)) where
     abbrev each : List Item → List ℕ
     each xs = bytesOfEach (itemBytes (t .width) ts) xs
 
@@ -216,7 +216,7 @@ module _ (four : Bool) (m : Map) (t : Grammar) (ts : List Text) (c : m .count �
     row-store : (w : List ℕ) → t .end ≤ length w → (i p e : ℕ) (vs : List ℕ) (xs : List Item) → t .at ≤ p → e ≤ t .end → e ≡ p + length vs → Row t ts w i e xs → Row t ts (store w p vs) i e xs
     row-store w n i p e vs xs low high z r =
         row-same t ts w (store w p vs) (length-store w p vs) n
-        (λ j k l. elim apart [ inl h ↦ getD-store-after w p vs j (omega arith) | inr h ↦ getD-store-before w p vs j (omega arith) ]) i e xs
+        (λ j k l. elim (apart (omega arith)) [ inl h ↦ getD-store-after w p vs j (omega arith) | inr h ↦ getD-store-before w p vs j (omega arith) ]) i e xs
         (λ j k l. getD-store-after w p vs j (omega arith)) r
 
     item-then : (w : List ℕ) (p e n : ℕ) (x : Item) (xs : List Item) (r : Run) (f : List ℕ → Run) (o : Outcome Item) (R : Outcome (List Item)) → n ≡ length (itemBytes (t .width) ts x) → e ≡ p + n

@@ -68,7 +68,7 @@ module _ (m : Map) (t : Grammar) (w : List ℕ) (standing : Standing m t (length
           each u (t .at) (length (each is)) (itemsOut m t (length is) 0 u) (validateItems is is)
       told =
           items-told (h .four) m t ts (h .texts) (standing .narrow) (standing .wide) is (globals-proper (h .four) (t .width) ts is (h .within)) (h .items-apart) (h .apart) is (h .within) 0 (t .at) u (omega arith)
-          (row-same t ts w u (cells .long) (h .inside) (λ j k l. off-same m w u cells (t .list) (t .list + 8 * t .count) j (h .list-apart) k l) 0 (t .at) is
+          (row-same t ts w u (cells .long) (h .inside) (λ j k l. off-same m w u cells (t .list) (t .list + 8 * t .count) j (h .list-apart (omega arith)) k l) 0 (t .at) is
           (λ j k l. off-same m w u cells (t .at) (t .end) j (h .items-apart) k l) row) ready
 
       became : (R : List Item) → length (each R) ≡ length (each is) → Became m t ts R w (store u (t .at) (each R))

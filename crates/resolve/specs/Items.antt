@@ -16,7 +16,7 @@ use Rattle.resolve.specs.Commands.{Run, ran, stopped, runThen, runOut}
 -- n bytes of work hold the records, the list of places, and the items with as much behind them as a command can have
 pub record Standing (m : Map) (t : Grammar) (n : ℕ) : Type 0 where
   pub records : Room m n
-  pub listed : t .list + 8 * t .count ≤ n
+  pub listed : 0 < t .count → t .list + 8 * t .count ≤ n
   pub ordered : t .at ≤ t .end
   pub inside : 0 < t .count → t .end + 16 ≤ n
   pub narrow : 2 ≤ t .width

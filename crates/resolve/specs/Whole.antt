@@ -37,8 +37,8 @@ pub record Holds (w : List ℕ) (m : Map) (t : Grammar) (ts : List Text) (is : L
   pub texts : m .count ≡ length ts
   pub blank : (k : ℕ) → k < m .count → cellAt w (m .base) k ≡ 0
   pub items-apart : Apart (t .at) (t .end) (m .base) (m .base + 24 * m .count)
-  pub list-apart : Apart (t .list) (t .list + 8 * t .count) (m .base) (m .base + 24 * m .count)
-  pub apart : Apart (t .at) (t .end) (t .list) (t .list + 8 * t .count)
+  pub list-apart : 0 < t .count → Apart (t .list) (t .list + 8 * t .count) (m .base) (m .base + 24 * m .count)
+  pub apart : 0 < t .count → Apart (t .at) (t .end) (t .list) (t .list + 8 * t .count)
 
 -- a byte of work that is neither of an item nor of a text's cell
 pub record Free (m : Map) (t : Grammar) (i : ℕ) : Type 0 where

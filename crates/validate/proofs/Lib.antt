@@ -14,4 +14,4 @@ mod EntryCode
 mod CommandMean
 mod AlternativesCode
 mod ItemsCode
-mod NotesCode
+pub mod NotesCode

@@ -72,7 +72,7 @@ module _ (s w w1 : List ℕ) (m : Atoms) (at to : ℕ) (vs : List ℕ) (g : List
       }
 
 -- ---- an item has 11 bytes or more
-item-long : (w : ℕ) (ts : List Text) (i : Item) → 2 ≤ w → 11 ≤ length (itemBytes w ts i)
+pub item-long : (w : ℕ) (ts : List Text) (i : Item) → 2 ≤ w → 11 ≤ length (itemBytes w ts i)
 unfolding itemBytes sizeOf nonterminalNode
 item-long w ts (item d) h =
     let z : 13 + w ≡ length (nodeBytes w (nonterminalNode ts d)) = nonterminal-size w (nonterminalNode ts d) _ refl in

@@ -2,29 +2,28 @@ use Rattle.normalize.proofs.HandOverCode.{handing}
 use borrow.Author.Needs.{needs}
 use Rattle.normalize.proofs.calls.hand_over.Statement.{statement}
 use Rattle.normalize.proofs.calls.hand_over.Tie as tie
+use Rattle.normalize.proofs.calls.hand_over.Reads as reads
+use Rattle.normalize.proofs.calls.hand_over.Lts as lts
+use Rattle.octets.proofs.runs.copy.Reads as copy-reads
 
-enum-told : tie.Need-enum-told
-enum-told c = search needs
+copy-requires : tie.Need-copy-requires
+copy-requires c κs = search needs
 
-enum-known-r : tie.Need-enum-known-r
-enum-known-r c = search needs
+sub-copy : tie.Need-sub-copy
+sub-copy c = search needs
 
-add-put-run : tie.Need-add-put-run
-add-put-run c = search handing
+add-copy : tie.Need-add-copy
+add-copy c = search needs
 
-put-run-requires : tie.Need-put-run-requires
-put-run-requires c κs = search handing
-
-returns : tie.Need-returns
-returns c = search handing
+copy-requires-2 : tie.Need-copy-requires-2
+copy-requires-2 c κs = search needs
 
 same-length : tie.Need-same-length
 same-length c = search needs
 
-returns-2 : tie.Need-returns-2
-returns-2 c = search handing
+returns : tie.Need-returns
+returns c = search handing
 
 pub hand-over-spec : {M : Type 1} → statement M
 hand-over-spec =
-    tie.close
-    (tie.spec enum-told enum-known-r add-put-run put-run-requires returns same-length returns-2)
+    tie.close (tie.spec copy-requires sub-copy add-copy copy-requires-2 same-length returns)

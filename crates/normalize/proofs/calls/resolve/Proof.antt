@@ -2,6 +2,12 @@ use Rattle.normalize.proofs.CallsCode.{calling}
 use borrow.Author.Needs.{needs}
 use Rattle.normalize.proofs.calls.resolve.Statement.{statement}
 use Rattle.normalize.proofs.calls.resolve.Tie as tie
+use Rattle.normalize.proofs.calls.resolve.Reads as reads
+use Rattle.normalize.proofs.calls.resolve.Lts as lts
+use Rattle.normalize.proofs.calls.resolve_stage.Reads as resolve-stage-reads
+use Rattle.normalize.proofs.room.enough.Reads as enough-reads
+use Rattle.octets.proofs.runs.clear.Reads as clear-reads
+use Rattle.parse_tree.proofs.refusal.at.Reads as at-reads
 
 enough-requires : tie.Need-enough-requires
 enough-requires c κs = search needs
@@ -9,17 +15,11 @@ enough-requires c κs = search needs
 resolve-stage-requires : tie.Need-resolve-stage-requires
 resolve-stage-requires c κs = search calling
 
-mul-hand-over : tie.Need-mul-hand-over
-mul-hand-over c = search calling
-
-hand-over-requires : tie.Need-hand-over-requires
-hand-over-requires c κs = search calling
-
 clear-requires : tie.Need-clear-requires
 clear-requires c κs = search needs
 
 at-requires : tie.Need-at-requires
-at-requires c κs = search calling
+at-requires c κs = search needs
 
 same-length : tie.Need-same-length
 same-length c = search needs
@@ -39,8 +39,6 @@ resolve-spec =
     (tie.spec
     enough-requires
     resolve-stage-requires
-    mul-hand-over
-    hand-over-requires
     clear-requires
     at-requires
     same-length
