@@ -3,13 +3,13 @@ use mathlib.Core.Path.{_≡_, refl, sym, ap, subst, _∙_}
 use mathlib.Core.Bool.{Bool, true, false}
 use mathlib.Core.Logic.{inl, inr}
 use mathlib.Core.List.{List, [], _∷_, _++_}
-use Prim.Native.Nat.{ℕ, zero, suc, _+_, _-_, _*_, _<_, _≤_}
+use Prim.Native.Nat.{ℕ, zero, suc, _+_, _-_, _*_, _^_, _<_, _≤_}
 use native.Mathlib.Omega.{arith}
 use borrow.Author.Needs.{needs}
 use lib.ListN.{length, take, drop, getD, length-append}
 use lib.Dec.{leb}
 use lib.Seq.{take-append-seam, drop-append-seam, take-all}
-use mir.Syntax.{w8}
+use mir.Syntax.{w8, w64}
 use mir.Val as Bound
 use Rattle.octets.specs.plain.Numbers.{leAt}
 use Rattle.octets.specs.plain.Runs.{Lies, part}
@@ -34,8 +34,10 @@ use Rattle.texts.specs.Fields.{cellAt}
 use Rattle.texts.specs.declared.Map.{Map}
 use Rattle.texts.proofs.AtomsLaws.{length-atoms}
 use Rattle.validate.specs.Steps.{Refuses, mapOf}
+use Rattle.validate.specs.Regions.{regionsOf}
 use Rattle.validate.specs.Whole.{Valid, Validates}
 use Rattle.validate.specs.declared.Atoms.{Atoms}
+use Rattle.validate.specs.declared.regions.Regions.{Regions}
 use Rattle.validate.specs.declared.Validated.{Validated}
 use Rattle.validate.proofs.NotesCode.{item-long}
 use Rattle.passes.specs.Outcome.{Tree, Outcome, yes, no}
@@ -140,7 +142,7 @@ module _ (s w : List ℕ) (a : Atoms) (at n : ℕ) (v : Valid true 2 s w a at n)
     named : 0 < n → 0 < a .count
     named h = omega (arith, items-named ts (v .items) (within .items) (omega (arith, v .many)), length-atoms s (a .count))
 
-    pub valid-standing : Standing table grammar (length w₁)
+    valid-standing : Standing table grammar (length w₁)
     valid-standing = record {
       records = records;
       listed = λ h. omega (arith, many-fit h, long, v .ready .inside);
@@ -191,7 +193,7 @@ module _ (s w : List ℕ) (a : Atoms) (at n : ℕ) (v : Valid true 2 s w a at n)
       fine-no : (why : Refusal) → Verdict.Fine ≡ Verdict.Refused why → ⊥
       fine-no why e = let z : _≡_ {A = ℕ} 0 1 = cc in omega arith
 
-      pub valid-refused : (why : Refusal) → r ≡ Verdict.Refused why → TapeResolves s (Resolved.Refused why) w₂
+      valid-refused : (why : Refusal) → r ≡ Verdict.Refused why → TapeResolves s (Resolved.Refused why) w₂
       unfolding Answers StandsBy
       valid-refused why e = reads (Resolved.Refused why) (go (resolve (v .items)) answers)
         where
@@ -199,7 +201,7 @@ module _ (s w : List ℕ) (a : Atoms) (at n : ℕ) (v : Valid true 2 s w a at n)
           go (yes R) k = absurd (fine-no why (sym (k .0) ∙ e))
           go (no q p) k = let z : why ≡ refusalOver q p = cc in rw z refl
 
-      pub valid-fine : r ≡ Verdict.Fine → TapeResolves s (Resolved.Is table grammar at) w₂
+      valid-fine : r ≡ Verdict.Fine → TapeResolves s (Resolved.Is table grammar at) w₂
       unfolding Answers StandsBy
       valid-fine e = reads (Resolved.Is table grammar at) (go (resolve (v .items)) answers)
         where
@@ -218,7 +220,47 @@ module _ (s w : List ℕ) (a : Atoms) (at n : ℕ) (v : Valid true 2 s w a at n)
           }
           go (no q p) k = absurd (fine-no (refusalOver q p) (sym e ∙ k))
 
-pub ruleset validated = (needs, valid-standing, valid-refused, valid-fine)
+  -- ---- where g is the map of work
+  abbrev grammarOf : Regions → Grammar
+  grammarOf g = record { at = g .items; end = g .items + size; list = g .list; count = n; width = a .width }
+
+  module _ (room : 8 * length s ≤ length w) where
+    pub layout-fits : length w < 2 ^ 64 → 8 * size < 2 ^ 64
+    layout-fits l = omega arith
+
+    pub copy-inside : at ≤ length s
+    copy-inside = v .ready .inside
+
+    module _ (g : Regions) (e : g ≡ regionsOf size) where
+      items-there : g .items ≡ 7 * size
+      unfolding regionsOf
+      items-there = ap (λ (u : Regions). u .items) e
+
+      list-there : g .list ≡ 48
+      unfolding regionsOf
+      list-there = ap (λ (u : Regions). u .list) e
+
+      pub copy-room : g .items + (length s - at) ≤ length w
+      copy-room = omega (arith, items-there)
+
+      pub grammar-fits : length w < 2 ^ 64 → Bound.Fits w64 (g .items + size)
+      grammar-fits l = record { fits = omega (arith, items-there) }
+
+      module _ (w₁ : List ℕ) (copied : w₁ ≡ store w (g .items) (part at (length s) s)) where
+        there : w₁ ≡ store w (7 * size) (part at (length s) s)
+        there = copied ∙ ap (λ (p : ℕ). store w p (part at (length s) s)) items-there
+
+        pub layout-standing : Standing table (grammarOf g) (length w₁)
+        layout-standing = rw (items-there, list-there) (valid-standing room w₁ there)
+
+        module _ (f : (j : ℕ) → Bound.Fits w8 (getD w₁ j 0)) (r : Verdict) (w₂ : List ℕ) (i : Resolves table (grammarOf g) w₁ r w₂) where
+          pub layout-refused : (why : Refusal) → r ≡ Verdict.Refused why → TapeResolves s (Resolved.Refused why) w₂
+          layout-refused why k = valid-refused room w₁ there f r w₂ (rw (items-there, list-there) at i) why k
+
+          pub layout-fine : r ≡ Verdict.Fine → TapeResolves s (Resolved.Is table (grammarOf g) at) w₂
+          layout-fine k = rw (items-there, list-there) (valid-fine room w₁ there f r w₂ (rw (items-there, list-there) at i) k)
+
+pub ruleset validated = (needs, layout-fits, copy-inside, copy-room, grammar-fits, layout-standing, layout-refused, layout-fine)
 
 -- ---- `resolve_tape`: x is what `validate` answered
 module _ (s w : List ℕ) (x : Validated) (i : Validates true 2 s x w) where

@@ -8,6 +8,7 @@ use texts::Map;
 use validate::Atoms;
 use validate::Validated;
 use validate::entry::validate;
+use validate::regions::layout;
 ghost use mathlib.Core.Bool.{true};
 ghost use Prim.Native.Nat.{_*_, _≤_};
 ghost use lib.ListN.{length};
@@ -20,17 +21,17 @@ fn resolve_valid(tape: &[u8], work: &mut [u8], a: Atoms, at: usize, n: usize) ->
     ensures { λ r. ⌜ TapeResolves (now (tape .entry)) r (now (work .exit)) ⌝ }
 {
     let size = tape.len() - at;
-    let to = 7 * size;
-    copy(tape, at, tape.len(), work, to);
+    let g = layout(size);
+    copy(tape, at, tape.len(), work, g.items);
     let m = Map {
         base: a.base,
         count: a.count,
         buckets: a.buckets,
     };
     let t = Grammar {
-        at: to,
-        end: to + size,
-        list: 48,
+        at: g.items,
+        end: g.items + size,
+        list: g.list,
         count: n,
         width: a.width,
     };

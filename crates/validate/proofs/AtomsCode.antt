@@ -32,6 +32,8 @@ use Rattle.texts.proofs.TableMarks.{tape-mark-whole, tape-mark-text, tape-mark-
 use Rattle.texts.specs.Scan.{Scans}
 use Rattle.validate.specs.declared.Next.{Next}
 use Rattle.validate.specs.declared.Gathered.{Gathered}
+use Rattle.validate.specs.Regions.{regionsOf}
+use Rattle.validate.specs.declared.regions.Regions.{Regions}
 use Rattle.validate.specs.Front.{Starts, Going, More, Nexts, All, Fronted}
 use Rattle.validate.proofs.FrontCode.{place-three}
 
@@ -193,14 +195,23 @@ pub ruleset entering-at = (needs, next-whole, next-some, next-inside, next-least
 
 -- ---- `atoms`
 module _ (s w : List ℕ) (end n : ℕ) (g : Starts s w end n) where
-  pub start-fits : length w < 2 ^ 64 → Fits w64 (8 * (length s - end))
-  start-fits l = record { fits = omega (arith, g .small) }
+  pub start-fits : length w < 2 ^ 64 → 8 * (length s - end) < 2 ^ 64
+  start-fits l = omega (arith, g .small)
 
   pub start-inside : end ≤ length s
   start-inside = g .inside
 
-  pub start-room : 8 * (length s - end) + 24 * n ≤ length w
-  start-room = omega (arith, g .small, g .here, g .inside, place-three s n)
+  -- r is the map of work
+  module _ (r : Regions) (e : r ≡ regionsOf (length s - end)) where
+    records-there : r .records ≡ 8 * (length s - end)
+    unfolding regionsOf
+    records-there = ap (λ (u : Regions). u .records) e
+
+    pub start-room : r .records + 24 * n ≤ length w
+    start-room = omega (arith, records-there, g .small, g .here, g .inside, place-three s n)
+
+    pub start-there : (m : Map) (w1 : List ℕ) → Started s w (r .records) n m w1 → Started s w (8 * (length s - end)) n m w1
+    start-there m w1 x = rw (← records-there) x
 
   pub start-going : (m : Map) (w1 : List ℕ) → Started s w (8 * (length s - end)) n m w1 → length w1 ≡ length w → Going s w1 m 0 end n
   unfolding placeOf atomsOf distinct texts textsOf
@@ -256,4 +267,4 @@ module _ (s w : List ℕ) (m : Map) (at end n : ℕ) (g : Going s w m at end n) 
         blank = λ i k. g .blank i (omega arith);
       }
 
-pub ruleset fronting = (needs, start-fits, start-inside, start-room, start-going, going-next, going-less, going-again, going-done)
+pub ruleset fronting = (needs, start-fits, start-inside, start-room, start-there, start-going, going-next, going-less, going-again, going-done)

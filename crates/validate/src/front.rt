@@ -2,6 +2,7 @@
 use crate::Count;
 use crate::Gathered;
 use crate::Next;
+use crate::regions::layout;
 use octets::numbers::u16_at;
 use octets::wide::from16;
 use parse_tree::refusal;
@@ -82,7 +83,8 @@ pub fn atoms(tape: &[u8], work: &mut [u8], end: usize, count: usize) -> Gathered
     requires { ⌜ Starts (now tape) (now work) end count ⌝ }
     ensures { λ r. ⌜ Fronted (now (tape .entry)) end count r (now (work .exit)) ⌝ }
 {
-    let mut m = start(tape, work, 8 * (tape.len() - end), count);
+    let g = layout(tape.len() - end);
+    let mut m = start(tape, work, g.records, count);
     let mut at = 0;
     while at < end {
         match enter_at(tape, work, m, at, end, count) {

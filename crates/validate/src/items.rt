@@ -10,6 +10,7 @@ use crate::quick::nonterminal_at;
 use crate::quick::quick_alternative;
 use crate::quick::quick_nonterminal;
 use crate::quick::quick_terminal;
+use crate::regions::LIST;
 use crate::symbols::symbols;
 use octets::numbers::store64;
 use octets::wide::from8;
@@ -136,7 +137,7 @@ fn note(work: &mut [u8], k: usize, v: usize)
     requires { ⌜ 48 + 8 * k + 8 ≤ length (now work) ⌝ }
     ensures { λ _. ⌜ now (work .exit) ≡ store (now (work .entry)) (48 + 8 * k) (le 8 v) ⌝ }
 {
-    store64(work, 48 + 8 * k, v as u64);
+    store64(work, LIST + 8 * k, v as u64);
 }
 
 // The items from a place to the tape's end. An item's place is noted behind its reading: so many bytes were read that there is room.

@@ -10,6 +10,7 @@ pub mod front;
 pub mod items;
 pub mod questions;
 pub mod quick;
+pub mod regions;
 pub mod suits;
 pub mod symbols;
 

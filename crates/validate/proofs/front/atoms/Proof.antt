@@ -5,10 +5,6 @@ use lib.ListN.{length}
 use Rattle.validate.proofs.AtomsCode.{fronting}
 use Rattle.validate.proofs.front.atoms.Statement.{statement}
 use Rattle.validate.proofs.front.atoms.Tie as tie
-use Rattle.validate.proofs.front.atoms.Reads as reads
-use Rattle.validate.proofs.front.atoms.Lts as lts
-use Rattle.validate.proofs.front.enter_at.Reads as enter-at-reads
-use Rattle.texts.proofs.table.start.Reads as start-reads
 
 abbrev Inv-loop : tie.InvT-loop
 Inv-loop tape work₀ end count m₀ at₀ work m at = Going tape work m at end count × (length work ≡ length work₀)
@@ -16,11 +12,11 @@ Inv-loop tape work₀ end count m₀ at₀ work m at = Going tape work m at end 
 abbrev μ-loop : tie.MeasureT-loop
 μ-loop tape work₀ end count m₀ at₀ work m at = end - at
 
-sub-start : tie.Need-sub-start Inv-loop μ-loop
-sub-start c = search fronting
+sub-layout : tie.Need-sub-layout Inv-loop μ-loop
+sub-layout c = search fronting
 
-mul-start : tie.Need-mul-start Inv-loop μ-loop
-mul-start c = search fronting
+layout-requires : tie.Need-layout-requires Inv-loop μ-loop
+layout-requires c κs = search fronting
 
 start-requires : tie.Need-start-requires Inv-loop μ-loop
 start-requires c κs = search fronting
@@ -64,8 +60,8 @@ atoms-spec =
     (tie.spec
     Inv-loop
     μ-loop
-    sub-start
-    mul-start
+    sub-layout
+    layout-requires
     start-requires
     loop-holds
     enter-at-requires
