@@ -15,12 +15,13 @@ use Rattle.precedence.proofs.DecimalLaws.{last, sizeBy, front, digits-f
 -- ---- decimal_size: n digits are counted but for those that q has, which are at most one more than `left`
 pub record Sizing (v n q : ℕ) : Type 0 where
   pub left : ℕ
+  pub some : 1 ≤ n
   pub sum : n + left ≡ 10
   pub below : q < 10 ^ suc left
   pub rest : n + sizeBy (suc left) q ≡ suc (length (levelDigits v))
 
 pub size-start : (v : ℕ) → v < 4294967296 → Sizing v 1 v
-size-start v h = record { left = 9; sum = refl; below = omega arith; rest = omega (arith, size-is v) }
+size-start v h = record { left = 9; some = omega arith; sum = refl; below = omega arith; rest = omega (arith, size-is v) }
 
 module _ (v n q : ℕ) (c : Sizing v n q) where
   pub size-next : 9 < q → Sizing v (n + 1) (q / 10)
@@ -28,10 +29,10 @@ module _ (v n q : ℕ) (c : Sizing v n q) where
     where
       go : (l : ℕ) → n + l ≡ 10 → q < 10 ^ suc l → n + sizeBy (suc l) q ≡ suc (length (levelDigits v)) → Sizing v (n + 1) (q / 10)
       go zero s b r = absurd (omega arith)
-      go (suc l) s b r = record { left = l; sum = omega arith; below = omega arith; rest = omega (arith, r, size-more (suc l) q h) }
+      go (suc l) s b r = record { left = l; some = omega arith; sum = omega arith; below = omega arith; rest = omega (arith, r, size-more (suc l) q h) }
 
-  pub size-done : q ≤ 9 → (n ≡ length (levelDigits v)) × (n ≤ 10)
-  size-done h = (omega (arith, c .rest, size-one (c .left) q h), omega (arith, c .sum))
+  pub size-done : q ≤ 9 → n ≡ length (levelDigits v)
+  size-done h = omega (arith, c .rest, size-one (c .left) q h)
 
 pub ruleset sizing = (needs, size-start, size-next, size-done)
 

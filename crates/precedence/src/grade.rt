@@ -66,15 +66,15 @@ pub fn read_assoc(t: &[u8]) -> AssocRead
     AssocRead::Nothing
 }
 
-// How many digits a level has: 1 to 10.
+// How many digits a level has.
 pub fn decimal_size(v: usize) -> usize
     requires { ⌜ v < 4294967296 ⌝ }
-    ensures { λ r. ⌜ (r ≡ length (levelDigits v)) × (r ≤ 10) ⌝ }
+    ensures { λ r. ⌜ (r ≡ length (levelDigits v)) × (1 ≤ r) × (r ≤ 10) ⌝ }
 {
     let mut n = 1;
     let mut q = v;
     while 9 < q {
-        q = q / 10;
+        q /= 10;
         n += 1;
     }
     n
@@ -98,7 +98,7 @@ pub fn put_decimal(out: &mut [u8], to: usize, v: usize) -> usize
     while to < at {
         at -= 1;
         out[at] = digit(q % 10);
-        q = q / 10;
+        q /= 10;
     }
     end
 }
