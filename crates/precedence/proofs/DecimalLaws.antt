@@ -4,12 +4,12 @@ use mathlib.Core.Bool.{Bool, true, false, cond, _&&_}
 use mathlib.Core.List.{List, [], _∷_}
 use Prim.Native.Nat.{ℕ, zero, suc, _+_, _*_, _-_, _/_, _%_, _^_, _≤_, _<_}
 use native.Mathlib.Omega.{arith}
-use borrow.Author.Tests.{le-leb, lt-ltb, le-ltb, ltb-true, ltb-false}
+use borrow.Author.Tests.{le-leb, lt-ltb, le-ltb, ltb-true}
 use lib.Dec.{ltb, leb}
 use lib.ListN.{length}
 use Rattle.parse_tree.specs.plain.Texts.{every}
 use Rattle.passes.specs.Grades.{isDigit}
-use Rattle.passes.specs.Levels.{decimalFrom, decimal}
+use Rattle.passes.specs.Levels.{decimalFrom}
 use Rattle.precedence.specs.Grade.{levelDigits}
 
 -- the last digit of q

@@ -1,4 +1,4 @@
--- What the proofs of several functions use: NameCode of code, NameLaws of lists, NameMean of what the definitions mean on trees.
+-- What the proofs of several functions use: NameCode of code, NameLaws of lists.
 mod GradeCode
 mod DecimalLaws
 mod DecimalCode
