@@ -1,0 +1,3 @@
+-- What the proofs of several functions use: NameCode of code, NameLaws of lists, NameMean of what the definitions that follow the code mean.
+mod SortLaws
+mod SortCode

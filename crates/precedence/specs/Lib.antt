@@ -1,0 +1,2 @@
+-- What the contracts of precedence cite.
+pub mod Sort
