@@ -1,3 +1,6 @@
 -- What the proofs of several functions use: NameCode of code, NameLaws of lists, NameMean of what the definitions that follow the code mean.
 mod SortLaws
 mod SortCode
+mod SortRunsCode
+mod SortMean
+mod SortWholeCode
