@@ -4,3 +4,4 @@ mod SortCode
 mod SortRunsCode
 mod SortMean
 mod SortWholeCode
+mod SortGroupCode
