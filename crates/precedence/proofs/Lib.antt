@@ -2,3 +2,10 @@
 mod GradeCode
 mod DecimalLaws
 mod DecimalCode
+-- What the proofs of several functions use: NameCode of code, NameLaws of lists, NameMean of what the definitions that follow the code mean.
+mod SortLaws
+mod SortCode
+mod SortRunsCode
+mod SortMean
+mod SortWholeCode
+mod SortGroupCode

@@ -1,2 +1,3 @@
 -- What the contracts of precedence cite.
 pub mod Grade
+pub mod Sort

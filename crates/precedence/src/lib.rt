@@ -20,3 +20,5 @@ pub enum AssocRead {
     Is(Assoc),
     Nothing,
 }
+// Precedence levels: questions 14 to 16. An annotated nonterminal becomes one for each level.
+pub mod sort;
