@@ -3,3 +3,5 @@ mod SkipCode
 mod SubstituteCode
 mod CodesMean
 mod SkipMean
+mod SubstituteRuns
+mod SubstituteMean
