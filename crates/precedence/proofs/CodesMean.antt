@@ -1,20 +1,20 @@
 -- What is read of a symbol's command by its code: how long it is, how many symbols stand straight inside, whether it is an occurrence. Assumes nothing.
-use mathlib.Core.Path.{_≡_, refl, sym, ap, _∙_}
+use mathlib.Core.Path.{_≡_, refl, ap}
 use mathlib.Core.Bool.{Bool, false}
-use mathlib.Core.List.{List, [], _∷_, _++_, append-nil, append-assoc}
-use Prim.Native.Nat.{ℕ, _+_, _^_, _<_, _≤_}
+use mathlib.Core.List.{List, [], _∷_, _++_, append-nil}
+use Prim.Native.Nat.{ℕ, _+_, _^_, _<_}
 use native.Mathlib.Omega.{arith}
 use lib.Dec.{eqb}
-use lib.ListN.{length, getD, length-append}
+use lib.ListN.{getD, length-append}
 use Rattle.octets.specs.working.Choice.{pick}
 use Rattle.octets.specs.plain.Numbers.{leAt, le}
 use Rattle.octets.specs.plain.Runs.{Lies}
 use Rattle.octets.proofs.LiesLaws.{lies-first, lies-split}
 use Rattle.octets.proofs.NumbersLaws.{length-le}
-use Rattle.parse_tree.specs.plain.Tree.{Text, Sym, Syms, leaf, around, over, nil, cons, count}
+use Rattle.parse_tree.specs.plain.Tree.{Text, Sym, Syms, leaf, around, over, cons}
 use Rattle.parse_tree.specs.working.Nodes.{leafCode, leafOperand, symbolBytes, nodeBytes, sizeOf, spanBytes}
 use Rattle.parse_tree.specs.working.Operands.{insideOf}
-use Rattle.parse_tree.specs.working.Encode.{leafNode, aroundNode, overNode, symBytes, symsBytes}
+use Rattle.parse_tree.specs.working.Encode.{symBytes, symsBytes}
 use Rattle.parse_tree.specs.working.Within.{SpanWithin}
 use Rattle.parse_tree.specs.declared.syntax.Span.{Span}
 use Rattle.parse_tree.specs.declared.syntax.Leaf.{Leaf}
@@ -25,8 +25,8 @@ use Rattle.parse_tree.specs.declared.syntax.Node.{Node}
 use Rattle.parse_tree.proofs.SizeLaws.{length-span}
 use Rattle.parse_tree.proofs.NodeFits.{LeafFits, KindFits}
 use Rattle.parse_tree.proofs.FieldLaws.{byte-read, le-read-then, span-read}
-use Rattle.laws.specs.Flat.{symNode, children, joined, inside}
-use Rattle.laws.proofs.Flat.{SymFits, SymsFits, sym-bytes, joined-bytes, Step, step}
+use Rattle.laws.specs.Flat.{symNode, children, inside}
+use Rattle.laws.proofs.Flat.{SymFits, SymsFits, sym-bytes}
 use Rattle.resolve.specs.Commands.{longOf}
 use Rattle.precedence.specs.Skip.{insideBy, insideAt}
 use Rattle.precedence.specs.Substitute.{namesAt}

@@ -2,7 +2,7 @@
 use mathlib.Core.Path.{_≡_, refl, sym, ap, _∙_}
 use mathlib.Core.Bool.{Bool, true, false}
 use mathlib.Core.List.{List}
-use Prim.Native.Nat.{ℕ, zero, suc, _+_, _-_, _*_, _<_, _≤_}
+use Prim.Native.Nat.{ℕ, zero, suc, _+_, _-_, _<_, _≤_}
 use native.Mathlib.Omega.{arith}
 use borrow.Author.Tests.{le-ltb, lt-leb, ne-eqb}
 use lib.Dec.{leb}
@@ -13,11 +13,10 @@ use Rattle.parse_tree.specs.plain.Tree.{Text, Sym, Syms, nil, cons, count}
 use Rattle.parse_tree.specs.working.Nodes.{sizeOf}
 use Rattle.parse_tree.specs.working.Encode.{symBytes, symsBytes}
 use Rattle.laws.specs.Flat.{symNode, children, joined, inside, nodes}
-use Rattle.laws.proofs.Flat.{SymsFits, Step, step, nodes-few}
+use Rattle.laws.proofs.Flat.{SymsFits, step, nodes-few}
 use Rattle.resolve.specs.Commands.{longOf}
 use Rattle.precedence.specs.Skip.{insideAt, skipOut}
-use Rattle.precedence.proofs.SkipCode.{skip-end}
-use Rattle.precedence.proofs.CodesMean.{Codes, first-codes}
+use Rattle.precedence.proofs.CodesMean.{first-codes}
 
 module _ (wd : ℕ) (ts : List Text) where
   -- a symbol has a byte at least

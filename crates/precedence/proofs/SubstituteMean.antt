@@ -7,7 +7,6 @@ use Prim.Native.Nat.{ℕ, zero, suc, _+_, _<_, _≤_}
 use native.Mathlib.Omega.{arith}
 use borrow.Author.Tests.{lt-ltb, le-ltb, eq-eqb, ne-eqb}
 use lib.Dec.{eqb, ltb}
-use lib.ListN.{length}
 use Rattle.octets.specs.working.Choice.{pick}
 use Rattle.octets.specs.plain.Numbers.{le}
 use Rattle.octets.specs.plain.Runs.{Lies}
@@ -172,12 +171,16 @@ module _ (wd : ℕ) (ts : List Text) (E : Text) (e : ℕ) where
         let z = x .3 in
         ap (λ (σ : State). nameOut wd (σ .0) (σ .1 .last) e here) (x .2) ∙ last-named n (x .1) _ (rw z at (x .4))
 
-    -- theorem: the symbols' bytes, with their occurrences replaced as the side says
-    pub substitute-means : (side : Assoc) (xs : Syms) → SymsFits wd ts xs → (w : List ℕ) (at : ℕ) → Lies w at (symsBytes wd ts xs) e
-        → substituteOut wd w at e (number ts E) (number ts own) (number ts low) side
-        ≡ store w at (symsBytes wd ts (replaceOccurrencesIn E (ceiling (sideMeant side) own low (occursIn E xs)) xs 0))
+    sides-mean : (side : Assoc) (xs : Syms) → SymsFits wd ts xs → (w : List ℕ) (at : ℕ) → Lies w at (symsBytes wd ts xs) e
+        → substituteOut wd w at e (number ts E) here below side ≡ store w at (symsBytes wd ts (replaceOccurrencesIn E (ceiling (sideMeant side) own low (occursIn E xs)) xs 0))
     unfolding substituteOut
-    substitute-means Assoc.Left xs f w at l = left-means xs f w at l
-    substitute-means Assoc.Right xs f w at l = right-means xs f w at l
-    substitute-means Assoc.NonAssoc xs f w at l = all-means known low xs f w at l
-    substitute-means Assoc.FullyAssoc xs f w at l = all-means known own xs f w at l
+    sides-mean Assoc.Left xs f w at l = left-means xs f w at l
+    sides-mean Assoc.Right xs f w at l = right-means xs f w at l
+    sides-mean Assoc.NonAssoc xs f w at l = all-means known low xs f w at l
+    sides-mean Assoc.FullyAssoc xs f w at l = all-means known own xs f w at l
+
+-- theorem: work afterwards has the bytes of the symbols with their occurrences replaced as the side says
+pub substitute-means : (wd : ℕ) (ts : List Text) (E own low : Text) (target here below : ℕ) → has E ts ≡ true → target ≡ number ts E → here ≡ number ts own → below ≡ number ts low
+    → (side : Assoc) (xs : Syms) → SymsFits wd ts xs → (w : List ℕ) (at e : ℕ) → Lies w at (symsBytes wd ts xs) e
+    → substituteOut wd w at e target here below side ≡ store w at (symsBytes wd ts (replaceOccurrencesIn E (ceiling (sideMeant side) own low (occursIn E xs)) xs 0))
+substitute-means wd ts E own low target here below known p q r side xs f w at e l = cc (sides-mean wd ts E e known own low side xs f w at l)

@@ -6,7 +6,7 @@ use Prim.Native.Nat.{ℕ, zero, suc, _+_, _<_, _≤_}
 use native.Mathlib.Omega.{arith}
 use borrow.Author.Tests.{lt-leb}
 use lib.Dec.{eqb}
-use lib.ListN.{length, drop, getD, length-append}
+use lib.ListN.{length, getD, length-append}
 use Rattle.octets.specs.working.Choice.{pick}
 use Rattle.octets.specs.plain.Numbers.{le}
 use Rattle.octets.specs.plain.Runs.{Lies}
@@ -22,13 +22,13 @@ use Rattle.parse_tree.specs.declared.syntax.Node.{Node}
 use Rattle.parse_tree.proofs.SizeLaws.{length-span}
 use Rattle.laws.specs.Flat.{symNode, children, joined, foldSym, foldSyms}
 use Rattle.laws.specs.Rename.{renameLeaf, rename}
-use Rattle.laws.proofs.Flat.{SymsFits, Step, step, lies-kept, fold-step}
+use Rattle.laws.proofs.Flat.{SymsFits, step, lies-kept, fold-step}
 use Rattle.laws.proofs.Rename.{store-drop}
 use Rattle.resolve.specs.Commands.{longOf}
 use Rattle.precedence.specs.declared.substitute.Marks.{Marks}
 use Rattle.precedence.specs.Substitute.{namesAt, markedAt, replaceOut}
 use Rattle.precedence.proofs.SubstituteCode.{replace-end}
-use Rattle.precedence.proofs.CodesMean.{nodeNames, Codes, first-codes}
+use Rattle.precedence.proofs.CodesMean.{nodeNames, first-codes}
 
 -- ---- two folds
 module _ (wd : ℕ) (ts : List Text) {A B : Type 0} (f : A → ℕ → Node → A) (g : B → ℕ → Node → B) (R : ℕ → A → B → Type 0) (e : ℕ) where

@@ -1,4 +1,3 @@
-use native.Mathlib.Omega.{arith}
 use Prim.Native.Nat.{_-_}
 use Rattle.precedence.proofs.SubstituteCode.{Replacing, replacing, replace-named}
 use Rattle.precedence.proofs.substitute.replace_symbols.Statement.{statement}
@@ -34,7 +33,7 @@ loop-less : tie.Need-loop-less Inv-loop μ-loop
 loop-less c = search replacing
 
 loop-again : tie.Need-loop-again Inv-loop μ-loop
-loop-again c = replace-named _ _ _ _ _ _ _ _ _ (c .before .before .before .before .before .before .before .before .loop .inv) (omega arith) _ (c .before .before .before .before .before .names .ensures) (c .before .before .before .before .if1 .taken) _ _ (c .before .before .replace-symbol .ensures)
+loop-again c = search (replace-named, c .before .before .before .before .before .before .before .before .loop .inv)
 
 slice-read-long : tie.Need-slice-read-long Inv-loop μ-loop
 slice-read-long c = search replacing
