@@ -1,3 +1,6 @@
 -- What the contracts of precedence cite.
 pub mod Grade
 pub mod Sort
+-- What the contracts of precedence cite. They follow the code on the list of bytes that work is; what they mean on trees is proved in proofs/*Mean.antt.
+pub mod Skip
+pub mod Substitute

@@ -52,7 +52,7 @@ sets-over (x ∷ xs) (y ∷ ys) s at h =
     ap (λ (l : List ℕ). sets l (suc at) ys) (set-past xs (set s at x) (suc at) at y (inl (omega arith)) ∙ ap (λ (l : List ℕ). sets l (suc at) xs) (set-set s at x y))
     ∙ sets-over xs ys (set s at y) (suc at) (omega arith)
 
-store-over : (s : List ℕ) (at : ℕ) (xs ys : List ℕ) → length xs ≡ length ys → store (store s at xs) at ys ≡ store s at ys
+pub store-over : (s : List ℕ) (at : ℕ) (xs ys : List ℕ) → length xs ≡ length ys → store (store s at xs) at ys ≡ store s at ys
 unfolding store
 store-over s at xs ys h = sets-over xs ys s at h
 

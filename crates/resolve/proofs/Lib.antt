@@ -4,7 +4,7 @@ mod NamesCode
 mod CommandsCode
 mod ItemsCode
 mod GlobalsCode
-mod CellsLaws
+pub mod CellsLaws
 mod GrammarLaws
 mod GlobalsTable
 mod GlobalsMean

@@ -27,7 +27,7 @@ pub fn span_at(work: &[u8], at: usize) -> Span
 }
 
 // How long a command is, by its code.
-fn long(c: u8, width: usize) -> usize
+pub fn long(c: u8, width: usize) -> usize
     requires { ⌜ (2 ≤ width) × (width ≤ 3) ⌝ }
     ensures { λ r. ⌜ (r ≡ longOf width c) × (0 < r) × (r ≤ 17) ⌝ }
 {
