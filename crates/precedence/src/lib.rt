@@ -1,11 +1,10 @@
 // Precedence levels: questions 14 to 16. Touches nothing but the slices that it is handed.
 pub mod grade;
+pub mod skip;
+pub mod sort;
+pub mod substitute;
 
 // Which occurrences of the nonterminal itself keep an alternative's level: the first, the last, none, all.
-// Precedence levels: questions 14 to 16. The alternatives of an annotated nonterminal, written where they stand in work.
-pub mod skip;
-pub mod substitute;
-// Which occurrences of a nonterminal keep the level of its alternative.
 pub enum Assoc {
     Left,
     Right,
@@ -24,5 +23,3 @@ pub enum AssocRead {
     Is(Assoc),
     Nothing,
 }
-// Precedence levels: questions 14 to 16. An annotated nonterminal becomes one for each level.
-pub mod sort;
