@@ -51,7 +51,7 @@ pub record Skipping (wd e at n : ℕ) (w : List ℕ) (p k : ℕ) : Type 0 where
 pub skip-start : (wd e at n : ℕ) (w : List ℕ) → 2 ≤ wd → wd ≤ 3 → e + 16 ≤ length w → Skipping wd e at n w at n
 skip-start wd e at n w h k i = record { narrow = h; wide = k; inside = i; fuel = e; enough = omega arith; rest = refl }
 
-pub skip-end : (wd f : ℕ) (w : List ℕ) (p e k : ℕ) → e ≤ p → skipOut wd f w p e k ≡ p
+skip-end : (wd f : ℕ) (w : List ℕ) (p e k : ℕ) → e ≤ p → skipOut wd f w p e k ≡ p
 unfolding skipOut pick
 skip-end wd zero w p e k h = refl
 skip-end wd (suc f) w p e k h = cc (le-leb e p h)

@@ -165,8 +165,12 @@ module _ (wd : ℕ) (w : List ℕ) (at e target here below : ℕ) (s : Assoc) (m
   unfolding substituteOut
   side-none z x = cc (x .bytes)
 
-  pub side-all : s ≡ Assoc.FullyAssoc → Replaces (replaceAll wd target here w at e) m w′ → w′ ≡ substituteOut wd w at e target here below s
-  unfolding substituteOut
-  side-all z x = cc (x .bytes)
+  pub side-all : s ≡ Assoc.FullyAssoc → (here ≡ target → ⊥) → Replaces (replaceAll wd target here w at e) m w′ → w′ ≡ substituteOut wd w at e target here below s
+  unfolding substituteOut pick
+  side-all z n x = cc (ne-eqb here target n, x .bytes)
 
-pub ruleset siding = (needs, side-left, side-right, side-none, side-all)
+pub side-same : (wd : ℕ) (w : List ℕ) (at e target here below : ℕ) (s : Assoc) → s ≡ Assoc.FullyAssoc → here ≡ target → w ≡ substituteOut wd w at e target here below s
+unfolding substituteOut pick
+side-same wd w at e target here below s z h = cc (eq-eqb here target h)
+
+pub ruleset siding = (needs, side-left, side-right, side-none, side-all, side-same)

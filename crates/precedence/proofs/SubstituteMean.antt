@@ -1,6 +1,6 @@
 -- What substituting means: the symbols' bytes become those of the symbols with their occurrences replaced, as the side says. Assumes nothing.
 use mathlib.Core.Path.{_≡_, refl, sym, ap, _∙_}
-use mathlib.Core.Bool.{true, cond}
+use mathlib.Core.Bool.{Bool, true, false, cond}
 use mathlib.Core.Logic.{inr}
 use mathlib.Core.List.{List}
 use Prim.Native.Nat.{ℕ, zero, suc, _+_, _<_, _≤_}
@@ -9,18 +9,21 @@ use borrow.Author.Tests.{lt-ltb, le-ltb, eq-eqb, ne-eqb}
 use lib.Dec.{eqb, ltb}
 use Rattle.octets.specs.working.Choice.{pick}
 use Rattle.octets.specs.plain.Numbers.{le}
-use Rattle.octets.specs.plain.Runs.{Lies}
+use Rattle.octets.specs.plain.Runs.{sameAs, Lies}
 use Rattle.octets.specs.working.Stores.{store}
 use Rattle.octets.proofs.NumbersLaws.{length-le}
-use Rattle.parse_tree.specs.plain.Tree.{Text, Syms}
+use Rattle.octets.proofs.SameLaws.{sameAs-eq}
+use Rattle.parse_tree.specs.plain.Tree.{Text, Leaf, Sym, Syms, ambiguous, bare, quoted, regex, nonterminal, lookahead, lookbehind, error, leaf, around, over, nil, cons}
 use Rattle.parse_tree.specs.plain.Texts.{has, number}
 use Rattle.parse_tree.specs.working.Encode.{symsBytes}
+use Rattle.parse_tree.specs.declared.syntax.Span.{Span}
 use Rattle.passes.specs.Grades.{Side, all, non, left, right, ceiling}
-use Rattle.passes.specs.Levels.{occursIn, replaceOccurrencesIn}
+use Rattle.passes.specs.Levels.{occurs, occursIn, replaceOccurrences, replaceOccurrencesIn}
 use Rattle.laws.specs.Flat.{foldSyms}
 use Rattle.laws.specs.Rename.{rename}
 use Rattle.laws.proofs.Flat.{SymsFits}
-use Rattle.laws.proofs.Rename.{renamed-syms}
+use Rattle.laws.proofs.Patch.{store-same}
+use Rattle.laws.proofs.Rename.{number-tells, renamed-syms}
 use Rattle.resolve.proofs.CellsLaws.{store-past, store-over}
 use Rattle.precedence.specs.declared.Assoc.{Assoc}
 use Rattle.precedence.specs.declared.substitute.Marks.{Marks}
@@ -43,6 +46,35 @@ pair-is τ s n p q = ap {B = List ℕ × ℕ} (λ (r : List ℕ). (r, τ .1)) p 
 
 none-more : (n : ℕ) → 0 + n ≡ n
 none-more n = omega arith
+
+-- ---- occurrences that are replaced by themselves
+module _ (E : Text) where
+  same-name : (n : Text) (b : Bool) → sameAs n E ≡ b → cond b (nonterminal E) (nonterminal n) ≡ nonterminal n
+  same-name n true z = ap nonterminal (sym (sameAs-eq n E z))
+  same-name n false z = refl
+
+  same-leaf : (s : Span) (l : Leaf) (j : ℕ) → replaceOccurrences E (λ i. E) (leaf s l) j ≡ leaf s l
+  unfolding replaceOccurrences
+  same-leaf s (ambiguous n) j = refl
+  same-leaf s (bare n) j = refl
+  same-leaf s (quoted t) j = refl
+  same-leaf s (regex t) j = refl
+  same-leaf s (nonterminal n) j = ap (leaf s) (same-name n (sameAs n E) refl)
+  same-leaf s lookahead j = refl
+  same-leaf s lookbehind j = refl
+  same-leaf s error j = refl
+
+  mutual
+    unfolding replaceOccurrences
+
+    same-sym : (x : Sym) (j : ℕ) → replaceOccurrences E (λ i. E) x j ≡ x
+    same-sym (leaf s l) j = same-leaf s l j
+    same-sym (around s a x) j = ap (around s a) (same-sym x j)
+    same-sym (over s o xs) j = ap (over s o) (same-all xs j)
+
+    same-all : (xs : Syms) (j : ℕ) → replaceOccurrencesIn E (λ i. E) xs j ≡ xs
+    same-all nil j = refl
+    same-all (cons x xs) j = cc (same-sym x j, same-all xs (j + occurs E x))
 
 module _ (wd : ℕ) (ts : List Text) (E : Text) (e : ℕ) where
   abbrev State : Type 0
@@ -171,13 +203,27 @@ module _ (wd : ℕ) (ts : List Text) (E : Text) (e : ℕ) where
         let z = x .3 in
         ap (λ (σ : State). nameOut wd (σ .0) (σ .1 .last) e here) (x .2) ∙ last-named n (x .1) _ (rw z at (x .4))
 
+    -- ---- all, where the name stays
+    full-means : (xs : Syms) → SymsFits wd ts xs → (w : List ℕ) (at : ℕ) → Lies w at (symsBytes wd ts xs) e
+        → substituteOut wd w at e (number ts E) here below Assoc.FullyAssoc ≡ store w at (symsBytes wd ts (replaceOccurrencesIn E (λ j. own) xs 0))
+    unfolding substituteOut pick
+    full-means xs f w at l = go (eqb here (number ts E)) refl
+      where
+        go : (b : Bool) → eqb here (number ts E) ≡ b
+            → pick b w (replaceAll wd (number ts E) here w at e .0) ≡ store w at (symsBytes wd ts (replaceOccurrencesIn E (λ j. own) xs 0))
+        go true z =
+            let a : own ≡ E = sameAs-eq own E (sym (number-tells ts E own known) ∙ z) in
+            let c : replaceOccurrencesIn E (λ j. own) xs 0 ≡ xs = rw a (same-all E xs 0) in
+            rw c (sym (store-same w at e (symsBytes wd ts xs) l))
+        go false z = all-means known own xs f w at l
+
     sides-mean : (side : Assoc) (xs : Syms) → SymsFits wd ts xs → (w : List ℕ) (at : ℕ) → Lies w at (symsBytes wd ts xs) e
         → substituteOut wd w at e (number ts E) here below side ≡ store w at (symsBytes wd ts (replaceOccurrencesIn E (ceiling (sideMeant side) own low (occursIn E xs)) xs 0))
     unfolding substituteOut
     sides-mean Assoc.Left xs f w at l = left-means xs f w at l
     sides-mean Assoc.Right xs f w at l = right-means xs f w at l
     sides-mean Assoc.NonAssoc xs f w at l = all-means known low xs f w at l
-    sides-mean Assoc.FullyAssoc xs f w at l = all-means known own xs f w at l
+    sides-mean Assoc.FullyAssoc xs f w at l = full-means xs f w at l
 
 -- theorem: work afterwards has the bytes of the symbols with their occurrences replaced as the side says
 pub substitute-means : (wd : ℕ) (ts : List Text) (E own low : Text) (target here below : ℕ) → has E ts ≡ true → target ≡ number ts E → here ≡ number ts own → below ≡ number ts low

@@ -47,4 +47,4 @@ unfoldable pub substituteOut : ℕ → List ℕ → ℕ → ℕ → ℕ → ℕ 
 substituteOut wd w at e target here below Assoc.Left = let r = replaceAll wd target below w at e in nameOut wd (r .0) (r .1 .first) e here
 substituteOut wd w at e target here below Assoc.Right = let r = replaceAll wd target below w at e in nameOut wd (r .0) (r .1 .last) e here
 substituteOut wd w at e target here below Assoc.NonAssoc = replaceAll wd target below w at e .0
-substituteOut wd w at e target here below Assoc.FullyAssoc = replaceAll wd target here w at e .0
+substituteOut wd w at e target here below Assoc.FullyAssoc = pick (eqb here target) w (replaceAll wd target here w at e .0)

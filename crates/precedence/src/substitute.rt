@@ -123,7 +123,9 @@ pub fn substitute(
             replace_symbols(work, at, e, width, target, below);
         }
         Assoc::FullyAssoc => {
-            replace_symbols(work, at, e, width, target, here);
+            if here != target {
+                replace_symbols(work, at, e, width, target, here);
+            }
         }
     }
 }

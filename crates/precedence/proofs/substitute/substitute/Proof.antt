@@ -61,6 +61,9 @@ same-length-4 c = search needs
 returns-4 : tie.Need-returns-4
 returns-4 c = search siding
 
+returns-5 : tie.Need-returns-5
+returns-5 c = search siding
+
 pub substitute-spec : {M : Type 1} → statement M
 substitute-spec =
     tie.close
@@ -82,4 +85,5 @@ substitute-spec =
     same-length-3
     returns-3
     same-length-4
-    returns-4)
+    returns-4
+    returns-5)
