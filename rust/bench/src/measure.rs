@@ -98,12 +98,40 @@ fn theirs<'a>(ready: &'a Ready, tape: &[u8]) -> Run<'a> {
     })
 }
 
-/// The least nanoseconds of several runs of validating, resolving, and copying and clearing, each with buffers just long enough.
-pub fn least(tape: &[u8]) -> [f64; 3] {
+/// Clearing as much as a call clears.
+fn clearing<'a>(mut work: Vec<u8>) -> Run<'a> {
+    Box::new(move |times| timed(times, || black_box(&mut work).fill(0)))
+}
+
+/// The least nanoseconds of several runs of both calls, each with buffers just long enough, and of the clearing in them.
+pub struct Least {
+    pub validating: f64,
+    pub resolving: f64,
+    pub clearing_of_validating: f64,
+    pub clearing_of_resolving: f64,
+}
+
+impl Least {
+    /// For each of so many.
+    pub fn over(self, count: usize) -> Least {
+        let of = |figure: f64| figure / count as f64;
+        Least {
+            validating: of(self.validating),
+            resolving: of(self.resolving),
+            clearing_of_validating: of(self.clearing_of_validating),
+            clearing_of_resolving: of(self.clearing_of_resolving),
+        }
+    }
+}
+
+pub fn least(tape: &[u8]) -> Least {
     let subject = Subject::of_tape(tape.to_vec());
     let runs = (32_000_000 / tape.len()).clamp(25, 1_000);
-    [validating(&subject), resolving(&subject), copying(&subject, tape)].map(|mut run| {
-        let figures = (0..runs).map(|_| run(1).as_nanos() as f64);
-        figures.fold(f64::INFINITY, f64::min)
-    })
+    let of = |mut run: Run| (0..runs).map(|_| run(1).as_nanos() as f64).fold(f64::INFINITY, f64::min);
+    Least {
+        validating: of(validating(&subject)),
+        resolving: of(resolving(&subject)),
+        clearing_of_validating: of(clearing(subject.work_of_validating())),
+        clearing_of_resolving: of(clearing(subject.work_of_resolving())),
+    }
 }
