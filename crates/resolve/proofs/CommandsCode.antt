@@ -1,4 +1,4 @@
--- Commands: the ways out of span_at, long, asked and validate_commands. Assumes nothing.
+-- Commands: the ways out of long, asked and validate_commands. Assumes nothing.
 use mathlib.Core.Path.{_≡_, refl, sym, ap, _∙_}
 use mathlib.Core.List.{List}
 use Prim.Native.Nat.{ℕ, zero, suc, _+_, _-_, _≤_, _<_}
@@ -18,13 +18,6 @@ use Rattle.resolve.specs.declared.Verdict.{Verdict}
 use Rattle.resolve.specs.Cells.{Room, knownAt, foundBy}
 use Rattle.resolve.specs.Names.{conditionSays, nonterminalSays, macroSays, ambiguousSays}
 use Rattle.resolve.specs.Commands.{longOf, askedAt, Run, ran, stopped, runThen, Runs, runOut}
-
--- ---- span_at
-pub span-is : (w : List ℕ) (at x y : ℕ) → x ≡ leAt 4 w (at + 1) → y ≡ leAt 4 w (at + 1 + 4) → record { 0 = x; 1 = y } ≡ spanIn w (at + 1)
-unfolding spanIn
-span-is w at x y p q = cc
-
-pub ruleset spanning = (needs, span-is)
 
 -- ---- long
 module _ (wd c : ℕ) where

@@ -3,11 +3,11 @@ use crate::Grammar;
 use crate::Verdict;
 use crate::cells::define;
 use crate::cells::known;
-use crate::commands::span_at;
 use crate::commands::validate_commands;
 use octets::numbers::atom_at;
 use octets::numbers::u64_at;
 use octets::wide::from8;
+use parse_tree::node::span_at;
 use parse_tree::refusal;
 use texts::Map;
 ghost use mathlib.Core.Path.{_≡_};
@@ -79,7 +79,7 @@ fn validate_item(work: &mut [u8], m: Map, t: Grammar, at: usize, e: usize) -> Ve
     if t.end < p {
         return Verdict::Fine;
     }
-    let span = span_at(work, at);
+    let span = span_at(work, at + 1);
     if !validate_macro_args(work, m, t.width, n, a) {
         return Verdict::Refused(refusal::over(7, span));
     }
