@@ -1,12 +1,11 @@
 -- The arguments of an item are marked in their cells if no two are equal; and the marks taken away leave work as it was. Assumes nothing.
 use mathlib.Core.Path.{_≡_, refl, sym, ap, _∙_}
 use mathlib.Core.Bool.{Bool, true, false, _&&_, _||_, not, false≢true, and-assoc, or-false}
-use mathlib.Core.Logic.{inl, inr}
 use mathlib.Core.List.{List, [], _∷_, _++_}
-use Prim.Native.Nat.{ℕ, zero, suc, _+_, _*_, _%_, _^_, _<_, _≤_}
+use Prim.Native.Nat.{ℕ, _+_, _*_, _%_, _<_, _≤_}
 use native.Mathlib.Omega.{arith}
-use borrow.Author.Tests.{le-leb, lt-leb, leb-true, leb-false, eqb-true, eqb-false}
-use lib.Dec.{leb, eqb}
+use borrow.Author.Tests.{le-leb, lt-leb, leb-false}
+use lib.Dec.{leb}
 use lib.ListN.{length, getD}
 use Rattle.octets.specs.working.Choice.{pick}
 use Rattle.octets.specs.plain.Numbers.{leAt, le}
@@ -26,7 +25,7 @@ use Rattle.texts.specs.declared.Map.{Map}
 use Rattle.resolve.specs.Cells.{Room, knownAt, defineAt}
 use Rattle.resolve.specs.Items.{Marking, marked, twice, marksOut, unmarksOut}
 use Rattle.resolve.specs.Whole.{Apart}
-use Rattle.resolve.proofs.CellsLaws.{known-same, known-other, known-off, length-define, define-store, define-past, define-over, define-known, Cellwise, cellwise-same, cellwise-then, define-cellwise, Sound, off-lies}
+use Rattle.resolve.proofs.CellsLaws.{part-apart, known-same, known-other, known-off, length-define, define-store, define-past, define-over, define-known, Cellwise, cellwise-same, cellwise-then, define-cellwise, Sound, off-lies}
 
 -- ---- the marks go from the front, each against those before it
 unfoldable apart : List Text → List Text → Bool
@@ -83,11 +82,6 @@ has-shift x p qs xs = go (sameAs p x) (has x qs)
     go true false = refl
     go false a = refl
 
--- a later run is apart from what the run was apart from
-later : (a e c d n : ℕ) → Apart a e c d → Apart (a + n) e c d
-later a e c d n (inl h) = inl h
-later a e c d n (inr h) = inr (omega arith)
-
 modulo : (k : ℕ) → k < 512 → (k + 512) % 512 ≡ k
 modulo k h = omega arith
 
@@ -122,7 +116,7 @@ module _ (m : Map) (ts : List Text) where
         let q = argument-read w a e x (bytesOfEach (argumentBytes wd ts) xs) (u .0) l in
         let v = defineAt m w (number ts x) (kn w x + 512) in
         let c = define-cellwise m w (number ts x) (kn w x + 512) in
-        let b : Apart (a + (1 + wd)) e (m .base) (m .base + 24 * m .count) = later a e (m .base) (m .base + 24 * m .count) (1 + wd) o in
+        let b : Apart (a + (1 + wd)) e (m .base) (m .base + 24 * m .count) = part-apart a e (m .base) (m .base + 24 * m .count) (a + (1 + wd)) e (omega arith) (omega arith) o in
         rw (q .0) (ap (pick (leb 512 (kn w x)) twice) (marks-are xs (u .1) v (a + (1 + wd)) e b (omega (arith, c .long)) (off-lies m w v c (a + (1 + wd)) e (bytesOfEach (argumentBytes wd ts) xs) b r (q .1))))
 
     pub unmarks-are : (xs : List Text) → Each (Uses four wd ts isName) xs → (w : List ℕ) (a e : ℕ) → Apart a e (m .base) (m .base + 24 * m .count) → e ≤ length w
@@ -133,7 +127,7 @@ module _ (m : Map) (ts : List Text) where
         let q = argument-read w a e x (bytesOfEach (argumentBytes wd ts) xs) (u .0) l in
         let v = defineAt m w (number ts x) (kn w x % 512) in
         let c = define-cellwise m w (number ts x) (kn w x % 512) in
-        let b : Apart (a + (1 + wd)) e (m .base) (m .base + 24 * m .count) = later a e (m .base) (m .base + 24 * m .count) (1 + wd) o in
+        let b : Apart (a + (1 + wd)) e (m .base) (m .base + 24 * m .count) = part-apart a e (m .base) (m .base + 24 * m .count) (a + (1 + wd)) e (omega arith) (omega arith) o in
         ap (λ (k : ℕ). unmarksOut m wd (length xs) (defineAt m w k (knownAt m w k % 512)) (a + (1 + wd))) (q .0)
         ∙ unmarks-are xs (u .1) v (a + (1 + wd)) e b (omega (arith, c .long)) (off-lies m w v c (a + (1 + wd)) e (bytesOfEach (argumentBytes wd ts) xs) b r (q .1))
 

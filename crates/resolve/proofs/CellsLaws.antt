@@ -62,6 +62,11 @@ lies-agree w w′ a e xs n r f l =
     let z : part a e w′ ≡ xs = part-agree w w′ a e n r f ∙ lies-part w a e xs l in
     rw (← z) (part-lies w′ a e (omega (arith, l .end)) (omega arith))
 
+-- a part of a run is apart from what the run is apart from
+pub part-apart : (a e c d b f : ℕ) → a ≤ b → f ≤ e → Apart a e c d → Apart b f c d
+part-apart a e c d b f p q (inl h) = inl (omega arith)
+part-apart a e c d b f p q (inr h) = inr (omega arith)
+
 module _ (m : Map) where
   -- ---- a cell that is written
   abbrev cellPlace : ℕ → ℕ

@@ -15,12 +15,12 @@ ghost use Prim.Native.Nat.{_+_, _*_, _≤_, _<_};
 ghost use lib.ListN.{length};
 ghost use Rattle.resolve.specs.Cells.{Room};
 ghost use Rattle.resolve.specs.Commands.{Runs};
-ghost use Rattle.resolve.specs.Items.{Standing, placeIn, Marks, marksOut, unmarksOut, itemOut, itemsOut};
+ghost use Rattle.resolve.specs.Items.{Standing, itemPlaceIn, Marks, marksOut, unmarksOut, itemOut, itemsOut};
 
 // The place of the i-th item in work, of the end for the last and for any place behind it.
 pub fn place(work: &[u8], t: Grammar, i: usize) -> usize
     requires { ⌜ (t .list + 8 * t .count ≤ length (now work)) × (t .at ≤ t .end) ⌝ }
-    ensures { λ r. ⌜ (r ≡ placeIn t (now (work .entry)) i) × (t .at ≤ r) × (r ≤ t .end) ⌝ }
+    ensures { λ r. ⌜ (r ≡ itemPlaceIn t (now (work .entry)) i) × (t .at ≤ r) × (r ≤ t .end) ⌝ }
 {
     if t.count <= i {
         return t.end;
