@@ -12,7 +12,7 @@ use Rattle.octets.specs.plain.Numbers.{leAt, le}
 use Rattle.octets.specs.plain.Runs.{Lies, sameAs}
 use Rattle.octets.specs.working.Stores.{store}
 use Rattle.octets.proofs.NumbersLaws.{length-le}
-use Rattle.octets.proofs.SameLaws.{sameAs-eq, sameAs-refl, eq-sameAs}
+use Rattle.octets.proofs.SameLaws.{sameAs-eq, eq-sameAs, sameAs-sym}
 use Rattle.octets.proofs.LiesLaws.{lies-split, lies-first, le-read}
 use Rattle.parse_tree.specs.plain.Tree.{Text}
 use Rattle.parse_tree.specs.plain.Texts.{has, number, distinct, isName}
@@ -37,19 +37,10 @@ unfoldable free : List Text → List Text → Bool
 free qs [] = true
 free qs (x ∷ xs) = not (has x qs) && free qs xs
 
-same-sym : (x y : Text) → sameAs x y ≡ sameAs y x
-same-sym x y = go (sameAs x y) refl (sameAs y x) refl
-  where
-    go : (b : Bool) → sameAs x y ≡ b → (c : Bool) → sameAs y x ≡ c → b ≡ c
-    go true p true q = refl
-    go true p false q = let e = sameAs-eq x y p in absurd (false≢true (sym q ∙ rw e (sameAs-refl y)))
-    go false p true q = let e = sameAs-eq y x q in absurd (false≢true (sym p ∙ rw e (sameAs-refl x)))
-    go false p false q = refl
-
 free-more : (p : Text) (qs xs : List Text) → free (p ∷ qs) xs ≡ (free qs xs && not (has p xs))
 unfolding free has
 free-more p qs [] = refl
-free-more p qs (x ∷ xs) = cc (free-more p qs xs, same-sym p x, go (sameAs x p) (has x qs) (free qs xs) (has p xs))
+free-more p qs (x ∷ xs) = cc (free-more p qs xs, sameAs-sym p x, go (sameAs x p) (has x qs) (free qs xs) (has p xs))
   where
     go : (u a f h : Bool) → (not (elim u [ true ↦ true | false ↦ a ]) && (f && not h)) ≡ ((not a && f) && not (elim u [ true ↦ true | false ↦ h ]))
     go true true f h = refl

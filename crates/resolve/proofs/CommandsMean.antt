@@ -12,7 +12,7 @@ use Rattle.octets.specs.plain.Runs.{Lies}
 use Rattle.octets.specs.working.Stores.{store}
 use Rattle.octets.proofs.LiesLaws.{lies-split}
 use Rattle.octets.proofs.NumbersLaws.{length-le}
-use Rattle.octets.proofs.StoreLaws.{store-none, store-append}
+use Rattle.octets.proofs.StoreLaws.{store-none, store-append, store-drop}
 use Rattle.parse_tree.specs.plain.Tree.{Text, Syms, count, Attribute, Condition, conditions, Alternative}
 use Rattle.parse_tree.specs.plain.Texts.{number}
 use Rattle.parse_tree.specs.plain.WriteTape.{bytesOfEach}
@@ -28,7 +28,6 @@ use Rattle.passes.proofs.ResolveKeeps.{count-kept}
 use Rattle.passes.specs.Resolve.{Def, terminalDef, nonterminalDef, argumentDef, kind, lookup, checkCondition, validateSymbols, validateAlternatives}
 use Rattle.laws.proofs.Flat.{lies-kept, syms-fit}
 use Rattle.laws.proofs.Patch.{behind-node}
-use Rattle.laws.proofs.Rename.{store-drop}
 use Rattle.texts.specs.declared.Map.{Map}
 use Rattle.resolve.specs.Cells.{knownAt}
 use Rattle.resolve.specs.Commands.{RunEnd, ran, stopped, longOf, askedAt, runOut}

@@ -1,4 +1,4 @@
--- Items that stand in work one behind another, each at its listed place; and what the first bytes of an item say. Assumes nothing.
+-- Items that stand in work one behind another, each at its listed place; and what the first bytes of a command with a name, and of an item, say. Assumes nothing.
 use mathlib.Core.Path.{_≡_, refl, sym, ap, _∙_}
 use mathlib.Core.Bool.{Bool, true, false}
 use mathlib.Core.List.{List, [], _∷_, _++_, append-assoc, append-nil}
