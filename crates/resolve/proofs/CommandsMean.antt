@@ -193,7 +193,7 @@ module _ (m : Map) (wd e : ℕ) (ts : List Text) where
         (λ ys n. told cs (f .1) (store w d (symsBytes wd ts ys)) (agrees-store w d (symsBytes wd ts ys) (off-part p d (d + length (symsBytes wd ts ys)) (omega arith) (omega arith) a) agree) d′
         (off-part p d′ e (omega arith) (omega arith) a) (lies-kept w (store w d (symsBytes wd ts ys)) d′ e R (store-drop w d d′ (symsBytes wd ts ys) (omega arith)) (y .1)))
 
--- theorem: the run over an item's alternatives, with steps enough
+-- the run over an item's alternatives, with steps enough
 pub alternatives-run : (m : Map) (wd : ℕ) (ts : List Text) (four : Bool) (G : Tree) (ps : List Text) (w : List ℕ)
     → ((n : Text) → meant (knownAt m w (number ts n)) ≡ lookup G ps n)
     → (cs : List Alternative) → Each (AlternativeWithin four wd ts) cs
