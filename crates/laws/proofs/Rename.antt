@@ -6,15 +6,14 @@ use Prim.Native.Nat.{ℕ, suc, _+_, _<_, _≤_}
 use native.Mathlib.Omega.{arith}
 use borrow.Author.Tests.{eq-eqb, eqb-true}
 use lib.Dec.{eqb}
-use lib.ListN.{length, drop, set, getD, length-append}
-use lib.Seq.{sets, drop-set-lt}
+use lib.ListN.{length, drop, getD, length-append}
 use Rattle.octets.specs.plain.Numbers.{le}
 use Rattle.octets.specs.plain.Runs.{sameAs, Lies}
 use Rattle.octets.specs.working.Stores.{store}
 use Rattle.octets.proofs.SameLaws.{sameAs-eq, eq-sameAs}
 use Rattle.octets.proofs.NumbersLaws.{length-le}
 use Rattle.octets.proofs.LiesLaws.{lies-split}
-use Rattle.octets.proofs.StoreLaws.{store-none, store-append}
+use Rattle.octets.proofs.StoreLaws.{store-none, store-append, store-drop}
 use Rattle.parse_tree.specs.plain.Tree.{Text, Leaf, Sym, Syms, ambiguous, bare, quoted, regex, nonterminal, lookahead, lookbehind, error, leaf, around, over, nil, cons, count}
 use Rattle.parse_tree.specs.plain.Texts.{has, number}
 use Rattle.parse_tree.specs.working.Nodes.{spanBytes, leafCode, leafOperand, symbolBytes, nodeBytes, sizeOf}
@@ -31,15 +30,6 @@ use Rattle.laws.specs.Flat.{symNode, nodesAll, foldSym, foldSyms, run}
 use Rattle.laws.specs.Rename.{renameLeaf, rename}
 use Rattle.laws.proofs.Flat.{lies-kept, SymsFits, Keeps, kept, run-whole}
 use Rattle.laws.proofs.Patch.{store-same, behind-node}
-
--- ---- what is behind a store stays
-sets-drop : (vs s : List ℕ) (a n : ℕ) → a + length vs ≤ n → drop n (sets s a vs) ≡ drop n s
-sets-drop [] s a n h = refl
-sets-drop (v ∷ vs) s a n h = sets-drop vs (set s a v) (suc a) n (omega arith) ∙ drop-set-lt n s a v (omega arith)
-
-pub store-drop : (s : List ℕ) (a n : ℕ) (vs : List ℕ) → a + length vs ≤ n → drop n (store s a vs) ≡ drop n s
-unfolding store
-store-drop s a n vs h = sets-drop vs s a n h
 
 -- ---- a number tells its text, where the other one is an atom
 below-has : (ts : List Text) (x : Text) → number ts x < length ts → has x ts ≡ true

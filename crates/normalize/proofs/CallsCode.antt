@@ -2,7 +2,7 @@
 use mathlib.Core.Path.{_≡_, refl, sym, ap, subst, _∙_}
 use mathlib.Core.Bool.{Bool, true, false}
 use mathlib.Core.List.{List, _++_, append-assoc}
-use Prim.Native.Nat.{ℕ, _+_, _-_, _*_, _<_, _≤_}
+use Prim.Native.Nat.{ℕ, _+_, _-_, _*_, _≤_}
 use native.Mathlib.Omega.{arith}
 use borrow.Author.Needs.{needs}
 use borrow.Author.Tests.{leb-true, ltb-true, ltb-false}
@@ -54,10 +54,6 @@ is-no m t at why e = let z : _≡_ {A = ℕ} 0 1 = cc in omega arith
 
 -- x is what `resolve_tape` answered, and w what it left
 module _ (s : List ℕ) (x : Resolved) (w : List ℕ) (i : TapeResolves s x w) where
-  resolved-as : (o : Outcome (Stage)) (cap : ℕ) → readAs (decode s) ≡ o → resolved s cap ≡ after o (resolveStage (sizes 2 cap))
-  unfolding resolved
-  resolved-as o cap e = rw e refl
-
   pub stage-refused : (o : List ℕ) (why : Refusal) → x ≡ Resolved.Refused why → Staged (resolved s (length o)) o (Answer.No why) o
   unfolding TapeResolves TapeReads StandsBy resolved resolveStage answerOf written refusalAt refusalOver
   stage-refused o why e = go (decode s) refl i

@@ -1,5 +1,5 @@
 -- The ways out of `resolve_valid` and `resolve_tape`: the items of a validated tape, copied to work, are a grammar that `resolve` takes. Assumes nothing.
-use mathlib.Core.Path.{_≡_, refl, sym, ap, subst, _∙_}
+use mathlib.Core.Path.{_≡_, refl, sym, ap, _∙_}
 use mathlib.Core.Bool.{Bool, true, false}
 use mathlib.Core.Logic.{inl, inr}
 use mathlib.Core.List.{List, [], _∷_, _++_}
@@ -43,10 +43,10 @@ use Rattle.validate.proofs.NotesCode.{item-long}
 use Rattle.passes.specs.Outcome.{Tree, Outcome, yes, no}
 use Rattle.passes.specs.Resolve.{resolve}
 use Rattle.resolve.specs.Items.{Standing}
-use Rattle.resolve.specs.Whole.{Holds, Became, Answers, Resolves}
+use Rattle.resolve.specs.Whole.{Holds, Answers, Resolves}
 use Rattle.resolve.specs.declared.Grammar.{Grammar}
 use Rattle.resolve.specs.declared.Verdict.{Verdict}
-use Rattle.normalize.specs.working.Stages.{Stands, StandsBy, TapeReads, TapeResolves}
+use Rattle.normalize.specs.working.Stages.{StandsBy, TapeReads, TapeResolves}
 use Rattle.normalize.specs.declared.Resolved.{Resolved}
 
 -- ---- an item has eleven bytes or more, and a name

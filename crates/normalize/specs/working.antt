@@ -1,3 +1,3 @@
--- A stage on its way: made in work, judged, handed over.
+-- A stage on its way: resolved in work, judged, handed over.
 pub mod Stages
 pub mod Handing

@@ -11,3 +11,8 @@ pub by-pick : {A : Type 0} (P : A → Type 0) (b : Bool) {x y : A} → (b ≡ tr
 unfolding pick
 by-pick P true f g = f refl
 by-pick P false f g = g refl
+
+pub pick-same : {A : Type 0} (b : Bool) (x : A) → pick b x x ≡ x
+unfolding pick
+pick-same true x = refl
+pick-same false x = refl

@@ -4,8 +4,6 @@ pub mod NumbersLaws
 pub mod StoreLaws
 pub mod PartLaws
 pub mod LiesLaws
-pub mod SinkLaws
-pub mod SinkStores
 pub mod SameLaws
 mod RunsSameCode
 mod RunsClearCode

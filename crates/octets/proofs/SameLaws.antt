@@ -1,6 +1,6 @@
 -- `sameAs` says that two lists are equal. Assumes nothing.
-use mathlib.Core.Path.{_≡_, refl}
-use mathlib.Core.Bool.{Bool, true, false}
+use mathlib.Core.Path.{_≡_, refl, sym, _∙_}
+use mathlib.Core.Bool.{Bool, true, false, false≢true}
 use mathlib.Core.List.{List, [], _∷_}
 use Prim.Native.Nat.{ℕ}
 use native.Mathlib.Omega.{arith}
@@ -26,3 +26,12 @@ sameAs-refl (a ∷ x) = cc (eq-eqb a a refl, sameAs-refl x)
 
 pub eq-sameAs : (x y : List ℕ) → x ≡ y → sameAs x y ≡ true
 eq-sameAs x y e = rw e (sameAs-refl y)
+
+pub sameAs-sym : (xs ys : List ℕ) → sameAs xs ys ≡ sameAs ys xs
+sameAs-sym xs ys = go (sameAs xs ys) refl (sameAs ys xs) refl
+  where
+    go : (b : Bool) → sameAs xs ys ≡ b → (c : Bool) → sameAs ys xs ≡ c → b ≡ c
+    go true p true q = refl
+    go true p false q = let e = sameAs-eq xs ys p in absurd (false≢true (sym q ∙ rw e (sameAs-refl ys)))
+    go false p true q = let e = sameAs-eq ys xs q in absurd (false≢true (sym p ∙ rw e (sameAs-refl xs)))
+    go false p false q = refl

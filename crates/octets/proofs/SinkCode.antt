@@ -1,37 +1,24 @@
--- The loop of `put_run`. Assumes nothing.
-use mathlib.Core.Path.{_≡_, refl, _∙_}
+-- The ways out of `put8`. Assumes nothing.
 use mathlib.Core.List.{List, [], _∷_}
 use Prim.Native.Nat.{ℕ, _+_, _<_, _≤_}
 use native.Mathlib.Omega.{arith}
 use borrow.Author.Needs.{needs}
-use lib.ListN.{length, getD}
-use Rattle.octets.specs.plain.Runs.{part}
-use Rattle.octets.specs.working.Sink.{Laid}
-use Rattle.octets.proofs.PartLaws.{part-none, part-one}
-use Rattle.octets.proofs.SinkLaws.{laid-append, laid-none}
+use borrow.Author.Tests.{lt-ltb, le-ltb}
+use lib.ListN.{set}
+use Rattle.octets.specs.working.Choice.{pick}
+use Rattle.octets.specs.working.Sink.{step, adv, lay1, lay, Laid}
 
--- what is left, from i to e, goes to q on; whatever that comes to, the whole comes to
-pub record Running (src w : List ℕ) (lim to a e : ℕ) (out : List ℕ) (i q : ℕ) : Type 0 where
-  pub carry : (r : ℕ) (w′ : List ℕ) → Laid out lim q (part i e src) r w′ → Laid w lim to (part a e src) r w′
-  pub upto : i ≤ e
-  pub inside : e ≤ length src
-  pub room : lim ≤ length out
-  pub same : length out ≡ length w
+module _ (w : List ℕ) (lim to b : ℕ) where
+  pub put8-over : lim < to → Laid w lim to (b ∷ []) to w
+  unfolding lay adv lay1 step pick
+  put8-over h = record { bytes = cc (le-ltb to lim (omega arith)); after = cc (lt-ltb lim to h) }
 
-pub run-start : (src w : List ℕ) (lim to a e : ℕ) → a ≤ e → e ≤ length src → lim ≤ length w → Running src w lim to a e w a to
-run-start src w lim to a e h k l = record { carry = λ r w′ c. c; upto = h; inside = k; room = l; same = refl }
+  pub put8-in : to ≤ lim → to < lim → Laid w lim to (b ∷ []) (to + 1) (set w to b)
+  unfolding lay adv lay1 step pick
+  put8-in g h = record { bytes = cc (lt-ltb to lim h); after = cc (le-ltb lim to g) }
 
-module _ (src w : List ℕ) (lim to a e : ℕ) (out : List ℕ) (i q : ℕ) (g : Running src w lim to a e out i q) where
-  pub run-next : (q1 : ℕ) (out1 : List ℕ) → i < e → Laid out lim q (getD src i 0 ∷ []) q1 out1 → length out1 ≡ length out → Running src w lim to a e out1 (i + 1) q1
-  run-next q1 out1 h c l = record {
-    carry = λ r w′ d. g .carry r w′ (rw (part-one i e src h (g .inside)) (laid-append out out1 w′ lim q q1 r (getD src i 0 ∷ []) (part (i + 1) e src) c d));
-    upto = omega arith;
-    inside = g .inside;
-    room = rw l (g .room);
-    same = l ∙ g .same;
-  }
+  pub put8-end : to ≤ lim → lim ≤ to → Laid w lim to (b ∷ []) (to + 1) w
+  unfolding lay adv lay1 step pick
+  put8-end g h = record { bytes = cc (le-ltb to lim h); after = cc (le-ltb lim to g) }
 
-  pub run-done : e ≤ i → Laid w lim to (part a e src) q out
-  run-done h = g .carry q out (rw (part-none i e src h) (laid-none out lim q))
-
-pub ruleset running = (needs, run-start, run-next, run-done)
+pub ruleset laying = (needs, put8-over, put8-in, put8-end)

@@ -7,7 +7,7 @@ use native.Mathlib.Omega.{arith}
 use native.Mathlib.Numerals.{add-one}
 use borrow.Author.Needs.{needs}
 use lib.ListN.{length, take, drop, set, getD}
-use lib.Seq.{sets, sets-eq, length-sets, getD-set-other, length-take-le, drop-at, drop-drop, drop-append-seam}
+use lib.Seq.{sets, sets-eq, length-sets, getD-set-other, length-take-le, drop-at, drop-drop, drop-set-lt, drop-append-seam}
 use Rattle.octets.specs.plain.Numbers.{leAt, le}
 use Rattle.octets.specs.working.Stores.{store}
 use Rattle.octets.specs.plain.Runs.{Lies}
@@ -35,6 +35,15 @@ store-append s at n vs ws e = sets-append vs ws s at n e
 pub store-is : (s : List ℕ) (at : ℕ) (vs : List ℕ) → at + length vs ≤ length s → store s at vs ≡ take at s ++ vs ++ drop (at + length vs) s
 unfolding store
 store-is s at vs h = sets-eq vs s at h
+
+-- what is behind a store stays
+sets-drop : (vs s : List ℕ) (a n : ℕ) → a + length vs ≤ n → drop n (sets s a vs) ≡ drop n s
+sets-drop [] s a n h = refl
+sets-drop (v ∷ vs) s a n h = sets-drop vs (set s a v) (suc a) n (omega arith) ∙ drop-set-lt n s a v (omega arith)
+
+pub store-drop : (s : List ℕ) (a n : ℕ) (vs : List ℕ) → a + length vs ≤ n → drop n (store s a vs) ≡ drop n s
+unfolding store
+store-drop s a n vs h = sets-drop vs s a n h
 
 -- ---- the stores of the code
 pub store-16 : (s : List ℕ) (at v : ℕ) → set (set s at (v % 256)) (at + 1) (v / 256 % 256) ≡ store s at (le 2 v)

@@ -3,7 +3,6 @@
 ghost use mathlib.Core.List.{[], _∷_};
 ghost use Prim.Native.Nat.{_≤_};
 ghost use lib.ListN.{length};
-ghost use Rattle.octets.specs.plain.Runs.{part};
 ghost use Rattle.octets.specs.working.Sink.{Laid};
 
 pub fn put8(out: &mut [u8], lim: usize, to: usize, b: u8) -> usize
@@ -18,18 +17,4 @@ pub fn put8(out: &mut [u8], lim: usize, to: usize, b: u8) -> usize
         return to + 1;
     }
     to + 1
-}
-
-// The bytes of src from a up to e.
-pub fn put_run(src: &[u8], a: usize, e: usize, out: &mut [u8], lim: usize, to: usize) -> usize
-    requires { ⌜ (a ≤ e) × (e ≤ length (now src)) × (lim ≤ length (now out)) ⌝ }
-    ensures { λ r. ⌜ Laid (now (out .entry)) lim to (part a e (now (src .entry))) r (now (out .exit)) ⌝ }
-{
-    let mut i = a;
-    let mut q = to;
-    while i < e {
-        q = put8(out, lim, q, src[i]);
-        i += 1;
-    }
-    q
 }

@@ -12,6 +12,7 @@ use borrow.Author.Tests.{le-leb}
 use lib.Dec.{leb, ltb, eqb}
 use lib.ListN.{length, getD}
 use Rattle.octets.specs.working.Choice.{pick}
+use Rattle.octets.proofs.ChoiceLaws.{pick-same}
 use Rattle.parse_tree.specs.plain.Tree.{Text, Leaf, Around, Over, Action, Attribute, Condition, Alternative, Nonterminal, Source, star, plus, question, ambiguous, bare, quoted, regex, nonterminal, lookahead, lookbehind, error, repeat, choose, name, macro, group, noAction, user, fallible, lookaheadAction, lookbehindAction, extern, match, terminal, conditions}
 use Rattle.parse_tree.specs.plain.Texts.{isName, isLiteral, isAscii, number}
 use Rattle.parse_tree.specs.working.Questions.{hasText, ofClass, leafDefined, symbolDefined, alternativeDefined, attributeDefined, defined, leafSuits, symbolSuits, suits}
@@ -29,11 +30,6 @@ use Rattle.parse_tree.proofs.TextLaws.{number-ltb, text-number}
 use Rattle.parse_tree.proofs.Asking.{Passes}
 
 -- ---- question 4, if it is asked
-free : (four : Bool) → pick four true true ≡ true
-unfolding pick
-free true = refl
-free false = refl
-
 apt-both : (four a b : Bool) → pick four a true ≡ true → pick four b true ≡ true → pick four (a && b) true ≡ true
 unfolding pick
 apt-both true a b p q = and-intro p q
@@ -69,9 +65,9 @@ module _ (four : Bool) (w : ℕ) (ts : List Text) where
   leaf-passes s (quoted x) h u = record { fits = (h, u .1); known = number-ltb ts x (u .0); apt = apt-text isLiteral x u }
   leaf-passes s (regex x) h u = record { fits = (h, u .1); known = number-ltb ts x (u .0); apt = apt-text isLiteral x u }
   leaf-passes s (nonterminal x) h u = record { fits = (h, u .1); known = number-ltb ts x (u .0); apt = apt-text isName x u }
-  leaf-passes s lookahead h u = record { fits = (h, tt); known = refl; apt = free four }
-  leaf-passes s lookbehind h u = record { fits = (h, tt); known = refl; apt = free four }
-  leaf-passes s error h u = record { fits = (h, tt); known = refl; apt = free four }
+  leaf-passes s lookahead h u = record { fits = (h, tt); known = refl; apt = pick-same four true }
+  leaf-passes s lookbehind h u = record { fits = (h, tt); known = refl; apt = pick-same four true }
+  leaf-passes s error h u = record { fits = (h, tt); known = refl; apt = pick-same four true }
 
   pub leaf-back : (l : Leaf) → LeafWithin four w ts l → leafOf ts (leafNode ts l) ≡ l
   unfolding leafNode leafOf
@@ -86,10 +82,10 @@ module _ (four : Bool) (w : ℕ) (ts : List Text) where
 
   pub around-passes : (s : Span) (a : Around) → SpanWithin s → AroundWithin four w ts a → Passes four w ts (Node.Symbol s (SymbolKind.Around (aroundNode ts a)))
   unfolding aroundNode defined symbolDefined suits symbolSuits
-  around-passes s (repeat star) h u = record { fits = (h, omega arith); known = refl; apt = free four }
-  around-passes s (repeat plus) h u = record { fits = (h, omega arith); known = refl; apt = free four }
-  around-passes s (repeat question) h u = record { fits = (h, omega arith); known = refl; apt = free four }
-  around-passes s choose h u = record { fits = (h, tt); known = refl; apt = free four }
+  around-passes s (repeat star) h u = record { fits = (h, omega arith); known = refl; apt = pick-same four true }
+  around-passes s (repeat plus) h u = record { fits = (h, omega arith); known = refl; apt = pick-same four true }
+  around-passes s (repeat question) h u = record { fits = (h, omega arith); known = refl; apt = pick-same four true }
+  around-passes s choose h u = record { fits = (h, tt); known = refl; apt = pick-same four true }
   around-passes s (name true x) h u = record { fits = (h, (omega arith, u .1)); known = number-ltb ts x (u .0); apt = apt-text isName x u }
   around-passes s (name false x) h u = record { fits = (h, (omega arith, u .1)); known = number-ltb ts x (u .0); apt = apt-text isName x u }
 
@@ -109,7 +105,7 @@ module _ (four : Bool) (w : ℕ) (ts : List Text) where
     known = and-intro (number-ltb ts x (u .0 .0)) (le-leb 1 n (u .1));
     apt = apt-text isName x (u .0);
   }
-  over-passes s group n h u = record { fits = (h, u); known = refl; apt = free four }
+  over-passes s group n h u = record { fits = (h, u); known = refl; apt = pick-same four true }
 
   pub over-back : (o : Over) (n : ℕ) → OverWithin four w ts o n → overOf ts (overNode ts o n) ≡ o
   unfolding overNode overOf
@@ -136,7 +132,7 @@ module _ (four : Bool) (w : ℕ) (ts : List Text) where
     record {
       fits = (u .1, omega arith, one-le-pow w 256 (omega arith), one-le-pow w 256 (omega arith));
       known = and-intro (number-ltb ts i (u .0)) refl;
-      apt = apt-both four _ _ (apt-text isName i u) (free four);
+      apt = apt-both four _ _ (apt-text isName i u) (pick-same four true);
     },
     rw (text-number ts i (u .0)),
   )
@@ -171,11 +167,11 @@ module _ (four : Bool) (w : ℕ) (ts : List Text) where
       × ((leb (actionCode x) 4 && pick (hasText (actionCode x)) (ltb (actionText ts x) (length ts)) (eqb (actionText ts x) 0)) ≡ true)
       × (pick four (pick (hasText (actionCode x)) (ofClass isAscii ts (actionText ts x)) true) true ≡ true)
   unfolding actionText pick
-  action-passes noAction u = (omega arith, one-le-pow w 256 (omega arith), refl, free four)
+  action-passes noAction u = (omega arith, one-le-pow w 256 (omega arith), refl, pick-same four true)
   action-passes (user t) u = (omega arith, u .1, number-ltb ts t (u .0), apt-text isAscii t u)
   action-passes (fallible t) u = (omega arith, u .1, number-ltb ts t (u .0), apt-text isAscii t u)
-  action-passes lookaheadAction u = (omega arith, one-le-pow w 256 (omega arith), refl, free four)
-  action-passes lookbehindAction u = (omega arith, one-le-pow w 256 (omega arith), refl, free four)
+  action-passes lookaheadAction u = (omega arith, one-le-pow w 256 (omega arith), refl, pick-same four true)
+  action-passes lookbehindAction u = (omega arith, one-le-pow w 256 (omega arith), refl, pick-same four true)
 
   action-back : (x : Action) → ActionWithin four w ts x → actionFrom ts (actionCode x) (actionText ts x) ≡ x
   unfolding actionText actionFrom pick

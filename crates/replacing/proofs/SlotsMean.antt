@@ -8,7 +8,7 @@ use borrow.Author.Tests.{eqb-true, eq-eqb}
 use lib.Dec.{eqb}
 use lib.ListN.{length, getD}
 use Rattle.octets.specs.plain.Runs.{sameAs}
-use Rattle.octets.proofs.SameLaws.{sameAs-eq, sameAs-refl, eq-sameAs}
+use Rattle.octets.proofs.SameLaws.{sameAs-eq, sameAs-refl, sameAs-sym}
 use Rattle.parse_tree.specs.plain.Tree.{Text, Sym}
 use Rattle.parse_tree.specs.plain.Texts.{has, number, distinct}
 use Rattle.parse_tree.specs.plain.Display.{print}
@@ -20,15 +20,6 @@ use Rattle.replacing.specs.Sound.{Key, Good as GoodRef, Sound as SoundSl
 use Rattle.replacing.specs.Slots.{Ref, text, like, Slots, among, refer, pushText, pushNew, firstLike, noteBy, noteAs, note, noteAll}
 
 -- ---- tests on lists
-pub same-sym : (x y : Text) → sameAs x y ≡ sameAs y x
-same-sym x y = go (sameAs x y) (sameAs y x) refl refl
-  where
-    go : (a b : Bool) → sameAs x y ≡ a → sameAs y x ≡ b → a ≡ b
-    go true true p q = refl
-    go true false p q = absurd (false≢true (sym q ∙ eq-sameAs y x (sym (sameAs-eq x y p))))
-    go false true p q = absurd (false≢true (sym p ∙ eq-sameAs x y (sym (sameAs-eq y x q))))
-    go false false p q = refl
-
 pub has-or : (x t : Text) (ts : List Text) → has x (t ∷ ts) ≡ (sameAs t x || has x ts)
 unfolding has
 has-or x t ts = go (sameAs t x)
@@ -213,7 +204,7 @@ module _ (at : ℕ → Sym) (Here : ℕ → Type 0) (ts : List Text) (d : distin
 
         go : (b : Bool) → b ≡ sameAs (pr p) (pr q) → (r : Option ℕ) → FirstSays p qs r → FirstSays p (q ∷ qs) (cond b (some q) r)
         go true e r h = (sym (sameAs-eq (pr p) (pr q) (sym e)), among-here q qs)
-        go false e r h = more r h (same-sym (pr q) (pr p) ∙ sym e)
+        go false e r h = more r h (sameAs-sym (pr q) (pr p) ∙ sym e)
 
     -- one place
     note-by : (p : ℕ) (x : Slots) (σ : Expander) → Here p → has (pr p) (map pr (x .firsts)) ≡ false → Sound x σ

@@ -1,19 +1,18 @@
 -- The arguments of an item are marked in their cells if no two are equal; and the marks taken away leave work as it was. Assumes nothing.
 use mathlib.Core.Path.{_≡_, refl, sym, ap, _∙_}
 use mathlib.Core.Bool.{Bool, true, false, _&&_, _||_, not, false≢true, and-assoc, or-false}
-use mathlib.Core.Logic.{inl, inr}
 use mathlib.Core.List.{List, [], _∷_, _++_}
-use Prim.Native.Nat.{ℕ, zero, suc, _+_, _*_, _%_, _^_, _<_, _≤_}
+use Prim.Native.Nat.{ℕ, _+_, _*_, _%_, _<_, _≤_}
 use native.Mathlib.Omega.{arith}
-use borrow.Author.Tests.{le-leb, lt-leb, leb-true, leb-false, eqb-true, eqb-false}
-use lib.Dec.{leb, eqb}
+use borrow.Author.Tests.{le-leb, lt-leb, leb-false}
+use lib.Dec.{leb}
 use lib.ListN.{length, getD}
 use Rattle.octets.specs.working.Choice.{pick}
 use Rattle.octets.specs.plain.Numbers.{leAt, le}
 use Rattle.octets.specs.plain.Runs.{Lies, sameAs}
 use Rattle.octets.specs.working.Stores.{store}
 use Rattle.octets.proofs.NumbersLaws.{length-le}
-use Rattle.octets.proofs.SameLaws.{sameAs-eq, sameAs-refl, eq-sameAs}
+use Rattle.octets.proofs.SameLaws.{sameAs-eq, eq-sameAs, sameAs-sym}
 use Rattle.octets.proofs.LiesLaws.{lies-split, lies-first, le-read}
 use Rattle.parse_tree.specs.plain.Tree.{Text}
 use Rattle.parse_tree.specs.plain.Texts.{has, number, distinct, isName}
@@ -26,7 +25,7 @@ use Rattle.texts.specs.declared.Map.{Map}
 use Rattle.resolve.specs.Cells.{Room, knownAt, defineAt}
 use Rattle.resolve.specs.Items.{Marking, marked, twice, marksOut, unmarksOut}
 use Rattle.resolve.specs.Whole.{Apart}
-use Rattle.resolve.proofs.CellsLaws.{known-same, known-other, known-off, length-define, define-store, define-past, define-over, define-known, Cellwise, cellwise-same, cellwise-then, define-cellwise, Sound, off-lies}
+use Rattle.resolve.proofs.CellsLaws.{part-apart, known-same, known-other, known-off, length-define, define-store, define-past, define-over, define-known, Cellwise, cellwise-same, cellwise-then, define-cellwise, Sound, off-lies}
 
 -- ---- the marks go from the front, each against those before it
 unfoldable apart : List Text → List Text → Bool
@@ -38,19 +37,10 @@ unfoldable free : List Text → List Text → Bool
 free qs [] = true
 free qs (x ∷ xs) = not (has x qs) && free qs xs
 
-same-sym : (x y : Text) → sameAs x y ≡ sameAs y x
-same-sym x y = go (sameAs x y) refl (sameAs y x) refl
-  where
-    go : (b : Bool) → sameAs x y ≡ b → (c : Bool) → sameAs y x ≡ c → b ≡ c
-    go true p true q = refl
-    go true p false q = let e = sameAs-eq x y p in absurd (false≢true (sym q ∙ rw e (sameAs-refl y)))
-    go false p true q = let e = sameAs-eq y x q in absurd (false≢true (sym p ∙ rw e (sameAs-refl x)))
-    go false p false q = refl
-
 free-more : (p : Text) (qs xs : List Text) → free (p ∷ qs) xs ≡ (free qs xs && not (has p xs))
 unfolding free has
 free-more p qs [] = refl
-free-more p qs (x ∷ xs) = cc (free-more p qs xs, same-sym p x, go (sameAs x p) (has x qs) (free qs xs) (has p xs))
+free-more p qs (x ∷ xs) = cc (free-more p qs xs, sameAs-sym p x, go (sameAs x p) (has x qs) (free qs xs) (has p xs))
   where
     go : (u a f h : Bool) → (not (elim u [ true ↦ true | false ↦ a ]) && (f && not h)) ≡ ((not a && f) && not (elim u [ true ↦ true | false ↦ h ]))
     go true true f h = refl
@@ -82,11 +72,6 @@ has-shift x p qs xs = go (sameAs p x) (has x qs)
     go true true = refl
     go true false = refl
     go false a = refl
-
--- a later run is apart from what the run was apart from
-later : (a e c d n : ℕ) → Apart a e c d → Apart (a + n) e c d
-later a e c d n (inl h) = inl h
-later a e c d n (inr h) = inr (omega arith)
 
 modulo : (k : ℕ) → k < 512 → (k + 512) % 512 ≡ k
 modulo k h = omega arith
@@ -122,7 +107,7 @@ module _ (m : Map) (ts : List Text) where
         let q = argument-read w a e x (bytesOfEach (argumentBytes wd ts) xs) (u .0) l in
         let v = defineAt m w (number ts x) (kn w x + 512) in
         let c = define-cellwise m w (number ts x) (kn w x + 512) in
-        let b : Apart (a + (1 + wd)) e (m .base) (m .base + 24 * m .count) = later a e (m .base) (m .base + 24 * m .count) (1 + wd) o in
+        let b : Apart (a + (1 + wd)) e (m .base) (m .base + 24 * m .count) = part-apart a e (m .base) (m .base + 24 * m .count) (a + (1 + wd)) e (omega arith) (omega arith) o in
         rw (q .0) (ap (pick (leb 512 (kn w x)) twice) (marks-are xs (u .1) v (a + (1 + wd)) e b (omega (arith, c .long)) (off-lies m w v c (a + (1 + wd)) e (bytesOfEach (argumentBytes wd ts) xs) b r (q .1))))
 
     pub unmarks-are : (xs : List Text) → Each (Uses four wd ts isName) xs → (w : List ℕ) (a e : ℕ) → Apart a e (m .base) (m .base + 24 * m .count) → e ≤ length w
@@ -133,7 +118,7 @@ module _ (m : Map) (ts : List Text) where
         let q = argument-read w a e x (bytesOfEach (argumentBytes wd ts) xs) (u .0) l in
         let v = defineAt m w (number ts x) (kn w x % 512) in
         let c = define-cellwise m w (number ts x) (kn w x % 512) in
-        let b : Apart (a + (1 + wd)) e (m .base) (m .base + 24 * m .count) = later a e (m .base) (m .base + 24 * m .count) (1 + wd) o in
+        let b : Apart (a + (1 + wd)) e (m .base) (m .base + 24 * m .count) = part-apart a e (m .base) (m .base + 24 * m .count) (a + (1 + wd)) e (omega arith) (omega arith) o in
         ap (λ (k : ℕ). unmarksOut m wd (length xs) (defineAt m w k (knownAt m w k % 512)) (a + (1 + wd))) (q .0)
         ∙ unmarks-are xs (u .1) v (a + (1 + wd)) e b (omega (arith, c .long)) (off-lies m w v c (a + (1 + wd)) e (bytesOfEach (argumentBytes wd ts) xs) b r (q .1))
 

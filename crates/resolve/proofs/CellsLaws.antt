@@ -10,7 +10,7 @@ use lib.Dec.{leb, ltb, eqb}
 use lib.ListN.{length, getD, set}
 use lib.Seq.{sets, set-set, set-comm}
 use Rattle.octets.specs.working.Choice.{pick}
-use Rattle.octets.specs.plain.Numbers.{leAt, le, Bytes}
+use Rattle.octets.specs.plain.Numbers.{le, Bytes}
 use Rattle.octets.specs.plain.Runs.{Lies, part}
 use Rattle.octets.specs.working.Stores.{store}
 use Rattle.octets.proofs.NumbersLaws.{length-le}
@@ -19,7 +19,7 @@ use Rattle.octets.proofs.StoreLaws.{length-store, leAt-other, leAt-same, getD-s
 use Rattle.texts.specs.declared.Map.{Map}
 use Rattle.texts.specs.Fields.{cellAt}
 use Rattle.texts.proofs.FieldsCode.{cell-other}
-use Rattle.texts.proofs.TableStays.{leAt-agree, part-agree}
+use Rattle.texts.proofs.TableStays.{part-agree}
 use Rattle.laws.proofs.Patch.{store-same}
 use Rattle.resolve.specs.Cells.{Room, knownAt, defineAt}
 use Rattle.resolve.specs.Whole.{Apart}
@@ -61,6 +61,11 @@ pub lies-agree : (w w′ : List ℕ) (a e : ℕ) (xs : List ℕ) → length w′
 lies-agree w w′ a e xs n r f l =
     let z : part a e w′ ≡ xs = part-agree w w′ a e n r f ∙ lies-part w a e xs l in
     rw (← z) (part-lies w′ a e (omega (arith, l .end)) (omega arith))
+
+-- a part of a run is apart from what the run is apart from
+pub part-apart : (a e c d b f : ℕ) → a ≤ b → f ≤ e → Apart a e c d → Apart b f c d
+part-apart a e c d b f p q (inl h) = inl (omega arith)
+part-apart a e c d b f p q (inr h) = inr (omega arith)
 
 module _ (m : Map) where
   -- ---- a cell that is written
@@ -239,9 +244,6 @@ module _ (m : Map) where
     pub off-same : (a e i : ℕ) → Apart a e (m .base) (m .base + 24 * m .count) → a ≤ i → i < e → getD w′ i 0 ≡ getD w i 0
     off-same a e i (inl h) k l = c .others i (off-uncelled i (inl (omega arith)))
     off-same a e i (inr h) k l = c .others i (off-uncelled i (inr (omega arith)))
-
-    pub off-number : (n a e x : ℕ) → Apart a e (m .base) (m .base + 24 * m .count) → a ≤ x → x + n ≤ e → leAt n w′ x ≡ leAt n w x
-    off-number n a e x h k l = leAt-agree n w w′ x (λ i p q. off-same a e i h (omega arith) (omega arith))
 
     pub off-lies : (a e : ℕ) (xs : List ℕ) → Apart a e (m .base) (m .base + 24 * m .count) → e ≤ length w → Lies w a xs e → Lies w′ a xs e
     off-lies a e xs h r l = lies-agree w w′ a e xs (c .long) r (λ i p q. off-same a e i h p q) l

@@ -1,4 +1,4 @@
--- Commands: the ways out of span_at, long, asked and validate_commands. Assumes nothing.
+-- Commands: the ways out of long, asked and validate_commands. Assumes nothing.
 use mathlib.Core.Path.{_≡_, refl, sym, ap, _∙_}
 use mathlib.Core.List.{List}
 use Prim.Native.Nat.{ℕ, zero, suc, _+_, _-_, _≤_, _<_}
@@ -17,14 +17,7 @@ use Rattle.resolve.specs.declared.Found.{Found}
 use Rattle.resolve.specs.declared.Verdict.{Verdict}
 use Rattle.resolve.specs.Cells.{Room, knownAt, foundBy}
 use Rattle.resolve.specs.Names.{conditionSays, nonterminalSays, macroSays, ambiguousSays}
-use Rattle.resolve.specs.Commands.{longOf, askedAt, Run, ran, stopped, runThen, Runs, runOut}
-
--- ---- span_at
-pub span-is : (w : List ℕ) (at x y : ℕ) → x ≡ leAt 4 w (at + 1) → y ≡ leAt 4 w (at + 1 + 4) → record { 0 = x; 1 = y } ≡ spanIn w (at + 1)
-unfolding spanIn
-span-is w at x y p q = cc
-
-pub ruleset spanning = (needs, span-is)
+use Rattle.resolve.specs.Commands.{longOf, askedAt, RunEnd, ran, stopped, runThen, Runs, runOut}
 
 -- ---- long
 module _ (wd c : ℕ) where
@@ -109,23 +102,23 @@ module _ (m : Map) (wd : ℕ) (w : List ℕ) (at c : ℕ) where
 pub ruleset asking = (needs, asked-ambiguous, asked-nonterminal, asked-macro, asked-condition, asked-other)
 
 -- ---- runs
-pub runs-fine : (x : Run) (w : List ℕ) → x ≡ ran w → Runs x Verdict.Fine w
+pub runs-fine : (x : RunEnd) (w : List ℕ) → x ≡ ran w → Runs x Verdict.Fine w
 unfolding Runs
 runs-fine x w e = rw e (refl, refl)
 
-pub runs-refused : (x : Run) (q : ℕ) (s : Span) (w : List ℕ) → x ≡ stopped q s → Runs x (Verdict.Refused (refusalOver q s)) w
+pub runs-refused : (x : RunEnd) (q : ℕ) (s : Span) (w : List ℕ) → x ≡ stopped q s → Runs x (Verdict.Refused (refusalOver q s)) w
 unfolding Runs
 runs-refused x q s w e = rw e refl
 
-fine-not : {why : Refusal} → Verdict.Fine ≡ Verdict.Refused why → ⊥
+pub fine-not : {why : Refusal} → Verdict.Fine ≡ Verdict.Refused why → ⊥
 fine-not {why} e = let z : _≡_ {A = ℕ} 0 1 = cc in omega arith
 
-pub then-refused : (x : Run) (f : List ℕ → Run) (why : Refusal) (w w′ : List ℕ) → Runs x (Verdict.Refused why) w → Runs (runThen x f) (Verdict.Refused why) w′
+pub then-refused : (x : RunEnd) (f : List ℕ → RunEnd) (why : Refusal) (w w′ : List ℕ) → Runs x (Verdict.Refused why) w → Runs (runThen x f) (Verdict.Refused why) w′
 unfolding Runs runThen
 then-refused (ran v) f why w w′ h = absurd (fine-not (sym (h .0)))
 then-refused (stopped q s) f why w w′ h = h
 
-pub then-fine : (x : Run) (f : List ℕ → Run) (w : List ℕ) → Runs x Verdict.Fine w → runThen x f ≡ f w
+pub then-fine : (x : RunEnd) (f : List ℕ → RunEnd) (w : List ℕ) → Runs x Verdict.Fine w → runThen x f ≡ f w
 unfolding Runs runThen
 then-fine (ran v) f w h = ap f (sym (h .1))
 then-fine (stopped q s) f w h = absurd (fine-not h)
@@ -145,7 +138,7 @@ pub record Running (m : Map) (wd e at : ℕ) (w₀ w : List ℕ) (p : ℕ) : Typ
 pub run-start : (m : Map) (wd e at : ℕ) (w : List ℕ) → Room m (length w) → 2 ≤ wd → wd ≤ 3 → e + 16 ≤ length w → Running m wd e at w w at
 run-start m wd e at w r n o i = record { room = r; narrow = n; wide = o; inside = i; same = refl; fuel = e; enough = omega arith; rest = refl }
 
-run-end : (m : Map) (wd n : ℕ) (w : List ℕ) (p e : ℕ) → e ≤ p → runOut m wd n w p e ≡ ran w
+pub run-end : (m : Map) (wd n : ℕ) (w : List ℕ) (p e : ℕ) → e ≤ p → runOut m wd n w p e ≡ ran w
 unfolding runOut pick
 run-end m wd zero w p e h = refl
 run-end m wd (suc n) w p e h = cc (le-leb e p h)

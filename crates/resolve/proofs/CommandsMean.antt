@@ -1,20 +1,18 @@
 -- The run over the commands of an item's alternatives comes to what name resolution says of the alternatives. Assumes nothing.
 use mathlib.Core.Path.{_≡_, refl, sym, ap, subst, _∙_}
-use mathlib.Core.Logic.{inl, inr}
 use mathlib.Core.Bool.{Bool, cond}
 use mathlib.Core.List.{List, [], _∷_, _++_, append-assoc, append-nil}
 use mathlib.Core.Option.{Option, none, some}
 use Prim.Native.Nat.{ℕ, zero, suc, _+_, _*_, _≤_}
 use native.Mathlib.Omega.{arith}
 use lib.Dec.{eqb}
-use lib.ListN.{length, drop, set, length-append}
-use lib.Seq.{sets, drop-set-lt}
+use lib.ListN.{length, length-append}
 use Rattle.octets.specs.working.Choice.{pick}
 use Rattle.octets.specs.plain.Runs.{Lies}
 use Rattle.octets.specs.working.Stores.{store}
-use Rattle.octets.proofs.LiesLaws.{lies-split, lies-first}
+use Rattle.octets.proofs.LiesLaws.{lies-split}
 use Rattle.octets.proofs.NumbersLaws.{length-le}
-use Rattle.octets.proofs.StoreLaws.{store-none, store-append}
+use Rattle.octets.proofs.StoreLaws.{store-none, store-append, store-drop}
 use Rattle.parse_tree.specs.plain.Tree.{Text, Syms, count, Attribute, Condition, conditions, Alternative}
 use Rattle.parse_tree.specs.plain.Texts.{number}
 use Rattle.parse_tree.specs.plain.WriteTape.{bytesOfEach}
@@ -25,7 +23,6 @@ use Rattle.parse_tree.specs.declared.syntax.Alternative.{Alternative as Alterna
 use Rattle.parse_tree.specs.declared.syntax.Attribute.{Attribute as AttributeNode}
 use Rattle.parse_tree.specs.declared.syntax.Node.{Node}
 use Rattle.parse_tree.proofs.SizeLaws.{length-span}
-use Rattle.parse_tree.proofs.FieldLaws.{le-read-then, span-read}
 use Rattle.passes.specs.Outcome.{Tree, Outcome, yes, no, after, withSymbols}
 use Rattle.passes.proofs.ResolveKeeps.{count-kept}
 use Rattle.passes.specs.Resolve.{Def, terminalDef, nonterminalDef, argumentDef, kind, lookup, checkCondition, validateSymbols, validateAlternatives}
@@ -33,25 +30,18 @@ use Rattle.laws.proofs.Flat.{lies-kept, syms-fit}
 use Rattle.laws.proofs.Patch.{behind-node}
 use Rattle.texts.specs.declared.Map.{Map}
 use Rattle.resolve.specs.Cells.{knownAt}
-use Rattle.resolve.specs.Commands.{Run, ran, stopped, longOf, askedAt, runOut}
+use Rattle.resolve.specs.Commands.{RunEnd, ran, stopped, longOf, askedAt, runOut}
 use Rattle.resolve.specs.Whole.{Apart}
+use Rattle.resolve.proofs.CellsLaws.{part-apart, known-off}
+use Rattle.resolve.proofs.GrammarLaws.{named}
 use Rattle.resolve.proofs.NamesMean.{meant, conditionCode}
 use Rattle.resolve.proofs.CommandsStep.{enough, upTo, up-to-end, passes, condition-step}
-use Rattle.resolve.proofs.SymbolsMean.{known-store, SymsTold, syms-told}
+use Rattle.resolve.proofs.SymbolsMean.{SymsTold, syms-told}
 
 -- what the run over alternatives comes to: those of a yes are stored, as long as they were; a no is the same
-abbrev pub RunTold : (wd : ℕ) (ts : List Text) (w : List ℕ) (at : ℕ) → List Alternative → Run → Outcome (List Alternative) → Type 0
+abbrev pub RunTold : (wd : ℕ) (ts : List Text) (w : List ℕ) (at : ℕ) → List Alternative → RunEnd → Outcome (List Alternative) → Type 0
 RunTold wd ts w at cs r (yes bs) = (r ≡ ran (store w at (bytesOfEach (alternativeBytes wd ts) bs))) × (length (bytesOfEach (alternativeBytes wd ts) bs) ≡ length (bytesOfEach (alternativeBytes wd ts) cs))
 RunTold wd ts w at cs r (no q s) = r ≡ stopped q s
-
--- ---- a store leaves what is behind it
-drop-sets : (vs w : List ℕ) (p n : ℕ) → p + length vs ≤ n → drop n (sets w p vs) ≡ drop n w
-drop-sets [] w p n h = refl
-drop-sets (v ∷ vs) w p n h = drop-sets vs (set w p v) (suc p) n (omega arith) ∙ drop-set-lt n w p v (omega arith)
-
-drop-store : (w : List ℕ) (p : ℕ) (vs : List ℕ) (n : ℕ) → p + length vs ≤ n → drop n (store w p vs) ≡ drop n w
-unfolding store
-drop-store w p vs n h = drop-sets vs w p n h
 
 -- ---- an alternative's bytes: those before its symbols, and theirs
 module _ (wd : ℕ) (ts : List Text) where
@@ -113,11 +103,9 @@ module _ (m : Map) (wd e : ℕ) (ts : List Text) where
     condition-told none f w agree p d h l = ap (upTo m wd e w) (omega (arith, l .end))
     condition-told (some c) f w agree p d h l =
         let y = rw append-nil at l in
-        let x0 = lies-first w p 20 _ d y in
-        let x1 = span-read w d (p + 1) (p + 9) (omega arith) (f .0 .span) (x0 .2) in
-        let x2 = le-read-then w d (p + 9) (p + 9 + wd) wd refl (f .0 .lhs .1) (x1 .1) in
-        let z : d ≡ p + (10 + wd + wd) = omega (arith, x2 .1 .end, length-le wd (number ts (c .rhs))) in
-        go (lookup G ps (c .lhs)) (rw (agree (c .lhs)) at (condition-step m wd e w p d (number ts (c .lhs)) (c .span) (omega arith) (x0 .1) (x1 .0) (x2 .0) z))
+        let x = named w wd p 20 (c .span) (number ts (c .lhs)) _ d (f .0 .span) (f .0 .lhs .1) y in
+        let z : d ≡ p + (10 + wd + wd) = omega (arith, x .rest .end, length-le wd (number ts (c .rhs))) in
+        go (lookup G ps (c .lhs)) (rw (agree (c .lhs)) at (condition-step m wd e w p d (number ts (c .lhs)) (c .span) (omega arith) (x .code) (x .span) (x .name) z))
       where
         go : (o : Option Def) → upTo m wd e w p ≡ pick (eqb (conditionCode o) 0) (upTo m wd e w d) (stopped (conditionCode o) (c .span))
             → Checked w p d (elim o [ none ↦ no 8 (c .span) | some d ↦ cond (eqb (kind d) 3) (yes tt) (no 9 (c .span)) ])
@@ -142,11 +130,13 @@ module _ (m : Map) (wd e : ℕ) (ts : List Text) where
 
     -- ---- alternatives, one behind another
     agrees-store : (w : List ℕ) (p : ℕ) (vs : List ℕ) → Apart p (p + length vs) (m .base) (m .base + 24 * m .count) → Agrees w → Agrees (store w p vs)
-    agrees-store w p vs a agree n = ap meant (known-store m w p vs (number ts n) a) ∙ agree n
+    agrees-store w p vs a agree n = ap meant (known-off m w p vs (number ts n) a) ∙ agree n
 
-    apart-part : (p e′ q d : ℕ) → p ≤ q → d ≤ e′ → Apart p e′ (m .base) (m .base + 24 * m .count) → Apart q d (m .base) (m .base + 24 * m .count)
-    apart-part p e′ q d h k (inl a) = inl (omega arith)
-    apart-part p e′ q d h k (inr a) = inr (omega arith)
+    abbrev Off : ℕ → ℕ → Type 0
+    Off p d = Apart p d (m .base) (m .base + 24 * m .count)
+
+    off-part : (p q d : ℕ) → p ≤ q → d ≤ e → Off p e → Off q d
+    off-part p q d h k a = part-apart p e (m .base) (m .base + 24 * m .count) q d h k a
 
     abbrev bytes : List Alternative → List ℕ
     bytes cs = bytesOfEach (alternativeBytes wd ts) cs
@@ -199,17 +189,17 @@ module _ (m : Map) (wd e : ℕ) (ts : List Text) where
         let k : d′ ≤ e = omega (arith, y .1 .end) in
         both-told c cs w agree p d d′ H refl refl refl (x .0) (checkCondition G ps (c .condition)) (validateSymbols G ps (c .symbols)) (validateAlternatives G ps cs) refl
         (head-told c (f .0) w agree p d (omega arith) (x .0))
-        (syms-told m wd e ts G ps (c .symbols) (syms-fit wd ts four (c .symbols) 64 (f .0 .symbols)) w agree d d′ (apart-part p e d e (omega arith) (omega arith) a) k (y .0))
-        (λ ys n. told cs (f .1) (store w d (symsBytes wd ts ys)) (agrees-store w d (symsBytes wd ts ys) (apart-part p e d (d + length (symsBytes wd ts ys)) (omega arith) (omega arith) a) agree) d′
-        (apart-part p e d′ e (omega arith) (omega arith) a) (lies-kept w (store w d (symsBytes wd ts ys)) d′ e R (drop-store w d (symsBytes wd ts ys) d′ (omega arith)) (y .1)))
+        (syms-told m wd e ts G ps (c .symbols) (syms-fit wd ts four (c .symbols) 64 (f .0 .symbols)) w agree d d′ (off-part p d e (omega arith) (omega arith) a) k (y .0))
+        (λ ys n. told cs (f .1) (store w d (symsBytes wd ts ys)) (agrees-store w d (symsBytes wd ts ys) (off-part p d (d + length (symsBytes wd ts ys)) (omega arith) (omega arith) a) agree) d′
+        (off-part p d′ e (omega arith) (omega arith) a) (lies-kept w (store w d (symsBytes wd ts ys)) d′ e R (store-drop w d d′ (symsBytes wd ts ys) (omega arith)) (y .1)))
 
--- theorem: the run over an item's alternatives, with steps enough
-pub alternatives-run : (m : Map) (wd : ℕ) → 2 ≤ wd → wd ≤ 3 → (ts : List Text) (four : Bool) (G : Tree) (ps : List Text) (w : List ℕ)
+-- the run over an item's alternatives, with steps enough
+pub alternatives-run : (m : Map) (wd : ℕ) (ts : List Text) (four : Bool) (G : Tree) (ps : List Text) (w : List ℕ)
     → ((n : Text) → meant (knownAt m w (number ts n)) ≡ lookup G ps n)
     → (cs : List Alternative) → Each (AlternativeWithin four wd ts) cs
     → (n at e : ℕ) → e ≤ n + at
     → Apart at e (m .base) (m .base + 24 * m .count)
     → Lies w at (bytesOfEach (alternativeBytes wd ts) cs) e
     → RunTold wd ts w at cs (runOut m wd n w at e) (validateAlternatives G ps cs)
-alternatives-run m wd narrow wide ts four G ps w agree cs f n at e h a l =
-    subst (λ (r : Run). RunTold wd ts w at cs r (validateAlternatives G ps cs)) (enough m wd e n w at e (omega arith) h) (told m wd e ts G ps four cs f w agree at a l)
+alternatives-run m wd ts four G ps w agree cs f n at e h a l =
+    subst (λ (r : RunEnd). RunTold wd ts w at cs r (validateAlternatives G ps cs)) (enough m wd e n w at e (omega arith) h) (told m wd e ts G ps four cs f w agree at a l)

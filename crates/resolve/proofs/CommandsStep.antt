@@ -1,19 +1,19 @@
 -- One step of the run over commands that stand in work: the command at the place says what it does, and how many steps are allowed doesn't matter. Assumes nothing.
 use mathlib.Core.Path.{_≡_, refl, sym, ap, _∙_}
 use mathlib.Core.Bool.{Bool, true, false, cond}
-use mathlib.Core.List.{List, [], _∷_, _++_, append-nil}
+use mathlib.Core.List.{List, [], _∷_}
 use mathlib.Core.Option.{Option, none, some}
-use Prim.Native.Nat.{ℕ, zero, suc, _+_, _^_, _<_, _≤_}
+use Prim.Native.Nat.{ℕ, zero, suc, _+_, _<_, _≤_}
 use native.Mathlib.Omega.{arith}
 use lib.Dec.{leb, ltb, eqb}
 use lib.ListN.{length, getD, set, length-append}
-use borrow.Author.Tests.{le-leb, lt-leb}
+use borrow.Author.Tests.{lt-leb}
 use Rattle.octets.specs.working.Choice.{pick}
-use Rattle.octets.specs.plain.Numbers.{leAt, le}
+use Rattle.octets.specs.plain.Numbers.{leAt}
 use Rattle.octets.specs.plain.Runs.{Lies}
 use Rattle.octets.proofs.LiesLaws.{lies-first}
 use Rattle.octets.proofs.NumbersLaws.{length-le}
-use Rattle.parse_tree.specs.working.Nodes.{leafCode, leafOperand, symbolBytes, nodeBytes, spanBytes, spanIn}
+use Rattle.parse_tree.specs.working.Nodes.{leafCode, leafOperand, symbolBytes, nodeBytes, spanIn}
 use Rattle.parse_tree.specs.working.Within.{SpanWithin}
 use Rattle.parse_tree.specs.declared.syntax.Span.{Span}
 use Rattle.parse_tree.specs.declared.syntax.Leaf.{Leaf}
@@ -23,12 +23,14 @@ use Rattle.parse_tree.specs.declared.syntax.SymbolKind.{SymbolKind}
 use Rattle.parse_tree.specs.declared.syntax.Node.{Node}
 use Rattle.parse_tree.proofs.SizeLaws.{length-span}
 use Rattle.parse_tree.proofs.NodeFits.{LeafFits, KindFits}
-use Rattle.parse_tree.proofs.FieldLaws.{byte-read, le-read-then, span-read}
+use Rattle.parse_tree.proofs.FieldLaws.{byte-read}
 use Rattle.passes.specs.Resolve.{Def, terminalDef, nonterminalDef, argumentDef}
 use Rattle.laws.specs.Names.{State, fine, refused, askAmbiguous, askNonterminal, askMacro, askLeaf, askOver, askKind}
 use Rattle.texts.specs.declared.Map.{Map}
 use Rattle.resolve.specs.Cells.{knownAt}
-use Rattle.resolve.specs.Commands.{Run, ran, stopped, longOf, askedAt, runOut}
+use Rattle.resolve.specs.Commands.{RunEnd, ran, stopped, longOf, askedAt, runOut}
+use Rattle.resolve.proofs.CommandsCode.{run-end}
+use Rattle.resolve.proofs.GrammarLaws.{named, named-last}
 use Rattle.resolve.proofs.NamesMean.{meant, conditionCode, nonterminalCode, macroCode, ambiguousCode, condition-says, nonterminal-says, macro-says, ambiguous-says}
 
 -- ---- each step gets on: so the run is the same however many steps are allowed, if they are enough
@@ -43,18 +45,13 @@ long-some wd c =
     large _ _ _ (omega arith) (large _ _ _ (omega arith) (large _ _ _ (omega arith) (large _ _ _ (omega arith) (large _ _ _ (omega arith) (large _ _ _ (omega arith)
     (large _ _ _ (omega arith) (large _ _ _ (omega arith) (large _ _ _ (omega arith) (large _ _ _ (omega arith) (large _ _ _ (omega arith) (large _ _ _ (omega arith) (omega arith))))))))))))
 
-same-turn : (b c d : Bool) (x y y′ z u u′ : Run) → y ≡ y′ → u ≡ u′ → pick b x (pick c y (pick d z u)) ≡ pick b x (pick c y′ (pick d z u′))
+same-turn : (b c d : Bool) (x y y′ z u u′ : RunEnd) → y ≡ y′ → u ≡ u′ → pick b x (pick c y (pick d z u)) ≡ pick b x (pick c y′ (pick d z u′))
 same-turn b c d x y y′ z u u′ p q = cc
-
-at-end : (m : Map) (wd f : ℕ) (w : List ℕ) (p e : ℕ) → e ≤ p → runOut m wd f w p e ≡ ran w
-unfolding runOut pick
-at-end m wd zero w p e h = refl
-at-end m wd (suc f) w p e h = simp (le-leb e p h)
 
 pub enough : (m : Map) (wd f g : ℕ) (w : List ℕ) (p e : ℕ) → e ≤ f + p → e ≤ g + p → runOut m wd f w p e ≡ runOut m wd g w p e
 unfolding runOut
-enough m wd zero g w p e h k = sym (at-end m wd g w p e (omega arith))
-enough m wd (suc f) zero w p e h k = at-end m wd (suc f) w p e (omega arith)
+enough m wd zero g w p e h k = sym (run-end m wd g w p e (omega arith))
+enough m wd (suc f) zero w p e h k = run-end m wd (suc f) w p e (omega arith)
 enough m wd (suc f) (suc g) w p e h k =
     let c = getD w p 0 in
     let a = askedAt m wd w p c in
@@ -65,11 +62,11 @@ enough m wd (suc f) (suc g) w p e h k =
 
 -- ---- the run up to e
 module _ (m : Map) (wd e : ℕ) where
-  abbrev pub upTo : List ℕ → ℕ → Run
+  abbrev pub upTo : List ℕ → ℕ → RunEnd
   upTo w p = runOut m wd e w p e
 
   pub up-to-end : (w : List ℕ) (p : ℕ) → e ≤ p → upTo w p ≡ ran w
-  up-to-end w p h = at-end m wd e w p e h
+  up-to-end w p h = run-end m wd e w p e h
 
   -- a step, by what the command there is answered
   turn : (w : List ℕ) (p c a : ℕ) → p < e → getD w p 0 ≡ c → askedAt m wd w p c ≡ a
@@ -99,7 +96,7 @@ module _ (m : Map) (wd e : ℕ) where
       go (some argumentDef) j = goes w p 20 d h i j z
 
   -- ---- symbols: what is asked of one, and then on behind it
-  abbrev pub stateThen : State → (List ℕ → Run) → Run
+  abbrev pub stateThen : State → (List ℕ → RunEnd) → RunEnd
   stateThen (fine w) f = f w
   stateThen (refused q sp w) f = stopped q sp
 
@@ -134,34 +131,21 @@ module _ (m : Map) (wd e : ℕ) where
 
   -- where the cells say what `look` says
   module _ (look : ℕ → Option Def) (w : List ℕ) (sees : (k : ℕ) → meant (knownAt m w k) ≡ look k) (p d : ℕ) (h : p < e) (sp : Span) (f : SpanWithin sp) where
-    -- the code, the span and the name that are read there
-    named : (c v : ℕ) (ys : List ℕ) → v < 256 ^ wd → Lies w p (c ∷ (spanBytes sp ++ (le wd v ++ ys))) d
-        → (getD w p 0 ≡ c) × (spanIn w (p + 1) ≡ sp) × (meant (knownAt m w (leAt wd w (p + 9))) ≡ look v) × Lies w (p + 9 + wd) ys d
-    named c v ys k l =
-        let x0 = lies-first w p c _ d l in
-        let x1 = span-read w d (p + 1) (p + 9) (omega arith) f (x0 .2) in
-        let x2 = le-read-then w d (p + 9) (p + 9 + wd) wd refl k (x1 .1) in
-        (x0 .1, x1 .0, rw (x2 .0) (sees v), x2 .1)
-
-    -- the same with nothing behind it
-    named-last : (c v : ℕ) → v < 256 ^ wd → Lies w p (c ∷ (spanBytes sp ++ le wd v)) d
-        → (getD w p 0 ≡ c) × (spanIn w (p + 1) ≡ sp) × (meant (knownAt m w (leAt wd w (p + 9))) ≡ look v) × (d ≡ p + (9 + wd))
-    named-last c v k l =
-        let z = append-nil (le wd v) in
-        let x = named c v [] k (rw (← z) at l) in
-        (x .0, x .1, x .2, omega (arith, x .3 .end))
+    -- the name that is read there
+    seen : (v : ℕ) → leAt wd w (p + 9) ≡ v → meant (knownAt m w (leAt wd w (p + 9))) ≡ look v
+    seen v z = rw z (sees v)
 
     leaf-step : (l : Leaf) → LeafFits wd l → Lies w p (symbolBytes wd sp (SymbolKind.Leaf l)) d → upTo w p ≡ stateThen (askLeaf look w p sp l) (λ w′. upTo w′ d)
     unfolding symbolBytes leafCode leafOperand askLeaf askedAt longOf pick
     leaf-step (Leaf.AmbiguousId a) k l =
-        let x = named-last 32 (a .0) k l in
-        ambiguous-step w p d h sp (x .1) (look (a .0)) (x .0) (ambiguous-says (knownAt m w (leAt wd w (p + 9))) ∙ ap ambiguousCode (x .2)) (x .3)
+        let x = named-last w wd p 32 sp (a .0) d f k l in
+        ambiguous-step w p d h sp (x .span) (look (a .0)) (x .code) (ambiguous-says (knownAt m w (leAt wd w (p + 9))) ∙ ap ambiguousCode (seen (a .0) (x .name))) (omega (arith, x .rest .end))
     leaf-step (Leaf.Bare a) k l = passes w p d 33 _ h refl (simp (length-append, length-span, length-le) (omega arith)) l
     leaf-step (Leaf.Quoted a) k l = passes w p d 34 _ h refl (simp (length-append, length-span, length-le) (omega arith)) l
     leaf-step (Leaf.Regex a) k l = passes w p d 35 _ h refl (simp (length-append, length-span, length-le) (omega arith)) l
     leaf-step (Leaf.Nonterminal a) k l =
-        let x = named-last 36 (a .0) k l in
-        nonterminal-step w p d h sp (x .1) (look (a .0)) (x .0) (nonterminal-says (knownAt m w (leAt wd w (p + 9))) ∙ ap nonterminalCode (x .2)) (x .3)
+        let x = named-last w wd p 36 sp (a .0) d f k l in
+        nonterminal-step w p d h sp (x .span) (look (a .0)) (x .code) (nonterminal-says (knownAt m w (leAt wd w (p + 9))) ∙ ap nonterminalCode (seen (a .0) (x .name))) (omega (arith, x .rest .end))
     leaf-step Leaf.Lookahead k l = passes w p d 42 _ h refl (simp (length-append, length-span) (omega arith)) l
     leaf-step Leaf.Lookbehind k l = passes w p d 43 _ h refl (simp (length-append, length-span) (omega arith)) l
     leaf-step Leaf.Error k l = passes w p d 44 _ h refl (simp (length-append, length-span) (omega arith)) l
@@ -173,7 +157,8 @@ module _ (m : Map) (wd e : ℕ) where
     symbol-step (SymbolKind.Around Around.Choose) k l = passes w p d 39 _ h refl (simp length-span (omega arith)) l
     symbol-step (SymbolKind.Around (Around.Name n a)) k l = passes w p d 40 _ h refl (simp (length-append, length-span, length-le) (omega arith)) l
     symbol-step (SymbolKind.Over (Over.Macro a n)) k l =
-        let x = named 37 (a .0) (n ∷ []) (k .0) l in
-        let y = byte-read w d (p + 9 + wd) (p + 10 + wd) (omega arith) (x .3) in
-        macro-step w p d h sp (x .1) n (look (a .0)) (x .0) (macro-says (knownAt m w (leAt wd w (p + 9))) (getD w (p + 9 + wd) 0) ∙ cc (y .0, x .2)) (omega (arith, y .1 .end))
+        let x = named w wd p 37 sp (a .0) (n ∷ []) d f (k .0) l in
+        let y = byte-read w d (p + 9 + wd) (p + 10 + wd) (omega arith) (x .rest) in
+        let z = seen (a .0) (x .name) in
+        macro-step w p d h sp (x .span) n (look (a .0)) (x .code) (macro-says (knownAt m w (leAt wd w (p + 9))) (getD w (p + 9 + wd) 0) ∙ cc (y .0, z)) (omega (arith, y .1 .end))
     symbol-step (SymbolKind.Over (Over.Group n)) k l = passes w p d 41 _ h refl (simp (length-append, length-span, length-le) (omega arith)) l

@@ -22,7 +22,7 @@ use Rattle.resolve.specs.declared.Grammar.{Grammar}
 use Rattle.resolve.specs.declared.Verdict.{Verdict}
 use Rattle.resolve.specs.Cells.{knownAt, foundBy, defineAt}
 use Rattle.resolve.specs.Commands.{ran, runThen, Runs}
-use Rattle.resolve.specs.Items.{Standing, placeIn}
+use Rattle.resolve.specs.Items.{Standing, itemPlaceIn}
 use Rattle.resolve.specs.Globals.{describe, declaredAt, declareOut, eachOut, globalsOut}
 use Rattle.resolve.proofs.Found.{the-type as found-type}
 use Rattle.resolve.proofs.NamesCode.{is-nothing}
@@ -131,7 +131,7 @@ module _ (m : Map) (t : Grammar) (which : ℕ) (w₀ w : List ℕ) (i : ℕ) (g 
     each-kept : (w′ : List ℕ) → length w′ ≡ length w → eachOut m t which (suc (t .count - (i + 1))) i w ≡ eachOut m t which (t .count - (i + 1)) (i + 1) w′ → EachLeft m t which w₀ w′ (i + 1)
     each-kept w′ l e = record { standing = rw l (g .standing); same = l ∙ g .same; rest = sym e ∙ sym opened ∙ g .rest }
 
-    module _ (p : ℕ) (x : p ≡ placeIn t w i) where
+    module _ (p : ℕ) (x : p ≡ itemPlaceIn t w i) where
       skipped : (getD w p 0 ≡ which → ⊥) → eachOut m t which (suc (t .count - (i + 1))) i w ≡ eachOut m t which (t .count - (i + 1)) (i + 1) w
       unfolding eachOut pick
       skipped n = cc (ne-eqb (getD w p 0) which n)

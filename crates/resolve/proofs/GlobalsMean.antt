@@ -2,9 +2,9 @@
 use mathlib.Core.Path.{_≡_, refl, sym, ap, _∙_}
 use mathlib.Core.Bool.{Bool, true, false}
 use mathlib.Core.List.{List, [], _∷_, _++_}
-use Prim.Native.Nat.{ℕ, zero, suc, _+_, _*_, _≤_, _<_}
+use Prim.Native.Nat.{ℕ, suc, _+_, _*_, _≤_, _<_}
 use native.Mathlib.Omega.{arith}
-use borrow.Author.Tests.{eqb-true, eqb-false, eq-eqb}
+use borrow.Author.Tests.{eqb-true}
 use lib.Dec.{eqb}
 use lib.ListN.{length, getD}
 use Rattle.octets.specs.working.Choice.{pick}
@@ -13,21 +13,20 @@ use Rattle.octets.specs.plain.Runs.{Lies}
 use Rattle.parse_tree.specs.plain.Tree.{Text, Nonterminal, Item, item, extern, match}
 use Rattle.parse_tree.specs.plain.Texts.{number, distinct}
 use Rattle.parse_tree.specs.working.Nodes.{spanIn}
-use Rattle.parse_tree.specs.working.Encode.{itemBytes, sourceCode}
+use Rattle.parse_tree.specs.working.Encode.{itemBytes}
 use Rattle.parse_tree.specs.working.Within.{Each, ItemWithin}
 use Rattle.parse_tree.specs.declared.syntax.Span.{Span}
 use Rattle.parse_tree.proofs.ReadingLaws.{each-append}
 use Rattle.texts.specs.declared.Map.{Map}
-use Rattle.passes.specs.Outcome.{Outcome}
 use Rattle.passes.specs.Resolve.{terminalDef, nonterminalDef, Global, nonterminals, externs, matches, globals, checkGlobals}
 use Rattle.resolve.specs.declared.Grammar.{Grammar}
-use Rattle.resolve.specs.Cells.{Room, knownAt}
-use Rattle.resolve.specs.Commands.{Run, ran, stopped, runThen}
-use Rattle.resolve.specs.Items.{placeIn}
+use Rattle.resolve.specs.Cells.{Room}
+use Rattle.resolve.specs.Commands.{RunEnd, ran, runThen}
+use Rattle.resolve.specs.Items.{itemPlaceIn}
 use Rattle.resolve.specs.Globals.{declaredAt, declareOut, eachOut, globalsOut}
 use Rattle.resolve.specs.Whole.{Apart}
 use Rattle.resolve.proofs.CellsLaws.{Cellwise, cellwise-same, cellwise-then, off-same, Sound}
-use Rattle.resolve.proofs.GrammarLaws.{Row, row-place, row-same, Headed, headed, Named, terminal-headed}
+use Rattle.resolve.proofs.GrammarLaws.{Row, row-same, headed, terminal-headed}
 use Rattle.resolve.proofs.GlobalsTable.{codeOf, Coded, Proper, declareBy, entered, then-same, then-ran, entered-append, entered-cellwise, entered-sound, Says, says-as, entered-says}
 
 -- ---- the globals of one code
@@ -69,7 +68,7 @@ select-49 (Item.terminal s match t ∷ xs) = ap (λ (l : List Global). namedOf s
 
 -- ---- the scan of one code
 module _ (four : Bool) (m : Map) (t : Grammar) (ts : List Text) (which : ℕ) where
-  abbrev step : List ℕ → ℕ → Run
+  abbrev step : List ℕ → ℕ → RunEnd
   step w p = pick (eqb (getD w p 0) which) (declareOut m (t .width) w p (declaredAt (t .width) w p which)) (ran w)
 
   -- what is told of an item at p: its code, its name, its span, and what it defines
@@ -101,13 +100,13 @@ module _ (four : Bool) (m : Map) (t : Grammar) (ts : List Text) (which : ℕ) wh
         row-same t ts u w (c .long) inside (λ j k l. off-same m u w c (t .list) (t .list + 8 * t .count) j (listed (omega arith)) k l) i p xs
         (λ j k l. off-same m u w c (t .at) (t .end) j off (omega arith) l) r
 
-    turn : (n i : ℕ) (w : List ℕ) → eachOut m t which (suc n) i w ≡ runThen (step w (placeIn t w i)) (λ w′. eachOut m t which n (i + 1) w′)
+    turn : (n i : ℕ) (w : List ℕ) → eachOut m t which (suc n) i w ≡ runThen (step w (itemPlaceIn t w i)) (λ w′. eachOut m t which n (i + 1) w′)
     unfolding eachOut pick runThen
-    turn n i w = go (eqb (getD w (placeIn t w i) 0) which)
+    turn n i w = go (eqb (getD w (itemPlaceIn t w i) 0) which)
       where
         go : (b : Bool)
-            → pick b (runThen (declareOut m (t .width) w (placeIn t w i) (declaredAt (t .width) w (placeIn t w i) which)) (λ w′. eachOut m t which n (i + 1) w′)) (eachOut m t which n (i + 1) w)
-            ≡ runThen (pick b (declareOut m (t .width) w (placeIn t w i) (declaredAt (t .width) w (placeIn t w i) which)) (ran w)) (λ w′. eachOut m t which n (i + 1) w′)
+            → pick b (runThen (declareOut m (t .width) w (itemPlaceIn t w i) (declaredAt (t .width) w (itemPlaceIn t w i) which)) (λ w′. eachOut m t which n (i + 1) w′)) (eachOut m t which n (i + 1) w)
+            ≡ runThen (pick b (declareOut m (t .width) w (itemPlaceIn t w i) (declaredAt (t .width) w (itemPlaceIn t w i) which)) (ran w)) (λ w′. eachOut m t which n (i + 1) w′)
         go true = refl
         go false = refl
 
@@ -118,8 +117,8 @@ module _ (four : Bool) (m : Map) (t : Grammar) (ts : List Text) (which : ℕ) wh
     each-is (x ∷ xs) h i p a r w c =
         let e = p + length (itemBytes (t .width) ts x) in
         let q = cells-row w c i p (x ∷ xs) a r in
-        let y : step w (placeIn t w i) ≡ entered m ts w (one which x) = ap (step w) (q .0) ∙ step-is x (h .0) w p e (q .1) in
-        turn (length xs) i w ∙ ap (λ (z : Run). runThen z (λ w′. eachOut m t which (length xs) (i + 1) w′)) y
+        let y : step w (itemPlaceIn t w i) ≡ entered m ts w (one which x) = ap (step w) (q .0) ∙ step-is x (h .0) w p e (q .1) in
+        turn (length xs) i w ∙ ap (λ (z : RunEnd). runThen z (λ w′. eachOut m t which (length xs) (i + 1) w′)) y
         ∙ then-same (entered m ts w (one which x)) (λ w′. eachOut m t which (length xs) (i + 1) w′) (λ w′. entered m ts w′ (select which xs))
         (λ w′ k. each-is xs (h .1) (i + 1) e (omega arith) (r .2) w′ (cellwise-then m u w w′ c (entered-cellwise m ts (one which x) w w′ k)))
         ∙ sym (entered-append m ts (one which x) (select which xs) w)
@@ -158,11 +157,11 @@ module _ (four : Bool) (m : Map) (t : Grammar) (ts : List Text) (is : List Item)
       let e₁ : (u : List ℕ) → Cellwise m w u → eachOut m t 16 (t .count) 0 u ≡ entered m ts u (nonterminals is) = λ u c. scan 16 u c ∙ ap (entered m ts u) (select-16 is) in
       let e₂ : (u : List ℕ) → Cellwise m w u → eachOut m t 48 (t .count) 0 u ≡ entered m ts u (externs is) = λ u c. scan 48 u c ∙ ap (entered m ts u) (select-48 is) in
       let e₃ : (u : List ℕ) → Cellwise m w u → eachOut m t 49 (t .count) 0 u ≡ entered m ts u (matches is) = λ u c. scan 49 u c ∙ ap (entered m ts u) (select-49 is) in
-      ap (λ (x : Run). runThen x (λ w₁. runThen (eachOut m t 48 (t .count) 0 w₁) (λ w₂. eachOut m t 49 (t .count) 0 w₂))) (e₁ w (cellwise-same m w))
+      ap (λ (x : RunEnd). runThen x (λ w₁. runThen (eachOut m t 48 (t .count) 0 w₁) (λ w₂. eachOut m t 49 (t .count) 0 w₂))) (e₁ w (cellwise-same m w))
       ∙ then-same (entered m ts w (nonterminals is)) (λ w₁. runThen (eachOut m t 48 (t .count) 0 w₁) (λ w₂. eachOut m t 49 (t .count) 0 w₂)) (λ w₁. entered m ts w₁ (externs is ++ matches is))
       (λ w₁ p.
       let c₁ = entered-cellwise m ts (nonterminals is) w w₁ p in
-      ap (λ (x : Run). runThen x (λ w₂. eachOut m t 49 (t .count) 0 w₂)) (e₂ w₁ c₁)
+      ap (λ (x : RunEnd). runThen x (λ w₂. eachOut m t 49 (t .count) 0 w₂)) (e₂ w₁ c₁)
       ∙ then-same (entered m ts w₁ (externs is)) (λ w₂. eachOut m t 49 (t .count) 0 w₂) (λ w₂. entered m ts w₂ (matches is))
       (λ w₂ q. e₃ w₂ (cellwise-then m w w₁ w₂ c₁ (entered-cellwise m ts (externs is) w₁ w₂ q)))
       ∙ sym (entered-append m ts (externs is) (matches is) w₁))

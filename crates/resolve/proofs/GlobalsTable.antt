@@ -3,10 +3,10 @@ use mathlib.Core.Path.{_≡_, refl, sym, ap, _∙_, subst}
 use mathlib.Core.Bool.{Bool, true, false, cond}
 use mathlib.Core.Option.{Option, none, some}
 use mathlib.Core.List.{List, [], _∷_, _++_}
-use Prim.Native.Nat.{ℕ, zero, suc, _+_, _≤_, _<_}
+use Prim.Native.Nat.{ℕ, zero, suc, _+_, _<_}
 use native.Mathlib.Omega.{arith}
-use borrow.Author.Tests.{lt-ltb, le-ltb, eq-eqb, ne-eqb, eqb-true, eqb-false}
-use lib.Dec.{eqb, ltb}
+use borrow.Author.Tests.{le-ltb, eq-eqb, ne-eqb, eqb-true, eqb-false}
+use lib.Dec.{eqb}
 use lib.ListN.{length, getD}
 use Rattle.octets.specs.working.Choice.{pick}
 use Rattle.octets.specs.plain.Runs.{sameAs}
@@ -20,7 +20,7 @@ use Rattle.texts.specs.declared.Map.{Map}
 use Rattle.passes.specs.Outcome.{Outcome, yes, no}
 use Rattle.passes.specs.Resolve.{Def, terminalDef, nonterminalDef, argumentDef, Global, defIn, kind, metAgain, checkGlobals}
 use Rattle.resolve.specs.Cells.{Room, knownAt, defineAt}
-use Rattle.resolve.specs.Commands.{Run, ran, stopped, runThen}
+use Rattle.resolve.specs.Commands.{RunEnd, ran, stopped, runThen}
 use Rattle.resolve.specs.Globals.{describe}
 use Rattle.resolve.proofs.CellsLaws.{known-same, known-other, length-define, Cellwise, cellwise-same, cellwise-then, define-cellwise, Sound, define-sound}
 
@@ -70,24 +70,24 @@ eqb-suc a b = go (eqb a b) refl
     go false e = ne-eqb (suc a) (suc b) (λ z. eqb-false a b e (omega arith)) ∙ sym e
 
 -- ---- globals entered
-unfoldable pub declareBy : Map → List ℕ → ℕ → ℕ → Span → Run
+unfoldable pub declareBy : Map → List ℕ → ℕ → ℕ → Span → RunEnd
 declareBy m w k d sp = pick (eqb (knownAt m w k) 0) (ran (defineAt m w k d)) (pick (eqb (describe d) (describe (knownAt m w k))) (stopped 5 sp) (stopped 6 sp))
 
-unfoldable pub entered : Map → List Text → List ℕ → List Global → Run
+unfoldable pub entered : Map → List Text → List ℕ → List Global → RunEnd
 entered m ts w [] = ran w
 entered m ts w (g ∷ gs) = runThen (declareBy m w (number ts (g .name)) (codeOf (g .def)) (g .span)) (λ w′. entered m ts w′ gs)
 
-then-then : (x : Run) (f g : List ℕ → Run) → runThen (runThen x f) g ≡ runThen x (λ w. runThen (f w) g)
+then-then : (x : RunEnd) (f g : List ℕ → RunEnd) → runThen (runThen x f) g ≡ runThen x (λ w. runThen (f w) g)
 unfolding runThen
 then-then (ran w) f g = refl
 then-then (stopped q s) f g = refl
 
-pub then-same : (x : Run) (f g : List ℕ → Run) → ((w : List ℕ) → x ≡ ran w → f w ≡ g w) → runThen x f ≡ runThen x g
+pub then-same : (x : RunEnd) (f g : List ℕ → RunEnd) → ((w : List ℕ) → x ≡ ran w → f w ≡ g w) → runThen x f ≡ runThen x g
 unfolding runThen
 then-same (ran w) f g h = h w refl
 then-same (stopped q s) f g h = refl
 
-pub then-ran : (x : Run) → runThen x (λ w. ran w) ≡ x
+pub then-ran : (x : RunEnd) → runThen x (λ w. ran w) ≡ x
 unfolding runThen
 then-ran (ran w) = refl
 then-ran (stopped q s) = refl
@@ -118,7 +118,7 @@ unfolding entered runThen
 entered-cellwise m ts [] w w′ e = let z : w ≡ w′ = cc in rw (← z) (cellwise-same m w)
 entered-cellwise m ts (g ∷ gs) w w′ e = go (declareBy m w (number ts (g .name)) (codeOf (g .def)) (g .span)) refl (λ w₁ q. entered-cellwise m ts gs w₁ w′ q) e
   where
-    go : (x : Run) → declareBy m w (number ts (g .name)) (codeOf (g .def)) (g .span) ≡ x → ((w₁ : List ℕ) → entered m ts w₁ gs ≡ ran w′ → Cellwise m w₁ w′)
+    go : (x : RunEnd) → declareBy m w (number ts (g .name)) (codeOf (g .def)) (g .span) ≡ x → ((w₁ : List ℕ) → entered m ts w₁ gs ≡ ran w′ → Cellwise m w₁ w′)
         → runThen x (λ w₁. entered m ts w₁ gs) ≡ ran w′ → Cellwise m w w′
     go (ran w₁) p f q = cellwise-then m w w₁ w′ (declare-cellwise m w (number ts (g .name)) (codeOf (g .def)) (g .span) w₁ p) (f w₁ q)
     go (stopped n s) p f q = absurd (let y : _≡_ {A = ℕ} 0 1 = cc in omega arith)
@@ -138,18 +138,18 @@ unfolding entered runThen
 entered-sound m ts [] u w w′ r s e = let z : w ≡ w′ = cc in rw (← z) s
 entered-sound m ts (g ∷ gs) u w w′ r s e = go (declareBy m w (number ts (g .name)) (codeOf (g .def)) (g .span)) refl (λ w₁ r₁ s₁ q. entered-sound m ts gs (u .1) w₁ w′ r₁ s₁ q) e
   where
-    go : (x : Run) → declareBy m w (number ts (g .name)) (codeOf (g .def)) (g .span) ≡ x → ((w₁ : List ℕ) → Room m (length w₁) → Sound m w₁ → entered m ts w₁ gs ≡ ran w′ → Sound m w′)
+    go : (x : RunEnd) → declareBy m w (number ts (g .name)) (codeOf (g .def)) (g .span) ≡ x → ((w₁ : List ℕ) → Room m (length w₁) → Sound m w₁ → entered m ts w₁ gs ≡ ran w′ → Sound m w′)
         → runThen x (λ w₁. entered m ts w₁ gs) ≡ ran w′ → Sound m w′
     go (ran w₁) p f q =
         f w₁ (omega (arith, declare-cellwise m w (number ts (g .name)) (codeOf (g .def)) (g .span) w₁ p .long)) (declare-sound m w (number ts (g .name)) (codeOf (g .def)) (g .span) w₁ r (u .0 .small) s p) q
     go (stopped n sp) p f q = absurd (let y : _≡_ {A = ℕ} 0 1 = cc in omega arith)
 
 -- what entering gs leaves, by what `checkGlobals` says
-abbrev pub Says : Map → List Text → List Global → Outcome (Unit {0}) → Run → Type 0
+abbrev pub Says : Map → List Text → List Global → Outcome (Unit {0}) → RunEnd → Type 0
 Says m ts gs (yes u) x = (w : List ℕ) × (x ≡ ran w) × Coded m ts w gs
 Says m ts gs (no q sp) x = x ≡ stopped q sp
 
-pub says-as : (m : Map) (ts : List Text) (gs : List Global) (o : Outcome (Unit {0})) (x y : Run) → x ≡ y → Says m ts gs o y → Says m ts gs o x
+pub says-as : (m : Map) (ts : List Text) (gs : List Global) (o : Outcome (Unit {0})) (x y : RunEnd) → x ≡ y → Says m ts gs o y → Says m ts gs o x
 says-as m ts gs (yes u) x y e (w, p, h) = (w, e ∙ p, h)
 says-as m ts gs (no q sp) x y e h = e ∙ h
 
@@ -259,10 +259,10 @@ module _ (m : Map) (ts : List Text) (d : distinct ts ≡ true) (c : m .count ≡
           → Says m ts (onto (g ∷ before) gs) (checkGlobals (g ∷ before) gs) (entered m ts (next w r before h p g (q .0)) gs)
           → Says m ts (onto (g ∷ before) gs) (metAgain g o (checkGlobals (g ∷ before) gs)) (runThen (declareBy m w (number ts (g .name)) (codeOf (g .def)) (g .span)) (λ w′. entered m ts w′ gs))
       go none e i =
-          says-as m ts (onto (g ∷ before) gs) (checkGlobals (g ∷ before) gs) _ _ (ap (λ (x : Run). runThen x (λ w′. entered m ts w′ gs)) (met-first w r before h p g (q .0) e)) i
+          says-as m ts (onto (g ∷ before) gs) (checkGlobals (g ∷ before) gs) _ _ (ap (λ (x : RunEnd). runThen x (λ w′. entered m ts w′ gs)) (met-first w r before h p g (q .0) e)) i
       go (some old) e i =
           says-as m ts (onto (g ∷ before) gs) (cond (eqb (kind (g .def)) (kind old)) (no 5 (g .span)) (no 6 (g .span))) _ _
-          (ap (λ (x : Run). runThen x (λ w′. entered m ts w′ gs)) (met-again w r before h p g (q .0) old e)) (fives (eqb (kind (g .def)) (kind old)))
+          (ap (λ (x : RunEnd). runThen x (λ w′. entered m ts w′ gs)) (met-again w r before h p g (q .0) old e)) (fives (eqb (kind (g .def)) (kind old)))
 
   -- what entering gs leaves where nothing was known
   pub entered-says : (gs : List Global) (w : List ℕ) → Room m (length w) → Coded m ts w [] → Each (Proper ts) gs → (o : Outcome (Unit {0})) → checkGlobals [] gs ≡ o → Says m ts gs o (entered m ts w gs)

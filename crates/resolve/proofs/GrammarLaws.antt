@@ -1,9 +1,8 @@
--- Items that stand in work one behind another, each at its listed place; and what the first bytes of an item say. Assumes nothing.
+-- Items that stand in work one behind another, each at its listed place; and what the first bytes of a command with a name, and of an item, say. Assumes nothing.
 use mathlib.Core.Path.{_≡_, refl, sym, ap, _∙_}
 use mathlib.Core.Bool.{Bool, true, false}
-use mathlib.Core.Logic.{_⊎_, inl, inr}
 use mathlib.Core.List.{List, [], _∷_, _++_, append-assoc, append-nil}
-use Prim.Native.Nat.{ℕ, zero, suc, _+_, _-_, _*_, _^_, _<_, _≤_}
+use Prim.Native.Nat.{ℕ, _+_, _-_, _*_, _^_, _<_, _≤_}
 use native.Mathlib.Omega.{arith}
 use borrow.Author.Tests.{lt-leb, le-leb, le-ltb, leb-false}
 use lib.Dec.{leb, ltb}
@@ -13,7 +12,7 @@ use Rattle.octets.specs.working.Choice.{pick}
 use Rattle.octets.specs.plain.Numbers.{leAt, le}
 use Rattle.octets.specs.plain.Runs.{Lies}
 use Rattle.octets.proofs.NumbersLaws.{length-le}
-use Rattle.octets.proofs.LiesLaws.{lies-split, lies-first, lies-from, lies-to, lies-append, le-read}
+use Rattle.octets.proofs.LiesLaws.{lies-split, lies-first, lies-to, lies-append}
 use Rattle.parse_tree.specs.plain.Tree.{Text, Item, Nonterminal, Source, item, terminal}
 use Rattle.parse_tree.specs.plain.Texts.{number}
 use Rattle.parse_tree.specs.plain.WriteTape.{bytesOfEach, bit}
@@ -21,11 +20,11 @@ use Rattle.parse_tree.specs.working.Nodes.{spanBytes, spanIn, nodeBytes}
 use Rattle.parse_tree.specs.working.Encode.{itemBytes, nonterminalNode, argumentBytes, alternativeBytes, sourceCode}
 use Rattle.parse_tree.specs.working.Within.{SpanWithin, NonterminalWithin}
 use Rattle.parse_tree.specs.declared.syntax.Span.{Span}
-use Rattle.parse_tree.proofs.SpanLaws.{length-span, span-back}
+use Rattle.parse_tree.proofs.FieldLaws.{le-read-then, span-read}
 use Rattle.parse_tree.proofs.ReadingLaws.{bytes-more}
 use Rattle.texts.proofs.TableStays.{leAt-agree}
 use Rattle.resolve.specs.declared.Grammar.{Grammar}
-use Rattle.resolve.specs.Items.{placeIn}
+use Rattle.resolve.specs.Items.{itemPlaceIn}
 use Rattle.resolve.proofs.CellsLaws.{lies-agree}
 
 -- ---- a command with a span and a name
@@ -38,16 +37,13 @@ pub record Named (w : List ℕ) (wd at c : ℕ) (sp : Span) (k : ℕ) (ys : List
 pub named : (w : List ℕ) (wd at c : ℕ) (sp : Span) (k : ℕ) (ys : List ℕ) (e : ℕ) → SpanWithin sp → k < 256 ^ wd → Lies w at (c ∷ (spanBytes sp ++ (le wd k ++ ys))) e → Named w wd at c sp k ys e
 named w wd at c sp k ys e f g l =
     let a = lies-first w at c (spanBytes sp ++ (le wd k ++ ys)) e l in
-    let b = lies-split w (at + 1) e (spanBytes sp) (le wd k ++ ys) (a .2) in
-    let d = lies-split w (at + 1 + length (spanBytes sp)) e (le wd k) ys (b .1) in
-    let z : at + 1 + length (spanBytes sp) ≡ at + 9 = omega (arith, length-span sp) in
-    let y : at + 1 + length (spanBytes sp) + length (le wd k) ≡ at + 9 + wd = omega (arith, length-span sp, length-le wd k) in
-    record {
-      code = a .1;
-      span = span-back w (at + 1) _ sp f (b .0);
-      name = ap (leAt wd w) (sym z) ∙ le-read wd w (at + 1 + length (spanBytes sp)) k _ g (d .0);
-      rest = lies-from y (d .1);
-    }
+    let b = span-read w e (at + 1) (at + 9) (omega arith) f (a .2) in
+    let d = le-read-then w e (at + 9) (at + 9 + wd) wd refl g (b .1) in
+    record { code = a .1; span = b .0; name = d .0; rest = d .1 }
+
+-- the same with nothing behind it
+pub named-last : (w : List ℕ) (wd at c : ℕ) (sp : Span) (k e : ℕ) → SpanWithin sp → k < 256 ^ wd → Lies w at (c ∷ (spanBytes sp ++ le wd k)) e → Named w wd at c sp k [] e
+named-last w wd at c sp k e f g l = named w wd at c sp k [] e f g (rw (append-nil (le wd k)) l)
 
 -- ---- items at their places
 module _ (t : Grammar) (ts : List Text) where
@@ -55,10 +51,10 @@ module _ (t : Grammar) (ts : List Text) where
   bytesOf x = itemBytes (t .width) ts x
 
   abbrev pub Row : List ℕ → ℕ → ℕ → List Item → Type 0
-  Row w i p [] = (placeIn t w i ≡ p) × (p ≡ t .end)
-  Row w i p (x ∷ xs) = (placeIn t w i ≡ p) × Lies w p (bytesOf x) (p + length (bytesOf x)) × Row w (i + 1) (p + length (bytesOf x)) xs
+  Row w i p [] = (itemPlaceIn t w i ≡ p) × (p ≡ t .end)
+  Row w i p (x ∷ xs) = (itemPlaceIn t w i ≡ p) × Lies w p (bytesOf x) (p + length (bytesOf x)) × Row w (i + 1) (p + length (bytesOf x)) xs
 
-  pub row-place : (w : List ℕ) (i p : ℕ) (xs : List Item) → Row w i p xs → placeIn t w i ≡ p
+  pub row-place : (w : List ℕ) (i p : ℕ) (xs : List Item) → Row w i p xs → itemPlaceIn t w i ≡ p
   row-place w i p [] h = h .0
   row-place w i p (x ∷ xs) h = h .0
 
@@ -67,12 +63,12 @@ module _ (t : Grammar) (ts : List Text) where
   row-below w i p (x ∷ xs) h = let z = row-below w (i + 1) (p + length (bytesOf x)) xs (h .2) in omega arith
 
   -- ---- where the places are listed
-  place-last : (w : List ℕ) (i : ℕ) → t .count ≤ i → placeIn t w i ≡ t .end
-  unfolding placeIn pick
+  place-last : (w : List ℕ) (i : ℕ) → t .count ≤ i → itemPlaceIn t w i ≡ t .end
+  unfolding itemPlaceIn pick
   place-last w i h = rw (le-leb (t .count) i h) refl
 
-  place-listed : (w : List ℕ) (i v : ℕ) → i < t .count → leAt 8 w (t .list + 8 * i) ≡ v → t .at + v ≤ t .end → placeIn t w i ≡ t .at + v
-  unfolding placeIn pick
+  place-listed : (w : List ℕ) (i v : ℕ) → i < t .count → leAt 8 w (t .list + 8 * i) ≡ v → t .at + v ≤ t .end → itemPlaceIn t w i ≡ t .at + v
+  unfolding itemPlaceIn pick
   place-listed w i v h e l = rw (lt-leb (t .count) i h, e, le-ltb (t .end - t .at) v (omega arith)) refl
 
   module _ (w : List ℕ) (is : List Item) (many : t .count ≡ length is)
@@ -104,8 +100,8 @@ module _ (t : Grammar) (ts : List Text) where
 
   -- ---- where the bytes from p on and the list are as they were
   module _ (w w′ : List ℕ) (long : length w′ ≡ length w) (inside : t .end ≤ length w) (list : (i : ℕ) → t .list ≤ i → i < t .list + 8 * t .count → getD w′ i 0 ≡ getD w i 0) where
-    pub place-same : (i : ℕ) → placeIn t w′ i ≡ placeIn t w i
-    unfolding placeIn pick
+    pub place-same : (i : ℕ) → itemPlaceIn t w′ i ≡ itemPlaceIn t w i
+    unfolding itemPlaceIn pick
     place-same i = go (leb (t .count) i) refl
       where
         go : (b : Bool) → leb (t .count) i ≡ b
@@ -164,4 +160,4 @@ module _ (four : Bool) (w : List ℕ) (wd : ℕ) (ts : List Text) where
   pub terminal-headed : (at : ℕ) (sp : Span) (o : Source) (x : Text) (e : ℕ) → SpanWithin sp → number ts x < 256 ^ wd → Lies w at (itemBytes wd ts (terminal sp o x)) e
       → Named w wd at (sourceCode o) sp (number ts x) [] e
   unfolding itemBytes nodeBytes
-  terminal-headed at sp o x e f g l = named w wd at (sourceCode o) sp (number ts x) [] e f g (rw (append-nil (le wd (number ts x))) l)
+  terminal-headed at sp o x e f g l = named-last w wd at (sourceCode o) sp (number ts x) e f g l

@@ -21,23 +21,23 @@ use Rattle.resolve.specs.declared.Grammar.{Grammar}
 use Rattle.resolve.specs.Cells.{Room, knownAt, defineAt}
 use Rattle.resolve.specs.declared.Verdict.{Verdict}
 use Rattle.resolve.specs.Commands.{ran, runThen, Runs, runOut}
-use Rattle.resolve.specs.Items.{Standing, placeIn, Marking, marked, twice, marksOut, Marks, unmarksOut, markedThen, partsOut, itemOut, itemsOut}
+use Rattle.resolve.specs.Items.{Standing, itemPlaceIn, Marking, marked, twice, marksOut, Marks, unmarksOut, markedThen, partsOut, itemOut, itemsOut}
 use Rattle.resolve.proofs.CellsCode.{length-define}
 use Rattle.resolve.proofs.CommandsCode.{runs-fine, runs-refused, then-refused, then-fine}
 
 -- ---- place
 module _ (t : Grammar) (w : List ℕ) (i : ℕ) where
-  pub place-behind : t .count ≤ i → t .end ≡ placeIn t w i
-  unfolding placeIn pick
+  pub place-behind : t .count ≤ i → t .end ≡ itemPlaceIn t w i
+  unfolding itemPlaceIn pick
   place-behind h = cc (le-leb (t .count) i h)
 
   module _ (h : i < t .count) (v : ℕ) (e : v ≡ leAt 8 w (t .list + 8 * i)) where
-    pub place-far : t .end - t .at < v → t .end ≡ placeIn t w i
-    unfolding placeIn pick
+    pub place-far : t .end - t .at < v → t .end ≡ itemPlaceIn t w i
+    unfolding itemPlaceIn pick
     place-far g = cc (lt-leb (t .count) i h, lt-ltb (t .end - t .at) v g)
 
-    pub place-is : v ≤ t .end - t .at → t .at + v ≡ placeIn t w i
-    unfolding placeIn pick
+    pub place-is : v ≤ t .end - t .at → t .at + v ≡ itemPlaceIn t w i
+    unfolding itemPlaceIn pick
     place-is g = cc (lt-leb (t .count) i h, le-ltb (t .end - t .at) v g)
 
 pub ruleset placing = (needs, place-behind, place-far, place-is)
@@ -271,7 +271,7 @@ module _ (m : Map) (t : Grammar) (w₀ w : List ℕ) (i : ℕ) (g : ItemsLeft m 
     opened : itemsOut m t (t .count - i) i w ≡ itemsOut m t (suc (t .count - (i + 1))) i w
     opened = ap (λ (n : ℕ). itemsOut m t n i w) (omega arith)
 
-    module _ (p : ℕ) (x : p ≡ placeIn t w i) where
+    module _ (p : ℕ) (x : p ≡ itemPlaceIn t w i) where
       items-kept : (w′ : List ℕ) → length w′ ≡ length w → itemsOut m t (suc (t .count - (i + 1))) i w ≡ itemsOut m t (t .count - (i + 1)) (i + 1) w′ → ItemsLeft m t w₀ w′ (i + 1)
       items-kept w′ l e = record { standing = rw l (g .standing); same = l ∙ g .same; rest = sym e ∙ sym opened ∙ g .rest }
 
@@ -282,7 +282,7 @@ module _ (m : Map) (t : Grammar) (w₀ w : List ℕ) (i : ℕ) (g : ItemsLeft m 
       pub items-skip : (getD w p 0 ≡ 16 → ⊥) → (w″ : List ℕ) → w″ ≡ w → ItemsLeft m t w₀ w″ (i + 1)
       items-skip n w″ a = rw a (items-kept w refl (skipped n))
 
-      module _ (z : getD w p 0 ≡ 16) (e : ℕ) (q : e ≡ placeIn t w (i + 1)) (v : Verdict) (w′ : List ℕ) (o : Runs (itemOut m t w p e) v w′) where
+      module _ (z : getD w p 0 ≡ 16) (e : ℕ) (q : e ≡ itemPlaceIn t w (i + 1)) (v : Verdict) (w′ : List ℕ) (o : Runs (itemOut m t w p e) v w′) where
         one : itemsOut m t (suc (t .count - (i + 1))) i w ≡ runThen (itemOut m t w p e) (λ w″. itemsOut m t (t .count - (i + 1)) (i + 1) w″)
         unfolding itemsOut pick
         one = cc

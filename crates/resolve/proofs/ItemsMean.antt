@@ -1,19 +1,16 @@
 -- The items resolved where they stand come to what `validateItems` says of them. Assumes nothing.
 use mathlib.Core.Path.{_≡_, refl, sym, ap, subst, _∙_}
 use mathlib.Core.Bool.{Bool, true, false, cond}
-use mathlib.Core.Logic.{_⊎_, inl, inr}
+use mathlib.Core.Logic.{inl, inr}
 use mathlib.Core.List.{List, [], _∷_, _++_, append-assoc}
-use Prim.Native.Nat.{ℕ, zero, suc, _+_, _*_, _<_, _≤_}
+use Prim.Native.Nat.{ℕ, suc, _+_, _*_, _<_, _≤_}
 use native.Mathlib.Omega.{arith}
 use borrow.Author.Tests.{le-ltb, ne-eqb}
-use lib.Dec.{ltb, eqb}
 use lib.ListN.{length, getD, length-append}
 use Rattle.octets.specs.working.Choice.{pick}
-use Rattle.octets.specs.plain.Numbers.{le}
 use Rattle.octets.specs.plain.Runs.{Lies}
 use Rattle.octets.specs.working.Stores.{store}
 use Rattle.octets.proofs.NumbersLaws.{length-le}
-use Rattle.octets.proofs.LiesLaws.{lies-split, lies-append}
 use Rattle.octets.proofs.StoreLaws.{length-store, store-none, store-append, getD-store-before, getD-store-after}
 use Rattle.parse_tree.specs.plain.Tree.{Text, Nonterminal, Alternative, Item, Source, item, extern, match}
 use Rattle.parse_tree.specs.plain.Texts.{has, number, distinct, isName}
@@ -21,7 +18,6 @@ use Rattle.parse_tree.specs.plain.WriteTape.{bytesOfEach}
 use Rattle.parse_tree.specs.working.Nodes.{nodeBytes, spanIn}
 use Rattle.parse_tree.specs.working.Encode.{argumentBytes, alternativeBytes, itemBytes, nonterminalNode, sourceCode}
 use Rattle.parse_tree.specs.working.Within.{Each, Uses, NonterminalWithin, ItemWithin}
-use Rattle.parse_tree.specs.declared.syntax.Span.{Span}
 use Rattle.parse_tree.proofs.TextLaws.{number-below}
 use Rattle.texts.specs.declared.Map.{Map}
 use Rattle.laws.proofs.Patch.{behind-node}
@@ -30,13 +26,13 @@ use Rattle.passes.specs.Resolve.{globals, validateAlternatives, validateMacroAr
 use Rattle.passes.proofs.ResolveKeeps.{alternatives-kept}
 use Rattle.resolve.specs.declared.Grammar.{Grammar}
 use Rattle.resolve.specs.Cells.{Room, knownAt}
-use Rattle.resolve.specs.Commands.{Run, ran, stopped, runThen, runOut}
-use Rattle.resolve.specs.Items.{placeIn, Marking, marked, twice, markedThen, marksOut, unmarksOut, partsOut, itemOut, itemsOut}
+use Rattle.resolve.specs.Commands.{RunEnd, ran, stopped, runThen, runOut}
+use Rattle.resolve.specs.Items.{itemPlaceIn, Marking, marked, markedThen, unmarksOut, partsOut, itemOut, itemsOut}
 use Rattle.resolve.specs.Whole.{Apart}
-use Rattle.resolve.proofs.CellsLaws.{Sound, store-sound, known-off, lies-agree, define-cellwise, Cellwise, off-lies}
-use Rattle.resolve.proofs.GrammarLaws.{Row, row-place, row-same, row-below, Headed, headed, Named, terminal-headed}
+use Rattle.resolve.proofs.CellsLaws.{part-apart, Sound, store-sound, known-off, lies-agree, Cellwise, off-lies}
+use Rattle.resolve.proofs.GrammarLaws.{Row, row-place, row-same, row-below, Headed, headed, terminal-headed}
 use Rattle.resolve.proofs.GlobalsTable.{Coded, Proper}
-use Rattle.resolve.proofs.ArgumentsMean.{marksFor, unmarksFor, marks-are, unmarks-are, Marks, marks-mean, marks-cellwise, marks-gone, unmarks-store}
+use Rattle.resolve.proofs.ArgumentsMean.{marksFor, marks-are, unmarks-are, Marks, marks-mean, marks-cellwise, marks-gone, unmarks-store}
 use Rattle.resolve.proofs.ScopeMean.{known-small, looked-up}
 use Rattle.resolve.proofs.CommandsMean.{RunTold, alternatives-run}
 
@@ -58,11 +54,6 @@ no-nonterminal : (o : Source) → sourceCode o ≡ 16 → ⊥
 no-nonterminal extern e = omega arith
 no-nonterminal match e = omega arith
 
--- a part of a run is apart from what the run is apart from
-pub part-apart : (a e c d b f : ℕ) → a ≤ b → f ≤ e → Apart a e c d → Apart b f c d
-part-apart a e c d b f p q (inl h) = inl (omega arith)
-part-apart a e c d b f p q (inr h) = inr (omega arith)
-
 uses-has : (four : Bool) (wd : ℕ) (ts xs : List Text) → Each (Uses four wd ts isName) xs → Each (λ x. has x ts ≡ true) xs
 uses-has four wd ts [] h = tt
 uses-has four wd ts (x ∷ xs) h = (h .0 .0, uses-has four wd ts xs (h .1))
@@ -71,7 +62,7 @@ has-below : (ts xs : List Text) (n : ℕ) → n ≡ length ts → Each (λ x. ha
 has-below ts [] n e h = tt
 has-below ts (x ∷ xs) n e h = (rw e (number-below ts x (h .0)), has-below ts xs n e (h .1))
 
-module _ (four : Bool) (m : Map) (t : Grammar) (ts : List Text) (c : m .count ≡ length ts) (narrow : 2 ≤ t .width) (wide : t .width ≤ 3) (G : Tree) (proper : Each (Proper ts) (globals G))
+module _ (four : Bool) (m : Map) (t : Grammar) (ts : List Text) (c : m .count ≡ length ts) (G : Tree) (proper : Each (Proper ts) (globals G))
     (off : Apart (t .at) (t .end) (m .base) (m .base + 24 * m .count)) where
   -- what is asked of work before an item
   pub record Ready (w : List ℕ) : Type 0 where
@@ -91,7 +82,7 @@ module _ (four : Bool) (m : Map) (t : Grammar) (ts : List Text) (c : m .count �
       }
 
   -- a run as an outcome says it: a yes is stored, as long as it was
-  abbrev pub Told : {A : Type 0} → (A → List ℕ) → List ℕ → ℕ → ℕ → Run → Outcome A → Type 0
+  abbrev pub Told : {A : Type 0} → (A → List ℕ) → List ℕ → ℕ → ℕ → RunEnd → Outcome A → Type 0
   Told f w p n r (yes x) = (r ≡ ran (store w p (f x))) × (length (f x) ≡ n)
   Told f w p n r (no q s) = r ≡ stopped q s
 
@@ -125,7 +116,7 @@ module _ (four : Bool) (m : Map) (t : Grammar) (ts : List Text) (c : m .count �
 
       run-told : RunTold (t .width) ts v b (d .alternatives) (runOut m (t .width) e v b e) (validateAlternatives G (d .args) (d .alternatives))
       run-told =
-          alternatives-run m (t .width) narrow wide ts four G (d .args) v
+          alternatives-run m (t .width) ts four G (d .args) v
           (looked-up m ts c G proper w (ready .coded) (d .args) (uses-has four (t .width) ts (d .args) (within .args)) v marks)
           (d .alternatives) (within .alternatives) e b e (omega arith) off-rest
           (off-lies m w v marked-cells b e (alternatives (d .alternatives)) off-rest (let z = ready .inside in omega arith) (head .alternatives))
@@ -170,7 +161,7 @@ module _ (four : Bool) (m : Map) (t : Grammar) (ts : List Text) (c : m .count �
         ap length (head-bytes bs n) ∙ length-append (nodeBytes (t .width) (nonterminalNode ts d) ++ args) (alternatives bs) ∙ ap (λ (k : ℕ). length (nodeBytes (t .width) (nonterminalNode ts d) ++ args) + k) l
         ∙ sym (ap length (head-bytes (d .alternatives) refl) ∙ length-append (nodeBytes (t .width) (nonterminalNode ts d) ++ args) (alternatives (d .alternatives)))
 
-    abbrev run : Marking → Run
+    abbrev run : Marking → RunEnd
     run x = markedThen x (stopped 7 (spanIn w (p + 1))) (λ v. runThen (runOut m (t .width) e v b e) (λ u. ran (unmarksOut m (t .width) (length (d .args)) u a)))
 
     yes-told : (v : List ℕ) → marksFor m ts (d .args) w ≡ marked v → length v ≡ length w
@@ -183,17 +174,17 @@ module _ (four : Bool) (m : Map) (t : Grammar) (ts : List Text) (c : m .count �
             → Told (itemBytes (t .width) ts) w p size (runThen (runOut m (t .width) e v b e) (λ u. ran (unmarksOut m (t .width) (length (d .args)) u a))) (after o (λ bs. yes (item-of bs)))
         go (yes bs) q h =
             let n = alternatives-kept G (d .args) (d .alternatives) bs q in (
-              ap (λ (r : Run). runThen r (λ u. ran (unmarksOut m (t .width) (length (d .args)) u a))) (h .0)
+              ap (λ (r : RunEnd). runThen r (λ u. ran (unmarksOut m (t .width) (length (d .args)) u a))) (h .0)
                   ∙ ap ran (gone v is long marks (alternatives bs) (h .1) ∙ behind-node w p b (nodeBytes (t .width) (nonterminalNode ts d) ++ args) (alternatives bs) (head .front) (head .front .end)
                   ∙ ap (store w p) (sym (head-bytes bs n))),
               size-is bs n (h .1),
             )
-        go (no k s) q h = ap (λ (r : Run). runThen r (λ u. ran (unmarksOut m (t .width) (length (d .args)) u a))) h
+        go (no k s) q h = ap (λ (r : RunEnd). runThen r (λ u. ran (unmarksOut m (t .width) (length (d .args)) u a))) h
 
     pub item-told : Told (itemBytes (t .width) ts) w p size (itemOut m t w p e) said
     unfolding partsOut markedThen
     item-told =
-        subst (λ (r : Run). Told (itemBytes (t .width) ts) w p size r said) (sym (parts ∙ ap run (marks-are m ts four (t .width) (d .args) (within .args) w a b off-args (let z = ready .inside in omega (arith, ends)) (head .arguments))))
+        subst (λ (r : RunEnd). Told (itemBytes (t .width) ts) w p size r said) (sym (parts ∙ ap run (marks-are m ts four (t .width) (d .args) (within .args) w a b off-args (let z = ready .inside in omega (arith, ends)) (head .arguments))))
         (go (distinct (d .args)) (marks-mean m ts c w (ready .room) (known-small m ts c G proper w (ready .coded)) (d .args) (uses-has four (t .width) ts (d .args) (within .args))))
       where
         go : (x : Bool) → Marks m ts c w (ready .room) (known-small m ts c G proper w (ready .coded)) x (λ y. has y (d .args)) (marksFor m ts (d .args) w)
@@ -219,31 +210,31 @@ module _ (four : Bool) (m : Map) (t : Grammar) (ts : List Text) (c : m .count �
         (λ j k l. elim (apart (omega arith)) [ inl h ↦ getD-store-after w p vs j (omega arith) | inr h ↦ getD-store-before w p vs j (omega arith) ]) i e xs
         (λ j k l. getD-store-after w p vs j (omega arith)) r
 
-    item-then : (w : List ℕ) (p e n : ℕ) (x : Item) (xs : List Item) (r : Run) (f : List ℕ → Run) (o : Outcome Item) (R : Outcome (List Item)) → n ≡ length (itemBytes (t .width) ts x) → e ≡ p + n
+    item-then : (w : List ℕ) (p e n : ℕ) (x : Item) (xs : List Item) (r : RunEnd) (f : List ℕ → RunEnd) (o : Outcome Item) (R : Outcome (List Item)) → n ≡ length (itemBytes (t .width) ts x) → e ≡ p + n
         → Told (itemBytes (t .width) ts) w p n r o
         → ((y : Item) → length (itemBytes (t .width) ts y) ≡ n → Told each (store w p (itemBytes (t .width) ts y)) e (length (each xs)) (f (store w p (itemBytes (t .width) ts y))) R)
         → Told each w p (length (each (x ∷ xs))) (runThen r f) (after o (λ y. after R (λ ys. yes (y ∷ ys))))
     unfolding runThen bytesOfEach
     item-then w p e n x xs r f (yes y) (yes ys) z q h g =
         let k = g y (h .1) in (
-          ap (λ (s : Run). runThen s f) (h .0) ∙ k .0 ∙ ap ran (store-append w p e (itemBytes (t .width) ts y) (each ys) (omega (arith, h .1))),
+          ap (λ (s : RunEnd). runThen s f) (h .0) ∙ k .0 ∙ ap ran (store-append w p e (itemBytes (t .width) ts y) (each ys) (omega (arith, h .1))),
           omega (arith, h .1, k .1, length-append (itemBytes (t .width) ts y) (each ys), length-append (itemBytes (t .width) ts x) (each xs)),
         )
-    item-then w p e n x xs r f (yes y) (no k s) z q h g = ap (λ (s : Run). runThen s f) (h .0) ∙ g y (h .1)
-    item-then w p e n x xs r f (no k s) R z q h g = ap (λ (s : Run). runThen s f) h
+    item-then w p e n x xs r f (yes y) (no k s) z q h g = ap (λ (s : RunEnd). runThen s f) (h .0) ∙ g y (h .1)
+    item-then w p e n x xs r f (no k s) R z q h g = ap (λ (s : RunEnd). runThen s f) h
 
-    terminal-then : (w : List ℕ) (p e : ℕ) (x : Item) (xs : List Item) (r : Run) (R : Outcome (List Item)) → Lies w p (itemBytes (t .width) ts x) e → Told each w e (length (each xs)) r R
+    terminal-then : (w : List ℕ) (p e : ℕ) (x : Item) (xs : List Item) (r : RunEnd) (R : Outcome (List Item)) → Lies w p (itemBytes (t .width) ts x) e → Told each w e (length (each xs)) r R
         → Told each w p (length (each (x ∷ xs))) r (after R (λ ys. yes (x ∷ ys)))
     unfolding bytesOfEach
     terminal-then w p e x xs r (yes ys) l h =
         (h .0 ∙ ap ran (behind-node w p e (itemBytes (t .width) ts x) (each ys) l (l .end)), omega (arith, h .1, length-append (itemBytes (t .width) ts x) (each ys), length-append (itemBytes (t .width) ts x) (each xs)))
     terminal-then w p e x xs r (no q s) l h = h
 
-    skips : (n i p c : ℕ) (w : List ℕ) → placeIn t w i ≡ p → getD w p 0 ≡ c → (c ≡ 16 → ⊥) → itemsOut m t (suc n) i w ≡ itemsOut m t n (i + 1) w
+    skips : (n i p c : ℕ) (w : List ℕ) → itemPlaceIn t w i ≡ p → getD w p 0 ≡ c → (c ≡ 16 → ⊥) → itemsOut m t (suc n) i w ≡ itemsOut m t n (i + 1) w
     unfolding itemsOut pick
     skips n i p c w a b k = rw (a, b, ne-eqb c 16 k) refl
 
-    takes : (n i p e : ℕ) (w : List ℕ) → placeIn t w i ≡ p → placeIn t w (i + 1) ≡ e → getD w p 0 ≡ 16 → itemsOut m t (suc n) i w ≡ runThen (itemOut m t w p e) (λ v. itemsOut m t n (i + 1) v)
+    takes : (n i p e : ℕ) (w : List ℕ) → itemPlaceIn t w i ≡ p → itemPlaceIn t w (i + 1) ≡ e → getD w p 0 ≡ 16 → itemsOut m t (suc n) i w ≡ runThen (itemOut m t w p e) (λ v. itemsOut m t n (i + 1) v)
     unfolding itemsOut pick
     takes n i p e w a b k = rw (a, b, k) refl
 
@@ -264,10 +255,10 @@ module _ (four : Bool) (m : Map) (t : Grammar) (ts : List Text) (c : m .count �
         (ready-store w p (itemBytes (t .width) ts x) low (omega arith) y)) in
         subst (λ (o : Outcome (List Item)). Told each w p (length (each (item d ∷ xs))) (itemsOut m t (suc (length xs)) i w) o)
         (after-item (validateMacroArgs d) (validateAlternatives G (d .args) (d .alternatives)) (λ bs. item (withAlternatives d bs)) (validateItems G xs))
-        (subst (λ (q : Run). Told each w p (length (each (item d ∷ xs))) q (after o (λ x. after (validateItems G xs) (λ ys. yes (x ∷ ys))))) (sym (takes (length xs) i p e w (r .0) (row-place t ts w (i + 1) e xs (r .2)) (head .code))) rest)
+        (subst (λ (q : RunEnd). Told each w p (length (each (item d ∷ xs))) q (after o (λ x. after (validateItems G xs) (λ ys. yes (x ∷ ys))))) (sym (takes (length xs) i p e w (r .0) (row-place t ts w (i + 1) e xs (r .2)) (head .code))) rest)
     items-told (Item.terminal s o x ∷ xs) h i p w low r y =
         let e = p + length (itemBytes (t .width) ts (Item.terminal s o x)) in
         let head = terminal-headed four w (t .width) ts p s o x e (h .0 .0) (h .0 .1 .1) (r .1) in
-        subst (λ (q : Run). Told each w p (length (each (Item.terminal s o x ∷ xs))) q (after (validateItems G xs) (λ ys. yes (Item.terminal s o x ∷ ys))))
+        subst (λ (q : RunEnd). Told each w p (length (each (Item.terminal s o x ∷ xs))) q (after (validateItems G xs) (λ ys. yes (Item.terminal s o x ∷ ys))))
         (sym (skips (length xs) i p (sourceCode o) w (r .0) (head .code) (no-nonterminal o)))
         (terminal-then w p e (Item.terminal s o x) xs (itemsOut m t (length xs) (i + 1) w) (validateItems G xs) (r .1) (items-told xs (h .1) (i + 1) e w (omega arith) (r .2) y))

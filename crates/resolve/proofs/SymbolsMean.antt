@@ -1,20 +1,14 @@
 -- The run over commands, at symbols: it asks each in prefix order, and goes on behind them. Assumes nothing.
 use mathlib.Core.Path.{_≡_, refl, sym, ap, _∙_}
-use mathlib.Core.Logic.{inl, inr}
-use mathlib.Core.Bool.{Bool, true, false}
 use mathlib.Core.List.{List, [], _∷_, _++_, append-assoc}
 use mathlib.Core.Option.{Option, none, some}
 use Prim.Native.Nat.{ℕ, zero, suc, _+_, _*_, _<_, _≤_}
 use native.Mathlib.Omega.{arith}
-use lib.Dec.{leb}
 use lib.ListN.{length, getD, set}
 use lib.Seq.{set-getD}
-use borrow.Author.Tests.{leb-false}
-use Rattle.octets.specs.working.Choice.{pick}
 use Rattle.octets.specs.plain.Runs.{Lies}
 use Rattle.octets.specs.working.Stores.{store}
 use Rattle.octets.proofs.LiesLaws.{lies-split}
-use Rattle.octets.proofs.StoreLaws.{leAt-other}
 use Rattle.parse_tree.specs.plain.Tree.{Text, Sym, Syms, leaf, around, over, nil, cons, count}
 use Rattle.parse_tree.specs.plain.Texts.{number}
 use Rattle.parse_tree.specs.working.Nodes.{nodeBytes, sizeOf}
@@ -30,27 +24,17 @@ use Rattle.laws.specs.Names.{State, fine, refused, bytesOf, askAmbiguous, askNo
 use Rattle.laws.proofs.Flat.{lies-kept, SymFits, SymsFits, sym-bytes, joined-bytes, joined-fits, children-fit, node-size, fold-step, keeps-node}
 use Rattle.laws.proofs.Names.{Told, nonterminal-bytes, macro-bytes, ask-keeps, stay, told-syms}
 use Rattle.texts.specs.declared.Map.{Map}
-use Rattle.texts.specs.Fields.{cellAt}
 use Rattle.resolve.specs.Cells.{knownAt}
 use Rattle.resolve.specs.Commands.{stopped}
 use Rattle.resolve.specs.Whole.{Apart}
+use Rattle.resolve.proofs.CellsLaws.{part-apart, known-off}
 use Rattle.resolve.proofs.NamesMean.{meant}
 use Rattle.resolve.proofs.CommandsStep.{upTo, stateThen, symbol-step}
 
--- ---- a store off the records leaves what is known
-pub known-store : (m : Map) (w : List ℕ) (p : ℕ) (vs : List ℕ) (k : ℕ) → Apart p (p + length vs) (m .base) (m .base + 24 * m .count) → knownAt m (store w p vs) k ≡ knownAt m w k
-unfolding knownAt cellAt pick
-known-store m w p vs k a = go (leb (m .count) k) refl a
-  where
-    go : (b : Bool) → leb (m .count) k ≡ b → Apart p (p + length vs) (m .base) (m .base + 24 * m .count)
-        → pick b 0 (cellAt (store w p vs) (m .base) k) ≡ pick b 0 (cellAt w (m .base) k)
-    go true z a = refl
-    go false z (inl a) = let q = leb-false (m .count) k z in ap (pick false 0) (leAt-other 4 w p vs (m .base + 24 * k + 20) (inr (omega arith)))
-    go false z (inr a) = let q = leb-false (m .count) k z in ap (pick false 0) (leAt-other 4 w p vs (m .base + 24 * k + 20) (inl (omega arith)))
-
+-- a byte off the records leaves what is known
 known-set : (m : Map) (w : List ℕ) (p v k : ℕ) → Apart p (p + 1) (m .base) (m .base + 24 * m .count) → knownAt m (set w p v) k ≡ knownAt m w k
 unfolding store
-known-set m w p v k a = known-store m w p (v ∷ []) k a
+known-set m w p v k a = known-off m w p (v ∷ []) k a
 
 -- ---- to ask a symbol sets one byte at most
 module _ (look : ℕ → Option Def) where
@@ -117,13 +101,6 @@ module _ (m : Map) (wd e : ℕ) (ts : List Text) (look : ℕ → Option Def) whe
   sym-step (over sp o xs) f w s p d h l = symbol-step m wd e look w s p d h sp (f .0 .0) _ (f .0 .1) l
 
   module _ (b : ℕ) (apart : Apart b e (m .base) (m .base + 24 * m .count)) where
-    byte-apart : (p : ℕ) → b ≤ p → p < e → Apart p (p + 1) (m .base) (m .base + 24 * m .count)
-    byte-apart p i h = go apart
-      where
-        go : Apart b e (m .base) (m .base + 24 * m .count) → Apart p (p + 1) (m .base) (m .base + 24 * m .count)
-        go (inl a) = inl (omega arith)
-        go (inr a) = inr (omega arith)
-
     -- n counts the symbols
     syms-fold : (n : ℕ) (xs : Syms) → nodesAll xs ≤ n → SymsFits wd ts xs → (w : List ℕ) → Sees w → (p d : ℕ) → b ≤ p → d ≤ e → Lies w p (symsBytes wd ts xs) d
         → upTo m wd e w p ≡ stateThen m wd e (foldSyms wd (askName look) ts xs (fine w) p) (λ w′. upTo m wd e w′ d)
@@ -145,7 +122,7 @@ module _ (m : Map) (wd e : ℕ) (ts : List Text) (look : ℕ → Option Def) whe
         go rest (askName look (fine w) p (symNode ts x))
         (sym-step x (f .0) w s p (p + length node) h (y .0)) (fold-step wd (askName look) ts x xs (fine w) p)
         (lies-kept w _ (p + length node) d (symsBytes wd ts rest) (keeps-node wd (askName look) ts bytesOf (ask-keeps look wd ts) x (fine w) p) (y .1))
-        (λ k. ap (λ (r : List ℕ). meant (knownAt m r k)) (t .1) ∙ ap meant (known-set m w p (t .0) k (byte-apart p i h)) ∙ s k)
+        (λ k. ap (λ (r : List ℕ). meant (knownAt m r k)) (t .1) ∙ ap meant (known-set m w p (t .0) k (part-apart b e (m .base) (m .base + 24 * m .count) p (p + 1) i (omega arith) apart)) ∙ s k)
         (λ w′ s′ l′. syms-fold n rest few (joined-fits wd ts (children x) xs (children-fit wd ts x (f .0)) (f .1)) w′ s′ (p + length node) d (omega arith) j l′)
       where
         go : (rest : Syms) (σ : State)

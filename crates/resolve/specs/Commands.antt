@@ -39,22 +39,22 @@ askedAt m wd w at c =
     (pick (eqb c 20) (conditionSays (foundBy (knownAt m w (leAt wd w (at + 9))))) 0)))
 
 -- work afterwards, or the question's number and the span
-pub data Run : Type 0 where
-  ran : List ℕ → Run
-  stopped : ℕ → Span → Run
+pub data RunEnd : Type 0 where
+  ran : List ℕ → RunEnd
+  stopped : ℕ → Span → RunEnd
 
 -- one behind another
-unfoldable pub runThen : Run → (List ℕ → Run) → Run
+unfoldable pub runThen : RunEnd → (List ℕ → RunEnd) → RunEnd
 runThen (ran w) f = f w
 runThen (stopped q s) f = stopped q s
 
 -- the run as an answer
-unfoldable pub Runs : Run → Verdict → List ℕ → Type 0
+unfoldable pub Runs : RunEnd → Verdict → List ℕ → Type 0
 Runs (ran w) r w′ = (r ≡ Verdict.Fine) × (w′ ≡ w)
 Runs (stopped q s) r w′ = r ≡ Verdict.Refused (refusalOver q s)
 
 -- the commands from a place up to e, of which there are at most n
-unfoldable pub runOut : Map → ℕ → ℕ → List ℕ → ℕ → ℕ → Run
+unfoldable pub runOut : Map → ℕ → ℕ → List ℕ → ℕ → ℕ → RunEnd
 runOut m wd zero w at e = ran w
 runOut m wd (suc n) w at e =
     pick (leb e at) (ran w)

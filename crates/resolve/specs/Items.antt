@@ -11,7 +11,7 @@ use Rattle.parse_tree.specs.working.Nodes.{spanIn}
 use Rattle.texts.specs.declared.Map.{Map}
 use Rattle.resolve.specs.declared.Grammar.{Grammar}
 use Rattle.resolve.specs.Cells.{Room, knownAt, defineAt}
-use Rattle.resolve.specs.Commands.{Run, ran, stopped, runThen, runOut}
+use Rattle.resolve.specs.Commands.{RunEnd, ran, stopped, runThen, runOut}
 
 -- n bytes of work hold the records, the list of places, and the items with as much behind them as a command can have
 pub record Standing (m : Map) (t : Grammar) (n : ℕ) : Type 0 where
@@ -23,8 +23,8 @@ pub record Standing (m : Map) (t : Grammar) (n : ℕ) : Type 0 where
   pub wide : t .width ≤ 3
 
 -- the place of the i-th item, the end for the last and for any place behind it
-unfoldable pub placeIn : Grammar → List ℕ → ℕ → ℕ
-placeIn t w i = pick (leb (t .count) i) (t .end) (pick (ltb (t .end - t .at) (leAt 8 w (t .list + 8 * i))) (t .end) (t .at + leAt 8 w (t .list + 8 * i)))
+unfoldable pub itemPlaceIn : Grammar → List ℕ → ℕ → ℕ
+itemPlaceIn t w i = pick (leb (t .count) i) (t .end) (pick (ltb (t .end - t .at) (leAt 8 w (t .list + 8 * i))) (t .end) (t .at + leAt 8 w (t .list + 8 * i)))
 
 -- ---- arguments: work with each marked, or one that was marked before
 pub data Marking : Type 0 where
@@ -47,28 +47,28 @@ unmarksOut m wd zero w at = w
 unmarksOut m wd (suc n) w at = unmarksOut m wd n (defineAt m w (leAt wd w (at + 1)) (knownAt m w (leAt wd w (at + 1)) % 512)) (at + (1 + wd))
 
 -- ---- items
-unfoldable pub markedThen : Marking → Run → (List ℕ → Run) → Run
+unfoldable pub markedThen : Marking → RunEnd → (List ℕ → RunEnd) → RunEnd
 markedThen (marked w) x f = f w
 markedThen twice x f = x
 
 -- the n arguments stand at a, the commands behind them from p up to e; sp is the item's place
-unfoldable pub partsOut : Map → ℕ → List ℕ → ℕ → ℕ → ℕ → ℕ → ℕ → Run
+unfoldable pub partsOut : Map → ℕ → List ℕ → ℕ → ℕ → ℕ → ℕ → ℕ → RunEnd
 partsOut m wd w at n a p e =
     markedThen (marksOut m wd n w a) (stopped 7 (spanIn w (at + 1))) (λ w₁.
     runThen (runOut m wd e w₁ p e) (λ w₂.
     ran (unmarksOut m wd n w₂ a)))
 
 -- the nonterminal from a place up to e; one whose arguments reach behind the items' end is none
-unfoldable pub itemOut : Map → Grammar → List ℕ → ℕ → ℕ → Run
+unfoldable pub itemOut : Map → Grammar → List ℕ → ℕ → ℕ → RunEnd
 itemOut m t w at e =
     let n = getD w (at + 10 + t .width) 0 in
     let a = at + 13 + t .width in
     pick (ltb (t .end) (a + n * (1 + t .width))) (ran w) (partsOut m (t .width) w at n a (a + n * (1 + t .width)) e)
 
 -- n items from the i-th on
-unfoldable pub itemsOut : Map → Grammar → ℕ → ℕ → List ℕ → Run
+unfoldable pub itemsOut : Map → Grammar → ℕ → ℕ → List ℕ → RunEnd
 itemsOut m t zero i w = ran w
 itemsOut m t (suc n) i w =
-    pick (eqb (getD w (placeIn t w i) 0) 16)
-    (runThen (itemOut m t w (placeIn t w i) (placeIn t w (i + 1))) (λ w′. itemsOut m t n (i + 1) w′))
+    pick (eqb (getD w (itemPlaceIn t w i) 0) 16)
+    (runThen (itemOut m t w (itemPlaceIn t w i) (itemPlaceIn t w (i + 1))) (λ w′. itemsOut m t n (i + 1) w′))
     (itemsOut m t n (i + 1) w)

@@ -1,4 +1,4 @@
--- What the pass says of items that stand in work: what `resolve` of the grammar's definitions says of their tree. Assumes nothing: these are definitions.
+-- What the pass says of items that stand in work, and leaves of them: what `resolve` of passes says of their tree. Assumes nothing: these are definitions.
 use mathlib.Core.Path.{_≡_}
 use mathlib.Core.Bool.{Bool, true}
 use mathlib.Core.Logic.{_⊎_}

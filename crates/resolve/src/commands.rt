@@ -6,25 +6,15 @@ use crate::names::validate_condition;
 use crate::names::validate_macro;
 use crate::names::validate_nonterminal;
 use octets::numbers::atom_at;
-use octets::numbers::u32_at;
 use octets::wide::from8;
+use parse_tree::node::span_at;
 use parse_tree::refusal;
-use parse_tree::syntax::Span;
 use texts::Map;
 ghost use mathlib.Core.Path.{_≡_};
 ghost use Prim.Native.Nat.{_+_, _≤_, _<_};
 ghost use lib.ListN.{length};
-ghost use Rattle.parse_tree.specs.working.Nodes.{spanIn};
 ghost use Rattle.resolve.specs.Cells.{Room};
 ghost use Rattle.resolve.specs.Commands.{longOf, askedAt, runOut, Runs};
-
-// The span of the command at a place.
-pub fn span_at(work: &[u8], at: usize) -> Span
-    requires { ⌜ at + 9 ≤ length (now work) ⌝ }
-    ensures { λ r. ⌜ r ≡ spanIn (now (work .entry)) (at + 1) ⌝ }
-{
-    Span(u32_at(work, at + 1), u32_at(work, at + 1 + 4))
-}
 
 // How long a command is, by its code.
 pub fn long(c: u8, width: usize) -> usize
@@ -82,7 +72,7 @@ pub fn validate_commands(work: &mut [u8], m: Map, width: usize, at: usize, e: us
             p += long(c, width);
         } else {
             if q < 32 {
-                return Verdict::Refused(refusal::over(from8(q), span_at(work, p)));
+                return Verdict::Refused(refusal::over(from8(q), span_at(work, p + 1)));
             }
             work[p] = q;
             p += 9 + width;

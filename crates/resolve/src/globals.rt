@@ -4,10 +4,10 @@ use crate::Grammar;
 use crate::Verdict;
 use crate::cells::def;
 use crate::cells::define;
-use crate::commands::span_at;
 use crate::items::place;
 use octets::numbers::atom_at;
 use octets::wide::from8;
+use parse_tree::node::span_at;
 use parse_tree::refusal;
 use texts::Map;
 ghost use mathlib.Core.Path.{_≡_};
@@ -50,9 +50,9 @@ fn declare(work: &mut [u8], m: Map, width: usize, at: usize, d: usize) -> Verdic
         return Verdict::Fine;
     };
     if description(d) == description(old) {
-        return Verdict::Refused(refusal::over(5, span_at(work, at)));
+        return Verdict::Refused(refusal::over(5, span_at(work, at + 1)));
     }
-    Verdict::Refused(refusal::over(6, span_at(work, at)))
+    Verdict::Refused(refusal::over(6, span_at(work, at + 1)))
 }
 
 // All globals of this code.

@@ -3,11 +3,11 @@ use crate::Grammar;
 use crate::Verdict;
 use crate::cells::define;
 use crate::cells::known;
-use crate::commands::span_at;
 use crate::commands::validate_commands;
 use octets::numbers::atom_at;
 use octets::numbers::u64_at;
 use octets::wide::from8;
+use parse_tree::node::span_at;
 use parse_tree::refusal;
 use texts::Map;
 ghost use mathlib.Core.Path.{_≡_};
@@ -15,12 +15,12 @@ ghost use Prim.Native.Nat.{_+_, _*_, _≤_, _<_};
 ghost use lib.ListN.{length};
 ghost use Rattle.resolve.specs.Cells.{Room};
 ghost use Rattle.resolve.specs.Commands.{Runs};
-ghost use Rattle.resolve.specs.Items.{Standing, placeIn, Marks, marksOut, unmarksOut, itemOut, itemsOut};
+ghost use Rattle.resolve.specs.Items.{Standing, itemPlaceIn, Marks, marksOut, unmarksOut, itemOut, itemsOut};
 
 // The place of the i-th item in work, of the end for the last and for any place behind it.
 pub fn place(work: &[u8], t: Grammar, i: usize) -> usize
     requires { ⌜ (t .list + 8 * t .count ≤ length (now work)) × (t .at ≤ t .end) ⌝ }
-    ensures { λ r. ⌜ (r ≡ placeIn t (now (work .entry)) i) × (t .at ≤ r) × (r ≤ t .end) ⌝ }
+    ensures { λ r. ⌜ (r ≡ itemPlaceIn t (now (work .entry)) i) × (t .at ≤ r) × (r ≤ t .end) ⌝ }
 {
     if t.count <= i {
         return t.end;
@@ -79,7 +79,7 @@ fn validate_item(work: &mut [u8], m: Map, t: Grammar, at: usize, e: usize) -> Ve
     if t.end < p {
         return Verdict::Fine;
     }
-    let span = span_at(work, at);
+    let span = span_at(work, at + 1);
     if !validate_macro_args(work, m, t.width, n, a) {
         return Verdict::Refused(refusal::over(7, span));
     }

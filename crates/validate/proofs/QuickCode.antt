@@ -10,7 +10,7 @@ use lib.Dec.{ltb, leb, eqb}
 use lib.ListN.{length, getD}
 use Rattle.octets.specs.working.Choice.{pick}
 use Rattle.octets.specs.plain.Numbers.{leAt, le}
-use Rattle.octets.proofs.ChoiceLaws.{by-pick}
+use Rattle.octets.proofs.ChoiceLaws.{by-pick, pick-same}
 use Rattle.octets.proofs.NumbersLaws.{length-le}
 use Rattle.parse_tree.specs.plain.Texts.{isName, isLiteral}
 use Rattle.parse_tree.specs.working.Nodes.{nodeAt, nodeBy, alternativeNodeAt, symbolNodeAt, ifWhole, spanIn, namedLeaf, bareLeaf, leafOperand, sizeOf}
@@ -105,12 +105,6 @@ and-true : (b : Bool) → b ≡ (b && true)
 and-true true = refl
 and-true false = refl
 
--- where no text is used, 4 is passed
-no-text : (four : Bool) → pick four true true ≡ true
-unfolding pick
-no-text true = refl
-no-text false = refl
-
 named-size : (w c a : ℕ) → w ≡ length (leafOperand w (namedLeaf c a))
 unfolding namedLeaf leafOperand
 named-size w c a =
@@ -128,7 +122,7 @@ bare-passes : (n : ℕ) (s : List ℕ) (c : ℕ) (four : Bool) → true ≡ (lea
 unfolding bareLeaf leafDefined leafSuits
 bare-passes n s c four =
     let P : Leaf → Type 0 = λ l. true ≡ (leafDefined n l && pick four (leafSuits (atomsOf s n) l) true) in
-    let z : true ≡ pick four true true = sym (no-text four) in
+    let z : true ≡ pick four true true = sym (pick-same four true) in
     by-pick P (eqb c 42) (λ _. z) (λ _. by-pick P (eqb c 43) (λ _. z) (λ _. z))
 
 -- what the code says of the kind
@@ -181,13 +175,13 @@ module _ (s v : List ℕ) (m : Atoms) (c at : ℕ) (g : Ready s v m) (room : at 
   unfolding symbolDefined symbolSuits pick
   passes-repeat x h y f =
       let z : leb (getD s (at + 9) 0) 2 ≡ true = le-leb (getD s (at + 9) 0) 2 (omega arith) in
-      kinded s m c at _ (at-repeat (m .width) s c at room (g .narrow) h) true 10 10 (simp (z, no-text (m .four)))
+      kinded s m c at _ (at-repeat (m .width) s c at room (g .narrow) h) true 10 10 (simp (z, pick-same (m .four) true))
       (repeat-size (m .width) _ (spanIn s (at + 1)) _ refl _ _ refl refl) (omega arith) refl
 
   pub passes-choose : c ≡ 39 → Passing s m c at 9
   unfolding symbolDefined symbolSuits pick
   passes-choose h =
-      kinded s m c at _ (at-choose (m .width) s c at room (g .narrow) h) true 9 9 (sym (no-text (m .four))) (choose-size (m .width) _ (spanIn s (at + 1)) _ refl _ refl refl) (omega arith) refl
+      kinded s m c at _ (at-choose (m .width) s c at room (g .narrow) h) true 9 9 (sym (pick-same (m .four) true)) (choose-size (m .width) _ (spanIn s (at + 1)) _ refl _ refl refl) (omega arith) refl
 
   pub passes-name : (k x r : ℕ) (b : Bool) → c ≡ 40 → x ≡ getD s (at + 9) 0 → x ≤ 1 → k ≡ leAt (m .width) s (at + 10) → b ≡ (ltb k (m .count) && pick (m .four) (isName (getD (atomsOf s (m .count)) k [])) true)
       → r ≡ pick b (10 + m .width) 0 → Passing s m c at r
@@ -200,7 +194,7 @@ module _ (s v : List ℕ) (m : Atoms) (c at : ℕ) (g : Ready s v m) (room : at 
   pub passes-group : c ≡ 41 → Passing s m c at 11
   unfolding symbolDefined symbolSuits pick
   passes-group h =
-      kinded s m c at _ (at-group (m .width) s c at room (g .narrow) h) true 11 11 (sym (no-text (m .four))) (group-size (m .width) _ (spanIn s (at + 1)) _ refl _ _ refl refl) (omega (arith, g .narrow)) refl
+      kinded s m c at _ (at-group (m .width) s c at room (g .narrow) h) true 11 11 (sym (pick-same (m .four) true)) (group-size (m .width) _ (spanIn s (at + 1)) _ refl _ _ refl refl) (omega (arith, g .narrow)) refl
 
   pub passes-bare : 37 ≤ c → (c ≡ 37 → ⊥) → (c ≡ 38 → ⊥) → (c ≡ 39 → ⊥) → (c ≡ 40 → ⊥) → (c ≡ 41 → ⊥) → Passing s m c at 9
   unfolding symbolDefined symbolSuits pick

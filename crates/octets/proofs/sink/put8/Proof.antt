@@ -1,4 +1,4 @@
-use Rattle.octets.proofs.SinkLaws.{laying}
+use Rattle.octets.proofs.SinkCode.{laying}
 use borrow.Author.Needs.{needs}
 use Rattle.octets.proofs.sink.put8.Statement.{statement}
 use Rattle.octets.proofs.sink.put8.Tie as tie

@@ -2,13 +2,6 @@ use Rattle.resolve.proofs.CommandsCode.{Running, running}
 use Prim.Native.Nat.{_-_}
 use Rattle.resolve.proofs.commands.validate_commands.Statement.{statement}
 use Rattle.resolve.proofs.commands.validate_commands.Tie as tie
-use Rattle.resolve.proofs.commands.validate_commands.Reads as reads
-use Rattle.resolve.proofs.commands.validate_commands.Lts as lts
-use Rattle.octets.proofs.wide.from8.Reads as from8-reads
-use Rattle.parse_tree.proofs.refusal.over.Reads as over-reads
-use Rattle.resolve.proofs.commands.asked.Reads as asked-reads
-use Rattle.resolve.proofs.commands.long.Reads as long-reads
-use Rattle.resolve.proofs.commands.span_at.Reads as span-at-reads
 
 abbrev Inv-loop : tie.InvT-loop
 Inv-loop work₀ m width at e p₀ work p = Running m width e at work₀ work p
@@ -39,6 +32,9 @@ loop-again c = search running
 
 from8-requires : tie.Need-from8-requires Inv-loop μ-loop
 from8-requires c κs = search running
+
+add-span-at : tie.Need-add-span-at Inv-loop μ-loop
+add-span-at c = search running
 
 span-at-requires : tie.Need-span-at-requires Inv-loop μ-loop
 span-at-requires c κs = search running
@@ -87,6 +83,7 @@ validate-commands-spec =
     loop-less
     loop-again
     from8-requires
+    add-span-at
     span-at-requires
     over-requires
     same-length

@@ -2,14 +2,6 @@ use Rattle.resolve.proofs.GlobalsCode.{entering}
 use borrow.Author.Needs.{needs}
 use Rattle.resolve.proofs.globals.declare.Statement.{statement}
 use Rattle.resolve.proofs.globals.declare.Tie as tie
-use Rattle.resolve.proofs.globals.declare.Reads as reads
-use Rattle.resolve.proofs.globals.declare.Lts as lts
-use Rattle.octets.proofs.numbers.atom_at.Reads as atom-at-reads
-use Rattle.parse_tree.proofs.refusal.over.Reads as over-reads
-use Rattle.resolve.proofs.cells.def.Reads as def-reads
-use Rattle.resolve.proofs.cells.define.Reads as define-reads
-use Rattle.resolve.proofs.commands.span_at.Reads as span-at-reads
-use Rattle.resolve.proofs.globals.description.Reads as description-reads
 
 add-atom-at : tie.Need-add-atom-at
 add-atom-at c = search needs
@@ -41,6 +33,9 @@ description-requires c κs = search needs
 description-requires-2 : tie.Need-description-requires-2
 description-requires-2 c κs = search needs
 
+add-span-at : tie.Need-add-span-at
+add-span-at c = search needs
+
 span-at-requires : tie.Need-span-at-requires
 span-at-requires c κs = search needs
 
@@ -52,6 +47,9 @@ same-length-2 c = search needs
 
 returns-2 : tie.Need-returns-2
 returns-2 c = search entering
+
+add-span-at-2 : tie.Need-add-span-at-2
+add-span-at-2 c = search needs
 
 span-at-requires-2 : tie.Need-span-at-requires-2
 span-at-requires-2 c κs = search needs
@@ -79,10 +77,12 @@ declare-spec =
     returns
     description-requires
     description-requires-2
+    add-span-at
     span-at-requires
     over-requires
     same-length-2
     returns-2
+    add-span-at-2
     span-at-requires-2
     over-requires-2
     same-length-3

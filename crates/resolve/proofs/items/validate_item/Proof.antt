@@ -2,14 +2,6 @@ use Rattle.resolve.proofs.ItemsCode.{itemizing, forgetting}
 use borrow.Author.Needs.{needs}
 use Rattle.resolve.proofs.items.validate_item.Statement.{statement}
 use Rattle.resolve.proofs.items.validate_item.Tie as tie
-use Rattle.resolve.proofs.items.validate_item.Reads as reads
-use Rattle.resolve.proofs.items.validate_item.Lts as lts
-use Rattle.octets.proofs.wide.from8.Reads as from8-reads
-use Rattle.parse_tree.proofs.refusal.over.Reads as over-reads
-use Rattle.resolve.proofs.commands.span_at.Reads as span-at-reads
-use Rattle.resolve.proofs.commands.validate_commands.Reads as validate-commands-reads
-use Rattle.resolve.proofs.items.forget_macro_args.Reads as forget-macro-args-reads
-use Rattle.resolve.proofs.items.validate_macro_args.Reads as validate-macro-args-reads
 
 add-from8 : tie.Need-add-from8
 add-from8 c = search needs
@@ -40,6 +32,9 @@ add-p-2 c = search itemizing
 
 returns : tie.Need-returns
 returns c = search itemizing
+
+add-span-at : tie.Need-add-span-at
+add-span-at c = search needs
 
 span-at-requires : tie.Need-span-at-requires
 span-at-requires c κs = search needs
@@ -94,6 +89,7 @@ validate-item-spec =
     mul-p
     add-p-2
     returns
+    add-span-at
     span-at-requires
     validate-macro-args-requires
     over-requires
