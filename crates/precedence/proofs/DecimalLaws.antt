@@ -66,6 +66,7 @@ size-most (suc k) q = go (ltb q 10) (size-most k (q / 10))
     go true i = omega arith
     go false i = omega arith
 
+-- theorem
 pub digits-most : (v : ℕ) → length (levelDigits v) ≤ 10
 digits-most v = omega (arith, size-is v, size-most 10 v)
 
@@ -73,6 +74,7 @@ size-some : (k q : ℕ) → 1 ≤ sizeBy (suc k) q
 unfolding sizeBy
 size-some k q = omega arith
 
+-- theorem
 pub digits-some : (v : ℕ) → 1 ≤ length (levelDigits v)
 digits-some v = omega (arith, size-is v, size-some 9 v)
 
@@ -108,5 +110,6 @@ pub digits-value : (v : ℕ) → v < 4294967296 → valueFrom 0 (levelDigits v) 
 unfolding levelDigits valueFrom
 digits-value v h = from-value 10 v [] (omega arith)
 
+-- theorem
 pub digits-injective : (x y : ℕ) → x < 4294967296 → y < 4294967296 → levelDigits x ≡ levelDigits y → x ≡ y
 digits-injective x y h k e = sym (digits-value x h) ∙ ap (valueFrom 0) e ∙ digits-value y k

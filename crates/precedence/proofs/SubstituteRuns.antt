@@ -23,7 +23,7 @@ use Rattle.parse_tree.proofs.SizeLaws.{length-span}
 use Rattle.laws.specs.Flat.{symNode, children, joined, foldSym, foldSyms}
 use Rattle.laws.specs.Rename.{renameLeaf, rename}
 use Rattle.laws.proofs.Flat.{SymsFits, step, lies-kept, fold-step}
-use Rattle.laws.proofs.Rename.{store-drop}
+use Rattle.octets.proofs.StoreLaws.{store-drop}
 use Rattle.resolve.specs.Commands.{longOf}
 use Rattle.precedence.specs.declared.substitute.Marks.{Marks}
 use Rattle.precedence.specs.Substitute.{namesAt, markedAt, replaceOut}

@@ -1,5 +1,4 @@
 use Rattle.normalize.proofs.ResolvingCode.{validated}
-use borrow.Author.Needs.{needs}
 use Rattle.normalize.proofs.resolving.resolve_valid.Statement.{statement}
 use Rattle.normalize.proofs.resolving.resolve_valid.Tie as tie
 
