@@ -46,6 +46,7 @@ use Rattle.resolve.specs.Items.{Standing}
 use Rattle.resolve.specs.Whole.{Holds, Answers, Resolves}
 use Rattle.resolve.specs.declared.Grammar.{Grammar}
 use Rattle.resolve.specs.declared.Verdict.{Verdict}
+use Rattle.resolve.proofs.CommandsCode.{fine-not}
 use Rattle.normalize.specs.working.Stages.{StandsBy, TapeReads, TapeResolves}
 use Rattle.normalize.specs.declared.Resolved.{Resolved}
 
@@ -194,11 +195,12 @@ module _ (s w : List ℕ) (a : Atoms) (at n : ℕ) (v : Valid true 2 s w a at n)
       fine-no why e = let z : _≡_ {A = ℕ} 0 1 = cc in omega arith
 
       valid-refused : (why : Refusal) → r ≡ Verdict.Refused why → TapeResolves s (Resolved.Refused why) w₂
+      pub valid-refused : (why : Refusal) → r ≡ Verdict.Refused why → TapeResolves s (Resolved.Refused why) w₂
       unfolding Answers StandsBy
       valid-refused why e = reads (Resolved.Refused why) (go (resolve (v .items)) answers)
         where
           go : (o : Outcome Tree) → Answers table grammar ts o w₁ r w₂ → StandsBy s tape o (Resolved.Refused why) w₂
-          go (yes R) k = absurd (fine-no why (sym (k .0) ∙ e))
+          go (yes R) k = absurd (fine-not (sym (k .0) ∙ e))
           go (no q p) k = let z : why ≡ refusalOver q p = cc in rw z refl
 
       valid-fine : r ≡ Verdict.Fine → TapeResolves s (Resolved.Is table grammar at) w₂
@@ -218,7 +220,7 @@ module _ (s w : List ℕ) (a : Atoms) (at n : ℕ) (v : Valid true 2 s w a at n)
             room = omega (arith, long, k .1 .long);
             items = rw (v .wide) at (lies-part w₂ (7 * size) (7 * size + size) (bytesOfEach (itemBytes (a .width) ts) R) (k .1 .lies));
           }
-          go (no q p) k = absurd (fine-no (refusalOver q p) (sym e ∙ k))
+          go (no q p) k = absurd (fine-not (sym e ∙ k))
 
   -- ---- where g is the map of work
   abbrev grammarOf : Regions → Grammar

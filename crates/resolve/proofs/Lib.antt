@@ -1,7 +1,7 @@
 -- What the proofs of several functions use: NameCode of code, NameLaws of lists, NameMean of what the definitions that follow the code mean on trees.
 mod CellsCode
 mod NamesCode
-mod CommandsCode
+pub mod CommandsCode
 mod ItemsCode
 mod GlobalsCode
 pub mod CellsLaws

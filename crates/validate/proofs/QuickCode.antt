@@ -26,6 +26,7 @@ use Rattle.parse_tree.specs.declared.syntax.SymbolKind.{SymbolKind}
 use Rattle.parse_tree.specs.declared.syntax.Alternative.{Alternative}
 use Rattle.parse_tree.specs.declared.syntax.Node.{Node}
 use Rattle.parse_tree.specs.declared.refusal.Refusal.{Refusal}
+use Rattle.parse_tree.proofs.TextLaws.{both}
 use Rattle.parse_tree.proofs.SizeLaws.{alternative-size, leaf-size, repeat-size, choose-size, name-size, macro-size, group-size}
 use Rattle.texts.specs.Atoms.{atomsOf}
 use Rattle.validate.specs.Steps.{Ready, askedOf, stepOf}
@@ -351,14 +352,6 @@ module _ (x d : Bool) (e : d ≡ x) where
 pub ruleset passing-both = (needs, passing-undefined, passing-unasked, passing-asked)
 
 -- ---- `quick_alternative`
-pub and-left : (x y : Bool) → true ≡ (x && y) → x ≡ true
-and-left true y h = refl
-and-left false y h = sym h
-
-pub and-right : (x y : Bool) → true ≡ (x && y) → y ≡ true
-and-right true y h = sym h
-and-right false y h = absurd (false≢true (sym h))
-
 pub alternative-left : (s : List ℕ) (m : Atoms) (at : ℕ) → PassedAlternative s m at false
 alternative-left s m at = record { asked = λ h. absurd (false≢true h); room = λ h. absurd (false≢true h) }
 
@@ -373,13 +366,13 @@ module _ (s : List ℕ) (m : Atoms) (at : ℕ) (o : Bool) (g : WholeAlternative 
       let here : Node = Node.Alternative (alternativeHere (m .width) s at) in
       let d : Bool = alternativeDefined (m .count) (alternativeHere (m .width) s at) in
       let u : Bool = pick (m .four) (suits (atomsOf s (m .count)) here) true in
-      let both : r ≡ (d && u) =
+      let test : r ≡ (d && u) =
       p ∙ ap (λ (x : Alternative). alternativeDefined (m .count) x && pick (m .four) (suits (atomsOf s (m .count)) (Node.Alternative x)) true) q in
       record {
         asked = λ z.
             asked-got (ask (m .four) (m .width) s (atomsOf s (m .count)) alternativesPlace 1 at) here (at + (14 + m .width))
             (asked-is (m .four) s (m .width) (m .count) alternativesPlace 1 at here (sym (g .node (not-false o h))) 4 refl true refl refl
-            true (sym (and-left d u (sym z ∙ both))) refl (omega arith) true (sym (and-right d u (sym z ∙ both))) (14 + m .width) refl
+            true (sym (both d u (sym test ∙ z) .0)) refl (omega arith) true (sym (both d u (sym test ∙ z) .1)) (14 + m .width) refl
             (alternative-size (m .width) here (alternativeHere (m .width) s at) refl));
         room = λ _. alternative-room;
       }

@@ -19,12 +19,13 @@ use Rattle.parse_tree.specs.working.Decode.{ask}
 use Rattle.parse_tree.specs.declared.syntax.NonterminalData.{NonterminalData}
 use Rattle.parse_tree.specs.declared.syntax.Attribute.{Attribute}
 use Rattle.parse_tree.specs.declared.syntax.Node.{Node}
+use Rattle.parse_tree.proofs.TextLaws.{both}
 use Rattle.parse_tree.proofs.SizeLaws.{nonterminal-size, terminal-size, argument-size, attribute-size}
 use Rattle.texts.specs.Atoms.{atomsOf}
 use Rattle.validate.specs.Quick.{PassedNonterminal, PassedTerminal, QuickCommand, nonterminalHere, terminalHere, attributeHere}
 use Rattle.validate.specs.declared.Atoms.{Atoms}
 use Rattle.validate.proofs.CommandCode.{asked-got, asked-is}
-use Rattle.validate.proofs.QuickCode.{wholly, and-left, and-right}
+use Rattle.validate.proofs.QuickCode.{wholly}
 
 -- the command at a place that is n, may stand there and passes 3 and 4
 module _ (s : List ℕ) (m : Atoms) (place at : ℕ) (n : Node) (i : nodeAt (m .width) s at ≡ n) (a : allowedAt place (classOf n) ≡ true) where
@@ -57,8 +58,8 @@ module _ (s : List ℕ) (m : Atoms) (at : ℕ) where
       let u : Bool = pick (m .four) (isName (getD (atomsOf s (m .count)) k [])) true in
       record {
         asked = λ o.
-            let a : ltb k (m .count) ≡ true = and-left j u (sym o ∙ p) in
-            let b : pick (m .four) (isName (getD (atomsOf s (m .count)) k [])) true ≡ true = and-right j u (sym o ∙ p) in
+            let a : ltb k (m .count) ≡ true = both j u (sym p ∙ o) .0 in
+            let b : pick (m .four) (isName (getD (atomsOf s (m .count)) k [])) true ≡ true = both j u (sym p ∙ o) .1 in
             asked-here s m itemsPlace at (Node.Nonterminal (nonterminalHere (m .width) s at)) i refl (13 + m .width)
             (nonterminal-size (m .width) (Node.Nonterminal (nonterminalHere (m .width) s at)) (nonterminalHere (m .width) s at) refl) (simp (← q, a, v)) (rw q at b);
         room = λ _. omega arith;
@@ -91,8 +92,8 @@ module _ (s : List ℕ) (m : Atoms) (at : ℕ) where
       let u : Bool = pick (m .four) (isName (getD (atomsOf s (m .count)) k [])) true in
       record {
         asked = λ o.
-            let a : ltb k (m .count) ≡ true = and-left j u (sym o ∙ p) in
-            let b : pick (m .four) (isName (getD (atomsOf s (m .count)) k [])) true ≡ true = and-right j u (sym o ∙ p) in
+            let a : ltb k (m .count) ≡ true = both j u (sym p ∙ o) .0 in
+            let b : pick (m .four) (isName (getD (atomsOf s (m .count)) k [])) true ≡ true = both j u (sym p ∙ o) .1 in
             asked-here s m itemsPlace at (Node.Terminal (terminalHere (m .width) s at)) i refl (9 + m .width)
             (terminal-size (m .width) (Node.Terminal (terminalHere (m .width) s at)) (terminalHere (m .width) s at) refl) (simp (← q, a)) (rw q at b);
         room = λ _. omega arith;
@@ -123,7 +124,7 @@ module _ (s : List ℕ) (m : Atoms) (at c : ℕ) (h : at < length s) (e : c ≡ 
       record {
         passed = λ _. record {
           command = Node.Attribute a;
-          asked = asked-here s m attributesPlace at (Node.Attribute a) i refl (2 + m .width + m .width + m .width) (attribute-size (m .width) (Node.Attribute a) a refl) (and-left d u (sym o ∙ p)) (and-right d u (sym o ∙ p));
+          asked = asked-here s m attributesPlace at (Node.Attribute a) i refl (2 + m .width + m .width + m .width) (attribute-size (m .width) (Node.Attribute a) a refl) (both d u (sym p ∙ o) .0) (both d u (sym p ∙ o) .1);
         };
       }
 
@@ -139,7 +140,7 @@ module _ (s : List ℕ) (m : Atoms) (at c : ℕ) (h : at < length s) (e : c ≡ 
       record {
         passed = λ _. record {
           command = n;
-          asked = asked-here s m argumentsPlace at n i refl (1 + m .width) (argument-size (m .width) n (record { 0 = k }) refl) (and-left d u (sym o ∙ p)) (and-right d u (sym o ∙ p));
+          asked = asked-here s m argumentsPlace at n i refl (1 + m .width) (argument-size (m .width) n (record { 0 = k }) refl) (both d u (sym p ∙ o) .0) (both d u (sym p ∙ o) .1);
         };
       }
 
