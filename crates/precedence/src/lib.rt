@@ -1,4 +1,5 @@
 // Precedence levels: questions 14 to 16. Touches nothing but the slices that it is handed.
+pub mod annotations;
 pub mod grade;
 pub mod skip;
 pub mod sort;
@@ -22,4 +23,10 @@ pub enum LevelRead {
 pub enum AssocRead {
     Is(Assoc),
     Nothing,
+}
+
+// The numbers of the texts `precedence` and `assoc`, or the indices of the first attributes of these ids.
+pub struct Ids {
+    pub precedence: usize,
+    pub assoc: usize,
 }

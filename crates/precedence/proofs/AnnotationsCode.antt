@@ -1,0 +1,96 @@
+-- Looking for the attributes `precedence` and `assoc`: the ways out of the code. Assumes nothing.
+use mathlib.Core.Path.{_≡_, refl, sym, ap, _∙_}
+use mathlib.Core.List.{List}
+use Prim.Native.Nat.{ℕ, zero, suc, _+_, _-_, _*_, _^_, _≤_, _<_}
+use native.Mathlib.Omega.{arith}
+use native.Mathlib.Nat.{mul-suc}
+use borrow.Author.Needs.{needs}
+use borrow.Author.Tests.{eq-eqb, ne-eqb}
+use lib.ListN.{length}
+use Rattle.octets.specs.working.Choice.{pick}
+use Rattle.octets.specs.plain.Numbers.{leAt}
+use Rattle.precedence.specs.declared.Ids.{Ids}
+use Rattle.precedence.specs.Annotations.{attributesLong, firstWith, Finding, Annotates}
+
+-- ---- the bytes of attributes
+pub long-more : (wd n : ℕ) → attributesLong wd (suc n) ≡ attributesLong wd n + (2 + 3 * wd)
+unfolding attributesLong
+long-more wd n = mul-suc (2 + 3 * wd) n
+
+pub long-none : (wd : ℕ) → attributesLong wd 0 ≡ 0
+unfolding attributesLong
+long-none wd = omega arith
+
+-- ---- position
+-- `left` attributes are to come, and the index among them is the rest of that among all
+pub record Looking (wd id : ℕ) (w : List ℕ) (at n size p i : ℕ) : Type 0 where
+  pub narrow : 2 ≤ wd
+  pub wide : wd ≤ 3
+  pub long : size ≡ 2 + 3 * wd
+  pub left : ℕ
+  pub many : i + left ≡ n
+  pub room : p + attributesLong wd left ≤ length w
+  pub rest : i + firstWith wd id w p left ≡ firstWith wd id w at n
+
+pub look-start : (wd id : ℕ) (w : List ℕ) (at n : ℕ) → 2 ≤ wd → wd ≤ 3 → at + attributesLong wd n ≤ length w → Looking wd id w at n (2 + 3 * wd) at 0
+look-start wd id w at n h k r = record { narrow = h; wide = k; long = refl; left = n; many = omega arith; room = r; rest = omega arith }
+
+none-left : (wd id : ℕ) (w : List ℕ) (p l : ℕ) → l ≡ 0 → firstWith wd id w p l ≡ 0
+unfolding firstWith
+none-left wd id w p l e = cc
+
+module _ (wd id : ℕ) (w : List ℕ) (at n size p i : ℕ) (g : Looking wd id w at n size p i) where
+  pub look-done : n ≤ i → Finding wd id w at n i
+  look-done h = record { index = omega (arith, none-left wd id w p (g .left) (omega (arith, g .many)), g .rest); upto = omega (arith, g .many) }
+
+  module _ (h : i < n) where
+    abbrev next : ℕ
+    next = g .left - 1
+
+    one : g .left ≡ suc next
+    one = omega (arith, g .many)
+
+    long-next : attributesLong wd (g .left) ≡ attributesLong wd next + (2 + 3 * wd)
+    long-next = ap (attributesLong wd) one ∙ long-more wd next
+
+    pub look-fits : p + 1 + wd ≤ length w
+    look-fits = omega (arith, long-next, g .room)
+
+    pub look-size : p + size ≤ length w
+    look-size = omega (arith, long-next, g .room, g .long)
+
+    opened : firstWith wd id w p (g .left) ≡ firstWith wd id w p (suc next)
+    opened = ap (firstWith wd id w p) one
+
+    module _ (x v : ℕ) (r : x ≡ leAt wd w (p + 1)) (q : v ≡ x) where
+      here : id ≡ v → firstWith wd id w p (suc next) ≡ 0
+      unfolding firstWith pick
+      here e = cc (eq-eqb id (leAt wd w (p + 1)) (e ∙ q ∙ r))
+
+      pub look-found : id ≡ v → Finding wd id w at n i
+      look-found e = record { index = omega (arith, here e, opened, g .rest); upto = omega arith }
+
+      later : (id ≡ v → ⊥) → firstWith wd id w p (suc next) ≡ suc (firstWith wd id w (p + (2 + 3 * wd)) next)
+      unfolding firstWith pick
+      later e = cc (ne-eqb id (leAt wd w (p + 1)) (λ z. e (z ∙ sym r ∙ sym q)))
+
+      pub look-next : (id ≡ v → ⊥) → Looking wd id w at n size (p + size) (i + 1)
+      look-next e =
+          let z : p + size ≡ p + (2 + 3 * wd) = omega (arith, g .long) in
+          record {
+            narrow = g .narrow;
+            wide = g .wide;
+            long = g .long;
+            left = next;
+            many = omega (arith, g .many);
+            room = omega (arith, long-next, g .room, g .long);
+            rest = omega (arith, later e, opened, g .rest, ap (λ (y : ℕ). firstWith wd id w y next) z);
+          }
+
+pub ruleset looking = (needs, look-start, look-done, look-fits, look-size, look-found, look-next)
+
+-- ---- annotations
+pub both-found : (wd : ℕ) (ids : Ids) (w : List ℕ) (at n i j : ℕ) → Finding wd (ids .precedence) w at n i → Finding wd (ids .assoc) w at n j → Annotates wd ids w at n (record { precedence = i; assoc = j })
+both-found wd ids w at n i j p q = record { precedence = p; assoc = q }
+
+pub ruleset annotating = (needs, both-found)
