@@ -1,16 +1,20 @@
 -- Looking for the attributes `precedence` and `assoc`: the ways out of the code. Assumes nothing.
 use mathlib.Core.Path.{_≡_, refl, sym, ap, _∙_}
+use mathlib.Core.Bool.{Bool, true, false}
 use mathlib.Core.List.{List}
 use Prim.Native.Nat.{ℕ, zero, suc, _+_, _-_, _*_, _^_, _≤_, _<_}
 use native.Mathlib.Omega.{arith}
-use native.Mathlib.Nat.{mul-suc}
+use native.Mathlib.Nat.{mul-suc, mul-le-mul-right}
 use borrow.Author.Needs.{needs}
-use borrow.Author.Tests.{eq-eqb, ne-eqb}
-use lib.ListN.{length}
+use borrow.Author.Tests.{lt-ltb, le-ltb, eq-eqb, ne-eqb}
+use mir.Val.{Fits}
+use mir.Syntax.{w64}
+use lib.Dec.{ltb}
+use lib.ListN.{length, getD}
 use Rattle.octets.specs.working.Choice.{pick}
 use Rattle.octets.specs.plain.Numbers.{leAt}
 use Rattle.precedence.specs.declared.Ids.{Ids}
-use Rattle.precedence.specs.Annotations.{attributesLong, firstWith, Finding, Annotates}
+use Rattle.precedence.specs.Annotations.{attributesLong, firstWith, Finding, Annotates, attributesEnd, annotatedAt, firstAlternative, hasPrecAttr, HeadInside}
 
 -- ---- the bytes of attributes
 pub long-more : (wd n : ℕ) → attributesLong wd (suc n) ≡ attributesLong wd n + (2 + 3 * wd)
@@ -89,8 +93,55 @@ module _ (wd id : ℕ) (w : List ℕ) (at n size p i : ℕ) (g : Looking wd id w
 
 pub ruleset looking = (needs, look-start, look-done, look-fits, look-size, look-found, look-next)
 
--- ---- annotations
-pub both-found : (wd : ℕ) (ids : Ids) (w : List ℕ) (at n i j : ℕ) → Finding wd (ids .precedence) w at n i → Finding wd (ids .assoc) w at n j → Annotates wd ids w at n (record { precedence = i; assoc = j })
-both-found wd ids w at n i j p q = record { precedence = p; assoc = q }
+-- ---- annotated
+pub end-whole : (wd : ℕ) (w : List ℕ) (at x n : ℕ) → attributesEnd wd w at ≤ length w → x ≡ getD w (at + 9) 0 → n ≡ x → at + 14 + wd + attributesLong wd n ≤ length w
+end-whole wd w at x n h p q = let z : n ≡ getD w (at + 9) 0 = q ∙ p in rw z h
 
-pub ruleset annotating = (needs, both-found)
+module _ (wd : ℕ) (ids : Ids) (w : List ℕ) (at x n : ℕ) (p : x ≡ getD w (at + 9) 0) (q : n ≡ x) (f : Ids) (a : Annotates wd ids w (at + 14 + wd) n f) where
+  pub annotated-level : f .precedence < n → true ≡ annotatedAt wd ids w at
+  unfolding annotatedAt pick
+  annotated-level h = cc (a .precedence .index, lt-ltb (f .precedence) n h)
+
+  pub annotated-side : n ≤ f .precedence → (r : Bool) → r ≡ ltb (f .assoc) n → r ≡ annotatedAt wd ids w at
+  unfolding annotatedAt pick
+  annotated-side h r e = cc (a .precedence .index, a .assoc .index, le-ltb (f .precedence) n h)
+
+pub ruleset annotating = (needs, end-whole, annotated-level, annotated-side)
+
+-- ---- first_alternative
+module _ (wd n : ℕ) (h : wd ≤ 3) (k : n < 256) where
+  few : (1 + wd) * n ≤ 4 * n
+  few = mul-le-mul-right {m = 1 + wd} {n = 4} n (omega arith)
+
+  pub few-fits : Fits w64 ((1 + wd) * n)
+  few-fits = omega (arith, few)
+
+  pub few-behind : (m at : ℕ) → m * 1 < 2 ^ 63 → at + 16 ≤ m → Fits w64 (at + 13 + wd + (1 + wd) * n)
+  few-behind m at l r = omega (arith, few)
+
+pub first-is : (wd : ℕ) (w : List ℕ) (at x n : ℕ) → x ≡ getD w (at + 10 + wd) 0 → n ≡ x → at + 13 + wd + (1 + wd) * n ≡ firstAlternative wd w at
+unfolding firstAlternative
+first-is wd w at x n p q = ap (λ (k : ℕ). at + 13 + wd + (1 + wd) * k) (q ∙ p)
+
+pub ruleset placing = (needs, few-fits, few-behind, first-is)
+
+-- ---- has_prec_attr
+module _ (wd : ℕ) (w : List ℕ) (at c : ℕ) (i : c ≡ getD w at 0) where
+  pub has-other : (ids : Ids) → (c ≡ 16 → ⊥) → false ≡ hasPrecAttr wd ids w at
+  unfolding hasPrecAttr pick
+  has-other ids h = cc (ne-eqb (getD w at 0) 16 (λ z. h (i ∙ z)))
+
+  module _ (e : c ≡ 16) (v : ℕ) (j : v ≡ leAt 2 w (at + 11 + wd)) where
+    pub has-none : (ids : Ids) → v ≡ 0 → false ≡ hasPrecAttr wd ids w at
+    unfolding hasPrecAttr pick
+    has-none ids h = cc (eq-eqb (getD w at 0) 16 (sym i ∙ e), eq-eqb (leAt 2 w (at + 11 + wd)) 0 (sym j ∙ h))
+
+    module _ (h : v ≡ 0 → ⊥) (a : ℕ) (p : a ≡ firstAlternative wd w at) where
+      pub has-fits : HeadInside wd w at → attributesEnd wd w a ≤ length w
+      has-fits g = rw p (g .first (sym i ∙ e) (λ z. h (j ∙ z)))
+
+      pub has-first : (ids : Ids) (r : Bool) → r ≡ annotatedAt wd ids w a → r ≡ hasPrecAttr wd ids w at
+      unfolding hasPrecAttr pick
+      has-first ids r k = k ∙ cc (p, eq-eqb (getD w at 0) 16 (sym i ∙ e), ne-eqb (leAt 2 w (at + 11 + wd)) 0 (λ z. h (j ∙ z)))
+
+pub ruleset heading = (needs, has-other, has-none, has-fits, has-first)

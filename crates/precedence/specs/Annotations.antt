@@ -1,11 +1,14 @@
 -- The attributes `precedence` and `assoc` of alternatives that stand in work, as `annotations` looks for them. wd is the width of an atom's number in
 -- bytes. Assumes nothing: these are definitions.
 use mathlib.Core.Path.{_≡_}
-use mathlib.Core.List.{List}
+use mathlib.Core.Bool.{Bool, true, false}
+use mathlib.Core.List.{List, []}
 use Prim.Native.Nat.{ℕ, zero, suc, _+_, _*_, _≤_}
-use lib.Dec.{eqb}
+use lib.Dec.{eqb, ltb}
+use lib.ListN.{length, getD}
 use Rattle.octets.specs.working.Choice.{pick}
 use Rattle.octets.specs.plain.Numbers.{leAt}
+use Rattle.parse_tree.specs.plain.Tree.{Text}
 use Rattle.precedence.specs.declared.Ids.{Ids}
 
 -- the bytes of n attributes
@@ -26,3 +29,30 @@ pub record Finding (wd id : ℕ) (w : List ℕ) (at n r : ℕ) : Type 0 where
 pub record Annotates (wd : ℕ) (ids : Ids) (w : List ℕ) (at n : ℕ) (r : Ids) : Type 0 where
   pub precedence : Finding wd (ids .precedence) w at n (r .precedence)
   pub assoc : Finding wd (ids .assoc) w at n (r .assoc)
+
+-- the text of the value of the attribute at a place; empty where it has none
+unfoldable pub valueText : ℕ → List Text → List ℕ → ℕ → Text
+valueText wd ts w p = pick (eqb (getD w (p + 1 + wd) 0) 0) [] (getD ts (leAt wd w (p + 2 + wd + wd)) [])
+
+-- the place behind the attributes of the alternative at a place
+abbrev pub attributesEnd : ℕ → List ℕ → ℕ → ℕ
+attributesEnd wd w at = at + 14 + wd + attributesLong wd (getD w (at + 9) 0)
+
+-- whether the alternative at a place has an attribute of one of the two ids
+unfoldable pub annotatedAt : ℕ → Ids → List ℕ → ℕ → Bool
+annotatedAt wd ids w at =
+    let n = getD w (at + 9) 0 in
+    pick (ltb (firstWith wd (ids .precedence) w (at + 14 + wd) n) n) true (ltb (firstWith wd (ids .assoc) w (at + 14 + wd) n) n)
+
+-- the first alternative of the nonterminal at a place
+unfoldable pub firstAlternative : ℕ → List ℕ → ℕ → ℕ
+firstAlternative wd w at = at + 13 + wd + (1 + wd) * getD w (at + 10 + wd) 0
+
+-- whether the item at a place is a nonterminal whose first alternative has one
+unfoldable pub hasPrecAttr : ℕ → Ids → List ℕ → ℕ → Bool
+hasPrecAttr wd ids w at = pick (eqb (getD w at 0) 16) (pick (eqb (leAt 2 w (at + 11 + wd)) 0) false (annotatedAt wd ids w (firstAlternative wd w at))) false
+
+-- what is looked at of an item lies in work
+pub record HeadInside (wd : ℕ) (w : List ℕ) (at : ℕ) : Type 0 where
+  pub head : at + 16 ≤ length w
+  pub first : getD w at 0 ≡ 16 → (leAt 2 w (at + 11 + wd) ≡ 0 → ⊥) → attributesEnd wd w (firstAlternative wd w at) ≤ length w

@@ -1,10 +1,13 @@
 // The attributes `precedence` and `assoc` of alternatives that stand in work.
 use crate::Ids;
 use octets::numbers::atom_at;
+use octets::numbers::u16_at;
+use octets::wide::from8;
 use octets::wide::from32;
+ghost use mathlib.Core.Path.{_≡_};
 ghost use Prim.Native.Nat.{_+_, _≤_};
 ghost use lib.ListN.{length};
-ghost use Rattle.precedence.specs.Annotations.{attributesLong, Finding, Annotates};
+ghost use Rattle.precedence.specs.Annotations.{attributesLong, Finding, Annotates, attributesEnd, annotatedAt, firstAlternative, HeadInside, hasPrecAttr};
 
 // The index of the first attribute of an id among the n that stand from a place on; n where there is none.
 fn position(work: &[u8], at: usize, n: usize, width: usize, id: usize) -> usize
@@ -35,4 +38,42 @@ pub fn annotations(work: &[u8], at: usize, n: usize, width: usize, ids: Ids) -> 
         precedence: i,
         assoc: j,
     }
+}
+
+// Whether the alternative at a place has one of the two.
+fn annotated(work: &[u8], at: usize, width: usize, ids: Ids) -> bool
+    requires { ⌜ (2 ≤ width) × (width ≤ 3) × (attributesEnd width (now work) at ≤ length (now work)) ⌝ }
+    ensures { λ r. ⌜ r ≡ annotatedAt width ids (now (work .entry)) at ⌝ }
+{
+    let n = from8(work[at + 9]);
+    let f = annotations(work, at + 14 + width, n, width, ids);
+    if f.precedence < n {
+        return true;
+    }
+    f.assoc < n
+}
+
+// Where the first alternative of the nonterminal at a place stands.
+fn first_alternative(work: &[u8], at: usize, width: usize) -> usize
+    requires { ⌜ (2 ≤ width) × (width ≤ 3) × (at + 16 ≤ length (now work)) ⌝ }
+    ensures { λ r. ⌜ r ≡ firstAlternative width (now (work .entry)) at ⌝ }
+{
+    let args = from8(work[at + 10 + width]);
+    at + 13 + width + (1 + width) * args
+}
+
+// Whether the item at a place is a nonterminal whose first alternative has one of the two.
+pub fn has_prec_attr(work: &[u8], at: usize, width: usize, ids: Ids) -> bool
+    requires { ⌜ (2 ≤ width) × (width ≤ 3) × HeadInside width (now work) at ⌝ }
+    ensures { λ r. ⌜ r ≡ hasPrecAttr width ids (now (work .entry)) at ⌝ }
+{
+    let c = work[at];
+    if c == 16 {
+        if u16_at(work, at + 11 + width) == 0 {
+            return false;
+        }
+        let a = first_alternative(work, at, width);
+        return annotated(work, a, width, ids);
+    }
+    false
 }
