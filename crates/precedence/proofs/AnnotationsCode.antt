@@ -126,22 +126,22 @@ first-is wd w at x n p q = ap (λ (k : ℕ). at + 13 + wd + (1 + wd) * k) (q ∙
 pub ruleset placing = (needs, few-fits, few-behind, first-is)
 
 -- ---- has_prec_attr
-module _ (wd : ℕ) (w : List ℕ) (at c : ℕ) (i : c ≡ getD w at 0) where
-  pub has-other : (ids : Ids) → (c ≡ 16 → ⊥) → false ≡ hasPrecAttr wd ids w at
+module _ (wd : ℕ) (w : List ℕ) (at : ℕ) where
+  pub has-other : (ids : Ids) → (getD w at 0 ≡ 16 → ⊥) → false ≡ hasPrecAttr wd ids w at
   unfolding hasPrecAttr pick
-  has-other ids h = cc (ne-eqb (getD w at 0) 16 (λ z. h (i ∙ z)))
+  has-other ids h = cc (ne-eqb (getD w at 0) 16 h)
 
-  module _ (e : c ≡ 16) (v : ℕ) (j : v ≡ leAt 2 w (at + 11 + wd)) where
+  module _ (e : getD w at 0 ≡ 16) (v : ℕ) (j : v ≡ leAt 2 w (at + 11 + wd)) where
     pub has-none : (ids : Ids) → v ≡ 0 → false ≡ hasPrecAttr wd ids w at
     unfolding hasPrecAttr pick
-    has-none ids h = cc (eq-eqb (getD w at 0) 16 (sym i ∙ e), eq-eqb (leAt 2 w (at + 11 + wd)) 0 (sym j ∙ h))
+    has-none ids h = cc (eq-eqb (getD w at 0) 16 e, eq-eqb (leAt 2 w (at + 11 + wd)) 0 (sym j ∙ h))
 
     module _ (h : v ≡ 0 → ⊥) (a : ℕ) (p : a ≡ firstAlternative wd w at) where
       pub has-fits : HeadInside wd w at → attributesEnd wd w a ≤ length w
-      has-fits g = rw p (g .first (sym i ∙ e) (λ z. h (j ∙ z)))
+      has-fits g = rw p (g .first e (λ z. h (j ∙ z)))
 
       pub has-first : (ids : Ids) (r : Bool) → r ≡ annotatedAt wd ids w a → r ≡ hasPrecAttr wd ids w at
       unfolding hasPrecAttr pick
-      has-first ids r k = k ∙ cc (p, eq-eqb (getD w at 0) 16 (sym i ∙ e), ne-eqb (leAt 2 w (at + 11 + wd)) 0 (λ z. h (j ∙ z)))
+      has-first ids r k = k ∙ cc (p, eq-eqb (getD w at 0) 16 e, ne-eqb (leAt 2 w (at + 11 + wd)) 0 (λ z. h (j ∙ z)))
 
 pub ruleset heading = (needs, has-other, has-none, has-fits, has-first)

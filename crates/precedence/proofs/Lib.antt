@@ -2,6 +2,7 @@
 mod AnnotationsCode
 mod AnnotationsMean
 mod GradeCode
+mod GradingCode
 mod DecimalLaws
 mod DecimalCode
 mod SortLaws

@@ -1,6 +1,7 @@
 // Precedence levels: questions 14 to 16. Touches nothing but the slices that it is handed.
 pub mod annotations;
 pub mod grade;
+pub mod grading;
 pub mod skip;
 pub mod sort;
 pub mod substitute;
@@ -29,4 +30,10 @@ pub enum AssocRead {
 pub struct Ids {
     pub precedence: usize,
     pub assoc: usize,
+}
+
+// The level and the side of an alternative, or the question that its attributes fail.
+pub enum GradeRead {
+    Is(usize, Assoc),
+    Refused(u32),
 }
