@@ -34,3 +34,58 @@ fn value<'a>(tape: &'a [u8], work: &'a [u8], m: Map, at: usize, width: usize) ->
         text(tape, work, m, k)
     }
 }
+
+// The side of an alternative whose level is known: the j-th of its n attributes says it, or it is handed on.
+fn sided<'a>(
+    tape: &'a [u8],
+    work: &'a [u8],
+    m: Map,
+    at: usize,
+    width: usize,
+    n: usize,
+    j: usize,
+    level: usize,
+    side: Assoc,
+) -> GradeRead
+    requires { ⌜ Table (now tape) (now work) m × (2 ≤ width) × (width ≤ 3) × (n < 256) × (level < 4294967296) × (at + attributesLong width n ≤ length (now work)) ⌝ }
+    ensures { λ r. ⌜ ReadsGrade (sidedAt width (texts (now (tape .entry)) (now (work .entry)) m) (now (work .entry)) at n j level side) r ⌝ }
+{
+    if j < n {
+        let size = 2 + 3 * width;
+        match read_assoc(value(tape, work, m, at + size * j, width)) {
+            AssocRead::Nothing => return GradeRead::Refused(15),
+            AssocRead::Is(s) => return GradeRead::Is(level, s),
+        }
+    }
+    GradeRead::Is(level, side)
+}
+
+// Level and side of the alternative at a place; those of the one before are handed on, but a level that is said resets the side.
+pub fn graded<'a>(
+    tape: &'a [u8],
+    work: &'a [u8],
+    m: Map,
+    at: usize,
+    width: usize,
+    ids: Ids,
+    level: usize,
+    side: Assoc,
+) -> GradeRead
+    requires { ⌜ Table (now tape) (now work) m × (2 ≤ width) × (width ≤ 3) × (level < 4294967296) × (attributesEnd width (now work) at ≤ length (now work)) ⌝ }
+    ensures { λ r. ⌜ ReadsGrade (gradedAt width ids (texts (now (tape .entry)) (now (work .entry)) m) (now (work .entry)) at level side) r ⌝ }
+{
+    let n = from8(work[at + 9]);
+    let a = at + 14 + width;
+    let f = annotations(work, a, n, width, ids);
+    let i = f.precedence;
+    if i < n {
+        let size = 2 + 3 * width;
+        match read_level(value(tape, work, m, a + size * i, width)) {
+            LevelRead::Nothing => return GradeRead::Refused(14),
+            LevelRead::Is(v) => {
+                return sided(tape, work, m, a, width, n, f.assoc, v, Assoc::FullyAssoc);
+            }
+        }
+    }
+    sided(tape, work, m, a, width, n, f.assoc, level, side)
+}

@@ -1,3 +1,4 @@
+use Rattle.precedence.proofs.GradingCode.{valuing}
 use borrow.Author.Needs.{needs}
 use Rattle.precedence.proofs.grading.value.Statement.{statement}
 use Rattle.precedence.proofs.grading.value.Tie as tie
@@ -53,13 +54,13 @@ text-requires : tie.Need-text-requires
 text-requires c κs = search needs
 
 returns : tie.Need-returns
-returns c = ?
+returns c = search valuing
 
 returns-2 : tie.Need-returns-2
-returns-2 c = ?
+returns-2 c = search valuing
 
 returns-3 : tie.Need-returns-3
-returns-3 c = ?
+returns-3 c = search valuing
 
 pub value-spec : {M : Type 1} → statement M
 value-spec =
