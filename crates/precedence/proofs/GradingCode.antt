@@ -49,8 +49,7 @@ module _ (wd : ℕ) (s w : List ℕ) (m : Map) (at : ℕ) where
 
 pub ruleset valuing = (needs, value-none, value-beyond, value-some)
 
--- ---- sided
--- the place of one attribute of n
+-- ---- nth_value
 module _ (wd n j : ℕ) (l : j < n) where
   at-long : (2 + 3 * wd) * j ≡ attributesLong wd j
   unfolding attributesLong
@@ -71,3 +70,63 @@ module _ (wd n j : ℕ) (l : j < n) where
 
   pub one-inside : (m at : ℕ) → at + attributesLong wd n ≤ m → at + (2 + 3 * wd) * j + (2 + 3 * wd) ≤ m
   one-inside m at h = omega (arith, below, at-long)
+
+  pub one-is : (ts : List Text) (w : List ℕ) (at : ℕ) (t : List ℕ) → t ≡ valueText wd ts w (at + (2 + 3 * wd) * j) → t ≡ valueText wd ts w (at + attributesLong wd j)
+  one-is ts w at t h = rw (← at-long) h
+
+pub ruleset choosing = (needs, one-fits, one-behind, one-inside, one-is)
+
+-- ---- sided
+module _ (wd : ℕ) (ts : List Text) (w : List ℕ) (at n j level : ℕ) (side : Assoc) where
+  pub sided-same : n ≤ j → level < 4294967296 → ReadsGrade (sidedAt wd ts w at n j level side) (GradeRead.Is level side)
+  unfolding sidedAt pick
+  sided-same h k = record { answered = cc (le-ltb j n h); small = k }
+
+  module _ (h : j < n) (t : List ℕ) (i : t ≡ valueText wd ts w (at + attributesLong wd j)) (x : AssocRead) (e : x ≡ assocSaid t) where
+    pub sided-bad : x ≡ AssocRead.Nothing → ReadsGrade (sidedAt wd ts w at n j level side) (GradeRead.Refused 15)
+    unfolding sidedAt sideSaid pick
+    sided-bad z = record { answered = cc (lt-ltb j n h); small = tt }
+
+    pub sided-is : (s : Assoc) → x ≡ AssocRead.Is s → level < 4294967296 → ReadsGrade (sidedAt wd ts w at n j level side) (GradeRead.Is level s)
+    unfolding sidedAt sideSaid pick
+    sided-is s z k = record { answered = cc (lt-ltb j n h); small = k }
+
+pub ruleset siding = (needs, sided-same, sided-bad, sided-is)
+
+-- ---- graded
+pub level-small : (x l : LevelRead) (v : ℕ) → ReadsLevel x l → l ≡ LevelRead.Is v → v < 4294967296
+level-small x l v r e = rw e at r .small
+
+module _ (wd : ℕ) (ids : Ids) (ts : List Text) (w : List ℕ) (at level : ℕ) (side : Assoc) (x n : ℕ) (p : x ≡ getD w (at + 9) 0) (q : n ≡ x) (f : Ids)
+    (a : Annotates wd ids w (at + 14 + wd) n f) where
+  opened : gradedAt wd ids ts w at level side ≡ gradedBy wd ts w (at + 14 + wd) n (f .precedence) (f .assoc) level side
+  unfolding gradedAt
+  opened = cc (a .precedence .index, a .assoc .index)
+
+  same : n ≤ f .precedence → gradedBy wd ts w (at + 14 + wd) n (f .precedence) (f .assoc) level side ≡ sidedAt wd ts w (at + 14 + wd) n (f .assoc) level side
+  unfolding gradedBy pick
+  same h = cc (le-ltb (f .precedence) n h)
+
+  pub graded-same : n ≤ f .precedence → (r : GradeRead) → ReadsGrade (sidedAt wd ts w (at + 14 + wd) n (f .assoc) level side) r → ReadsGrade (gradedAt wd ids ts w at level side) r
+  graded-same h r s = rw (opened, same h) s
+
+  module _ (h : f .precedence < n) (t : List ℕ) (i : t ≡ valueText wd ts w (at + 14 + wd + attributesLong wd (f .precedence))) (l : LevelRead) (e : ReadsLevel (levelSaid t) l) where
+    said : gradedBy wd ts w (at + 14 + wd) n (f .precedence) (f .assoc) level side ≡ levelThen (sidedAt wd ts w (at + 14 + wd) n (f .assoc)) l
+    unfolding gradedBy pick
+    said = cc (lt-ltb (f .precedence) n h, e .answered)
+
+    bad : l ≡ LevelRead.Nothing → levelThen (sidedAt wd ts w (at + 14 + wd) n (f .assoc)) l ≡ GradeRead.Refused 14
+    unfolding levelThen
+    bad z = cc
+
+    pub graded-bad : l ≡ LevelRead.Nothing → ReadsGrade (gradedAt wd ids ts w at level side) (GradeRead.Refused 14)
+    graded-bad z = record { answered = sym (opened ∙ said ∙ bad z); small = tt }
+
+    is : (v : ℕ) → l ≡ LevelRead.Is v → levelThen (sidedAt wd ts w (at + 14 + wd) n (f .assoc)) l ≡ sidedAt wd ts w (at + 14 + wd) n (f .assoc) v Assoc.FullyAssoc
+    unfolding levelThen
+    is v z = cc
+
+    pub graded-is : (v : ℕ) → l ≡ LevelRead.Is v → (r : GradeRead) → ReadsGrade (sidedAt wd ts w (at + 14 + wd) n (f .assoc) v Assoc.FullyAssoc) r → ReadsGrade (gradedAt wd ids ts w at level side) r
+    graded-is v z r s = rw (opened, said, is v z) s
+
+pub ruleset grading = (needs, end-whole, level-small, graded-same, graded-bad, graded-is)

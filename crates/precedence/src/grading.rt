@@ -35,6 +35,22 @@ fn value<'a>(tape: &'a [u8], work: &'a [u8], m: Map, at: usize, width: usize) ->
     }
 }
 
+// That of the i-th of n attributes from a place on.
+fn nth_value<'a>(
+    tape: &'a [u8],
+    work: &'a [u8],
+    m: Map,
+    at: usize,
+    width: usize,
+    n: usize,
+    i: usize,
+) -> &'a [u8]
+    requires { ⌜ Table (now tape) (now work) m × (2 ≤ width) × (width ≤ 3) × (n < 256) × (i < n) × (at + attributesLong width n ≤ length (now work)) ⌝ }
+    ensures { λ r. ⌜ now r ≡ valueText width (texts (now (tape .entry)) (now (work .entry)) m) (now (work .entry)) (at + attributesLong width i) ⌝ }
+{
+    value(tape, work, m, at + (2 + 3 * width) * i, width)
+}
+
 // The side of an alternative whose level is known: the j-th of its n attributes says it, or it is handed on.
 fn sided<'a>(
     tape: &'a [u8],
@@ -51,8 +67,7 @@ fn sided<'a>(
     ensures { λ r. ⌜ ReadsGrade (sidedAt width (texts (now (tape .entry)) (now (work .entry)) m) (now (work .entry)) at n j level side) r ⌝ }
 {
     if j < n {
-        let size = 2 + 3 * width;
-        match read_assoc(value(tape, work, m, at + size * j, width)) {
+        match read_assoc(nth_value(tape, work, m, at, width, n, j)) {
             AssocRead::Nothing => return GradeRead::Refused(15),
             AssocRead::Is(s) => return GradeRead::Is(level, s),
         }
@@ -79,8 +94,7 @@ pub fn graded<'a>(
     let f = annotations(work, a, n, width, ids);
     let i = f.precedence;
     if i < n {
-        let size = 2 + 3 * width;
-        match read_level(value(tape, work, m, a + size * i, width)) {
+        match read_level(nth_value(tape, work, m, a, width, n, i)) {
             LevelRead::Nothing => return GradeRead::Refused(14),
             LevelRead::Is(v) => {
                 return sided(tape, work, m, a, width, n, f.assoc, v, Assoc::FullyAssoc);

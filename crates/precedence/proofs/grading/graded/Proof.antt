@@ -1,3 +1,4 @@
+use Rattle.precedence.proofs.GradingCode.{grading}
 use borrow.Author.Needs.{needs}
 use Rattle.precedence.proofs.grading.graded.Statement.{statement}
 use Rattle.precedence.proofs.grading.graded.Tie as tie
@@ -6,8 +7,8 @@ use Rattle.precedence.proofs.grading.graded.Lts as lts
 use Rattle.octets.proofs.wide.from8.Reads as from8-reads
 use Rattle.precedence.proofs.annotations.annotations.Reads as annotations-reads
 use Rattle.precedence.proofs.grade.read_level.Reads as read-level-reads
+use Rattle.precedence.proofs.grading.nth_value.Reads as nth-value-reads
 use Rattle.precedence.proofs.grading.sided.Reads as sided-reads
-use Rattle.precedence.proofs.grading.value.Reads as value-reads
 
 add-from8 : tie.Need-add-from8
 add-from8 c = search needs
@@ -25,22 +26,10 @@ add-a-2 : tie.Need-add-a-2
 add-a-2 c = search needs
 
 annotations-requires : tie.Need-annotations-requires
-annotations-requires c κs = ?
+annotations-requires c κs = search grading
 
-mul-size : tie.Need-mul-size
-mul-size c = search needs
-
-add-size : tie.Need-add-size
-add-size c = search needs
-
-mul-value : tie.Need-mul-value
-mul-value c = ?
-
-add-value : tie.Need-add-value
-add-value c = ?
-
-value-requires : tie.Need-value-requires
-value-requires c κs = ?
+nth-value-requires : tie.Need-nth-value-requires
+nth-value-requires c κs = search grading
 
 read-level-requires : tie.Need-read-level-requires
 read-level-requires c κs = search needs
@@ -49,22 +38,22 @@ enum-told : tie.Need-enum-told
 enum-told c = search needs
 
 returns : tie.Need-returns
-returns c = ?
+returns c = search grading
 
 enum-known-v : tie.Need-enum-known-v
 enum-known-v c = search needs
 
 sided-requires : tie.Need-sided-requires
-sided-requires c κs = ?
+sided-requires c κs = search grading
 
 returns-2 : tie.Need-returns-2
-returns-2 c = ?
+returns-2 c = search grading
 
 sided-requires-2 : tie.Need-sided-requires-2
-sided-requires-2 c κs = ?
+sided-requires-2 c κs = search grading
 
 returns-3 : tie.Need-returns-3
-returns-3 c = ?
+returns-3 c = search grading
 
 pub graded-spec : {M : Type 1} → statement M
 graded-spec =
@@ -76,11 +65,7 @@ graded-spec =
     add-a
     add-a-2
     annotations-requires
-    mul-size
-    add-size
-    mul-value
-    add-value
-    value-requires
+    nth-value-requires
     read-level-requires
     enum-told
     returns
