@@ -3,6 +3,8 @@ mod AnnotationsCode
 mod AnnotationsMean
 mod GradeCode
 mod GradingCode
+mod AlternativesMean
+mod GradingMean
 mod DecimalLaws
 mod DecimalCode
 mod SortLaws
