@@ -15,14 +15,15 @@ use Rattle.octets.proofs.LiesLaws.{lies-split, lies-from, lies-inside}
 use Rattle.octets.proofs.NumbersLaws.{length-le}
 use Rattle.parse_tree.specs.plain.Tree.{Text, Attribute, Alternative, Nonterminal, Source, extern, match, item, terminal, conditions, count}
 use Rattle.parse_tree.specs.plain.Texts.{number}
+use Rattle.parse_tree.specs.declared.syntax.Span.{Span}
 use Rattle.parse_tree.specs.plain.WriteTape.{bytesOfEach}
 use Rattle.parse_tree.specs.working.Nodes.{nodeBytes, spanBytes}
-use Rattle.parse_tree.specs.working.Encode.{actionCode, actionText, alternativeNode, attributeBytes, conditionBytes, symsBytes, argumentBytes, alternativeBytes, itemBytes, nonterminalNode}
-use Rattle.parse_tree.specs.working.Within.{Each, AttributeWithin, AlternativeWithin, NonterminalWithin}
+use Rattle.parse_tree.specs.working.Encode.{actionCode, actionText, alternativeNode, attributeBytes, conditionBytes, symsBytes, argumentBytes, alternativeBytes, itemBytes, sourceCode}
+use Rattle.parse_tree.specs.working.Within.{Each, AttributeWithin, AlternativeWithin, NonterminalWithin, SpanWithin}
 use Rattle.parse_tree.proofs.FieldLaws.{byte-read, span-read}
 use Rattle.parse_tree.proofs.SpanLaws.{length-span}
 use Rattle.passes.specs.Grades.{precedence, assoc, valueOf, isGiven, startsAnnotated, annotated}
-use Rattle.resolve.proofs.GrammarLaws.{Headed, headed}
+use Rattle.resolve.proofs.GrammarLaws.{Headed, headed, terminal-headed}
 use Rattle.precedence.specs.declared.Ids.{Ids}
 use Rattle.precedence.specs.Annotations.{attributesLong, attributesEnd, firstWith, annotatedAt, HeadInside, firstAlternative, hasPrecAttr}
 use Rattle.precedence.proofs.AnnotationsMean.{Value, attributes-long, value-means}
@@ -122,3 +123,27 @@ module _ (four : Bool) (wd : ℕ) (ts : List Text) where
       go (a ∷ rest) y k m g =
           an-alternative w at (length rest) _ (g .code) k (first-means w at e d g)
           ∙ annotated-means w _ a (alternative-means w _ e a (bytesOfEach (alternativeBytes wd ts) rest) (y .0) m)
+
+  -- and what the code asks of work holds
+  pub head-inside : (w : List ℕ) (at e : ℕ) (d : Nonterminal) → NonterminalWithin four wd ts d → Lies w at (itemBytes wd ts (item d)) e → at + 16 ≤ length w → HeadInside wd w at
+  unfolding bytesOfEach
+  head-inside w at e d h l i = let g = headed four w wd ts at d e h l in record { head = i; first = λ c z. go (d .alternatives) (h .alternatives) (g .many) (g .alternatives) g z }
+    where
+      go : (xs : List Alternative) → Each (AlternativeWithin four wd ts) xs → leAt 2 w (at + 11 + wd) ≡ length xs
+          → Lies w (at + 13 + wd + length (bytesOfEach (argumentBytes wd ts) (d .args))) (bytesOfEach (alternativeBytes wd ts) xs) e → Headed w wd ts at d e
+          → (leAt 2 w (at + 11 + wd) ≡ 0 → ⊥) → attributesEnd wd w (firstAlternative wd w at) ≤ length w
+      go [] y k m g z = absurd (z k)
+      go (a ∷ rest) y k m g z = rw (first-means w at e d g) (alternative-read w _ e a (bytesOfEach (alternativeBytes wd ts) rest) (y .0) m .inside)
+
+  -- theorem: a terminal is not
+  source-other : (o : Source) → sourceCode o ≡ 16 → ⊥
+  source-other extern h = absurd (omega arith)
+  source-other match h = absurd (omega arith)
+
+  other-item : (w : List ℕ) (at : ℕ) → (getD w at 0 ≡ 16 → ⊥) → hasPrecAttr wd (idsIn ts) w at ≡ false
+  unfolding hasPrecAttr pick
+  other-item w at h = cc (ne-eqb (getD w at 0) 16 h)
+
+  pub terminal-means : (w : List ℕ) (at e : ℕ) (s : Span) (o : Source) (x : Text) → SpanWithin s → number ts x < 256 ^ wd → Lies w at (itemBytes wd ts (terminal s o x)) e
+      → hasPrecAttr wd (idsIn ts) w at ≡ false
+  terminal-means w at e s o x h k l = let z = terminal-headed four w wd ts at s o x e h k l in other-item w at (λ c. source-other o (sym (z .code) ∙ c))

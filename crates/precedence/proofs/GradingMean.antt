@@ -88,7 +88,7 @@ assoc-stays (a ∷ rest) = go (sameAs precedence (a .id)) refl (assoc-stays rest
     go false e i = ap (λ (x : Option (Option Text)). cond (sameAs assoc (a .id)) (some value) x) i
 
 outcomes : (b c : Bool) (g : GradeRead) (z : Span)
-    → cond b (cond c g (GradeRead.Refused 15)) (GradeRead.Refused 14) ≡ elim (cond b (cond c (yes tt) (no 15 z)) (no 14 z)) [ yes u ↦ g | no q z ↦ GradeRead.Refused q ]
+    → cond b (cond c g (GradeRead.Refused 15)) (GradeRead.Refused 14) ≡ elim (cond b (cond c (yes (tt {0})) (no 15 z)) (no 14 z)) [ yes u ↦ g | no q z ↦ GradeRead.Refused q ]
 outcomes true true g z = refl
 outcomes true false g z = refl
 outcomes false c g z = refl
