@@ -2,30 +2,33 @@
 use mathlib.Core.Path.{_≡_, refl, sym, ap, _∙_}
 use mathlib.Core.Bool.{Bool, true, false, _||_}
 use mathlib.Core.List.{List, [], _∷_, _++_}
-use Prim.Native.Nat.{ℕ, zero, suc, _+_, _*_, _^_, _<_, _≤_}
+use Prim.Native.Nat.{ℕ, suc, _+_, _*_, _^_, _<_, _≤_}
 use native.Mathlib.Omega.{arith}
 use native.Mathlib.Nat.{mul-suc}
-use borrow.Author.Tests.{eq-eqb, ne-eqb}
-use lib.Dec.{eqb, ltb}
+use borrow.Author.Tests.{ne-eqb}
+use lib.Dec.{ltb}
 use lib.ListN.{length, getD, length-append}
 use Rattle.octets.specs.working.Choice.{pick}
 use Rattle.octets.specs.plain.Numbers.{leAt, le}
 use Rattle.octets.specs.plain.Runs.{Lies}
-use Rattle.octets.proofs.LiesLaws.{lies-split, lies-from, lies-inside}
+use Rattle.octets.proofs.LiesLaws.{lies-split, lies-from, lies-inside, le-read}
 use Rattle.octets.proofs.NumbersLaws.{length-le}
-use Rattle.parse_tree.specs.plain.Tree.{Text, Attribute, Alternative, Nonterminal, Source, extern, match, item, terminal, conditions, count}
+use Rattle.parse_tree.specs.plain.Tree.{Text, Condition, Alternative, Nonterminal, Source, extern, match, item, terminal, conditions, count}
 use Rattle.parse_tree.specs.plain.Texts.{number}
 use Rattle.parse_tree.specs.declared.syntax.Span.{Span}
 use Rattle.parse_tree.specs.plain.WriteTape.{bytesOfEach}
 use Rattle.parse_tree.specs.working.Nodes.{nodeBytes, spanBytes}
-use Rattle.parse_tree.specs.working.Encode.{actionCode, actionText, alternativeNode, attributeBytes, conditionBytes, symsBytes, argumentBytes, alternativeBytes, itemBytes, sourceCode}
-use Rattle.parse_tree.specs.working.Within.{Each, AttributeWithin, AlternativeWithin, NonterminalWithin, SpanWithin}
+use Rattle.parse_tree.specs.working.Encode.{actionCode, actionText, alternativeNode, conditionNode, attributeBytes, conditionBytes, symsBytes, argumentBytes, alternativeBytes, itemBytes, sourceCode}
+use Rattle.parse_tree.specs.working.Within.{Each, AlternativeWithin, NonterminalWithin, SpanWithin}
 use Rattle.parse_tree.proofs.FieldLaws.{byte-read, span-read}
 use Rattle.parse_tree.proofs.SpanLaws.{length-span}
 use Rattle.passes.specs.Grades.{precedence, assoc, valueOf, isGiven, startsAnnotated, annotated}
+use Rattle.laws.proofs.Flat.{syms-fit}
 use Rattle.resolve.proofs.GrammarLaws.{Headed, headed, terminal-headed}
 use Rattle.precedence.specs.declared.Ids.{Ids}
-use Rattle.precedence.specs.Annotations.{attributesLong, attributesEnd, firstWith, annotatedAt, HeadInside, firstAlternative, hasPrecAttr}
+use Rattle.precedence.specs.Skip.{skipOut}
+use Rattle.precedence.specs.Annotations.{attributesLong, attributesEnd, firstWith, annotatedAt, HeadInside, firstAlternative, hasPrecAttr, symbolsAt, alternativeEnd}
+use Rattle.precedence.proofs.SkipMean.{skip-means}
 use Rattle.precedence.proofs.AnnotationsMean.{Value, attributes-long, value-means}
 
 -- the numbers of the two texts
@@ -38,6 +41,22 @@ module _ (four : Bool) (wd : ℕ) (ts : List Text) where
     pub many : getD w (p + 9) 0 ≡ length (a .attributes)
     pub lies : Lies w (p + 14 + wd) (bytesOfEach (attributeBytes wd ts) (a .attributes)) (p + 14 + wd + length (bytesOfEach (attributeBytes wd ts) (a .attributes)))
     pub inside : attributesEnd wd w p ≤ length w
+    pub symbols : leAt 2 w (p + 12 + wd) ≡ count (a .symbols)
+    pub place : Lies w (symbolsAt wd w p) (symsBytes wd ts (a .symbols)) (p + length (alternativeBytes wd ts a))
+
+  condition-long : (x : Condition) → length (conditionBytes wd ts x) ≡ 10 + 2 * wd
+  unfolding conditionBytes conditionNode nodeBytes
+  condition-long x = simp (length-append, length-le, length-span) (omega arith)
+
+  conditions-long : (xs : List Condition) → length (bytesOfEach (conditionBytes wd ts) xs) ≡ (10 + 2 * wd) * length xs
+  unfolding bytesOfEach
+  conditions-long [] = omega arith
+  conditions-long (x ∷ xs) =
+      omega (arith, length-append (conditionBytes wd ts x) (bytesOfEach (conditionBytes wd ts) xs), condition-long x, conditions-long xs, mul-suc (10 + 2 * wd) (length xs))
+
+  symbols-place : (w : List ℕ) (p m n : ℕ) → attributesLong wd (getD w (p + 9) 0) ≡ m → (10 + 2 * wd) * getD w (p + 10) 0 ≡ n → symbolsAt wd w p ≡ p + 14 + wd + m + n
+  unfolding symbolsAt
+  symbols-place w p m n e f = cc
 
   pub alternative-read : (w : List ℕ) (p e : ℕ) (a : Alternative) (more : List ℕ) → AlternativeWithin four wd ts a → Lies w p (alternativeBytes wd ts a ++ more) e → AlternativeAt w p a
   unfolding alternativeBytes alternativeNode nodeBytes
@@ -57,7 +76,29 @@ module _ (four : Bool) (wd : ℕ) (ts : List Text) where
       let o = lies-inside w p _ (alternativeBytes wd ts a) (omega arith) (k .0) in
       let m : p + 14 + wd + length xs ≤ length w = omega (arith, o, g .1 .end, k .0 .end) in
       let y : attributesLong wd (getD w (p + 9) 0) ≡ length xs = ap (attributesLong wd) (f .0) ∙ sym (attributes-long four wd ts (a .attributes)) in
-      record { many = f .0; lies = g .0; inside = omega (arith, m, y) }
+      let cs = bytesOfEach (conditionBytes wd ts) (conditions (a .condition)) in
+      let d1 = byte-read w _ (p + 10) (p + 11) (omega arith) (f .1) in
+      let d2 = byte-read w _ (p + 11) (p + 12) (omega arith) (d1 .1) in
+      let d3 = lies-split w (p + 12) _ (le wd x) (le 2 c) (d2 .1) in
+      let z : p + 12 + length (le wd x) ≡ p + 12 + wd = omega (arith, length-le wd x) in
+      let v = lies-split w (p + 14 + wd + length xs) _ cs (symsBytes wd ts (a .symbols)) (g .1) in
+      let u : (10 + 2 * wd) * getD w (p + 10) 0 ≡ length cs = ap (λ (i : ℕ). (10 + 2 * wd) * i) (d1 .0) ∙ sym (conditions-long (conditions (a .condition))) in
+      record {
+        many = f .0;
+        lies = g .0;
+        inside = omega (arith, m, y);
+        symbols = le-read 2 w (p + 12 + wd) c _ (h .fewer) (lies-from z (d3 .1));
+        place = lies-from (sym (symbols-place w p (length xs) (length cs) y u)) (v .1);
+      }
+
+  -- theorem: the place behind it
+  pub end-means : (w : List ℕ) (p e d : ℕ) (a : Alternative) (more : List ℕ) → AlternativeWithin four wd ts a → Lies w p (alternativeBytes wd ts a ++ more) d → p + length (alternativeBytes wd ts a) ≤ e
+      → alternativeEnd wd w p e ≡ p + length (alternativeBytes wd ts a)
+  unfolding alternativeEnd
+  end-means w p e d a more h l i =
+      let r = alternative-read w p d a more h l in
+      ap (skipOut wd e w (symbolsAt wd w p) e) (r .symbols)
+      ∙ skip-means wd ts (a .symbols) (syms-fit wd ts four (a .symbols) 64 (h .symbols)) w (symbolsAt wd w p) (p + length (alternativeBytes wd ts a)) e i (r .place)
 
   -- what the two indices say of it
   pub record Annotations (w : List ℕ) (p : ℕ) (a : Alternative) : Type 0 where
@@ -82,11 +123,10 @@ module _ (four : Bool) (wd : ℕ) (ts : List Text) where
   pub annotated-means : (w : List ℕ) (p : ℕ) (a : Alternative) → Annotations w p a → annotatedAt wd (idsIn ts) w p ≡ (isGiven (valueOf precedence (a .attributes)) || isGiven (valueOf assoc (a .attributes)))
   unfolding annotatedAt
   annotated-means w p a r =
-      let n = length (a .attributes) in
       let i : ltb (firstWith wd (number ts precedence) w (p + 14 + wd) (length (a .attributes))) (length (a .attributes)) ≡ isGiven (valueOf precedence (a .attributes)) =
-        ap (λ (k : ℕ). ltb k (length (a .attributes))) (r .level .index) ∙ r .level .given in
+      ap (λ (k : ℕ). ltb k (length (a .attributes))) (r .level .index) ∙ r .level .given in
       let j : ltb (firstWith wd (number ts assoc) w (p + 14 + wd) (length (a .attributes))) (length (a .attributes)) ≡ isGiven (valueOf assoc (a .attributes)) =
-        ap (λ (k : ℕ). ltb k (length (a .attributes))) (r .side .index) ∙ r .side .given in
+      ap (λ (k : ℕ). ltb k (length (a .attributes))) (r .side .index) ∙ r .side .given in
       rw (r .many, i, j) (pick-or (isGiven (valueOf precedence (a .attributes))) (isGiven (valueOf assoc (a .attributes))))
 
   -- ---- an item

@@ -2,7 +2,7 @@
 use mathlib.Core.Path.{_≡_, refl, sym, ap, _∙_}
 use mathlib.Core.Bool.{Bool, true, false}
 use mathlib.Core.List.{List}
-use Prim.Native.Nat.{ℕ, zero, suc, _+_, _-_, _*_, _^_, _≤_, _<_}
+use Prim.Native.Nat.{ℕ, suc, _+_, _-_, _*_, _^_, _≤_, _<_}
 use native.Mathlib.Omega.{arith}
 use native.Mathlib.Nat.{mul-suc, mul-le-mul-right}
 use borrow.Author.Needs.{needs}
@@ -14,7 +14,8 @@ use lib.ListN.{length, getD}
 use Rattle.octets.specs.working.Choice.{pick}
 use Rattle.octets.specs.plain.Numbers.{leAt}
 use Rattle.precedence.specs.declared.Ids.{Ids}
-use Rattle.precedence.specs.Annotations.{attributesLong, firstWith, Finding, Annotates, attributesEnd, annotatedAt, firstAlternative, hasPrecAttr, HeadInside}
+use Rattle.precedence.specs.Skip.{skipOut}
+use Rattle.precedence.specs.Annotations.{attributesLong, firstWith, Finding, Annotates, attributesEnd, annotatedAt, firstAlternative, hasPrecAttr, HeadInside, symbolsAt, alternativeEnd}
 
 -- ---- the bytes of attributes
 pub long-more : (wd n : ℕ) → attributesLong wd (suc n) ≡ attributesLong wd n + (2 + 3 * wd)
@@ -145,3 +146,37 @@ module _ (wd : ℕ) (w : List ℕ) (at : ℕ) where
       has-first ids r k = k ∙ cc (p, eq-eqb (getD w at 0) 16 e, ne-eqb (leAt 2 w (at + 11 + wd)) 0 (λ z. h (j ∙ z)))
 
 pub ruleset heading = (needs, has-other, has-none, has-fits, has-first)
+
+-- ---- symbols
+module _ (wd n c : ℕ) (h : wd ≤ 3) (k : n < 256) (l : c < 256) where
+  few-attributes : (2 + 3 * wd) * n ≤ 11 * n
+  few-attributes = mul-le-mul-right {m = 2 + 3 * wd} {n = 11} n (omega arith)
+
+  few-conditions : (10 + 2 * wd) * c ≤ 16 * c
+  few-conditions = mul-le-mul-right {m = 10 + 2 * wd} {n = 16} c (omega arith)
+
+  pub symbols-first : Fits w64 ((2 + 3 * wd) * n)
+  symbols-first = omega (arith, few-attributes)
+
+  pub symbols-second : Fits w64 ((10 + 2 * wd) * c)
+  symbols-second = omega (arith, few-conditions)
+
+  module _ (m at : ℕ) (i : m * 1 < 2 ^ 63) (j : at + 16 ≤ m) where
+    pub symbols-behind : Fits w64 (at + 14 + wd + (2 + 3 * wd) * n)
+    symbols-behind = omega (arith, few-attributes)
+
+    pub symbols-all : Fits w64 (at + 14 + wd + (2 + 3 * wd) * n + (10 + 2 * wd) * c)
+    symbols-all = omega (arith, few-attributes, few-conditions)
+
+pub symbols-is : (wd : ℕ) (w : List ℕ) (at x n y c : ℕ) → x ≡ getD w (at + 9) 0 → n ≡ x → y ≡ getD w (at + 10) 0 → c ≡ y → at + 14 + wd + (2 + 3 * wd) * n + (10 + 2 * wd) * c ≡ symbolsAt wd w at
+unfolding symbolsAt attributesLong
+symbols-is wd w at x n y c p q r s = cc
+
+pub ruleset standing = (needs, symbols-first, symbols-second, symbols-behind, symbols-all, symbols-is)
+
+-- ---- alternative_end
+pub end-is : (wd : ℕ) (w : List ℕ) (at e s x n r : ℕ) → s ≡ symbolsAt wd w at → x ≡ leAt 2 w (at + 12 + wd) → n ≡ x → r ≡ skipOut wd e w s e n → r ≡ alternativeEnd wd w at e
+unfolding alternativeEnd
+end-is wd w at e s x n r p q i j = cc
+
+pub ruleset ending = (needs, end-is)

@@ -4,7 +4,7 @@ use mathlib.Core.Path.{_≡_, refl, sym, ap, _∙_}
 use mathlib.Core.Bool.{Bool, true, false, cond}
 use mathlib.Core.List.{List, [], _∷_, _++_}
 use mathlib.Core.Option.{Option, none, some}
-use Prim.Native.Nat.{ℕ, zero, suc, _+_, _*_, _^_, _<_, _≤_}
+use Prim.Native.Nat.{ℕ, suc, _+_, _*_, _<_, _≤_}
 use native.Mathlib.Omega.{arith}
 use borrow.Author.Tests.{lt-ltb, le-ltb, ltb-true, ltb-false}
 use lib.Dec.{eqb, ltb}
@@ -142,7 +142,7 @@ module _ (four : Bool) (wd : ℕ) (ts : List Text) where
       go true z o t v =
           let i : positionOf id (a ∷ rest) ≡ 0 = ap (λ (x : Bool). cond x 0 (suc (positionOf id rest))) z in
           let y : valueOf id (a ∷ rest) ≡ some (elim (a .argument) [ none ↦ none | some kv ↦ some (kv .1) ]) =
-            ap (λ (x : Bool). cond x (some (elim (a .argument) [ none ↦ none | some kv ↦ some (kv .1) ])) (valueOf id rest)) z in
+          ap (λ (x : Bool). cond x (some (elim (a .argument) [ none ↦ none | some kv ↦ some (kv .1) ])) (valueOf id rest)) z in
           let p : at + attributesLong wd (positionOf id (a ∷ rest)) ≡ at = omega (arith, ap (attributesLong wd) i, long-none wd) in
           record {
             index = one-there w at (number ts id) (length rest) true (t ∙ z) ∙ sym i;
@@ -153,9 +153,9 @@ module _ (four : Bool) (wd : ℕ) (ts : List Text) where
       go false z o t v =
           let i : positionOf id (a ∷ rest) ≡ suc (positionOf id rest) = ap (λ (x : Bool). cond x 0 (suc (positionOf id rest))) z in
           let y : valueOf id (a ∷ rest) ≡ valueOf id rest =
-            ap (λ (x : Bool). cond x (some (elim (a .argument) [ none ↦ none | some kv ↦ some (kv .1) ])) (valueOf id rest)) z in
+          ap (λ (x : Bool). cond x (some (elim (a .argument) [ none ↦ none | some kv ↦ some (kv .1) ])) (valueOf id rest)) z in
           let p : at + attributesLong wd (positionOf id (a ∷ rest)) ≡ at + (2 + 3 * wd) + attributesLong wd (positionOf id rest) =
-            omega (arith, ap (attributesLong wd) i, long-more wd (positionOf id rest)) in
+          omega (arith, ap (attributesLong wd) i, long-more wd (positionOf id rest)) in
           record {
             index = one-there w at (number ts id) (length rest) false (t ∙ z) ∙ ap suc (v .index) ∙ sym i;
             given = ap (λ (k : ℕ). ltb k (suc (length rest))) i ∙ ltb-suc (positionOf id rest) (length rest) ∙ v .given ∙ sym (ap isGiven y);

@@ -1,14 +1,13 @@
 -- Reading level and side: the ways out of the code. Assumes nothing.
-use mathlib.Core.Path.{_≡_, refl, sym, ap, _∙_}
-use mathlib.Core.List.{List, [], _∷_}
-use Prim.Native.Nat.{ℕ, zero, suc, _+_, _-_, _*_, _^_, _≤_, _<_}
+use mathlib.Core.Path.{_≡_, refl, sym, _∙_}
+use mathlib.Core.List.{List, []}
+use Prim.Native.Nat.{ℕ, suc, _+_, _*_, _^_, _≤_, _<_}
 use native.Mathlib.Omega.{arith}
 use native.Mathlib.Nat.{mul-le-mul-right, mul-le-mul-left}
 use borrow.Author.Needs.{needs}
-use borrow.Author.Tests.{lt-ltb, le-ltb, eq-eqb, ne-eqb}
+use borrow.Author.Tests.{lt-ltb, le-ltb, ne-eqb}
 use mir.Val.{Fits}
 use mir.Syntax.{w64}
-use lib.Dec.{eqb}
 use lib.ListN.{length, getD, List·getD-eq-default}
 use Rattle.octets.specs.working.Choice.{pick}
 use Rattle.octets.specs.plain.Numbers.{leAt}
@@ -21,7 +20,7 @@ use Rattle.precedence.specs.declared.AssocRead.{AssocRead}
 use Rattle.precedence.specs.declared.LevelRead.{LevelRead}
 use Rattle.precedence.specs.declared.GradeRead.{GradeRead}
 use Rattle.precedence.specs.declared.Ids.{Ids}
-use Rattle.precedence.specs.Annotations.{attributesLong, firstWith, Annotates, valueText}
+use Rattle.precedence.specs.Annotations.{attributesLong, Annotates, valueText}
 use Rattle.precedence.specs.Grade.{levelSaid, assocSaid, ReadsLevel}
 use Rattle.precedence.specs.Grading.{sideSaid, sidedAt, levelThen, gradedBy, gradedAt, ReadsGrade}
 use Rattle.precedence.proofs.AnnotationsCode.{long-more, end-whole}

@@ -3,26 +3,24 @@ use mathlib.Core.Path.{_≡_, refl, sym, ap, _∙_}
 use mathlib.Core.Bool.{Bool, true, false, cond}
 use mathlib.Core.List.{List, [], _∷_, _++_}
 use mathlib.Core.Option.{Option, none, some}
-use Prim.Native.Nat.{ℕ, _+_, _<_}
-use native.Mathlib.Omega.{arith}
+use Prim.Native.Nat.{ℕ, _+_}
 use borrow.Author.Tests.{ltb-true}
 use lib.Dec.{ltb}
-use lib.ListN.{length, getD}
+use lib.ListN.{length}
 use Rattle.octets.specs.working.Choice.{pick}
 use Rattle.octets.specs.plain.Runs.{Lies, sameAs}
 use Rattle.octets.proofs.SameLaws.{sameAs-eq}
 use Rattle.parse_tree.specs.plain.Tree.{Text, Attribute, Alternative}
-use Rattle.parse_tree.specs.plain.Texts.{number}
 use Rattle.parse_tree.specs.declared.syntax.Span.{Span}
 use Rattle.parse_tree.specs.working.Encode.{alternativeBytes}
 use Rattle.parse_tree.specs.working.Within.{AlternativeWithin}
-use Rattle.passes.specs.Outcome.{Outcome, yes, no}
+use Rattle.passes.specs.Outcome.{yes, no}
 use Rattle.passes.specs.Grades.{Side, all, precedence, assoc, valueOf, isGiven, levelIn, sideIn, levelOf, sideOf, withoutFirst, withLevels, withSides, Graded}
 use Rattle.passes.specs.Levels.{isReadable, checkAttributes}
 use Rattle.precedence.specs.declared.Assoc.{Assoc}
 use Rattle.precedence.specs.declared.LevelRead.{LevelRead}
 use Rattle.precedence.specs.declared.GradeRead.{GradeRead}
-use Rattle.precedence.specs.Annotations.{attributesLong, firstWith, valueText}
+use Rattle.precedence.specs.Annotations.{attributesLong, valueText}
 use Rattle.precedence.specs.Grade.{assocOf, levelAnswer, assocAnswer, levelSaid, assocSaid}
 use Rattle.precedence.specs.Grading.{sideSaid, sidedAt, levelThen, gradedBy, gradedAt}
 use Rattle.precedence.proofs.AnnotationsMean.{positionOf, textGiven, Value}
@@ -95,12 +93,10 @@ outcomes false c g z = refl
 
 says-is : (l : ℕ) (s : Side) (a : Alternative) → gradeOn (valueOf precedence (a .attributes)) (valueOf assoc (a .attributes)) l s ≡ gradeSays l s a
 says-is l s a =
-    let vp = valueOf precedence (a .attributes) in
-    let va = valueOf assoc (a .attributes) in
     ap (λ (v : Option (Option Text)). cond (isReadable (valueOf precedence (a .attributes)) (λ t. isGiven (levelIn t)))
-      (cond (isReadable (valueOf assoc (a .attributes)) (λ t. isGiven (sideIn t)))
-      (GradeRead.Is (levelOf l (valueOf precedence (a .attributes))) (assocOf (sideOf (cond (isGiven (valueOf precedence (a .attributes))) all s) v))) (GradeRead.Refused 15))
-      (GradeRead.Refused 14)) (sym (assoc-stays (a .attributes)))
+    (cond (isReadable (valueOf assoc (a .attributes)) (λ t. isGiven (sideIn t)))
+    (GradeRead.Is (levelOf l (valueOf precedence (a .attributes))) (assocOf (sideOf (cond (isGiven (valueOf precedence (a .attributes))) all s) v))) (GradeRead.Refused 15))
+    (GradeRead.Refused 14)) (sym (assoc-stays (a .attributes)))
     ∙ outcomes (isReadable (valueOf precedence (a .attributes)) (λ t. isGiven (levelIn t))) (isReadable (valueOf assoc (a .attributes)) (λ t. isGiven (sideIn t))) _ (a .span)
 
 -- ---- on the bytes
@@ -131,7 +127,7 @@ module _ (four : Bool) (wd : ℕ) (ts : List Text) (w : List ℕ) (at : ℕ) (xs
   graded-by u v l c =
       given-text (λ (t : Text). levelThen (sidedAt wd ts w at (length xs) (positionOf assoc xs)) (levelSaid t)) (sidedAt wd ts w at (length xs) (positionOf assoc xs) l c) precedence u
       ∙ ap (λ (x : GradeRead). pick (isGiven (valueOf precedence xs)) x (sidedAt wd ts w at (length xs) (positionOf assoc xs) l c))
-        (then-same (sidedAt wd ts w at (length xs) (positionOf assoc xs)) (sidedOn (valueOf assoc xs)) (sided-at v) (levelSaid (textGiven (valueOf precedence xs))))
+      (then-same (sidedAt wd ts w at (length xs) (positionOf assoc xs)) (sidedOn (valueOf assoc xs)) (sided-at v) (levelSaid (textGiven (valueOf precedence xs))))
       ∙ ap (pick (isGiven (valueOf precedence xs)) (levelThen (sidedOn (valueOf assoc xs)) (levelSaid (textGiven (valueOf precedence xs))))) (sided-at v l c)
 
 module _ (four : Bool) (wd : ℕ) (ts : List Text) where

@@ -10,6 +10,7 @@ use Rattle.octets.specs.working.Choice.{pick}
 use Rattle.octets.specs.plain.Numbers.{leAt}
 use Rattle.parse_tree.specs.plain.Tree.{Text}
 use Rattle.precedence.specs.declared.Ids.{Ids}
+use Rattle.precedence.specs.Skip.{skipOut}
 
 -- the bytes of n attributes
 unfoldable pub attributesLong : ℕ → ℕ → ℕ
@@ -56,3 +57,11 @@ hasPrecAttr wd ids w at = pick (eqb (getD w at 0) 16) (pick (eqb (leAt 2 w (at +
 pub record HeadInside (wd : ℕ) (w : List ℕ) (at : ℕ) : Type 0 where
   pub head : at + 16 ≤ length w
   pub first : getD w at 0 ≡ 16 → (leAt 2 w (at + 11 + wd) ≡ 0 → ⊥) → attributesEnd wd w (firstAlternative wd w at) ≤ length w
+
+-- where the symbols of the alternative at a place stand: behind its attributes and conditions
+unfoldable pub symbolsAt : ℕ → List ℕ → ℕ → ℕ
+symbolsAt wd w at = at + 14 + wd + attributesLong wd (getD w (at + 9) 0) + (10 + 2 * wd) * getD w (at + 10) 0
+
+-- the place behind it, before e
+unfoldable pub alternativeEnd : ℕ → List ℕ → ℕ → ℕ → ℕ
+alternativeEnd wd w at e = skipOut wd e w (symbolsAt wd w at) e (leAt 2 w (at + 12 + wd))

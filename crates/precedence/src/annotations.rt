@@ -1,13 +1,15 @@
 // The attributes `precedence` and `assoc` of alternatives that stand in work.
 use crate::Ids;
+use crate::skip::skip;
 use octets::numbers::atom_at;
 use octets::numbers::u16_at;
 use octets::wide::from8;
+use octets::wide::from16;
 use octets::wide::from32;
 ghost use mathlib.Core.Path.{_≡_};
-ghost use Prim.Native.Nat.{_+_, _≤_};
+ghost use Prim.Native.Nat.{_+_, _≤_, _<_};
 ghost use lib.ListN.{length};
-ghost use Rattle.precedence.specs.Annotations.{attributesLong, Finding, Annotates, attributesEnd, annotatedAt, firstAlternative, HeadInside, hasPrecAttr};
+ghost use Rattle.precedence.specs.Annotations.{attributesLong, Finding, Annotates, attributesEnd, annotatedAt, firstAlternative, HeadInside, hasPrecAttr, symbolsAt, alternativeEnd};
 
 // The index of the first attribute of an id among the n that stand from a place on; n where there is none.
 fn position(work: &[u8], at: usize, n: usize, width: usize, id: usize) -> usize
@@ -76,4 +78,23 @@ pub fn has_prec_attr(work: &[u8], at: usize, width: usize, ids: Ids) -> bool
         return annotated(work, a, width, ids);
     }
     false
+}
+
+// Where the symbols of the alternative at a place stand: behind its attributes and conditions.
+fn symbols(work: &[u8], at: usize, width: usize) -> usize
+    requires { ⌜ (2 ≤ width) × (width ≤ 3) × (at + 16 ≤ length (now work)) ⌝ }
+    ensures { λ r. ⌜ r ≡ symbolsAt width (now (work .entry)) at ⌝ }
+{
+    let n = from8(work[at + 9]);
+    let c = from8(work[at + 10]);
+    at + 14 + width + (2 + 3 * width) * n + (10 + 2 * width) * c
+}
+
+// The place behind the alternative at a place, which ends before e.
+pub fn alternative_end(work: &[u8], at: usize, e: usize, width: usize) -> usize
+    requires { ⌜ (2 ≤ width) × (width ≤ 3) × (at < e) × (e + 16 ≤ length (now work)) ⌝ }
+    ensures { λ r. ⌜ r ≡ alternativeEnd width (now (work .entry)) at e ⌝ }
+{
+    let s = symbols(work, at, width);
+    skip(work, s, e, from16(u16_at(work, at + 12 + width)), width)
 }
