@@ -15,7 +15,7 @@ use Rattle.octets.specs.working.Choice.{pick}
 use Rattle.octets.specs.plain.Numbers.{leAt}
 use Rattle.precedence.specs.declared.Ids.{Ids}
 use Rattle.precedence.specs.Skip.{skipOut}
-use Rattle.precedence.specs.Annotations.{attributesLong, firstWith, Finding, Annotates, attributesEnd, annotatedAt, firstAlternative, hasPrecAttr, HeadInside, symbolsAt, alternativeEnd}
+use Rattle.precedence.specs.Annotations.{attributesLong, firstWith, Finding, Annotates, attributesEnd, annotatedAt, firstAlternative, hasPrecAttr, HeadInside, symbolsFrom, symbolsAt, alternativeEnd}
 
 -- ---- the bytes of attributes
 pub long-more : (wd n : ℕ) → attributesLong wd (suc n) ≡ attributesLong wd n + (2 + 3 * wd)
@@ -147,7 +147,7 @@ module _ (wd : ℕ) (w : List ℕ) (at : ℕ) where
 
 pub ruleset heading = (needs, has-other, has-none, has-fits, has-first)
 
--- ---- symbols
+-- ---- before_symbols
 module _ (wd n c : ℕ) (h : wd ≤ 3) (k : n < 256) (l : c < 256) where
   few-attributes : (2 + 3 * wd) * n ≤ 11 * n
   few-attributes = mul-le-mul-right {m = 2 + 3 * wd} {n = 11} n (omega arith)
@@ -155,24 +155,33 @@ module _ (wd n c : ℕ) (h : wd ≤ 3) (k : n < 256) (l : c < 256) where
   few-conditions : (10 + 2 * wd) * c ≤ 16 * c
   few-conditions = mul-le-mul-right {m = 10 + 2 * wd} {n = 16} c (omega arith)
 
-  pub symbols-first : Fits w64 ((2 + 3 * wd) * n)
-  symbols-first = omega (arith, few-attributes)
+  pub before-first : Fits w64 ((2 + 3 * wd) * n)
+  before-first = omega (arith, few-attributes)
 
-  pub symbols-second : Fits w64 ((10 + 2 * wd) * c)
-  symbols-second = omega (arith, few-conditions)
+  pub before-second : Fits w64 ((10 + 2 * wd) * c)
+  before-second = omega (arith, few-conditions)
 
-  module _ (m at : ℕ) (i : m * 1 < 2 ^ 63) (j : at + 16 ≤ m) where
-    pub symbols-behind : Fits w64 (at + 14 + wd + (2 + 3 * wd) * n)
-    symbols-behind = omega (arith, few-attributes)
+  pub before-conditions : Fits w64 (14 + wd + (2 + 3 * wd) * n)
+  before-conditions = omega (arith, few-attributes)
 
-    pub symbols-all : Fits w64 (at + 14 + wd + (2 + 3 * wd) * n + (10 + 2 * wd) * c)
-    symbols-all = omega (arith, few-attributes, few-conditions)
+  pub before-fits : Fits w64 (14 + wd + (2 + 3 * wd) * n + (10 + 2 * wd) * c)
+  before-fits = omega (arith, few-attributes, few-conditions)
 
-pub symbols-is : (wd : ℕ) (w : List ℕ) (at x n y c : ℕ) → x ≡ getD w (at + 9) 0 → n ≡ x → y ≡ getD w (at + 10) 0 → c ≡ y → at + 14 + wd + (2 + 3 * wd) * n + (10 + 2 * wd) * c ≡ symbolsAt wd w at
-unfolding symbolsAt attributesLong
-symbols-is wd w at x n y c p q r s = cc
+  pub before-few : 14 + wd + (2 + 3 * wd) * n + (10 + 2 * wd) * c < 8192
+  before-few = omega (arith, few-attributes, few-conditions)
 
-pub ruleset standing = (needs, symbols-first, symbols-second, symbols-behind, symbols-all, symbols-is)
+pub before-is : (wd n c : ℕ) → 14 + wd + (2 + 3 * wd) * n + (10 + 2 * wd) * c ≡ symbolsFrom wd n c
+unfolding symbolsFrom attributesLong
+before-is wd n c = refl
+
+pub ruleset standing = (needs, before-first, before-second, before-conditions, before-fits, before-few, before-is)
+
+-- ---- symbols
+pub symbols-is : (wd : ℕ) (w : List ℕ) (at n c r : ℕ) → r ≡ symbolsFrom wd n c → n ≡ getD w (at + 9) 0 → c ≡ getD w (at + 10) 0 → at + r ≡ symbolsAt wd w at
+unfolding symbolsAt
+symbols-is wd w at n c r e p q = cc
+
+pub ruleset symboling = (needs, symbols-is)
 
 -- ---- alternative_end
 pub end-is : (wd : ℕ) (w : List ℕ) (at e s x n r : ℕ) → s ≡ symbolsAt wd w at → x ≡ leAt 2 w (at + 12 + wd) → n ≡ x → r ≡ skipOut wd e w s e n → r ≡ alternativeEnd wd w at e

@@ -58,9 +58,13 @@ pub record HeadInside (wd : ℕ) (w : List ℕ) (at : ℕ) : Type 0 where
   pub head : at + 16 ≤ length w
   pub first : getD w at 0 ≡ 16 → (leAt 2 w (at + 11 + wd) ≡ 0 → ⊥) → attributesEnd wd w (firstAlternative wd w at) ≤ length w
 
--- where the symbols of the alternative at a place stand: behind its attributes and conditions
+-- how many bytes of an alternative stand before its symbols, of so many attributes and conditions
+unfoldable pub symbolsFrom : ℕ → ℕ → ℕ → ℕ
+symbolsFrom wd n c = 14 + wd + attributesLong wd n + (10 + 2 * wd) * c
+
+-- where the symbols of the alternative at a place stand
 unfoldable pub symbolsAt : ℕ → List ℕ → ℕ → ℕ
-symbolsAt wd w at = at + 14 + wd + attributesLong wd (getD w (at + 9) 0) + (10 + 2 * wd) * getD w (at + 10) 0
+symbolsAt wd w at = at + symbolsFrom wd (getD w (at + 9) 0) (getD w (at + 10) 0)
 
 -- the place behind it, before e
 unfoldable pub alternativeEnd : ℕ → List ℕ → ℕ → ℕ → ℕ
