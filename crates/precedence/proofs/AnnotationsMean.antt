@@ -4,7 +4,7 @@ use mathlib.Core.Path.{_≡_, refl, sym, ap, _∙_}
 use mathlib.Core.Bool.{Bool, true, false, cond}
 use mathlib.Core.List.{List, [], _∷_, _++_}
 use mathlib.Core.Option.{Option, none, some}
-use Prim.Native.Nat.{ℕ, suc, _+_, _*_, _<_, _≤_}
+use Prim.Native.Nat.{ℕ, suc, _+_, _*_, _<_}
 use native.Mathlib.Omega.{arith}
 use borrow.Author.Tests.{lt-ltb, le-ltb, ltb-true, ltb-false}
 use lib.Dec.{eqb, ltb}
@@ -109,7 +109,6 @@ module _ (four : Bool) (wd : ℕ) (ts : List Text) where
     pub index : firstWith wd (number ts id) w at (length xs) ≡ positionOf id xs
     pub given : ltb (positionOf id xs) (length xs) ≡ isGiven (valueOf id xs)
     pub text : positionOf id xs < length xs → valueText wd ts w (at + attributesLong wd (positionOf id xs)) ≡ textGiven (valueOf id xs)
-    pub upto : positionOf id xs ≤ length xs
 
   none-there : (w : List ℕ) (p : ℕ) (id : Text) → firstWith wd (number ts id) w p 0 ≡ 0
   unfolding firstWith
@@ -130,7 +129,7 @@ module _ (four : Bool) (wd : ℕ) (ts : List Text) where
   -- theorem: the index is the position, and the value there is the one that is taken
   pub value-means : (w : List ℕ) (at e : ℕ) (id : Text) (xs : List Attribute) → Each (AttributeWithin four wd ts) xs → Lies w at (bytesOfEach (attributeBytes wd ts) xs) e → Value w at id xs
   unfolding bytesOfEach
-  value-means w at e id [] h l = record { index = none-there w at id; given = refl; text = λ k. absurd (omega arith); upto = omega arith }
+  value-means w at e id [] h l = record { index = none-there w at id; given = refl; text = λ k. absurd (omega arith) }
   value-means w at e id (a ∷ rest) h l =
       let s = lies-split w at e (attributeBytes wd ts a) (bytesOfEach (attributeBytes wd ts) rest) l in
       let q : at + length (attributeBytes wd ts a) ≡ at + (2 + 3 * wd) = ap (λ (k : ℕ). at + k) (attribute-long a) in
@@ -148,7 +147,6 @@ module _ (four : Bool) (wd : ℕ) (ts : List Text) where
             index = one-there w at (number ts id) (length rest) true (t ∙ z) ∙ sym i;
             given = ap (λ (k : ℕ). ltb k (suc (length rest))) i ∙ lt-ltb 0 (suc (length rest)) (omega arith) ∙ sym (ap isGiven y);
             text = λ k. ap (valueText wd ts w) p ∙ o .text ∙ value-in a ∙ sym (ap textGiven y);
-            upto = omega (arith, i);
           }
       go false z o t v =
           let i : positionOf id (a ∷ rest) ≡ suc (positionOf id rest) = ap (λ (x : Bool). cond x 0 (suc (positionOf id rest))) z in
@@ -160,5 +158,4 @@ module _ (four : Bool) (wd : ℕ) (ts : List Text) where
             index = one-there w at (number ts id) (length rest) false (t ∙ z) ∙ ap suc (v .index) ∙ sym i;
             given = ap (λ (k : ℕ). ltb k (suc (length rest))) i ∙ ltb-suc (positionOf id rest) (length rest) ∙ v .given ∙ sym (ap isGiven y);
             text = λ k. ap (valueText wd ts w) p ∙ v .text (omega (arith, i)) ∙ sym (ap textGiven y);
-            upto = omega (arith, i, v .upto);
           }
