@@ -61,9 +61,6 @@ module _ (wd id : ℕ) (w : List ℕ) (at n size p i : ℕ) (g : Looking wd id w
     pub look-fits : p + 1 + wd ≤ length w
     look-fits = omega (arith, long-next, g .room)
 
-    pub look-size : p + size ≤ length w
-    look-size = omega (arith, long-next, g .room, g .long)
-
     opened : firstWith wd id w p (g .left) ≡ firstWith wd id w p (suc next)
     opened = ap (firstWith wd id w p) one
 
@@ -92,7 +89,7 @@ module _ (wd id : ℕ) (w : List ℕ) (at n size p i : ℕ) (g : Looking wd id w
             rest = omega (arith, later e, opened, g .rest, ap (λ (y : ℕ). firstWith wd id w y next) z);
           }
 
-pub ruleset looking = (needs, look-start, look-done, look-fits, look-size, look-found, look-next)
+pub ruleset looking = (needs, look-start, look-done, look-fits, look-found, look-next)
 
 -- ---- annotated
 pub end-whole : (wd : ℕ) (w : List ℕ) (at x n : ℕ) → attributesEnd wd w at ≤ length w → x ≡ getD w (at + 9) 0 → n ≡ x → at + 14 + wd + attributesLong wd n ≤ length w
