@@ -1,5 +1,10 @@
 -- What the proofs of several functions use: NameCode of code, NameLaws of lists, NameMean of what the definitions that follow the code mean.
+mod AnnotationsCode
+mod AnnotationsMean
 mod GradeCode
+mod GradingCode
+mod AlternativesMean
+mod GradingMean
 mod DecimalLaws
 mod DecimalCode
 mod SortLaws

@@ -1,5 +1,7 @@
 -- What the contracts of precedence cite. They follow the code on the list of bytes that work is; what they mean on trees is proved in proofs/*Mean.antt.
+pub mod Annotations
 pub mod Grade
+pub mod Grading
 pub mod Skip
 pub mod Sort
 pub mod Substitute

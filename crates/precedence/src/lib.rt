@@ -1,5 +1,7 @@
 // Precedence levels: questions 14 to 16. Touches nothing but the slices that it is handed.
+pub mod annotations;
 pub mod grade;
+pub mod grading;
 pub mod skip;
 pub mod sort;
 pub mod substitute;
@@ -22,4 +24,16 @@ pub enum LevelRead {
 pub enum AssocRead {
     Is(Assoc),
     Nothing,
+}
+
+// The numbers of the texts `precedence` and `assoc`, or the indices of the first attributes of these ids.
+pub struct Ids {
+    pub precedence: usize,
+    pub assoc: usize,
+}
+
+// The level and the side of an alternative, or the question that its attributes fail.
+pub enum GradeRead {
+    Is(usize, Assoc),
+    Refused(u32),
 }

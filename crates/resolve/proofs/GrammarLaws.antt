@@ -125,6 +125,7 @@ pub record Headed (w : List ℕ) (wd : ℕ) (ts : List Text) (at : ℕ) (d : Non
   pub span : spanIn w (at + 1) ≡ d .span
   pub name : leAt wd w (at + 9) ≡ number ts (d .name)
   pub args : getD w (at + 10 + wd) 0 ≡ length (d .args)
+  pub many : leAt 2 w (at + 11 + wd) ≡ length (d .alternatives)
   pub front : Lies w at (nodeBytes wd (nonterminalNode ts d) ++ bytesOfEach (argumentBytes wd ts) (d .args)) (at + 13 + wd + length (bytesOfEach (argumentBytes wd ts) (d .args)))
   pub arguments : Lies w (at + 13 + wd) (bytesOfEach (argumentBytes wd ts) (d .args)) (at + 13 + wd + length (bytesOfEach (argumentBytes wd ts) (d .args)))
   pub alternatives : Lies w (at + 13 + wd + length (bytesOfEach (argumentBytes wd ts) (d .args))) (bytesOfEach (alternativeBytes wd ts) (d .alternatives)) e
@@ -143,6 +144,7 @@ module _ (four : Bool) (w : List ℕ) (wd : ℕ) (ts : List Text) where
       let b = lies-first w (at + 9 + wd) fs (length (d .args) ∷ le 2 (length (d .alternatives))) (at + length n) (a .rest) in
       let c = lies-first w (at + 9 + wd + 1) (length (d .args)) (le 2 (length (d .alternatives))) (at + length n) (b .2) in
       let x : at + 9 + wd + 1 ≡ at + 10 + wd = omega arith in
+      let z : at + 9 + wd + 1 + 1 ≡ at + 11 + wd = omega arith in
       let y : at + length n ≡ at + 13 + wd = omega (arith, c .2 .end, length-le 2 (length (d .alternatives))) in
       let m = lies-split w (at + length n) e ps bs (s .1) in
       let q : at + length n + length ps ≡ at + 13 + wd + length ps = omega arith in
@@ -151,6 +153,7 @@ module _ (four : Bool) (w : List ℕ) (wd : ℕ) (ts : List Text) where
         span = a .span;
         name = a .name;
         args = ap (λ (i : ℕ). getD w i 0) (sym x) ∙ c .1;
+        many = ap (leAt 2 w) (sym z) ∙ le-read 2 w (at + 9 + wd + 1 + 1) (length (d .alternatives)) (at + length n) (h .fewer) (c .2);
         front = lies-append (s .0) (lies-to q (m .0));
         arguments = rw (← y) (m .0);
         alternatives = rw (← y) (m .1);

@@ -5,7 +5,7 @@ pub mod CommandsCode
 mod ItemsCode
 mod GlobalsCode
 pub mod CellsLaws
-mod GrammarLaws
+pub mod GrammarLaws
 mod GlobalsTable
 mod GlobalsMean
 mod ArgumentsMean
