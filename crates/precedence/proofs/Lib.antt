@@ -8,6 +8,8 @@ mod SortRunsCode
 mod SortMean
 mod SortWholeCode
 mod SortGroupCode
+mod WriteLaws
+mod WriteCode
 mod SkipCode
 mod SubstituteCode
 mod CodesMean

@@ -3,3 +3,4 @@ pub mod Grade
 pub mod Skip
 pub mod Sort
 pub mod Substitute
+pub mod Write

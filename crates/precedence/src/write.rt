@@ -1,0 +1,136 @@
+// An alternative of one level, written behind what is written so far. What does not fit before lim is not written, and the cursor stops at lim + 1.
+use crate::substitute::put_atom;
+use octets::numbers::store16;
+use octets::numbers::store64;
+use octets::numbers::u64_at;
+ghost use mathlib.Core.Path.{_≡_};
+ghost use mathlib.Core.List.{_∷_, _++_};
+ghost use Prim.Native.Nat.{_+_, _-_, _*_, _≤_};
+ghost use lib.ListN.{length};
+ghost use Rattle.octets.specs.plain.Numbers.{leAt, le};
+ghost use Rattle.octets.specs.plain.Runs.{part};
+ghost use Rattle.octets.specs.working.Stores.{store};
+ghost use Rattle.precedence.specs.Write.{Puts, keptOne, keptBytes, fallBytes};
+
+// The bytes from a up to e, to a place behind them.
+fn copy_within(work: &mut [u8], a: usize, e: usize, to: usize)
+    requires { ⌜ (a ≤ e) × (e ≤ to) × (to + (e - a) ≤ length (now work)) ⌝ }
+    ensures { λ _. ⌜ now (work .exit) ≡ store (now (work .entry)) to (part a e (now (work .entry))) ⌝ }
+{
+    let mut i = a;
+    let mut q = to;
+    while i < e {
+        work[q] = work[i];
+        i += 1;
+        q += 1;
+    }
+}
+
+// The bytes from a up to e, if they end at lim or before.
+pub fn put_run(work: &mut [u8], a: usize, e: usize, lim: usize, to: usize) -> usize
+    requires { ⌜ (a ≤ e) × (e ≤ to) × (lim + 16 ≤ length (now work)) ⌝ }
+    ensures { λ r. ⌜ Puts (now (work .entry)) lim to (part a e (now (work .entry))) r (now (work .exit)) ⌝ }
+{
+    if lim < to {
+        return lim + 1;
+    }
+    if lim - to < e - a {
+        return lim + 1;
+    }
+    copy_within(work, a, e, to);
+    to + (e - a)
+}
+
+// The k-th attribute, from a up to e, unless k is i or j.
+fn put_attribute(
+    work: &mut [u8],
+    a: usize,
+    e: usize,
+    k: usize,
+    i: usize,
+    j: usize,
+    lim: usize,
+    to: usize,
+) -> usize
+    requires { ⌜ (a ≤ e) × (e ≤ to) × (to ≤ lim + 1) × (lim + 16 ≤ length (now work)) ⌝ }
+    ensures { λ r. ⌜ Puts (now (work .entry)) lim to (keptOne (now (work .entry)) a e k i j) r (now (work .exit)) ⌝ }
+{
+    if k == i {
+        return to;
+    }
+    if k == j {
+        return to;
+    }
+    put_run(work, a, e, lim, to)
+}
+
+// n attributes but those of the indices i and j; n where there is none.
+pub fn put_attributes(
+    work: &mut [u8],
+    at: usize,
+    n: usize,
+    i: usize,
+    j: usize,
+    width: usize,
+    lim: usize,
+    to: usize,
+) -> usize
+    requires { ⌜ (2 ≤ width) × (width ≤ 3) × (at + n * (2 + 3 * width) ≤ to) × (to ≤ lim + 1) × (lim + 16 ≤ length (now work)) ⌝ }
+    ensures { λ r. ⌜ Puts (now (work .entry)) lim to (keptBytes width (now (work .entry)) at n 0 i j) r (now (work .exit)) ⌝ }
+{
+    let long = 2 + 3 * width;
+    let mut a = at;
+    let mut k = 0;
+    let mut q = to;
+    while k < n {
+        q = put_attribute(work, a, a + long, k, i, j, lim, q);
+        a += long;
+        k += 1;
+    }
+    q
+}
+
+// A code and a span.
+fn put_command(work: &mut [u8], code: u8, span: u64, to: usize)
+    requires { ⌜ to + 9 ≤ length (now work) ⌝ }
+    ensures { λ _. ⌜ now (work .exit) ≡ store (now (work .entry)) to (code ∷ le 8 span) ⌝ }
+{
+    work[to] = code;
+    store64(work, to + 1, span);
+}
+
+// The alternative of one symbol.
+fn put_single(work: &mut [u8], span: u64, below: u32, width: usize, to: usize)
+    requires { ⌜ (2 ≤ width) × (width ≤ 3) × (to + (23 + 2 * width) ≤ length (now work)) ⌝ }
+    ensures { λ _. ⌜ now (work .exit) ≡ store (now (work .entry)) to (fallBytes width span below) ⌝ }
+{
+    put_command(work, 18, span, to);
+    put_atom(work, to + 9, 3, 0);
+    put_atom(work, to + 12, width, 0);
+    store16(work, to + 12 + width, 1);
+    put_command(work, 36, span, to + 14 + width);
+    put_atom(work, to + 23 + width, width, below);
+}
+
+// The nonterminal `below` as an alternative, with the span of the nonterminal at p.
+pub fn fall_through(
+    work: &mut [u8],
+    p: usize,
+    below: u32,
+    width: usize,
+    lim: usize,
+    to: usize,
+) -> usize
+    requires { ⌜ (2 ≤ width) × (width ≤ 3) × (p + 9 ≤ length (now work)) × (lim + 16 ≤ length (now work)) ⌝ }
+    ensures { λ r. ⌜ Puts (now (work .entry)) lim to (fallBytes width (leAt 8 (now (work .entry)) (p + 1)) below) r (now (work .exit)) ⌝ }
+{
+    if lim < to {
+        return lim + 1;
+    }
+    if lim - to < 23 + 2 * width {
+        return lim + 1;
+    }
+    let span = u64_at(work, p + 1);
+    put_single(work, span, below, width, to);
+    to + (23 + 2 * width)
+}
