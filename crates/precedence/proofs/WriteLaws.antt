@@ -77,11 +77,13 @@ module _ (w w1 : List ℕ) (lim to : ℕ) (xs : List ℕ) (r : ℕ) (p : Puts w 
         | inl a ↦ q .over (omega (arith, length-append xs ys, p .after a))
         | inr a ↦ q .over (omega (arith, p .over a))
       ]
+
       beside : Puts w1 lim r ys r2 w2 → (i : ℕ) → (i < r) ⊎ (lim ≤ i) → getD w2 i 0 ≡ getD w1 i 0
       beside z i h = elim (fits-or-not (r + length ys) lim) [
         | inl a ↦ ap (λ (s : List ℕ). getD s i 0) (z .whole a) ∙ store-beside w1 r ys lim i a h
         | inr a ↦ z .others a i h
       ]
+
       behind : (i : ℕ) → (i < to) ⊎ (lim ≤ i) → r ≤ i → lim ≤ i
       behind i (inr k) h = k
       behind i (inl k) h = elim (fits-or-not (to + length xs) lim) [

@@ -27,6 +27,10 @@ unfoldable pub keptBytes : ℕ → List ℕ → ℕ → ℕ → ℕ → ℕ → 
 keptBytes wd w a zero k i j = []
 keptBytes wd w a (suc n) k i j = keptOne w a (a + (2 + 3 * wd)) k i j ++ keptBytes wd w (a + (2 + 3 * wd)) n (k + 1) i j
 
--- the alternative of one symbol, a nonterminal, both with one span, by its eight bytes' number
+-- the command of an alternative of one symbol, with the span of these eight bytes' number
+unfoldable pub singleHead : ℕ → ℕ → List ℕ
+singleHead wd span = 18 ∷ (le 8 span ++ (le 3 0 ++ (le wd 0 ++ le 2 1)))
+
+-- and the whole alternative, where the symbol is a nonterminal
 unfoldable pub fallBytes : ℕ → ℕ → ℕ → List ℕ
-fallBytes wd span below = 18 ∷ (le 8 span ++ (le 3 0 ++ (le wd 0 ++ (le 2 1 ++ (36 ∷ (le 8 span ++ le wd below))))))
+fallBytes wd span below = singleHead wd span ++ (36 ∷ (le 8 span ++ le wd below))

@@ -10,7 +10,7 @@ ghost use lib.ListN.{length};
 ghost use Rattle.octets.specs.plain.Numbers.{leAt, le};
 ghost use Rattle.octets.specs.plain.Runs.{part};
 ghost use Rattle.octets.specs.working.Stores.{store};
-ghost use Rattle.precedence.specs.Write.{Puts, keptOne, keptBytes, fallBytes};
+ghost use Rattle.precedence.specs.Write.{Puts, keptOne, keptBytes, singleHead, fallBytes};
 
 // The bytes from a up to e, to a place behind them.
 fn copy_within(work: &mut [u8], a: usize, e: usize, to: usize)
@@ -95,21 +95,28 @@ fn put_command(work: &mut [u8], code: u8, span: u64, to: usize)
     requires { ⌜ to + 9 ≤ length (now work) ⌝ }
     ensures { λ _. ⌜ now (work .exit) ≡ store (now (work .entry)) to (code ∷ le 8 span) ⌝ }
 {
-    work[to] = code;
     store64(work, to + 1, span);
+    work[to] = code;
 }
 
-// The alternative of one symbol.
-fn put_single(work: &mut [u8], span: u64, below: u32, width: usize, to: usize)
-    requires { ⌜ (2 ≤ width) × (width ≤ 3) × (to + (23 + 2 * width) ≤ length (now work)) ⌝ }
-    ensures { λ _. ⌜ now (work .exit) ≡ store (now (work .entry)) to (fallBytes width span below) ⌝ }
+// The command of an alternative of one symbol.
+fn put_single(work: &mut [u8], span: u64, width: usize, to: usize)
+    requires { ⌜ (2 ≤ width) × (width ≤ 3) × (to + (14 + width) ≤ length (now work)) ⌝ }
+    ensures { λ _. ⌜ now (work .exit) ≡ store (now (work .entry)) to (singleHead width span) ⌝ }
 {
     put_command(work, 18, span, to);
     put_atom(work, to + 9, 3, 0);
     put_atom(work, to + 12, width, 0);
     store16(work, to + 12 + width, 1);
-    put_command(work, 36, span, to + 14 + width);
-    put_atom(work, to + 23 + width, width, below);
+}
+
+// The nonterminal `below` as a symbol.
+fn put_nonterminal(work: &mut [u8], span: u64, below: u32, width: usize, to: usize)
+    requires { ⌜ (2 ≤ width) × (width ≤ 3) × (to + (9 + width) ≤ length (now work)) ⌝ }
+    ensures { λ _. ⌜ now (work .exit) ≡ store (now (work .entry)) to (36 ∷ (le 8 span ++ le width below)) ⌝ }
+{
+    put_command(work, 36, span, to);
+    put_atom(work, to + 9, width, below);
 }
 
 // The nonterminal `below` as an alternative, with the span of the nonterminal at p.
@@ -131,6 +138,7 @@ pub fn fall_through(
         return lim + 1;
     }
     let span = u64_at(work, p + 1);
-    put_single(work, span, below, width, to);
+    put_single(work, span, width, to);
+    put_nonterminal(work, span, below, width, to + (14 + width));
     to + (23 + 2 * width)
 }

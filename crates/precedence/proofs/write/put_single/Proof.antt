@@ -1,3 +1,4 @@
+use Rattle.precedence.proofs.WriteCode.{falling}
 use borrow.Author.Needs.{needs}
 use Rattle.precedence.proofs.write.put_single.Statement.{statement}
 use Rattle.precedence.proofs.write.put_single.Tie as tie
@@ -31,29 +32,11 @@ add-store16-2 c = search needs
 store16-requires : tie.Need-store16-requires
 store16-requires c κs = search needs
 
-add-put-command : tie.Need-add-put-command
-add-put-command c = search needs
-
-add-put-command-2 : tie.Need-add-put-command-2
-add-put-command-2 c = search needs
-
-put-command-requires-2 : tie.Need-put-command-requires-2
-put-command-requires-2 c κs = search needs
-
-add-put-atom-3 : tie.Need-add-put-atom-3
-add-put-atom-3 c = search needs
-
-add-put-atom-4 : tie.Need-add-put-atom-4
-add-put-atom-4 c = search needs
-
-put-atom-requires-3 : tie.Need-put-atom-requires-3
-put-atom-requires-3 c κs = search needs
-
 same-length : tie.Need-same-length
 same-length c = search needs
 
 returns : tie.Need-returns
-returns c = ?
+returns c = search falling
 
 pub put-single-spec : {M : Type 1} → statement M
 put-single-spec =
@@ -67,11 +50,5 @@ put-single-spec =
     add-store16
     add-store16-2
     store16-requires
-    add-put-command
-    add-put-command-2
-    put-command-requires-2
-    add-put-atom-3
-    add-put-atom-4
-    put-atom-requires-3
     same-length
     returns)
