@@ -10,6 +10,8 @@ mod SortWholeCode
 mod SortGroupCode
 mod WriteLaws
 mod WriteCode
+mod WriteWholeCode
+mod WriteMean
 mod SkipCode
 mod SubstituteCode
 mod CodesMean

@@ -116,7 +116,7 @@ one-more : (m s : ℕ) → suc m * s ≡ s + m * s
 one-more m s = omega arith
 
 -- the same bytes below
-kept-agree : (w out : List ℕ) (a e k i j : ℕ) → length out ≡ length w → e ≤ length w → ((x : ℕ) → x < e → getD out x 0 ≡ getD w x 0) → keptOne out a e k i j ≡ keptOne w a e k i j
+pub kept-agree : (w out : List ℕ) (a e k i j : ℕ) → length out ≡ length w → e ≤ length w → ((x : ℕ) → x < e → getD out x 0 ≡ getD w x 0) → keptOne out a e k i j ≡ keptOne w a e k i j
 unfolding keptOne
 kept-agree w out a e k i j z h f = let y = part-agree w out a e z h (λ x l m. f x m) in rw y
 

@@ -1,16 +1,19 @@
 // An alternative of one level, written behind what is written so far. What does not fit before lim is not written, and the cursor stops at lim + 1.
+use crate::Assoc;
 use crate::substitute::put_atom;
+use crate::substitute::substitute;
 use octets::numbers::store16;
 use octets::numbers::store64;
 use octets::numbers::u64_at;
+use octets::wide::from8;
 ghost use mathlib.Core.Path.{_≡_};
-ghost use mathlib.Core.List.{_∷_, _++_};
+ghost use mathlib.Core.List.{[], _∷_, _++_};
 ghost use Prim.Native.Nat.{_+_, _-_, _*_, _≤_};
 ghost use lib.ListN.{length};
 ghost use Rattle.octets.specs.plain.Numbers.{leAt, le};
 ghost use Rattle.octets.specs.plain.Runs.{part};
 ghost use Rattle.octets.specs.working.Stores.{store};
-ghost use Rattle.precedence.specs.Write.{Puts, keptOne, keptBytes, singleHead, fallBytes};
+ghost use Rattle.precedence.specs.Write.{Puts, keptOne, keptBytes, singleHead, fallBytes, headOut, fewerBy, conditionsFrom, symbolsFrom, strippedOut, PutsRenamed};
 
 // The bytes from a up to e, to a place behind them.
 fn copy_within(work: &mut [u8], a: usize, e: usize, to: usize)
@@ -141,4 +144,96 @@ pub fn fall_through(
     put_single(work, span, width, to);
     put_nonterminal(work, span, below, width, to + (14 + width));
     to + (23 + 2 * width)
+}
+
+fn put_byte(work: &mut [u8], b: u8, lim: usize, to: usize) -> usize
+    requires { ⌜ lim + 16 ≤ length (now work) ⌝ }
+    ensures { λ r. ⌜ Puts (now (work .entry)) lim to (b ∷ []) r (now (work .exit)) ⌝ }
+{
+    if lim <= to {
+        return lim + 1;
+    }
+    work[to] = b;
+    to + 1
+}
+
+// An alternative's command with another count of attributes.
+fn put_head(work: &mut [u8], p: usize, count: u8, width: usize, lim: usize, to: usize) -> usize
+    requires { ⌜ (2 ≤ width) × (width ≤ 3) × (p + (14 + width) ≤ to) × (to ≤ lim + 1) × (lim + 16 ≤ length (now work)) ⌝ }
+    ensures { λ r. ⌜ Puts (now (work .entry)) lim to (headOut width (now (work .entry)) p count) r (now (work .exit)) ⌝ }
+{
+    let q = put_run(work, p, p + 9, lim, to);
+    let r = put_byte(work, count, lim, q);
+    put_run(work, p + 10, p + (14 + width), lim, r)
+}
+
+// One less, if i is an index below n.
+fn fewer(m: u8, n: usize, i: usize) -> u8
+    ensures { λ r. ⌜ r ≡ fewerBy m n i ⌝ }
+{
+    if n <= i {
+        return m;
+    }
+    if m == 0 {
+        return m;
+    }
+    m - 1
+}
+
+// The alternative from p up to e without the attributes i and j.
+fn put_parts(
+    work: &mut [u8],
+    p: usize,
+    e: usize,
+    i: usize,
+    j: usize,
+    width: usize,
+    lim: usize,
+    to: usize,
+) -> usize
+    requires { ⌜ (2 ≤ width) × (width ≤ 3) × (conditionsFrom width (now work) p ≤ e) × (e ≤ to) × (to ≤ lim + 1) × (lim + 16 ≤ length (now work)) ⌝ }
+    ensures { λ r. ⌜ Puts (now (work .entry)) lim to (strippedOut width (now (work .entry)) p e i j) r (now (work .exit)) ⌝ }
+{
+    let m = work[p + 9];
+    let n = from8(m);
+    let a = p + (14 + width);
+    let q = put_head(work, p, fewer(fewer(m, n, i), n, j), width, lim, to);
+    let r = put_attributes(work, a, n, i, j, width, lim, q);
+    put_run(work, a + n * (2 + 3 * width), e, lim, r)
+}
+
+// Where the symbols of the alternative at p begin.
+fn symbols_from(work: &[u8], p: usize, width: usize) -> usize
+    requires { ⌜ (2 ≤ width) × (width ≤ 3) × (p + 11 ≤ length (now work)) ⌝ }
+    ensures { λ r. ⌜ r ≡ symbolsFrom width (now (work .entry)) p ⌝ }
+{
+    let n = from8(work[p + 9]);
+    let c = from8(work[p + 10]);
+    p + (14 + width) + n * (2 + 3 * width) + c * (10 + 2 * width)
+}
+
+// An alternative without two of its attributes, its occurrences of the target renamed as its side says.
+pub fn put_alternative(
+    work: &mut [u8],
+    p: usize,
+    e: usize,
+    i: usize,
+    j: usize,
+    width: usize,
+    target: u32,
+    here: u32,
+    below: u32,
+    side: Assoc,
+    lim: usize,
+    to: usize,
+) -> usize
+    requires { ⌜ (2 ≤ width) × (width ≤ 3) × (symbolsFrom width (now work) p ≤ e) × (e ≤ to) × (to ≤ lim + 1) × (lim + 16 ≤ length (now work)) ⌝ }
+    ensures { λ r. ⌜ PutsRenamed width (now (work .entry)) p e i j target here below side lim to r (now (work .exit)) ⌝ }
+{
+    let s = symbols_from(work, p, width);
+    let q = put_parts(work, p, e, i, j, width, lim, to);
+    if q <= lim {
+        substitute(work, q - (e - s), q, width, target, here, below, side);
+    }
+    q
 }
