@@ -12,6 +12,8 @@ mod WriteLaws
 mod WriteCode
 mod WriteWholeCode
 mod WriteMean
+mod WriteCountMean
+mod WriteWholeMean
 mod SkipCode
 mod SubstituteCode
 mod CodesMean

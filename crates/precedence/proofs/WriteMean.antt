@@ -76,11 +76,11 @@ unfolding butTwo
 but-past [] k i j h l = refl
 but-past (a ∷ xs) k i j h l = but-none k i j a xs (λ z. omega arith) (λ z. omega arith) ∙ ap (λ (r : List Attribute). a ∷ r) (but-past xs (k + 1) i j (omega arith) (omega arith))
 
-first-here : (id : Text) (a : Attribute) (xs : List Attribute) → sameAs id (a .id) ≡ true → firstIndex id (a ∷ xs) ≡ 0
+pub first-here : (id : Text) (a : Attribute) (xs : List Attribute) → sameAs id (a .id) ≡ true → firstIndex id (a ∷ xs) ≡ 0
 unfolding firstIndex
 first-here id a xs z = cc
 
-first-later : (id : Text) (a : Attribute) (xs : List Attribute) → sameAs id (a .id) ≡ false → firstIndex id (a ∷ xs) ≡ suc (firstIndex id xs)
+pub first-later : (id : Text) (a : Attribute) (xs : List Attribute) → sameAs id (a .id) ≡ false → firstIndex id (a ∷ xs) ≡ suc (firstIndex id xs)
 unfolding firstIndex
 first-later id a xs z = cc
 
@@ -156,7 +156,7 @@ annotations-gone xs =
     ∙ both-first precedence assoc (λ z. absurd (omega (arith, ap (length {A = ℕ}) z))) xs 0
 
 -- ---- the fall-through
-span-long : (s : Span) → length (spanBytes s) ≡ 8
+pub span-long : (s : Span) → length (spanBytes s) ≡ 8
 unfolding spanBytes
 span-long s = simp (length-append, length-le) (omega arith)
 
@@ -180,4 +180,6 @@ pub fall-means : (wd : ℕ) (ts : List Text) (w : List ℕ) (d : Nonterminal) (p
 unfolding nonterminalNode nodeBytes fallBytes singleHead bytesOfEach alternativeBytes alternativeNode actionText symBytes symsBytes symbolBytes leafNode leafCode leafOperand count
 fall-means wd ts w d p e n b l =
     let z = span-there w p e 16 (d .span) _ b l in
-    rw (z, zeros) (simp append-nil refl)
+    let H : List ℕ = 18 ∷ (spanBytes (d .span) ++ (0 ∷ 0 ∷ 0 ∷ (le wd 0 ++ le 2 1))) in
+    let S : List ℕ = 36 ∷ (spanBytes (d .span) ++ le wd (number ts n)) in
+    rw (z, zeros) (ap (λ (r : List ℕ). H ++ r) (sym (append-nil S)) ∙ sym (append-nil (H ++ (S ++ []))))
