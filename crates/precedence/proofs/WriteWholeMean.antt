@@ -147,3 +147,92 @@ over-behind : (w : List ℕ) (to : ℕ) (xs ys zs : List ℕ) → length ys ≡ 
 over-behind w to xs ys zs h =
     ap (λ (s : List ℕ). store s (to + length xs) zs) (sym (store-append w to (to + length xs) xs ys refl))
     ∙ store-over (store w to xs) (to + length xs) ys zs h ∙ store-append w to (to + length xs) xs zs refl
+
+module _ (wd : ℕ) (ts : List Text) (E : Text) (group : Group Graded) (g : Graded) (known : has E ts ≡ true) (fits : SymsFits wd ts (g .alternative .symbols)) where
+  abbrev Names : ℕ → Text
+  Names = ceiling (g .side) (group .name) (lowerName group) (occursIn E (g .alternative .symbols))
+
+  abbrev Head : List ℕ
+  Head = before-symbols wd ts (g .alternative)
+
+  abbrev Old : List ℕ
+  Old = symsBytes wd ts (g .alternative .symbols)
+
+  abbrev New : List ℕ
+  New = symsBytes wd ts (replaceOccurrencesIn E Names (g .alternative .symbols) 0)
+
+  same-long : length Old ≡ length New
+  same-long = sym (renamed-all-length wd ts E Names known (g .alternative .symbols) 0)
+
+  new-bytes : alternativeBytes wd ts (substitute E group g) ≡ Head ++ New
+  new-bytes =
+      let ys = replaceOccurrencesIn E Names (g .alternative .symbols) 0 in
+      split-bytes wd ts (withSymbols (g .alternative) ys) ∙ ap (λ (h : List ℕ). h ++ New) (same-before wd ts (g .alternative) ys (renamed-count E Names (g .alternative .symbols) 0))
+
+  module _ (w : List ℕ) (lim to s e r : ℕ) (side : Assoc) (w1 : List ℕ) (room : lim + 16 ≤ length w) (sided : sideMeant side ≡ g .side) (ends : s + length Old ≡ e)
+      (puts : Puts w lim to (Head ++ Old) r w1) where
+    renamed-whole : to + length (Head ++ Old) ≤ lim → substituteOut wd w1 (r - (e - s)) r (number ts E) (number ts (group .name)) (number ts (lowerName group)) side ≡ store w to (Head ++ New)
+    renamed-whole h =
+        let n = length-append Head Old in
+        let x : r ≡ to + length (Head ++ Old) = puts .after h in
+        let y : r - (e - s) ≡ to + length Head = omega arith in
+        let z = lies-store w to (Head ++ Old) (omega arith) in
+        let t = lies-split (store w to (Head ++ Old)) to (to + length (Head ++ Old)) Head Old z in
+        let l : Lies (store w to (Head ++ Old)) (to + length Head) Old r = lies-to (sym x) (t .1) in
+        let v = puts .whole h in
+        let m = substitute-means wd ts E (group .name) (lowerName group) (number ts E) (number ts (group .name)) (number ts (lowerName group)) known refl refl refl side (g .alternative .symbols) fits (store w to (Head ++ Old)) (to + length Head) r l in
+        let o : substituteOut wd (store w to (Head ++ Old)) (to + length Head) r (number ts E) (number ts (group .name)) (number ts (lowerName group)) side ≡ store (store w to (Head ++ Old)) (to + length Head) New = rw sided at m in
+        rw (y, v) (o ∙ over-behind w to Head Old New same-long)
+
+    renamed-puts : (w2 : List ℕ) → w2 ≡ pick (leb r lim) (substituteOut wd w1 (r - (e - s)) r (number ts E) (number ts (group .name)) (number ts (lowerName group)) side) w1
+        → Puts w lim to (Head ++ New) r w2
+    unfolding pick
+    renamed-puts w2 q = go (fits-or-not (to + length (Head ++ Old)) lim)
+      where
+        go : (to + length (Head ++ Old) ≤ lim) ⊎ (lim < to + length (Head ++ Old)) → Puts w lim to (Head ++ New) r w2
+        go (inl h) =
+            let a = puts .after h in
+            let b = same-long in
+            let c = length-append Head Old in
+            let d = length-append Head New in
+            let z = le-leb r lim (omega arith) in
+            let y : w2 ≡ store w to (Head ++ New) = (rw z at q) ∙ renamed-whole h in
+            record {
+              long = ap (length {A = ℕ}) y ∙ length-store w to (Head ++ New);
+              whole = λ k. y;
+              after = λ k. omega arith;
+              over = λ k. absurd (omega arith);
+              others = λ k. absurd (omega arith);
+            }
+        go (inr h) =
+            let a = puts .over h in
+            let b = same-long in
+            let c = length-append Head Old in
+            let d = length-append Head New in
+            let z = lt-leb r lim (omega arith) in
+            let y : w2 ≡ w1 = rw z at q in
+            record {
+              long = ap (length {A = ℕ}) y ∙ puts .long;
+              whole = λ k. absurd (omega arith);
+              after = λ k. absurd (omega arith);
+              over = λ k. a;
+              others = λ k i m. ap (λ (u : List ℕ). getD u i 0) y ∙ puts .others h i m;
+            }
+
+-- theorem: the alternative a at p, without its first `precedence` and its first `assoc`, is put as its level has it
+pub alternative-means : (wd : ℕ) (ts : List Text) (E : Text) (group : Group Graded) (g : Graded) (a : Alternative) → has E ts ≡ true → SymsFits wd ts (a .symbols)
+    → g .alternative ≡ withAttributes a (withoutFirst assoc (withoutFirst precedence (a .attributes)))
+    → (side : Assoc) → sideMeant side ≡ g .side
+    → (w : List ℕ) (p e lim to r : ℕ) (w1 : List ℕ) → Lies w p (alternativeBytes wd ts a) e → lim + 16 ≤ length w
+    → PutsRenamed wd w p e (firstIndex precedence (a .attributes)) (firstIndex assoc (a .attributes)) (number ts E) (number ts (group .name)) (number ts (lowerName group)) side lim to r w1
+    → Puts w lim to (alternativeBytes wd ts (substitute E group g)) r w1
+alternative-means wd ts E group g a known fits is side sided w p e lim to r w1 l room q =
+    let bare = withAttributes a (withoutFirst assoc (withoutFirst precedence (a .attributes))) in
+    let same : g .alternative .symbols ≡ a .symbols = ap (λ (x : Alternative). x .symbols) is in
+    let f : SymsFits wd ts (g .alternative .symbols) = rw same fits in
+    let s = standing wd ts a w p e l in
+    let x : strippedOut wd w p e (firstIndex precedence (a .attributes)) (firstIndex assoc (a .attributes)) ≡ before-symbols wd ts (g .alternative) ++ symsBytes wd ts (g .alternative .symbols)
+        = stripped-means wd ts a w p e l ∙ ap (alternativeBytes wd ts) (sym is) ∙ split-bytes wd ts (g .alternative) in
+    let y = new-bytes wd ts E group g known f in
+    let ends : symbolsFrom wd w p + length (symsBytes wd ts (g .alternative .symbols)) ≡ e = rw same (s .symbols) in
+    rw y (renamed-puts wd ts E group g known f w lim to (symbolsFrom wd w p) e r side (q .work) room sided ends (rw x at (q .puts)) w1 (q .renamed))
