@@ -49,14 +49,6 @@ module _ (w w1 : List ℕ) (lim to : ℕ) (xs : List ℕ) (r : ℕ) (p : Puts w 
       go (inl k) = omega (arith, p .after k)
       go (inr k) = omega (arith, p .over k)
 
-  -- a cursor that is not behind lim says that all was put
-  pub puts-fits : r ≤ lim → to + length xs ≤ lim
-  puts-fits h = go (fits-or-not (to + length xs) lim)
-    where
-      go : (to + length xs ≤ lim) ⊎ (lim < to + length xs) → to + length xs ≤ lim
-      go (inl k) = k
-      go (inr k) = absurd (omega (arith, p .over k))
-
   -- theorem: one run and then another is both as one
   pub puts-append : (ys : List ℕ) (r2 : ℕ) (w2 : List ℕ) → Puts w1 lim r ys r2 w2 → Puts w lim to (xs ++ ys) r2 w2
   puts-append ys r2 w2 q =

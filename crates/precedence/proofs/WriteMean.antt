@@ -1,9 +1,9 @@
 -- What is put, on trees: attributes without the first `precedence` and the first `assoc`, and the fall-through. Assumes nothing.
 use mathlib.Core.Path.{_≡_, refl, sym, ap, _∙_}
 use mathlib.Core.Bool.{Bool, true, false, cond}
-use mathlib.Core.List.{List, [], _∷_, _++_, append-assoc, append-nil}
+use mathlib.Core.List.{List, [], _∷_, _++_, append-nil}
 use mathlib.Core.Option.{Option, none, some}
-use Prim.Native.Nat.{ℕ, zero, suc, _+_, _*_, _<_, _≤_}
+use Prim.Native.Nat.{ℕ, suc, _+_, _*_, _<_}
 use native.Mathlib.Omega.{arith}
 use borrow.Author.Tests.{eq-eqb, ne-eqb}
 use lib.Dec.{eqb}
@@ -18,7 +18,7 @@ use Rattle.parse_tree.specs.plain.Tree.{Text, Attribute, Nonterminal, count}
 use Rattle.parse_tree.specs.plain.Texts.{number}
 use Rattle.parse_tree.specs.plain.WriteTape.{bytesOfEach}
 use Rattle.parse_tree.specs.working.Nodes.{nodeBytes, spanBytes, symbolBytes, leafCode, leafOperand}
-use Rattle.parse_tree.specs.working.Encode.{attributeNode, attributeBytes, conditionBytes, alternativeBytes, alternativeNode, actionText, symBytes, symsBytes, leafNode, nonterminalNode}
+use Rattle.parse_tree.specs.working.Encode.{attributeNode, attributeBytes, alternativeBytes, alternativeNode, actionText, symBytes, symsBytes, leafNode, nonterminalNode}
 use Rattle.parse_tree.specs.declared.syntax.Span.{Span}
 use Rattle.parse_tree.specs.declared.syntax.Node.{Node}
 use Rattle.passes.specs.Grades.{precedence, assoc, withoutFirst}

@@ -1,5 +1,5 @@
 -- The ways out of put_byte, put_head, fewer, put_parts, symbols_from and put_alternative. Assumes nothing.
-use mathlib.Core.Path.{_≡_, refl, sym, ap, _∙_}
+use mathlib.Core.Path.{_≡_, refl, _∙_}
 use mathlib.Core.Logic.{inl}
 use mathlib.Core.List.{List, [], _∷_, _++_}
 use Prim.Native.Nat.{ℕ, zero, suc, _+_, _-_, _*_, _^_, _<_, _≤_}
@@ -9,7 +9,6 @@ use mir.Syntax.{w64}
 use mir.Val.{Fits}
 use borrow.Author.Needs.{needs}
 use borrow.Author.Tests.{le-leb, lt-leb}
-use lib.Dec.{leb}
 use lib.ListN.{length, set, getD}
 use Rattle.octets.specs.working.Choice.{pick}
 use Rattle.octets.specs.plain.Runs.{part}
@@ -18,7 +17,7 @@ use Rattle.texts.proofs.TableStays.{part-agree}
 use Rattle.precedence.specs.declared.Assoc.{Assoc}
 use Rattle.precedence.specs.Substitute.{substituteOut}
 use Rattle.precedence.specs.Write.{Puts, keptBytes, headOut, fewerBy, conditionsFrom, symbolsFrom, strippedOut, PutsRenamed}
-use Rattle.precedence.proofs.WriteLaws.{puts-beside, puts-on, puts-upto, puts-append, puts-none, puts-whole, puts-not}
+use Rattle.precedence.proofs.WriteLaws.{puts-beside, puts-on, puts-upto, puts-append, puts-whole, puts-not}
 use Rattle.precedence.proofs.WriteCode.{kept-agree}
 
 -- ---- put_byte
@@ -148,10 +147,15 @@ pub behind-two : (w w1 w2 : List ℕ) (lim to : ℕ) (xs ys : List ℕ) (q r n :
 behind-two w w1 w2 lim to xs ys q r n a b h k = omega (arith, puts-on w w1 lim to xs q a h, puts-on w1 w2 lim q ys r b (puts-upto w w1 lim to xs q a))
 
 pub ruleset parting = (needs, head-inside, nine-inside, nine-fits, head-fits, times-attributes, conditions-fits, parts-put)
+
 pub ruleset conditioning = (needs, conditions-fit)
+
 pub ruleset attributing = (needs, attributes-below)
+
 pub ruleset stopping = (needs, puts-upto)
+
 pub ruleset rooming = (needs, room-one)
+
 pub ruleset standing-behind = (needs, behind-two)
 
 -- ---- symbols_from

@@ -1,8 +1,8 @@
 -- What an alternative that is put means: the alternative without its annotations, substituted. Assumes nothing.
 use mathlib.Core.Path.{_≡_, refl, sym, ap, _∙_}
-use mathlib.Core.Bool.{Bool, true, false}
+use mathlib.Core.Bool.{true}
 use mathlib.Core.Logic.{_⊎_, inl, inr}
-use mathlib.Core.List.{List, [], _∷_, _++_, append-assoc}
+use mathlib.Core.List.{List, _∷_, _++_, append-assoc}
 use Prim.Native.Nat.{ℕ, _+_, _-_, _*_, _<_, _≤_}
 use native.Mathlib.Omega.{arith}
 use borrow.Author.Tests.{le-leb, lt-leb}
@@ -22,15 +22,15 @@ use Rattle.parse_tree.specs.working.Nodes.{nodeBytes, spanBytes}
 use Rattle.parse_tree.specs.working.Encode.{actionCode, actionText, alternativeNode, attributeBytes, conditionNode, conditionBytes, alternativeBytes, symsBytes}
 use Rattle.passes.specs.Outcome.{withAttributes, withSymbols}
 use Rattle.passes.specs.Grades.{precedence, assoc, withoutFirst, Graded, ceiling}
-use Rattle.passes.specs.Levels.{Group, lowerName, substitute, occursIn, replaceOccurrences, replaceOccurrencesIn}
+use Rattle.passes.specs.Levels.{Group, lowerName, substitute, occursIn, replaceOccurrencesIn}
 use Rattle.laws.proofs.Flat.{SymsFits}
 use Rattle.laws.proofs.Rename.{renamed-all-length}
 use Rattle.resolve.proofs.CellsLaws.{store-over}
 use Rattle.precedence.specs.declared.Assoc.{Assoc}
 use Rattle.precedence.specs.Substitute.{substituteOut}
-use Rattle.precedence.specs.Write.{Puts, keptBytes, headOut, fewerBy, conditionsFrom, symbolsFrom, strippedOut, PutsRenamed, firstIndex, butTwo}
+use Rattle.precedence.specs.Write.{Puts, headOut, conditionsFrom, symbolsFrom, strippedOut, PutsRenamed, firstIndex}
 use Rattle.precedence.proofs.SubstituteMean.{sideMeant, substitute-means}
-use Rattle.precedence.proofs.WriteLaws.{fits-or-not, puts-whole}
+use Rattle.precedence.proofs.WriteLaws.{fits-or-not}
 use Rattle.precedence.proofs.WriteMean.{attribute-long, span-long, kept-means, annotations-gone}
 use Rattle.precedence.proofs.WriteCountMean.{each-long, count-left}
 
@@ -232,7 +232,7 @@ alternative-means wd ts E group g a known fits is side sided w p e lim to r w1 l
     let f : SymsFits wd ts (g .alternative .symbols) = rw same fits in
     let s = standing wd ts a w p e l in
     let x : strippedOut wd w p e (firstIndex precedence (a .attributes)) (firstIndex assoc (a .attributes)) ≡ before-symbols wd ts (g .alternative) ++ symsBytes wd ts (g .alternative .symbols)
-        = stripped-means wd ts a w p e l ∙ ap (alternativeBytes wd ts) (sym is) ∙ split-bytes wd ts (g .alternative) in
+    = stripped-means wd ts a w p e l ∙ ap (alternativeBytes wd ts) (sym is) ∙ split-bytes wd ts (g .alternative) in
     let y = new-bytes wd ts E group g known f in
     let ends : symbolsFrom wd w p + length (symsBytes wd ts (g .alternative .symbols)) ≡ e = rw same (s .symbols) in
     rw y (renamed-puts wd ts E group g known f w lim to (symbolsFrom wd w p) e r side (q .work) room sided ends (rw x at (q .puts)) w1 (q .renamed))
