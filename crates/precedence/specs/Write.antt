@@ -47,10 +47,11 @@ headOut wd w p count = part p (p + 9) w ++ (count ∷ part (p + 10) (p + (14 + w
 unfoldable pub fewerBy : ℕ → ℕ → ℕ → ℕ
 fewerBy m n i = pick (leb n i) m (m - 1)
 
--- where the conditions of the alternative at p begin, and where its symbols do
+-- where the conditions of the alternative at p begin
 unfoldable pub conditionsFrom : ℕ → List ℕ → ℕ → ℕ
 conditionsFrom wd w p = p + (14 + wd) + getD w (p + 9) 0 * (2 + 3 * wd)
 
+-- and where its symbols do
 unfoldable pub symbolsFrom : ℕ → List ℕ → ℕ → ℕ
 symbolsFrom wd w p = conditionsFrom wd w p + getD w (p + 10) 0 * (10 + 2 * wd)
 
