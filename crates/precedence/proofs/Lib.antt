@@ -19,3 +19,9 @@ mod CodesMean
 mod SkipMean
 mod SubstituteRuns
 mod SubstituteMean
+mod WriteLaws
+mod WriteCode
+mod WriteWholeCode
+mod WriteMean
+mod WriteCountMean
+mod WriteWholeMean

@@ -5,3 +5,4 @@ pub mod Grading
 pub mod Skip
 pub mod Sort
 pub mod Substitute
+pub mod Write

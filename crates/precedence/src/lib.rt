@@ -5,6 +5,7 @@ pub mod grading;
 pub mod skip;
 pub mod sort;
 pub mod substitute;
+pub mod write;
 
 // Which occurrences of the nonterminal itself keep an alternative's level: the first, the last, none, all.
 pub enum Assoc {

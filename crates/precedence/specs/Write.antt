@@ -1,0 +1,80 @@
+-- What is written behind what is written so far, before a limit. wd is the width of an atom's number in bytes. Assumes nothing: these are definitions.
+use mathlib.Core.Path.{_≡_}
+use mathlib.Core.Bool.{cond}
+use mathlib.Core.Logic.{_⊎_}
+use mathlib.Core.List.{List, [], _∷_, _++_}
+use Prim.Native.Nat.{ℕ, zero, suc, _+_, _-_, _*_, _≤_, _<_}
+use lib.Dec.{leb, eqb}
+use lib.ListN.{length, getD}
+use Rattle.octets.specs.working.Choice.{pick}
+use Rattle.octets.specs.plain.Numbers.{le}
+use Rattle.octets.specs.plain.Runs.{part, sameAs}
+use Rattle.octets.specs.working.Stores.{store}
+use Rattle.parse_tree.specs.plain.Tree.{Text, Attribute}
+use Rattle.precedence.specs.declared.Assoc.{Assoc}
+use Rattle.precedence.specs.Substitute.{substituteOut}
+
+-- xs, put to w from `to` on, leaves w′ and the cursor r: all of it, or some bytes from `to` up to lim
+pub record Puts (w : List ℕ) (lim to : ℕ) (xs : List ℕ) (r : ℕ) (w′ : List ℕ) : Type 0 where
+  pub long : length w′ ≡ length w
+  pub whole : to + length xs ≤ lim → w′ ≡ store w to xs
+  pub after : to + length xs ≤ lim → r ≡ to + length xs
+  pub over : lim < to + length xs → r ≡ lim + 1
+  pub others : lim < to + length xs → (i : ℕ) → (i < to) ⊎ (lim ≤ i) → getD w′ i 0 ≡ getD w i 0
+
+-- the bytes from a up to e, unless k is one of two indices
+unfoldable pub keptOne : List ℕ → ℕ → ℕ → ℕ → ℕ → ℕ → List ℕ
+keptOne w a e k i j = pick (eqb k i) [] (pick (eqb k j) [] (part a e w))
+
+-- n attributes from a on, of which the first has the index k, but those of two indices
+unfoldable pub keptBytes : ℕ → List ℕ → ℕ → ℕ → ℕ → ℕ → ℕ → List ℕ
+keptBytes wd w a zero k i j = []
+keptBytes wd w a (suc n) k i j = keptOne w a (a + (2 + 3 * wd)) k i j ++ keptBytes wd w (a + (2 + 3 * wd)) n (k + 1) i j
+
+-- the command of an alternative of one symbol, with the span of these eight bytes' number
+unfoldable pub singleHead : ℕ → ℕ → List ℕ
+singleHead wd span = 18 ∷ (le 8 span ++ (le 3 0 ++ (le wd 0 ++ le 2 1)))
+
+-- and the whole alternative, where the symbol is a nonterminal
+unfoldable pub fallBytes : ℕ → ℕ → ℕ → List ℕ
+fallBytes wd span below = singleHead wd span ++ (36 ∷ (le 8 span ++ le wd below))
+
+-- an alternative's command at p with another count of attributes
+unfoldable pub headOut : ℕ → List ℕ → ℕ → ℕ → List ℕ
+headOut wd w p count = part p (p + 9) w ++ (count ∷ part (p + 10) (p + (14 + wd)) w)
+
+-- one less than m, if i is an index below n
+unfoldable pub fewerBy : ℕ → ℕ → ℕ → ℕ
+fewerBy m n i = pick (leb n i) m (m - 1)
+
+-- where the conditions of the alternative at p begin
+unfoldable pub conditionsFrom : ℕ → List ℕ → ℕ → ℕ
+conditionsFrom wd w p = p + (14 + wd) + getD w (p + 9) 0 * (2 + 3 * wd)
+
+-- and where its symbols do
+unfoldable pub symbolsFrom : ℕ → List ℕ → ℕ → ℕ
+symbolsFrom wd w p = conditionsFrom wd w p + getD w (p + 10) 0 * (10 + 2 * wd)
+
+-- the alternative from p up to e without the attributes of two indices
+unfoldable pub strippedOut : ℕ → List ℕ → ℕ → ℕ → ℕ → ℕ → List ℕ
+strippedOut wd w p e i j =
+    let n = getD w (p + 9) 0 in
+    headOut wd w p (fewerBy (fewerBy n n i) n j) ++ (keptBytes wd w (p + (14 + wd)) n 0 i j ++ part (conditionsFrom wd w p) e w)
+
+-- put so to w, and then its symbols' occurrences renamed where all fitted
+pub record PutsRenamed (wd : ℕ) (w : List ℕ) (p e i j target here below : ℕ) (side : Assoc) (lim to r : ℕ) (w′ : List ℕ) : Type 0 where
+  pub work : List ℕ
+  pub puts : Puts w lim to (strippedOut wd w p e i j) r work
+  pub renamed : w′ ≡ pick (leb r lim) (substituteOut wd work (r - (e - symbolsFrom wd w p)) r target here below side) work
+
+-- ---- what they mean
+
+-- the index of the first attribute of an id; how many there are where none has it
+unfoldable pub firstIndex : Text → List Attribute → ℕ
+firstIndex id [] = 0
+firstIndex id (a ∷ rest) = cond (sameAs id (a .id)) 0 (suc (firstIndex id rest))
+
+-- attributes, of which the first has the index k, but those of two indices
+unfoldable pub butTwo : ℕ → ℕ → ℕ → List Attribute → List Attribute
+butTwo k i j [] = []
+butTwo k i j (a ∷ rest) = pick (eqb k i) [] (pick (eqb k j) [] (a ∷ [])) ++ butTwo (k + 1) i j rest
