@@ -2,6 +2,9 @@
 mod GradeCode
 mod DecimalLaws
 mod DecimalCode
+mod NamesCode
+mod NamesHashCode
+mod NamesFindCode
 mod SortLaws
 mod SortCode
 mod SortRunsCode

@@ -1,5 +1,6 @@
 -- What the contracts of precedence cite. They follow the code on the list of bytes that work is; what they mean on trees is proved in proofs/*Mean.antt.
 pub mod Grade
+pub mod Names
 pub mod Skip
 pub mod Sort
 pub mod Substitute

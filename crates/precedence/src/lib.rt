@@ -1,5 +1,6 @@
 // Precedence levels: questions 14 to 16. Touches nothing but the slices that it is handed.
 pub mod grade;
+pub mod names;
 pub mod skip;
 pub mod sort;
 pub mod substitute;
