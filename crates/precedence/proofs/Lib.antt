@@ -5,6 +5,7 @@ mod DecimalCode
 mod NamesCode
 mod NamesHashCode
 mod NamesFindCode
+mod NamesDescribeCode
 mod SortLaws
 mod SortCode
 mod SortRunsCode

@@ -1,16 +1,19 @@
 -- The names of levels: texts that have no bytes yet, in the table of texts. Assumes nothing: these are definitions.
 use mathlib.Core.Path.{_≡_}
+use mathlib.Core.Bool.{true}
 use mathlib.Core.List.{List, [], _∷_, _++_}
 use Prim.Native.Nat.{ℕ, zero, suc, _+_, _*_, _/_, _%_, _≤_, _<_}
 use lib.Dec.{ltb}
 use lib.ListN.{length, getD}
 use Rattle.octets.specs.working.Choice.{pick}
 use Rattle.parse_tree.specs.plain.Tree.{Text}
+use Rattle.parse_tree.specs.plain.Texts.{number, distinct, withNew}
 use Rattle.texts.specs.declared.Map.{Map}
 use Rattle.texts.specs.Hash.{hashOf}
-use Rattle.texts.specs.Fields.{markAt, hashAt, Chained}
+use Rattle.texts.specs.Fields.{markAt, hashAt, cellAt, Chained}
 use Rattle.texts.specs.Texts.{markedText, Whole}
-use Rattle.texts.specs.Table.{texts}
+use Rattle.texts.specs.Table.{texts, Above, Is}
+use Rattle.precedence.specs.declared.names.LevelName.{LevelName}
 use Rattle.precedence.specs.Grade.{levelDigits}
 
 -- the name of a level: the text of number b, then the level's digits
@@ -61,3 +64,42 @@ pub record Spelled (s w : List ℕ) (m : Map) (k : ℕ) : Type 0 where
 pub record BaseText (s w : List ℕ) (m : Map) (k : ℕ) (t : Text) : Type 0 where
   pub text : t ≡ getD (texts s w m) k []
   pub short : length t < 65536
+
+-- ---- `level_name`: what it asks, with a bound of the records from which on all texts in work stand
+pub record Describing (s w : List ℕ) (m : Map) (n b v : ℕ) : Type 0 where
+  pub low : ℕ
+  pub naming : Naming s w m n
+  pub above : Above s w m low
+  pub base : b < m .count
+  pub level : v < 4294967296
+  pub few : n < 4294967295
+  pub room : m .base + 24 * n + 24 ≤ length w
+  pub roof : m .base + 24 * n + 24 ≤ low
+  pub wide : m .base + 24 * m .buckets ≤ low
+
+-- nothing changed but record n, links of the records and the buckets' heads
+pub record NamesKept (s w : List ℕ) (m : Map) (n : ℕ) (w′ : List ℕ) : Type 0 where
+  pub same : texts s w′ m ≡ texts s w m
+  pub marks : (i : ℕ) → i < n → markAt w′ (m .base) i ≡ markAt w (m .base) i
+  pub cells : (i : ℕ) → i < n → cellAt w′ (m .base) i ≡ cellAt w (m .base) i
+  pub before : (i : ℕ) → i < m .base → getD w′ i 0 ≡ getD w i 0
+  pub after : (i : ℕ) → m .base + 24 * n + 24 ≤ i → m .base + 24 * m .buckets ≤ i → getD w′ i 0 ≡ getD w i 0
+
+-- record n describes the name of level v
+pub record Described (s w : List ℕ) (m : Map) (n b v : ℕ) (w′ : List ℕ) : Type 0 where
+  pub naming : Naming s w′ m (n + 1)
+  pub more : namedTexts s w′ m (n + 1) ≡ namedTexts s w m n ++ (levelText s w m b v ∷ [])
+  pub mark : markAt w′ (m .base) n ≡ b * 4294967296 + v
+  pub cell : cellAt w′ (m .base) n ≡ 0
+  pub kept : NamesKept s w m n w′
+
+-- and what it leaves: the name is the number of the text, which stands behind the others if it is new
+pub record LevelNamed (s w : List ℕ) (m : Map) (n b v : ℕ) (r : LevelName) (w′ : List ℕ) : Type 0 where
+  pub naming : Naming s w′ m (r .count)
+  pub named : namedTexts s w′ m (r .count) ≡ withNew (namedTexts s w m n) (levelText s w m b v ∷ [])
+  pub least : n ≤ r .count
+  pub most : r .count ≤ n + 1
+  pub name : Is (namedTexts s w′ m (r .count)) (levelText s w m b v) (r .name)
+  pub number : distinct (namedTexts s w m n) ≡ true → r .name ≡ number (namedTexts s w′ m (r .count)) (levelText s w m b v)
+  pub apart : distinct (namedTexts s w m n) ≡ true → distinct (namedTexts s w′ m (r .count)) ≡ true
+  pub kept : NamesKept s w m n w′

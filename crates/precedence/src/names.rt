@@ -8,6 +8,7 @@ use texts::fields::hash;
 use texts::fields::head;
 use texts::fields::link;
 use texts::fields::mark;
+use texts::fields::write;
 use texts::hash::bucket;
 use texts::hash::next;
 use texts::text::text_at;
@@ -20,7 +21,13 @@ ghost use Rattle.octets.specs.plain.Runs.{sameAs};
 ghost use Rattle.texts.specs.Hash.{hashFrom, hashOf};
 ghost use Rattle.texts.specs.Table.{Finds};
 ghost use Rattle.precedence.specs.Grade.{levelDigits};
-ghost use Rattle.precedence.specs.Names.{Naming, Based, Spelled, BaseText, levelText, namedText, namedTexts};
+ghost use Rattle.precedence.specs.Names.{Naming, Based, Spelled, BaseText, Describing, Described, LevelNamed, levelText, namedText, namedTexts};
+
+// The number of a text, and how many there are then.
+pub struct LevelName {
+    pub name: usize,
+    pub count: usize,
+}
 
 // The i-th digit of a level.
 fn digit_at(v: usize, i: usize) -> u8
@@ -194,4 +201,38 @@ pub fn find_name<'a>(
         j = link(work, m.base, i);
     }
     Found::Nothing
+}
+
+// Record n describes the name of a level, and comes into its chain.
+fn describe(tape: &[u8], work: &mut [u8], m: Map, n: usize, base: usize, level: usize, h: usize)
+    requires { ⌜ Describing (now tape) (now work) m n base level × (h ≡ hashOf (levelText (now tape) (now work) m base level)) ⌝ }
+    ensures { λ _. ⌜ Described (now (tape .entry)) (now (work .entry)) m n base level (now (work .exit)) ⌝ }
+{
+    write(work, m.base, n, base * 4294967296 + level, h, 0);
+    texts::chain::link(work, m.base, m.buckets, n, h);
+}
+
+// The number of a level's name, which is described if it is new.
+pub fn level_name(
+    tape: &[u8],
+    work: &mut [u8],
+    m: Map,
+    n: usize,
+    base: usize,
+    level: usize,
+) -> LevelName
+    requires { ⌜ Describing (now tape) (now work) m n base level ⌝ }
+    ensures { λ r. ⌜ LevelNamed (now (tape .entry)) (now (work .entry)) m n base level r (now (work .exit)) ⌝ }
+{
+    let h = level_hash(tape, work, m, base, level);
+    match find_name(tape, work, m, n, base, level, h) {
+        Found::At(k) => LevelName { name: k, count: n },
+        Found::Nothing => {
+            describe(tape, work, m, n, base, level, h);
+            LevelName {
+                name: n,
+                count: n + 1,
+            }
+        }
+    }
 }
