@@ -137,6 +137,12 @@ module _ (s w : List ℕ) (m : Map) (k : ℕ) where
   pub base-short : (t : Text) → BaseText s w m k t → length t < 65536
   base-short t c = c .short
 
+  pub spell-same : (b v x : ℕ) → m .count ≤ k → x ≡ markAt w (m .base) k → x / 4294967296 ≡ b → x % 4294967296 ≡ v → true ≡ sameAs (namedText s w m k) (levelText s w m b v)
+  unfolding describedText
+  spell-same b v x h e p q =
+      let z : describedText s w m x ≡ levelText s w m b v = ap (λ (i : ℕ). levelText s w m i (x % 4294967296)) p ∙ ap (levelText s w m b) q in
+      sym (eq-sameAs (namedText s w m k) (levelText s w m b v) (named-described h ∙ ap (describedText s w m) (sym e) ∙ z))
+
   module _ (b v x : ℕ) (y : Text) (d : BaseText s w m b y) (e : x ≡ markAt w (m .base) k) (r : Bool) where
     pub spell-table : (t : Text) → k < m .count → t ≡ markedText s w x → r ≡ sameAs t (y ++ levelDigits v) → r ≡ sameAs (namedText s w m k) (levelText s w m b v)
     unfolding levelText
@@ -153,6 +159,6 @@ module _ (s w : List ℕ) (m : Map) (k : ℕ) where
 pub level-part : (x : ℕ) → x % 4294967296 < 4294967296
 level-part x = omega arith
 
-pub ruleset naming = (needs, spell-room, spell-whole, spell-base, base-short, level-part, spell-table, spell-described)
+pub ruleset naming = (needs, spell-room, spell-whole, spell-base, base-short, level-part, spell-same, spell-table, spell-described)
 
 pub ruleset matching = (needs, spell-room, match-not)

@@ -155,8 +155,14 @@ pub fn is_level_name<'a>(
     if k < m.count {
         return is_spelled(text_at(tape, work, x), b, level);
     }
-    let a = base_text(tape, work, m, x / 4294967296);
-    same_names(a, x % 4294967296, b, level)
+    let c = x / 4294967296;
+    let v = x % 4294967296;
+    if c == base {
+        if v == level {
+            return true;
+        }
+    }
+    same_names(base_text(tape, work, m, c), v, b, level)
 }
 
 // The same, where a hash that differs says no.

@@ -25,14 +25,17 @@ is-spelled-requires c κs = search needs
 returns : tie.Need-returns
 returns c = search naming
 
+returns-2 : tie.Need-returns-2
+returns-2 c = search naming
+
 base-text-requires-2 : tie.Need-base-text-requires-2
 base-text-requires-2 c κs = search naming
 
 same-names-requires : tie.Need-same-names-requires
 same-names-requires c κs = search needs
 
-returns-2 : tie.Need-returns-2
-returns-2 c = search naming
+returns-3 : tie.Need-returns-3
+returns-3 c = search naming
 
 pub is-level-name-spec : {M : Type 1} → statement M
 is-level-name-spec =
@@ -43,6 +46,7 @@ is-level-name-spec =
     text-at-requires
     is-spelled-requires
     returns
+    returns-2
     base-text-requires-2
     same-names-requires
-    returns-2)
+    returns-3)
