@@ -6,6 +6,7 @@ mod NamesCode
 mod NamesHashCode
 mod NamesFindCode
 mod NamesDescribeCode
+mod NamesMean
 mod SortLaws
 mod SortCode
 mod SortRunsCode

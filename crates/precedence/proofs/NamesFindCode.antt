@@ -5,7 +5,7 @@ use mathlib.Core.List.{List, [], _∷_, _++_}
 use Prim.Native.Nat.{ℕ, zero, suc, _+_, _*_, _-_, _/_, _<_, _≤_}
 use native.Mathlib.Omega.{arith}
 use borrow.Author.Needs.{needs}
-use borrow.Author.Tests.{lt-ltb, ltb-true, ltb-false, eqb-true, eqb-false}
+use borrow.Author.Tests.{ltb-true, ltb-false, eqb-true, eqb-false}
 use lib.Dec.{eqb, ltb}
 use lib.ListN.{length, getD, length-append, List·getD-append}
 use lib.Seq.{getD-append-seam}
@@ -18,11 +18,10 @@ use Rattle.texts.specs.declared.Map.{Map}
 use Rattle.texts.specs.declared.Found.{Found}
 use Rattle.texts.specs.Hash.{hashOf, bucketOf}
 use Rattle.texts.specs.Fields.{markAt, hashAt, linkAt, headAt, bucketAt, last}
-use Rattle.texts.specs.Texts.{markedText, textsOf}
-use Rattle.texts.specs.Table.{Table, texts, linked, Finds}
+use Rattle.texts.specs.Table.{Finds}
 use Rattle.texts.proofs.HashLaws.{hash-small, bucket-small}
-use Rattle.texts.proofs.TableFindCode.{has-snoc, last-le, linked-few, linked-many}
-use Rattle.precedence.specs.Names.{Naming, Based, Spelled, levelText, namedText, namedTexts}
+use Rattle.texts.proofs.TableFindCode.{has-snoc, last-le}
+use Rattle.precedence.specs.Names.{Naming, Based, Spelled, namedText, namedTexts}
 use Rattle.precedence.proofs.NamesHashCode.{named-table}
 
 -- ---- what the invariant gives
@@ -61,34 +60,6 @@ named-at s w m (suc n) k h = go (ltb k n) refl (named-at s w m n k)
         let z : k ≡ n = omega arith in
         let y : k ≡ length (namedTexts s w m n) = z ∙ sym (length-named s w m n) in
         ap (λ (j : ℕ). getD (namedTexts s w m n ++ (namedText s w m n ∷ [])) j []) y ∙ getD-append-seam (namedTexts s w m n) (namedText s w m n) [] [] ∙ ap (namedText s w m) (sym z)
-
--- theorem: with no name described they are the table's
-pub named-texts : (s w : List ℕ) (m : Map) → namedTexts s w m (m .count) ≡ texts s w m
-unfolding texts namedTexts textsOf
-named-texts s w m = go (m .count) (omega arith)
-  where
-    go : (k : ℕ) → k ≤ m .count → namedTexts s w m k ≡ textsOf s w (m .base) k
-    go zero h = refl
-    go (suc k) h = cc (go k (omega arith), named-table s w m k (omega arith))
-
--- theorem: a table is one with no name described
-pub naming-start : (s w : List ℕ) (m : Map) → Table s w m → 0 < m .buckets → m .count ≤ 4294967295 → Naming s w m (m .count)
-naming-start s w m t b f = record {
-  narrow = t .narrow;
-  some = b;
-  upto = omega arith;
-  few = f;
-  room = t .room;
-  wide = t .wide;
-  whole = t .whole;
-  bases = λ i l h. absurd (omega arith);
-  hashes = λ i h. t .hashes i h ∙ ap hashOf (sym (named-table s w m i h));
-  chained = rw (all-linked (ltb (m .count) 4294967295) refl) at (t .chained);
-}
-  where
-    all-linked : (u : Bool) → ltb (m .count) 4294967295 ≡ u → linked (m .count) ≡ m .count
-    all-linked true e = linked-few (m .count) (ltb-true (m .count) 4294967295 e)
-    all-linked false e = let l = ltb-false (m .count) 4294967295 e in linked-many (m .count) l ∙ omega arith
 
 -- ---- one text more
 module _ (s w : List ℕ) (m : Map) (x : Text) where

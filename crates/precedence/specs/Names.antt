@@ -33,6 +33,11 @@ unfoldable pub namedTexts : List ℕ → List ℕ → Map → ℕ → List Text
 namedTexts s w m zero = []
 namedTexts s w m (suc n) = namedTexts s w m n ++ (namedText s w m n ∷ [])
 
+-- the texts of d records behind the table's
+unfoldable pub describedTexts : List ℕ → List ℕ → Map → ℕ → List Text
+describedTexts s w m zero = []
+describedTexts s w m (suc d) = describedTexts s w m d ++ (describedText s w m (markAt w (m .base) (m .count + d)) ∷ [])
+
 -- THE INVARIANT: the table's texts, and names described up to record n, all in the chains
 pub record Naming (s w : List ℕ) (m : Map) (n : ℕ) : Type 0 where
   pub narrow : m .buckets ≤ 4294967295
