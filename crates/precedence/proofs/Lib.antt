@@ -5,6 +5,7 @@ mod DecimalCode
 mod NamesCode
 mod NamesHashCode
 mod NamesFindCode
+mod NamesStays
 mod NamesDescribeCode
 mod NamesMean
 mod SortLaws

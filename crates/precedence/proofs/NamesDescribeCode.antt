@@ -2,7 +2,7 @@
 use mathlib.Core.Path.{_≡_, refl, sym, ap, _∙_}
 use mathlib.Core.Bool.{Bool, true, false}
 use mathlib.Core.List.{List, [], _∷_, _++_}
-use Prim.Native.Nat.{ℕ, zero, suc, _+_, _*_, _/_, _%_, _^_, _<_, _≤_}
+use Prim.Native.Nat.{ℕ, _+_, _*_, _/_, _%_, _<_, _≤_}
 use native.Mathlib.Omega.{arith}
 use native.Mathlib.Numerals.{add-one}
 use borrow.Author.Needs.{needs}
@@ -13,30 +13,21 @@ use lib.Seq.{getD-append-seam}
 use mir.Syntax.{w64}
 use mir.Val.{Fits}
 use Rattle.parse_tree.specs.plain.Tree.{Text}
-use Rattle.parse_tree.specs.plain.Texts.{has, number, distinct, withNew}
+use Rattle.parse_tree.specs.plain.Texts.{has, distinct, withNew}
 use Rattle.parse_tree.proofs.TextLaws.{distinct-more}
 use Rattle.texts.specs.declared.Map.{Map}
 use Rattle.texts.specs.declared.Found.{Found}
 use Rattle.texts.specs.Hash.{hashOf, bucketOf}
 use Rattle.texts.specs.Fields.{markAt, hashAt, Chained, Linked, RecordWritten}
-use Rattle.texts.specs.Texts.{markedText, Whole, textsOf}
 use Rattle.texts.specs.Table.{texts, Finds}
 use Rattle.texts.proofs.HashLaws.{hash-small, bucket-small}
 use Rattle.texts.proofs.ChainCode.{chained-same, chained-more}
-use Rattle.texts.proofs.TextCode.{texts-at}
 use Rattle.texts.proofs.TableStays.{whole-stays, texts-stay}
 use Rattle.texts.proofs.TableFindCode.{answer-at, answer-none, answer-has}
-use Rattle.precedence.specs.declared.names.LevelName.{LevelName}
-use Rattle.precedence.specs.Grade.{levelDigits}
-use Rattle.precedence.specs.Names.{Naming, Based, Describing, NamesKept, Described, LevelNamed, levelText, describedText, namedText, namedTexts}
-use Rattle.precedence.proofs.NamesHashCode.{named-table, named-described}
+use Rattle.precedence.specs.Names.{Naming, Based, Describing, Described, LevelNamed, levelText, describedText, namedText, namedTexts}
+use Rattle.precedence.proofs.NamesHashCode.{named-described}
+use Rattle.precedence.proofs.NamesStays.{described-stays, named-stays, named-list-stays}
 use Rattle.precedence.proofs.NamesFindCode.{naming-based, length-named}
-
--- the same texts one by one are the same list
-named-stay : (s w w1 : List ℕ) (m : Map) (n : ℕ) → ((i : ℕ) → i < n → namedText s w1 m i ≡ namedText s w m i) → namedTexts s w1 m n ≡ namedTexts s w m n
-unfolding namedTexts
-named-stay s w w1 m zero f = refl
-named-stay s w w1 m (suc n) f = cc (named-stay s w w1 m n (λ i h. f i (omega arith)), f n (omega arith))
 
 -- ---- describe
 module _ (s w : List ℕ) (m : Map) (n b v : ℕ) (g : Describing s w m n b v) where
@@ -93,22 +84,11 @@ module _ (s w : List ℕ) (m : Map) (n b v : ℕ) (g : Describing s w m n b v) w
         unfolding texts
         texts-then = texts-stay s w w2 (m .base) (m .count) (g .low) (g .naming .whole) (g .above .above) long-then far table-marks (m .count) (omega arith)
 
-        text-then : (i : ℕ) → i < m .count → markedText s w2 (markAt w2 (m .base) i) ≡ markedText s w (markAt w (m .base) i)
-        unfolding texts
-        text-then i k = sym (at-number w2) ∙ ap (λ (ts : List Text). getD ts i []) texts-then ∙ at-number w
-          where
-            at-number : (u : List ℕ) → getD (texts s u m) i [] ≡ markedText s u (markAt u (m .base) i)
-            at-number u = texts-at s u (m .base) (m .count) i k
-
         described-then : (x : ℕ) → describedText s w2 m x ≡ describedText s w m x
-        unfolding describedText levelText
-        described-then x = ap (λ (ts : List Text). getD ts (x / 4294967296) [] ++ levelDigits (x % 4294967296)) texts-then
+        described-then x = described-stays s w w2 m n texts-then marks-then x
 
-        named-then : (i : ℕ) (t : Bool) → ltb i (m .count) ≡ t → i < n → namedText s w2 m i ≡ namedText s w m i
-        named-then i true u k = let z = ltb-true i (m .count) u in named-table s w2 m i z ∙ text-then i z ∙ sym (named-table s w m i z)
-        named-then i false u k =
-            let z = ltb-false i (m .count) u in
-            named-described s w2 m i z ∙ ap (describedText s w2 m) (marks-then i k) ∙ described-then (markAt w (m .base) i) ∙ sym (named-described s w m i z)
+        named-then : (i : ℕ) → i < n → namedText s w2 m i ≡ namedText s w m i
+        named-then i k = named-stays s w w2 m n texts-then marks-then i k
 
         described-is : describedText s w m (b * 4294967296 + v) ≡ levelText s w m b v
         unfolding describedText
@@ -124,7 +104,7 @@ module _ (s w : List ℕ) (m : Map) (n b v : ℕ) (g : Describing s w m n b v) w
         hash-at : (i : ℕ) (t : Bool) → ltb i n ≡ t → i < n + 1 → hashAt w2 (m .base) i ≡ hashOf (namedText s w2 m i)
         hash-at i true u k =
             let z = ltb-true i n u in
-            l .kept .hashes i ∙ a .hashes i (λ e. omega arith) ∙ g .naming .hashes i z ∙ ap hashOf (sym (named-then i (ltb i (m .count)) refl z))
+            l .kept .hashes i ∙ a .hashes i (λ e. omega arith) ∙ g .naming .hashes i z ∙ ap hashOf (sym (named-then i z))
         hash-at i false u k = let z : i ≡ n = omega (arith, ltb-false i n u) in rw z (l .kept .hashes n ∙ a .hash ∙ p ∙ ap hashOf (sym new-then))
 
         base-at : (i : ℕ) (t : Bool) → ltb i n ≡ t → m .count ≤ i → i < n + 1 → markAt w2 (m .base) i / 4294967296 < m .count
@@ -151,7 +131,7 @@ module _ (s w : List ℕ) (m : Map) (n b v : ℕ) (g : Describing s w m n b v) w
 
         more-then : namedTexts s w2 m (n + 1) ≡ namedTexts s w m n ++ (levelText s w m b v ∷ [])
         unfolding namedTexts
-        more-then = rw (add-one n) (cc (named-stay s w w2 m n (λ i k. named-then i (ltb i (m .count)) refl k), new-then))
+        more-then = rw (add-one n) (cc (named-list-stays s w w2 m n texts-then marks-then, new-then))
 
         pub describe-done : Described s w m n b v w2
         describe-done = record {

@@ -1,6 +1,6 @@
 -- find_name: from a bucket's head the links pass every name whose hash falls there. Assumes nothing.
 use mathlib.Core.Path.{_≡_, refl, sym, ap, _∙_}
-use mathlib.Core.Bool.{Bool, true, false, _||_, or-false}
+use mathlib.Core.Bool.{Bool, true, false, or-false}
 use mathlib.Core.List.{List, [], _∷_, _++_}
 use Prim.Native.Nat.{ℕ, zero, suc, _+_, _*_, _-_, _/_, _<_, _≤_}
 use native.Mathlib.Omega.{arith}
@@ -17,7 +17,7 @@ use Rattle.parse_tree.specs.plain.Texts.{has}
 use Rattle.texts.specs.declared.Map.{Map}
 use Rattle.texts.specs.declared.Found.{Found}
 use Rattle.texts.specs.Hash.{hashOf, bucketOf}
-use Rattle.texts.specs.Fields.{markAt, hashAt, linkAt, headAt, bucketAt, last}
+use Rattle.texts.specs.Fields.{markAt, linkAt, headAt, bucketAt, last}
 use Rattle.texts.specs.Table.{Finds}
 use Rattle.texts.proofs.HashLaws.{hash-small, bucket-small}
 use Rattle.texts.proofs.TableFindCode.{has-snoc, last-le}

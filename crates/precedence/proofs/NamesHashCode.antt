@@ -2,12 +2,12 @@
 use mathlib.Core.Path.{_≡_, refl, sym, ap, _∙_}
 use mathlib.Core.Bool.{Bool, true, false}
 use mathlib.Core.List.{List, [], _∷_, _++_}
-use Prim.Native.Nat.{ℕ, zero, suc, _+_, _*_, _-_, _/_, _%_, _^_, _≤_, _<_}
+use Prim.Native.Nat.{ℕ, _+_, _*_, _-_, _/_, _%_, _≤_, _<_}
 use native.Mathlib.Omega.{arith}
 use borrow.Author.Needs.{needs}
 use borrow.Author.Tests.{lt-ltb, le-ltb}
 use lib.Dec.{ltb}
-use lib.ListN.{length, getD, take, drop}
+use lib.ListN.{length, getD}
 use lib.Seq.{take-all}
 use mir.Syntax.{w8}
 use mir.Val.{Fits}
@@ -22,7 +22,7 @@ use Rattle.texts.specs.declared.Map.{Map}
 use Rattle.texts.specs.Hash.{hashBy, hashStep, hashFrom, hashOf}
 use Rattle.texts.specs.Fields.{markAt, hashAt}
 use Rattle.texts.specs.Atoms.{atomEnd, atomText}
-use Rattle.texts.specs.Texts.{holder, placeAt, markedText, Whole, textsOf}
+use Rattle.texts.specs.Texts.{holder, placeAt, markedText, Whole}
 use Rattle.texts.specs.Table.{texts}
 use Rattle.texts.proofs.HashLaws.{from-none, from-more, step-small}
 use Rattle.texts.proofs.TextCode.{texts-at}

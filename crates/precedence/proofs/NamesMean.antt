@@ -15,7 +15,7 @@ use Rattle.texts.specs.Texts.{textsOf}
 use Rattle.texts.specs.Table.{Table, texts, linked}
 use Rattle.texts.proofs.TableFindCode.{linked-few, linked-many}
 use Rattle.precedence.specs.Grade.{levelDigits}
-use Rattle.precedence.specs.Names.{Naming, levelText, describedText, describedTexts, namedText, namedTexts}
+use Rattle.precedence.specs.Names.{Naming, levelText, describedText, describedTexts, namedTexts}
 use Rattle.precedence.proofs.NamesHashCode.{named-table, named-described}
 
 -- theorem: the name of a level that is not the highest, as the pass on trees has it
