@@ -9,12 +9,10 @@ use borrow.Author.Tests.{ltb-true, ltb-false, eqb-true, eqb-false, not-true, not
 use lib.Dec.{eqb, ltb}
 use lib.ListN.{length, getD, length-append, List·getD-append}
 use lib.Seq.{ext-getD, getD-append-add}
-use mir.Syntax.{w64}
-use mir.Val.{Fits}
 use Rattle.octets.specs.plain.Runs.{sameAs}
 use Rattle.octets.proofs.SameLaws.{sameAs-eq, eq-sameAs}
 use Rattle.precedence.specs.Grade.{levelDigits}
-use Rattle.precedence.proofs.DecimalLaws.{last, sizeBy, front, digits-front, size-is, digits-most}
+use Rattle.precedence.proofs.DecimalLaws.{last, sizeBy, front, digits-front, size-is}
 
 -- ---- digit_at: the first i + k digits are those of q
 pub record Digiting (v i k q : ℕ) : Type 0 where
@@ -64,10 +62,7 @@ byte-digit t v i b h e =
     let z : length t + (i - length t) ≡ i = omega arith in
     e ∙ sym (getD-append-add t (levelDigits v) (i - length t) 0) ∙ ap (λ (j : ℕ). getD (t ++ levelDigits v) j 0) z
 
-pub byte-inside : (t : List ℕ) (v i : ℕ) → i < length t + length (levelDigits v) → length t ≤ i → i - length t < length (levelDigits v)
-byte-inside t v i h k = omega arith
-
-pub ruleset picking = (needs, byte-inside, byte-front, byte-digit)
+pub ruleset picking = (needs, byte-front, byte-digit)
 
 -- ---- is_byte, same_byte
 pub one-byte : (z b y : ℕ) → b ≡ y → eqb z b ≡ eqb z y
@@ -115,12 +110,6 @@ pub name-long : (b : List ℕ) (v : ℕ) → length (b ++ levelDigits v) ≡ len
 name-long b v = length-append b (levelDigits v)
 
 module _ (b : List ℕ) (v z : ℕ) (e : z ≡ length (levelDigits v)) where
-  pub name-fits : length b < 65536 → Fits w64 (length b + z)
-  name-fits h = record { fits = omega (arith, digits-most v) }
-
-  pub name-inside : (i : ℕ) → i < length b + z → i < length b + length (levelDigits v)
-  name-inside i h = omega arith
-
   module _ (t : List ℕ) where
     pub text-not-long : (length t ≡ length b + z → ⊥) → false ≡ sameAs t (b ++ levelDigits v)
     text-not-long n = unlike t (b ++ levelDigits v) (λ q. n (ap length q ∙ name-long b v ∙ ap (λ (k : ℕ). length b + k) (sym e)))
@@ -128,13 +117,10 @@ module _ (b : List ℕ) (v z : ℕ) (e : z ≡ length (levelDigits v)) where
     pub text-start : length t ≡ length b + z → Alike t (b ++ levelDigits v) 0
     text-start h = alike-start t (b ++ levelDigits v) (omega (arith, name-long b v))
 
-    pub text-inside : (i : ℕ) → length t ≡ length b + z → i < length b + z → i < length t
-    text-inside i h k = omega arith
-
     pub alike-end : (i : ℕ) → Alike t (b ++ levelDigits v) i → length b + z ≤ i → true ≡ sameAs t (b ++ levelDigits v)
     alike-end i c h = alike-done t (b ++ levelDigits v) i c (omega (arith, name-long b v))
 
-pub ruleset spelling = (needs, name-fits, name-inside, text-not-long, text-start, text-inside, alike-end, same-not, same-more)
+pub ruleset spelling = (needs, text-not-long, text-start, alike-end, same-not, same-more)
 
 -- ---- same_names
 module _ (a : List ℕ) (u y : ℕ) (p : y ≡ length (levelDigits u)) (b : List ℕ) (v z : ℕ) (e : z ≡ length (levelDigits v)) where
@@ -144,7 +130,4 @@ module _ (a : List ℕ) (u y : ℕ) (p : y ≡ length (levelDigits u)) (b : List
   pub names-start : length a + y ≡ length b + z → Alike (a ++ levelDigits u) (b ++ levelDigits v) 0
   names-start h = text-start b v z e (a ++ levelDigits u) (omega (arith, name-long a u))
 
-  pub names-inside : (i : ℕ) → length a + y ≡ length b + z → i < length b + z → i < length a + length (levelDigits u)
-  names-inside i h k = omega arith
-
-pub ruleset comparing = (needs, name-fits, name-inside, names-not-long, names-start, names-inside, alike-end, same-not, same-more)
+pub ruleset comparing = (needs, names-not-long, names-start, alike-end, same-not, same-more)

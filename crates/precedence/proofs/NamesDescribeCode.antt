@@ -10,8 +10,6 @@ use borrow.Author.Tests.{ltb-true, ltb-false}
 use lib.Dec.{ltb}
 use lib.ListN.{length, getD}
 use lib.Seq.{getD-append-seam}
-use mir.Syntax.{w64}
-use mir.Val.{Fits}
 use Rattle.parse_tree.specs.plain.Tree.{Text}
 use Rattle.parse_tree.specs.plain.Texts.{has, distinct, withNew}
 use Rattle.parse_tree.proofs.TextLaws.{distinct-more}
@@ -31,35 +29,11 @@ use Rattle.precedence.proofs.NamesFindCode.{naming-based, length-named}
 
 -- ---- describe
 module _ (s w : List ℕ) (m : Map) (n b v : ℕ) (g : Describing s w m n b v) where
-  pub describe-room : m .base + 24 * n + 24 ≤ length w
-  describe-room = g .room
-
-  pub describe-some : 0 < m .buckets
-  describe-some = g .naming .some
-
-  pub describe-narrow : m .buckets ≤ 4294967295
-  describe-narrow = g .naming .narrow
-
-  pub describe-few : n < 4294967295
-  describe-few = g .few
-
-  pub describe-fits : Fits w64 (b * 4294967296 + v)
-  describe-fits = record { fits = omega (arith, g .base, g .level, g .few, g .naming .upto) }
-
-  pub describe-fits-base : Fits w64 (b * 4294967296)
-  describe-fits-base = record { fits = omega (arith, g .base, g .few, g .naming .upto) }
-
   module _ (h : ℕ) (p : h ≡ hashOf (levelText s w m b v)) where
     pub describe-hash : h < 4294967296
     describe-hash = rw p (hash-small (levelText s w m b v))
 
     module _ (w1 : List ℕ) (a : RecordWritten w (m .base) n (b * 4294967296 + v) h 0 w1) where
-      pub describe-room-again : m .base + 24 * n + 24 ≤ length w1
-      describe-room-again = rw (a .long) (g .room)
-
-      pub describe-wide : m .base + 24 * m .buckets ≤ length w1
-      describe-wide = rw (a .long) (g .naming .wide)
-
       chained-still : Chained w1 (m .base) (m .buckets) n
       chained-still =
           chained-same w w1 (m .base) (m .buckets) n (λ i k. a .hashes i (λ e. omega arith)) (λ i k. a .links i) (λ y k. a .heads y) (g .naming .chained)
@@ -148,24 +122,12 @@ module _ (s w : List ℕ) (m : Map) (n b v : ℕ) (g : Describing s w m n b v) w
           };
         }
 
-pub ruleset describing = (needs, describe-room, describe-some, describe-narrow, describe-few, describe-fits, describe-fits-base, describe-hash, describe-room-again, describe-wide, describe-done)
+pub ruleset describing = (needs, describe-hash, describe-done)
 
 -- ---- level_name
 module _ (s w : List ℕ) (m : Map) (n b v : ℕ) (g : Describing s w m n b v) where
   pub name-based : Based s w m b
   name-based = naming-based s w m n (g .naming) b (g .base)
-
-  pub name-level : v < 4294967296
-  name-level = g .level
-
-  pub name-base : b < m .count
-  name-base = g .base
-
-  pub name-naming : Naming s w m n
-  name-naming = g .naming
-
-  pub name-fits : Fits w64 (n + 1)
-  name-fits = record { fits = omega (arith, g .few) }
 
   pub name-found : (f : Found) (k : ℕ) → Finds (namedTexts s w m n) (levelText s w m b v) f → f ≡ Found.At k → LevelNamed s w m n b v (record { name = k; count = n }) w
   unfolding Finds withNew
@@ -208,4 +170,4 @@ module _ (s w : List ℕ) (m : Map) (n b v : ℕ) (g : Describing s w m n b v) w
       last-is : (us : List Text) (x : Text) → n < length us → getD us n [] ≡ x → Finds us x (Found.At n)
       last-is us x q r = record { below = q; text = r }
 
-pub ruleset levelNaming = (needs, name-based, name-level, name-base, name-naming, name-fits, name-found, name-new)
+pub ruleset levelNaming = (needs, name-based, name-found, name-new)

@@ -121,9 +121,6 @@ module _ (s w : List ℕ) (m : Map) (n : ℕ) (x : Text) (h : ℕ) (g : Naming s
   pub trace-small : h < 4294967296
   trace-small = rw p (hash-small x)
 
-  pub trace-narrow : m .buckets < 4294967296
-  trace-narrow = omega (arith, g .narrow)
-
   pub trace-head : (y : ℕ) → y ≡ bucketOf h (m .buckets) → m .base + 24 * y + 24 ≤ length w
   trace-head y e = omega (arith, g .wide, bucket-small h (m .buckets) trace-small (g .some))
 
@@ -135,9 +132,6 @@ module _ (s w : List ℕ) (m : Map) (n : ℕ) (x : Text) (h : ℕ) (g : Naming s
   module _ (j : ℕ) (c : Tracing s w m n x h j) (l : 0 < j) where
     pub trace-spelled : Spelled s w m (j - 1)
     trace-spelled = naming-spelled s w m n g (j - 1) (omega (arith, c .upto))
-
-    pub trace-room : m .base + 24 * (j - 1) + 24 ≤ length w
-    trace-room = omega (arith, c .upto, g .room)
 
     pub trace-found : (r : Bool) → r ≡ sameAs (namedText s w m (j - 1)) x → r ≡ true → Finds (namedTexts s w m n) x (Found.At (j - 1))
     unfolding Finds
@@ -161,4 +155,4 @@ pub trace-none : (s w : List ℕ) (m : Map) (n : ℕ) (x : Text) (h j : ℕ) →
 unfolding namedTexts has Finds
 trace-none s w m n x h j c l = let z : j ≡ 0 = omega arith in sym (rw z at (c .rest))
 
-pub ruleset tracing = (needs, naming-based, trace-small, trace-narrow, trace-head, trace-start, trace-spelled, trace-room, trace-found, trace-next, trace-less, trace-none)
+pub ruleset tracing = (needs, naming-based, trace-small, trace-head, trace-start, trace-spelled, trace-found, trace-next, trace-less, trace-none)

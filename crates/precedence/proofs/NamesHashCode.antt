@@ -55,13 +55,10 @@ module _ (s w : List ℕ) (f : (i : ℕ) → Fits w8 (getD s i 0)) (g : (i : ℕ
   }
 
 module _ (s w : List ℕ) (m : Map) (k : ℕ) (c : Based s w m k) where
-  pub base-room : m .base + 24 * k + 24 ≤ length w
-  base-room = c .room
-
   pub base-whole : (x : ℕ) → x ≡ markAt w (m .base) k → Whole s w x
   base-whole x e = rw e (c .whole)
 
-pub ruleset basing = (needs, base-room, base-whole, base-done)
+pub ruleset basing = (needs, base-whole, base-done)
 
 -- ---- level_hash: h is the hash of the text and i digits
 append-from : (h : ℕ) (xs ys : Text) → hashFrom h (xs ++ ys) ≡ hashFrom (hashFrom h xs) ys
@@ -79,9 +76,6 @@ unfolding part
 digits-start x v l = record { rest = ap (hashFrom x) (take-all (length (levelDigits v) - 0) (levelDigits v) (omega arith)); small = l; upto = omega arith }
 
 module _ (x v h i z : ℕ) (g : DigitHash x v h i) (e : z ≡ length (levelDigits v)) where
-  pub digits-inside : i < z → i < length (levelDigits v)
-  digits-inside l = omega arith
-
   pub digits-next : (r d : ℕ) → i < z → d ≡ getD (levelDigits v) i 0 → r ≡ hashStep h d → DigitHash x v r (i + 1)
   digits-next r d l p q =
       let ds = levelDigits v in
@@ -94,10 +88,7 @@ module _ (x v h i z : ℕ) (g : DigitHash x v h i) (e : z ≡ length (levelDigit
   pub digits-done : z ≤ i → h ≡ hashFrom x (levelDigits v)
   digits-done l = cc (part-none i (length (levelDigits v)) (levelDigits v) (omega arith), from-none h, g .rest)
 
-pub digits-small : (x v h i : ℕ) → DigitHash x v h i → h < 4294967296
-digits-small x v h i g = g .small
-
-pub ruleset digitHashing = (needs, digits-start, digits-small, digits-inside, digits-next, digits-done)
+pub ruleset digitHashing = (needs, digits-start, digits-next, digits-done)
 
 -- ---- level_hash
 module _ (s w : List ℕ) (m : Map) (b v : ℕ) where
@@ -109,7 +100,7 @@ module _ (s w : List ℕ) (m : Map) (b v : ℕ) where
       q ∙ ap (λ (k : ℕ). hashFrom k (levelDigits v)) (sym t) ∙ sym (append-from 0 x (levelDigits v))
       ∙ ap (λ (y : Text). hashFrom 0 (y ++ levelDigits v)) (sym (texts-at s w (m .base) (m .count) b (c .below)))
 
-pub ruleset leveling = (needs, base-room, level-done)
+pub ruleset leveling = (needs, level-done)
 
 -- ---- is_level_name
 module _ (s w : List ℕ) (m : Map) (k : ℕ) where
@@ -122,9 +113,6 @@ module _ (s w : List ℕ) (m : Map) (k : ℕ) where
   named-described h = cc (le-ltb k (m .count) h)
 
   module _ (c : Spelled s w m k) where
-    pub spell-room : m .base + 24 * k + 24 ≤ length w
-    spell-room = c .room
-
     pub spell-whole : (x : ℕ) → k < m .count → x ≡ markAt w (m .base) k → Whole s w x
     spell-whole x h e = rw e (c .whole h)
 
@@ -133,9 +121,6 @@ module _ (s w : List ℕ) (m : Map) (k : ℕ) where
 
     pub match-not : (r h : ℕ) (t : Text) → h ≡ hashOf t → r ≡ hashAt w (m .base) k → (r ≡ h → ⊥) → false ≡ sameAs (namedText s w m k) t
     match-not r h t p q n = unlike (namedText s w m k) t (λ e. n (q ∙ c .hash ∙ ap hashOf e ∙ sym p))
-
-  pub base-short : (t : Text) → BaseText s w m k t → length t < 65536
-  base-short t c = c .short
 
   pub spell-same : (b v x : ℕ) → m .count ≤ k → x ≡ markAt w (m .base) k → x / 4294967296 ≡ b → x % 4294967296 ≡ v → true ≡ sameAs (namedText s w m k) (levelText s w m b v)
   unfolding describedText
@@ -156,9 +141,6 @@ module _ (s w : List ℕ) (m : Map) (k : ℕ) where
         = ap (λ (u : Text). u ++ levelDigits (x % 4294967296)) (c .text) ∙ ap (describedText s w m) e ∙ sym (named-described h) in
         q ∙ ap (λ (u : Text). sameAs u (y ++ levelDigits v)) z ∙ ap (λ (u : Text). sameAs (namedText s w m k) (u ++ levelDigits v)) (d .text)
 
-pub level-part : (x : ℕ) → x % 4294967296 < 4294967296
-level-part x = omega arith
+pub ruleset naming = (needs, spell-whole, spell-base, spell-same, spell-table, spell-described)
 
-pub ruleset naming = (needs, spell-room, spell-whole, spell-base, base-short, level-part, spell-same, spell-table, spell-described)
-
-pub ruleset matching = (needs, spell-room, match-not)
+pub ruleset matching = (needs, match-not)
