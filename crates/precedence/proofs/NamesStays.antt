@@ -2,7 +2,7 @@
 use mathlib.Core.Path.{_≡_, refl, sym, ap, _∙_}
 use mathlib.Core.Bool.{Bool, true, false}
 use mathlib.Core.List.{List, [], _++_}
-use Prim.Native.Nat.{ℕ, zero, suc, _+_, _*_, _/_, _%_, _<_}
+use Prim.Native.Nat.{ℕ, zero, suc, _+_, _*_, _/_, _%_, _<_, _≤_}
 use native.Mathlib.Omega.{arith}
 use borrow.Author.Tests.{ltb-true, ltb-false}
 use lib.Dec.{ltb}
@@ -17,7 +17,7 @@ use Rattle.texts.proofs.ChainCode.{chained-same}
 use Rattle.texts.proofs.TextCode.{texts-at}
 use Rattle.texts.proofs.TableStays.{leAt-agree, whole-stays, texts-stay}
 use Rattle.precedence.specs.Grade.{levelDigits}
-use Rattle.precedence.specs.Names.{Naming, levelText, describedText, namedText, namedTexts}
+use Rattle.precedence.specs.Names.{Naming, NamesKept, levelText, describedText, namedText, namedTexts}
 use Rattle.precedence.proofs.NamesHashCode.{named-table, named-described}
 
 -- the same texts one by one are the same list
@@ -94,3 +94,7 @@ module _ (s w w1 : List ℕ) (m : Map) (n z : ℕ) (g : Naming s w m n) (a : Abo
     hashes = λ i k. hash-stays i k ∙ g .hashes i k ∙ ap hashOf (sym (named-stays s w w1 m n texts-same mark-stays i k));
     chained = chained-same w w1 (m .base) (m .buckets) n hash-stays link-stays head-stays (g .chained);
   }
+
+-- theorem: after `level_name` the table's texts in work stand where they stood
+pub names-above : (s w : List ℕ) (m : Map) (n z : ℕ) (w1 : List ℕ) → m .count ≤ n → NamesKept s w m n w1 → Above s w m z → Above s w1 m z
+names-above s w m n z w1 h k a = record { above = λ i l. rw (k .marks i (omega arith)) (a .above i l) }
