@@ -141,6 +141,8 @@ module _ (s w : List ℕ) (m : Map) (n b v : ℕ) (g : Describing s w m n b v) w
         name = c;
         number = λ d. answer-at (namedTexts s w m n) (levelText s w m b v) k d c;
         apart = λ d. d;
+        mark = λ h. absurd (omega arith);
+        cell = λ h. absurd (omega arith);
         kept = record { same = refl; marks = λ i h. refl; cells = λ i h. refl; before = λ i h. refl; after = λ i y z. refl };
       }
 
@@ -164,6 +166,8 @@ module _ (s w : List ℕ) (m : Map) (n b v : ℕ) (g : Describing s w m n b v) w
         name = record { below = omega (arith, length-named s w1 m (n + 1)); text = at-end };
         number = λ q. answer-at (namedTexts s w1 m (n + 1)) x n (apart q) is;
         apart = apart;
+        mark = λ h. d .mark;
+        cell = λ h. d .cell;
         kept = d .kept;
       }
     where

@@ -107,4 +107,6 @@ pub record LevelNamed (s w : List ℕ) (m : Map) (n b v : ℕ) (r : LevelName) (
   pub name : Is (namedTexts s w′ m (r .count)) (levelText s w m b v) (r .name)
   pub number : distinct (namedTexts s w m n) ≡ true → r .name ≡ number (namedTexts s w′ m (r .count)) (levelText s w m b v)
   pub apart : distinct (namedTexts s w m n) ≡ true → distinct (namedTexts s w′ m (r .count)) ≡ true
+  pub mark : n < r .count → markAt w′ (m .base) n ≡ b * 4294967296 + v
+  pub cell : n < r .count → cellAt w′ (m .base) n ≡ 0
   pub kept : NamesKept s w m n w′
