@@ -7,6 +7,12 @@ mod AlternativesMean
 mod GradingMean
 mod DecimalLaws
 mod DecimalCode
+mod NamesCode
+mod NamesHashCode
+mod NamesFindCode
+mod NamesStays
+mod NamesDescribeCode
+mod NamesMean
 mod SortLaws
 mod SortCode
 mod SortRunsCode

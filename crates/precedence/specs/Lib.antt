@@ -2,6 +2,7 @@
 pub mod Annotations
 pub mod Grade
 pub mod Grading
+pub mod Names
 pub mod Skip
 pub mod Sort
 pub mod Substitute

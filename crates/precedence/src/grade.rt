@@ -80,7 +80,7 @@ pub fn decimal_size(v: usize) -> usize
     n
 }
 
-fn digit(x: usize) -> u8
+pub fn digit(x: usize) -> u8
     requires { ⌜ x < 10 ⌝ }
     ensures { λ r. ⌜ r ≡ 48 + x ⌝ }
 {
