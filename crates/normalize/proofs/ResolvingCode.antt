@@ -191,11 +191,7 @@ module _ (s w : List ℕ) (a : Atoms) (at n : ℕ) (v : Valid true 2 s w a at n)
       unfolding TapeResolves TapeReads decode
       reads x k = rw (v .decoded) k
 
-      fine-no : (why : Refusal) → Verdict.Fine ≡ Verdict.Refused why → ⊥
-      fine-no why e = let z : _≡_ {A = ℕ} 0 1 = cc in omega arith
-
       valid-refused : (why : Refusal) → r ≡ Verdict.Refused why → TapeResolves s (Resolved.Refused why) w₂
-      pub valid-refused : (why : Refusal) → r ≡ Verdict.Refused why → TapeResolves s (Resolved.Refused why) w₂
       unfolding Answers StandsBy
       valid-refused why e = reads (Resolved.Refused why) (go (resolve (v .items)) answers)
         where

@@ -27,7 +27,7 @@ use Rattle.laws.proofs.Flat.{syms-fit}
 use Rattle.resolve.proofs.GrammarLaws.{Headed, headed, terminal-headed}
 use Rattle.precedence.specs.declared.Ids.{Ids}
 use Rattle.precedence.specs.Skip.{skipOut}
-use Rattle.precedence.specs.Annotations.{attributesLong, attributesEnd, firstWith, annotatedAt, HeadInside, firstAlternative, hasPrecAttr, symbolsFrom, symbolsAt, alternativeEnd}
+use Rattle.precedence.specs.Annotations.{attributesLong, attributesEnd, firstWith, annotatedAt, HeadInside, firstAlternative, hasPrecAttr, beforeSymbols, symbolsAt, alternativeEnd}
 use Rattle.precedence.proofs.SkipMean.{skip-means}
 use Rattle.precedence.proofs.AnnotationsMean.{Value, attributes-long, value-means}
 
@@ -55,7 +55,7 @@ module _ (four : Bool) (wd : ℕ) (ts : List Text) where
       omega (arith, length-append (conditionBytes wd ts x) (bytesOfEach (conditionBytes wd ts) xs), condition-long x, conditions-long xs, mul-suc (10 + 2 * wd) (length xs))
 
   symbols-place : (w : List ℕ) (p m n : ℕ) → attributesLong wd (getD w (p + 9) 0) ≡ m → (10 + 2 * wd) * getD w (p + 10) 0 ≡ n → symbolsAt wd w p ≡ p + 14 + wd + m + n
-  unfolding symbolsAt symbolsFrom
+  unfolding symbolsAt beforeSymbols
   symbols-place w p m n e f = omega (arith, e, f)
 
   pub alternative-read : (w : List ℕ) (p e : ℕ) (a : Alternative) (more : List ℕ) → AlternativeWithin four wd ts a → Lies w p (alternativeBytes wd ts a ++ more) e → AlternativeAt w p a
@@ -184,6 +184,7 @@ module _ (four : Bool) (wd : ℕ) (ts : List Text) where
   unfolding hasPrecAttr pick
   other-item w at h = cc (ne-eqb (getD w at 0) 16 h)
 
+  -- theorem
   pub terminal-means : (w : List ℕ) (at e : ℕ) (s : Span) (o : Source) (x : Text) → SpanWithin s → number ts x < 256 ^ wd → Lies w at (itemBytes wd ts (terminal s o x)) e
       → hasPrecAttr wd (idsIn ts) w at ≡ false
   terminal-means w at e s o x h k l = let z = terminal-headed four w wd ts at s o x e h k l in other-item w at (λ c. source-other o (sym (z .code) ∙ c))

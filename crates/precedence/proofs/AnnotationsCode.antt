@@ -15,7 +15,7 @@ use Rattle.octets.specs.working.Choice.{pick}
 use Rattle.octets.specs.plain.Numbers.{leAt}
 use Rattle.precedence.specs.declared.Ids.{Ids}
 use Rattle.precedence.specs.Skip.{skipOut}
-use Rattle.precedence.specs.Annotations.{attributesLong, firstWith, Finding, Annotates, attributesEnd, annotatedAt, firstAlternative, hasPrecAttr, HeadInside, symbolsFrom, symbolsAt, alternativeEnd}
+use Rattle.precedence.specs.Annotations.{attributesLong, firstWith, Finding, Annotates, attributesEnd, annotatedAt, firstAlternative, hasPrecAttr, HeadInside, beforeSymbols, symbolsAt, alternativeEnd}
 
 -- ---- the bytes of attributes
 pub long-more : (wd n : ℕ) → attributesLong wd (suc n) ≡ attributesLong wd n + (2 + 3 * wd)
@@ -167,14 +167,14 @@ module _ (wd n c : ℕ) (h : wd ≤ 3) (k : n < 256) (l : c < 256) where
   pub before-few : 14 + wd + (2 + 3 * wd) * n + (10 + 2 * wd) * c < 8192
   before-few = omega (arith, few-attributes, few-conditions)
 
-pub before-is : (wd n c : ℕ) → 14 + wd + (2 + 3 * wd) * n + (10 + 2 * wd) * c ≡ symbolsFrom wd n c
-unfolding symbolsFrom attributesLong
+pub before-is : (wd n c : ℕ) → 14 + wd + (2 + 3 * wd) * n + (10 + 2 * wd) * c ≡ beforeSymbols wd n c
+unfolding beforeSymbols attributesLong
 before-is wd n c = refl
 
 pub ruleset standing = (needs, before-first, before-second, before-conditions, before-fits, before-few, before-is)
 
 -- ---- symbols
-pub symbols-is : (wd : ℕ) (w : List ℕ) (at n c r : ℕ) → r ≡ symbolsFrom wd n c → n ≡ getD w (at + 9) 0 → c ≡ getD w (at + 10) 0 → at + r ≡ symbolsAt wd w at
+pub symbols-is : (wd : ℕ) (w : List ℕ) (at n c r : ℕ) → r ≡ beforeSymbols wd n c → n ≡ getD w (at + 9) 0 → c ≡ getD w (at + 10) 0 → at + r ≡ symbolsAt wd w at
 unfolding symbolsAt
 symbols-is wd w at n c r e p q = cc
 

@@ -59,12 +59,12 @@ pub record HeadInside (wd : ℕ) (w : List ℕ) (at : ℕ) : Type 0 where
   pub first : getD w at 0 ≡ 16 → (leAt 2 w (at + 11 + wd) ≡ 0 → ⊥) → attributesEnd wd w (firstAlternative wd w at) ≤ length w
 
 -- how many bytes of an alternative stand before its symbols, of so many attributes and conditions
-unfoldable pub symbolsFrom : ℕ → ℕ → ℕ → ℕ
-symbolsFrom wd n c = 14 + wd + attributesLong wd n + (10 + 2 * wd) * c
+unfoldable pub beforeSymbols : ℕ → ℕ → ℕ → ℕ
+beforeSymbols wd n c = 14 + wd + attributesLong wd n + (10 + 2 * wd) * c
 
 -- where the symbols of the alternative at a place stand
 unfoldable pub symbolsAt : ℕ → List ℕ → ℕ → ℕ
-symbolsAt wd w at = at + symbolsFrom wd (getD w (at + 9) 0) (getD w (at + 10) 0)
+symbolsAt wd w at = at + beforeSymbols wd (getD w (at + 9) 0) (getD w (at + 10) 0)
 
 -- the place behind it, before e
 unfoldable pub alternativeEnd : ℕ → List ℕ → ℕ → ℕ → ℕ

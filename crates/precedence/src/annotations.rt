@@ -9,7 +9,7 @@ use octets::wide::from32;
 ghost use mathlib.Core.Path.{_≡_};
 ghost use Prim.Native.Nat.{_+_, _≤_, _<_};
 ghost use lib.ListN.{length};
-ghost use Rattle.precedence.specs.Annotations.{attributesLong, Finding, Annotates, attributesEnd, annotatedAt, firstAlternative, HeadInside, hasPrecAttr, symbolsFrom, symbolsAt, alternativeEnd};
+ghost use Rattle.precedence.specs.Annotations.{attributesLong, Finding, Annotates, attributesEnd, annotatedAt, firstAlternative, HeadInside, hasPrecAttr, beforeSymbols, symbolsAt, alternativeEnd};
 
 // The index of the first attribute of an id among the n that stand from a place on; n where there is none.
 fn position(work: &[u8], at: usize, n: usize, width: usize, id: usize) -> usize
@@ -83,7 +83,7 @@ pub fn has_prec_attr(work: &[u8], at: usize, width: usize, ids: Ids) -> bool
 // How many bytes of an alternative stand before its symbols, of so many attributes and conditions.
 fn before_symbols(n: usize, c: usize, width: usize) -> usize
     requires { ⌜ (width ≤ 3) × (n < 256) × (c < 256) ⌝ }
-    ensures { λ r. ⌜ (r ≡ symbolsFrom width n c) × (r < 8192) ⌝ }
+    ensures { λ r. ⌜ (r ≡ beforeSymbols width n c) × (r < 8192) ⌝ }
 {
     14 + width + (2 + 3 * width) * n + (10 + 2 * width) * c
 }

@@ -12,7 +12,7 @@ use Rattle.octets.specs.working.Choice.{pick}
 use Rattle.octets.specs.plain.Numbers.{leAt, le}
 use Rattle.octets.specs.plain.Runs.{Lies}
 use Rattle.octets.proofs.NumbersLaws.{length-le}
-use Rattle.octets.proofs.LiesLaws.{lies-split, lies-first, lies-to, lies-append}
+use Rattle.octets.proofs.LiesLaws.{lies-split, lies-first, lies-to, lies-append, le-read}
 use Rattle.parse_tree.specs.plain.Tree.{Text, Item, Nonterminal, Source, item, terminal}
 use Rattle.parse_tree.specs.plain.Texts.{number}
 use Rattle.parse_tree.specs.plain.WriteTape.{bytesOfEach, bit}
