@@ -3,6 +3,7 @@ mod AnnotationsCode
 mod AnnotationsMean
 mod GradeCode
 mod GradingCode
+mod AlternativesCode
 mod AlternativesMean
 mod GradingMean
 mod DecimalLaws
