@@ -108,7 +108,7 @@ store-stays s w m z x y at vs g a o h k =
     (agree-store w at vs (m .base) (m .base + 24 * m .count) x y h k (o .records))
     (agree-store w at vs (m .base) (m .base + 24 * m .buckets) x y h k (o .heads))
 
-stored-long : (w : List ℕ) (places keys i at level : ℕ) (side : Assoc) → length (storedGrade w places keys i at level side) ≡ length w
+pub stored-long : (w : List ℕ) (places keys i at level : ℕ) (side : Assoc) → length (storedGrade w places keys i at level side) ≡ length w
 unfolding storedGrade
 stored-long w places keys i at level side =
     length-store (store w (places + 8 * i) (le 8 at)) (keys + 8 * i) (le 8 (gradeKey level i side)) ∙ length-store w (places + 8 * i) (le 8 at)
@@ -127,6 +127,9 @@ module _ (s w : List ℕ) (m : Map) (places keys n e : ℕ) (g : Gradable s w m 
   unfolding storedGrade
   both-stay = store-stays s first m (g .texts-from) keys (keys + 8 * n) (keys + 8 * i) (le 8 (gradeKey level i side)) (first-stays .table) (above-stays s w m first m (g .texts-from) first-stays (g .above))
       (rw first-long (g .keys-off)) (omega arith) (omega (arith, length-le 8 (gradeKey level i side)))
+
+  pub texts-kept : texts s (storedGrade w places keys i at level side) m ≡ texts s w m
+  texts-kept = both-stay .same ∙ first-stays .same
 
   pub gradable-stays : Gradable s (storedGrade w places keys i at level side) m places keys n e
   gradable-stays =

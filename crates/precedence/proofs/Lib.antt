@@ -6,6 +6,9 @@ mod GradingCode
 mod AlternativesCode
 mod AlternativesMean
 mod GradingMean
+mod AlternativesLaws
+mod AscendsMean
+mod AlternativesWholeMean
 mod DecimalLaws
 mod DecimalCode
 mod NamesCode
