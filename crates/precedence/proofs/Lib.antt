@@ -9,6 +9,7 @@ mod GradingMean
 mod AlternativesLaws
 mod AscendsMean
 mod AlternativesWholeMean
+mod LowestMean
 mod DecimalLaws
 mod DecimalCode
 mod NamesCode
