@@ -9,6 +9,7 @@ mod GradingMean
 mod AlternativesLaws
 mod AscendsMean
 mod AlternativesWholeMean
+mod KeysMean
 mod LowestMean
 mod DecimalLaws
 mod DecimalCode
