@@ -3,8 +3,14 @@ mod AnnotationsCode
 mod AnnotationsMean
 mod GradeCode
 mod GradingCode
+mod AlternativesCode
 mod AlternativesMean
 mod GradingMean
+mod AlternativesLaws
+mod AscendsMean
+mod AlternativesWholeMean
+mod KeysMean
+mod LowestMean
 mod DecimalLaws
 mod DecimalCode
 mod NamesCode

@@ -89,7 +89,7 @@ fn before_symbols(n: usize, c: usize, width: usize) -> usize
 }
 
 // Where the symbols of the alternative at a place stand.
-fn symbols(work: &[u8], at: usize, width: usize) -> usize
+pub fn symbols(work: &[u8], at: usize, width: usize) -> usize
     requires { ⌜ (2 ≤ width) × (width ≤ 3) × (at + 16 ≤ length (now work)) ⌝ }
     ensures { λ r. ⌜ r ≡ symbolsAt width (now (work .entry)) at ⌝ }
 {

@@ -1,4 +1,5 @@
 // Precedence levels: questions 14 to 16. Touches nothing but the slices that it is handed.
+pub mod alternatives;
 pub mod annotations;
 pub mod grade;
 pub mod grading;
@@ -38,4 +39,16 @@ pub struct Ids {
 pub enum GradeRead {
     Is(usize, Assoc),
     Refused(u32),
+}
+
+// How grading all alternatives went: whether their levels ascend; or the question that fails, and the alternative's place.
+pub enum Graded {
+    Is(bool),
+    Refused(u32, usize),
+}
+
+// The place of an alternative of the lowest level whose side is not FullyAssoc.
+pub enum Lowest {
+    At(usize),
+    Nothing,
 }
