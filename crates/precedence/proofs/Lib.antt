@@ -31,3 +31,4 @@ mod WriteWholeCode
 mod WriteMean
 mod WriteCountMean
 mod WriteWholeMean
+mod LevelCode

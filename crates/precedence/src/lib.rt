@@ -2,6 +2,7 @@
 pub mod annotations;
 pub mod grade;
 pub mod grading;
+pub mod level;
 pub mod names;
 pub mod skip;
 pub mod sort;

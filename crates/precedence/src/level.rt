@@ -1,0 +1,63 @@
+// The nonterminal of one level, written behind what is written so far, as module write does it.
+use crate::Assoc;
+use crate::Ids;
+use crate::annotations::annotations;
+use crate::annotations::first_alternative;
+use crate::substitute::put_atom;
+use crate::write::fall_through;
+use crate::write::put_alternative;
+use crate::write::put_run;
+use octets::numbers::atom_at;
+use octets::numbers::u64_at;
+use octets::wide::from8;
+ghost use mathlib.Core.Path.{_≡_};
+ghost use Prim.Native.Nat.{_+_, _-_, _*_, _≤_, _<_};
+ghost use lib.ListN.{length};
+ghost use Rattle.octets.specs.plain.Numbers.{leAt, le};
+ghost use Rattle.precedence.specs.Annotations.{firstAlternative};
+ghost use Rattle.precedence.specs.Write.{Puts};
+ghost use Rattle.precedence.specs.Level.{namedOut, nonterminalOut};
+
+// A number of two or three bytes, if it ends at lim or before.
+fn put_number(work: &mut [u8], v: u32, width: usize, lim: usize, to: usize) -> usize
+    requires { ⌜ (2 ≤ width) × (width ≤ 3) × (lim + 16 ≤ length (now work)) ⌝ }
+    ensures { λ r. ⌜ Puts (now (work .entry)) lim to (le width v) r (now (work .exit)) ⌝ }
+{
+    if lim < to {
+        return lim + 1;
+    }
+    if lim - to < width {
+        return lim + 1;
+    }
+    put_atom(work, to, width, v);
+    to + width
+}
+
+// A nonterminal's command with another name, up to the count of its alternatives.
+fn put_named(work: &mut [u8], p: usize, name: u32, width: usize, lim: usize, to: usize) -> usize
+    requires { ⌜ (2 ≤ width) × (width ≤ 3) × (p + 11 + width ≤ to) × (to ≤ lim + 1) × (lim + 16 ≤ length (now work)) ⌝ }
+    ensures { λ r. ⌜ Puts (now (work .entry)) lim to (namedOut width (now (work .entry)) p name) r (now (work .exit)) ⌝ }
+{
+    let q = put_run(work, p, p + 9, lim, to);
+    let r = put_number(work, name, width, lim, q);
+    put_run(work, p + 9 + width, p + 11 + width, lim, r)
+}
+
+// The command of the nonterminal at p with another name and so many alternatives, and its arguments.
+fn put_nonterminal_head(
+    work: &mut [u8],
+    p: usize,
+    name: u32,
+    many: u32,
+    width: usize,
+    lim: usize,
+    to: usize,
+) -> usize
+    requires { ⌜ (2 ≤ width) × (width ≤ 3) × (firstAlternative width (now work) p ≤ to) × (to ≤ lim + 1) × (lim + 16 ≤ length (now work)) ⌝ }
+    ensures { λ r. ⌜ Puts (now (work .entry)) lim to (nonterminalOut width (now (work .entry)) p name many) r (now (work .exit)) ⌝ }
+{
+    let e = first_alternative(work, p, width);
+    let q = put_named(work, p, name, width, lim, to);
+    let r = put_number(work, many, 2, lim, q);
+    put_run(work, p + 13 + width, e, lim, r)
+}
