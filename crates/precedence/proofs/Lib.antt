@@ -32,3 +32,4 @@ mod WriteMean
 mod WriteCountMean
 mod WriteWholeMean
 mod LevelCode
+mod LevelStays
