@@ -33,3 +33,4 @@ mod WriteCountMean
 mod WriteWholeMean
 mod LevelCode
 mod LevelStays
+mod LevelKeyCode

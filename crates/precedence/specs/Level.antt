@@ -11,8 +11,10 @@ use Rattle.octets.specs.plain.Numbers.{leAt, le}
 use Rattle.octets.specs.plain.Runs.{part}
 use Rattle.precedence.specs.declared.Assoc.{Assoc}
 use Rattle.precedence.specs.declared.Ids.{Ids}
+use Rattle.precedence.specs.declared.level.Level.{Level}
 use Rattle.precedence.specs.Annotations.{firstWith, firstAlternative}
-use Rattle.precedence.specs.Write.{Puts, symbolsFrom, PutsRenamed}
+use Rattle.resolve.specs.Whole.{Apart}
+use Rattle.precedence.specs.Write.{Puts, symbolsFrom, fallBytes, PutsRenamed}
 
 -- a nonterminal's command at p with another name, up to the count of its alternatives
 unfoldable pub namedOut : ℕ → List ℕ → ℕ → ℕ → List ℕ
@@ -21,3 +23,35 @@ namedOut wd w p name = part p (p + 9) w ++ (le wd name ++ part (p + 9 + wd) (p +
 -- with another count as well, and its arguments
 unfoldable pub nonterminalOut : ℕ → List ℕ → ℕ → ℕ → ℕ → List ℕ
 nonterminalOut wd w p name many = namedOut wd w p name ++ (le 2 many ++ part (p + 13 + wd) (firstAlternative wd w p) w)
+
+-- ---- one key
+
+-- the side that a key says
+unfoldable pub keySide : ℕ → Assoc
+keySide k = pick (eqb (k % 4) 0) Assoc.Left (pick (eqb (k % 4) 1) Assoc.Right (pick (eqb (k % 4) 2) Assoc.NonAssoc Assoc.FullyAssoc))
+
+-- where the place of a key's alternative is noted
+abbrev pub keyEntry : ℕ → ℕ → ℕ
+keyEntry places k = places + 8 * (k / 4 % 65536)
+
+-- that place
+unfoldable pub keyPlace : List ℕ → ℕ → ℕ → ℕ
+keyPlace w places k = leAt 8 w (keyEntry places k)
+
+-- and the place behind the alternative
+unfoldable pub keyEnd : List ℕ → ℕ → ℕ → ℕ
+keyEnd w places k = leAt 8 w (keyEntry places k + 8)
+
+-- the alternative of a key is put as its level has it
+pub record PutsKey (wd : ℕ) (ids : Ids) (places target : ℕ) (l : Level) (lim k : ℕ) (w : List ℕ) (to r : ℕ) (w′ : List ℕ) : Type 0 where
+  pub puts : PutsRenamed wd w (keyPlace w places k) (keyEnd w places k)
+    (firstWith wd (ids .precedence) w (keyPlace w places k + (14 + wd)) (getD w (keyPlace w places k + 9) 0))
+    (firstWith wd (ids .assoc) w (keyPlace w places k + (14 + wd)) (getD w (keyPlace w places k + 9) 0))
+    target (l .name) (l .below) (keySide k) lim to r w′
+
+-- its alternative stands below `to`, its entry apart from what is written
+pub record KeyInside (wd : ℕ) (w : List ℕ) (places lim to k : ℕ) : Type 0 where
+  pub entry : keyEntry places k + 16 ≤ length w
+  pub apart : Apart (keyEntry places k) (keyEntry places k + 16) to (lim + 16)
+  pub symbols : symbolsFrom wd w (keyPlace w places k) ≤ keyEnd w places k
+  pub upto : keyEnd w places k ≤ to

@@ -16,7 +16,16 @@ ghost use lib.ListN.{length};
 ghost use Rattle.octets.specs.plain.Numbers.{leAt, le};
 ghost use Rattle.precedence.specs.Annotations.{firstAlternative};
 ghost use Rattle.precedence.specs.Write.{Puts};
-ghost use Rattle.precedence.specs.Level.{namedOut, nonterminalOut};
+ghost use Rattle.precedence.specs.Level.{namedOut, nonterminalOut, keySide, KeyInside, PutsKey};
+
+// One level: its keys from first up to last, its name, and that of the next lower level; its own where it is the lowest.
+pub struct Level {
+    pub first: usize,
+    pub last: usize,
+    pub name: u32,
+    pub below: u32,
+    pub is_lowest: bool,
+}
 
 // A number of two or three bytes, if it ends at lim or before.
 fn put_number(work: &mut [u8], v: u32, width: usize, lim: usize, to: usize) -> usize
@@ -60,4 +69,58 @@ fn put_nonterminal_head(
     let q = put_named(work, p, name, width, lim, to);
     let r = put_number(work, many, 2, lim, q);
     put_run(work, p + 13 + width, e, lim, r)
+}
+
+// The side that a key says.
+fn side_of(k: usize) -> Assoc
+    ensures { λ r. ⌜ r ≡ keySide k ⌝ }
+{
+    let s = k % 4;
+    if s == 0 {
+        return Assoc::Left;
+    }
+    if s == 1 {
+        return Assoc::Right;
+    }
+    if s == 2 {
+        return Assoc::NonAssoc;
+    }
+    Assoc::FullyAssoc
+}
+
+// The alternative of a key without its first `precedence` and its first `assoc`.
+fn put_key(
+    work: &mut [u8],
+    places: usize,
+    k: usize,
+    width: usize,
+    ids: Ids,
+    target: u32,
+    l: Level,
+    lim: usize,
+    to: usize,
+) -> usize
+    requires { ⌜ (2 ≤ width) × (width ≤ 3) × KeyInside width (now work) places lim to k × (to ≤ lim + 1) × (lim + 16 ≤ length (now work)) ⌝ }
+    ensures { λ r. ⌜ PutsKey width ids places target l lim k (now (work .entry)) to r (now (work .exit)) ⌝ }
+{
+    let at = places + 8 * (k / 4 % 65536);
+    let p = u64_at(work, at) as usize;
+    let e = u64_at(work, at + 8) as usize;
+    let n = from8(work[p + 9]);
+    let f = annotations(work, p + (14 + width), n, width, ids);
+    let side = side_of(k);
+    put_alternative(
+        work,
+        p,
+        e,
+        f.precedence,
+        f.assoc,
+        width,
+        target,
+        l.name,
+        l.below,
+        side,
+        lim,
+        to,
+    )
 }
