@@ -34,3 +34,4 @@ mod WriteWholeMean
 mod LevelCode
 mod LevelStays
 mod LevelKeyCode
+mod LevelKeysCode

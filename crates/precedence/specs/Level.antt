@@ -55,3 +55,25 @@ pub record KeyInside (wd : ℕ) (w : List ℕ) (places lim to k : ℕ) : Type 0 
   pub apart : Apart (keyEntry places k) (keyEntry places k + 16) to (lim + 16)
   pub symbols : symbolsFrom wd w (keyPlace w places k) ≤ keyEnd w places k
   pub upto : keyEnd w places k ≤ to
+
+-- ---- the keys of a level
+
+module _ (wd : ℕ) (ids : Ids) (places keys target : ℕ) (l : Level) (lim : ℕ) where
+  -- n alternatives, of which the first is that of the i-th key, put one behind another
+  abbrev pub PutsKeys : ℕ → ℕ → List ℕ → ℕ → ℕ → List ℕ → Type 0
+  PutsKeys zero i w to r w′ = (r ≡ to) × (w′ ≡ w)
+  PutsKeys (suc n) i w to r w′ = (q : ℕ) × (w1 : List ℕ) × PutsKey wd ids places target l lim (leAt 8 w (keys + 8 * i)) w to q w1 × PutsKeys n (i + 1) w1 q r w′
+
+-- those of a level
+pub record PutsAlternatives (wd : ℕ) (ids : Ids) (places keys target : ℕ) (l : Level) (lim : ℕ) (w : List ℕ) (to r : ℕ) (w′ : List ℕ) : Type 0 where
+  pub each : PutsKeys wd ids places keys target l lim (l .last - l .first) (l .first) w to r w′
+  pub stop : r ≤ lim + 1
+  pub on : to ≤ r
+  pub others : (x : ℕ) → (x < to) ⊎ (lim + 16 ≤ x) → getD w′ x 0 ≡ getD w x 0
+
+-- the keys of a level stand apart from what is written, and so does what they lead to
+pub record KeysInside (wd : ℕ) (w : List ℕ) (places keys : ℕ) (l : Level) (lim to : ℕ) : Type 0 where
+  pub ordered : l .first ≤ l .last
+  pub inside : keys + 8 * l .last ≤ length w
+  pub apart : Apart keys (keys + 8 * l .last) to (lim + 16)
+  pub each : (i : ℕ) → l .first ≤ i → i < l .last → KeyInside wd w places lim to (leAt 8 w (keys + 8 * i))

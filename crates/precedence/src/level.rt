@@ -16,7 +16,7 @@ ghost use lib.ListN.{length};
 ghost use Rattle.octets.specs.plain.Numbers.{leAt, le};
 ghost use Rattle.precedence.specs.Annotations.{firstAlternative};
 ghost use Rattle.precedence.specs.Write.{Puts};
-ghost use Rattle.precedence.specs.Level.{namedOut, nonterminalOut, keySide, KeyInside, PutsKey};
+ghost use Rattle.precedence.specs.Level.{namedOut, nonterminalOut, keySide, KeyInside, PutsKey, KeysInside, PutsAlternatives};
 
 // One level: its keys from first up to last, its name, and that of the next lower level; its own where it is the lowest.
 pub struct Level {
@@ -123,4 +123,29 @@ fn put_key(
         lim,
         to,
     )
+}
+
+// The alternatives of a level.
+fn put_alternatives(
+    work: &mut [u8],
+    places: usize,
+    keys: usize,
+    width: usize,
+    ids: Ids,
+    target: u32,
+    l: Level,
+    lim: usize,
+    to: usize,
+) -> usize
+    requires { ⌜ (2 ≤ width) × (width ≤ 3) × KeysInside width (now work) places keys l lim to × (to ≤ lim + 1) × (lim + 16 ≤ length (now work)) ⌝ }
+    ensures { λ r. ⌜ PutsAlternatives width ids places keys target l lim (now (work .entry)) to r (now (work .exit)) ⌝ }
+{
+    let mut i = l.first;
+    let mut q = to;
+    while i < l.last {
+        let k = u64_at(work, keys + 8 * i) as usize;
+        q = put_key(work, places, k, width, ids, target, l, lim, q);
+        i += 1;
+    }
+    q
 }
