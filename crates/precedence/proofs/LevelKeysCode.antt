@@ -13,9 +13,9 @@ use Rattle.texts.proofs.TableStays.{leAt-agree}
 use Rattle.resolve.specs.Whole.{Apart}
 use Rattle.precedence.specs.declared.Ids.{Ids}
 use Rattle.precedence.specs.declared.level.Level.{Level}
-use Rattle.precedence.specs.Write.{conditionsFrom, symbolsFrom}
+use Rattle.precedence.specs.Write.{Puts, conditionsFrom, symbolsFrom}
 use Rattle.precedence.specs.Level.{keyEntry, keyPlace, keyEnd, KeyInside, PutsKey, PutsKeys, PutsAlternatives, KeysInside}
-use Rattle.precedence.proofs.WriteLaws.{puts-on, puts-upto}
+use Rattle.precedence.proofs.WriteLaws.{puts-beside, puts-on, puts-upto}
 use Rattle.precedence.proofs.LevelStays.{Between, renamed-between}
 
 -- ---- what is read stays
@@ -54,6 +54,21 @@ module _ (wd : ℕ) (w out : List ℕ) (places lim to q k : ℕ) (on : to ≤ q)
         upto = rw y (omega (arith, g .upto));
       }
 
+-- the keys of a level, after something else is put
+pub keys-stay : (wd : ℕ) (w w1 : List ℕ) (places keys : ℕ) (l : Level) (lim to : ℕ) (xs : List ℕ) (q : ℕ) → to ≤ lim + 1 → KeysInside wd w places keys l lim to → Puts w lim to xs q w1 → KeysInside wd w1 places keys l lim q
+keys-stay wd w w1 places keys l lim to xs q h g p =
+    let on = puts-on w w1 lim to xs q p h in
+    record { ordered = g .ordered; inside = omega (arith, g .inside, p .long); apart = apart-later keys (keys + 8 * l .last) to q (lim + 16) on (g .apart); each = λ i a b. one i a b }
+  where
+    kept : (x : ℕ) → (x < to) ⊎ (lim + 16 ≤ x) → getD w1 x 0 ≡ getD w x 0
+    kept x (inl o) = puts-beside w w1 lim to xs q p x (inl o)
+    kept x (inr o) = puts-beside w w1 lim to xs q p x (inr (omega arith))
+
+    one : (i : ℕ) → l .first ≤ i → i < l .last → KeyInside wd w1 places lim q (leAt 8 w1 (keys + 8 * i))
+    one i a b =
+        let y = number-stays 8 (keys + 8 * i) w w1 lim to kept (apart-part (keys + 8 * i) (keys + 8 * i + 8) keys (keys + 8 * l .last) to (lim + 16) (omega arith) (omega arith) (g .apart)) in
+        rw y (key-stays wd w w1 places lim to q (leAt 8 w (keys + 8 * i)) (puts-on w w1 lim to xs q p h) (p .long) kept (g .each i a b))
+
 -- ---- the loop: what is to come, put behind, makes the whole
 pub record Levelling (wd : ℕ) (ids : Ids) (places keys target : ℕ) (l : Level) (lim to : ℕ) (w out : List ℕ) (i q : ℕ) : Type 0 where
   pub narrow : wd ≤ 3
@@ -83,7 +98,7 @@ module _ (wd : ℕ) (ids : Ids) (places keys target : ℕ) (l : Level) (lim to :
     pub levelling-done : l .last ≤ i → PutsAlternatives wd ids places keys target l lim w to q out
     levelling-done h =
         let z : l .last - i ≡ 0 = omega arith in
-        record { each = g .carry q out (rw z (refl, refl)); stop = g .stop; on = g .on; others = g .kept }
+        record { each = g .carry q out (rw z (refl, refl)); stop = g .stop; on = g .on; long = g .same; others = g .kept }
 
     module _ (h : i < l .last) where
       pub levelling-key : keys + 8 * i + 8 ≤ length out

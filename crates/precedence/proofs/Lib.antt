@@ -35,3 +35,4 @@ mod LevelCode
 mod LevelStays
 mod LevelKeyCode
 mod LevelKeysCode
+mod LevelWholeCode

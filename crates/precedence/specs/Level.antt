@@ -69,6 +69,7 @@ pub record PutsAlternatives (wd : ℕ) (ids : Ids) (places keys target : ℕ) (l
   pub each : PutsKeys wd ids places keys target l lim (l .last - l .first) (l .first) w to r w′
   pub stop : r ≤ lim + 1
   pub on : to ≤ r
+  pub long : length w′ ≡ length w
   pub others : (x : ℕ) → (x < to) ⊎ (lim + 16 ≤ x) → getD w′ x 0 ≡ getD w x 0
 
 -- the keys of a level stand apart from what is written, and so does what they lead to
@@ -77,3 +78,28 @@ pub record KeysInside (wd : ℕ) (w : List ℕ) (places keys : ℕ) (l : Level) 
   pub inside : keys + 8 * l .last ≤ length w
   pub apart : Apart keys (keys + 8 * l .last) to (lim + 16)
   pub each : (i : ℕ) → l .first ≤ i → i < l .last → KeyInside wd w places lim to (leAt 8 w (keys + 8 * i))
+
+-- ---- the whole
+
+-- how many alternatives a level has, with its fall-through
+unfoldable pub levelCount : Level → ℕ
+levelCount l = pick (l .lowest) (l .last - l .first) (l .last - l .first + 1)
+
+-- the nonterminal at p and the keys of a level stand so that it can be written
+pub record LevelInside (wd : ℕ) (w : List ℕ) (p places keys : ℕ) (l : Level) (lim to : ℕ) : Type 0 where
+  pub inside : p + 16 ≤ length w
+  pub head : firstAlternative wd w p ≤ to
+  pub level : KeysInside wd w places keys l lim to
+  pub few : l .last - l .first < 65536
+  pub stop : to ≤ lim + 1
+  pub room : lim + 16 ≤ length w
+
+-- the nonterminal of a level put: its head, its alternatives, the fall-through
+pub record PutsLevel (wd : ℕ) (ids : Ids) (p places keys : ℕ) (l : Level) (lim : ℕ) (w : List ℕ) (to r : ℕ) (w′ : List ℕ) : Type 0 where
+  pub headed : List ℕ
+  pub filled : List ℕ
+  pub behind : ℕ
+  pub last : ℕ
+  pub head : Puts w lim to (nonterminalOut wd w p (l .name) (levelCount l)) behind headed
+  pub alternatives : PutsAlternatives wd ids places keys (leAt wd w (p + 9)) l lim headed behind last filled
+  pub falls : Puts filled lim last (pick (l .lowest) [] (fallBytes wd (leAt 8 w (p + 1)) (l .below))) r w′

@@ -16,7 +16,7 @@ ghost use lib.ListN.{length};
 ghost use Rattle.octets.specs.plain.Numbers.{leAt, le};
 ghost use Rattle.precedence.specs.Annotations.{firstAlternative};
 ghost use Rattle.precedence.specs.Write.{Puts};
-ghost use Rattle.precedence.specs.Level.{namedOut, nonterminalOut, keySide, KeyInside, PutsKey, KeysInside, PutsAlternatives};
+ghost use Rattle.precedence.specs.Level.{namedOut, nonterminalOut, keySide, KeyInside, PutsKey, KeysInside, PutsAlternatives, levelCount, LevelInside, PutsLevel};
 
 // One level: its keys from first up to last, its name, and that of the next lower level; its own where it is the lowest.
 pub struct Level {
@@ -24,7 +24,7 @@ pub struct Level {
     pub last: usize,
     pub name: u32,
     pub below: u32,
-    pub is_lowest: bool,
+    pub lowest: bool,
 }
 
 // A number of two or three bytes, if it ends at lim or before.
@@ -148,4 +148,41 @@ fn put_alternatives(
         i += 1;
     }
     q
+}
+
+// How many alternatives a level has, with its fall-through.
+fn count_of(l: Level) -> u32
+    requires { ⌜ (l .first ≤ l .last) × (l .last - l .first < 65536) ⌝ }
+    ensures { λ r. ⌜ r ≡ levelCount l ⌝ }
+{
+    let n = (l.last - l.first) as u32;
+    if l.lowest {
+        return n;
+    }
+    n + 1
+}
+
+// The nonterminal at p, as this level has it: its command and arguments, the alternatives of the level, and the fall-through if it is not the lowest.
+pub fn write_level(
+    work: &mut [u8],
+    p: usize,
+    width: usize,
+    ids: Ids,
+    places: usize,
+    keys: usize,
+    l: Level,
+    lim: usize,
+    to: usize,
+) -> usize
+    requires { ⌜ (2 ≤ width) × (width ≤ 3) × LevelInside width (now work) p places keys l lim to ⌝ }
+    ensures { λ r. ⌜ PutsLevel width ids p places keys l lim (now (work .entry)) to r (now (work .exit)) ⌝ }
+{
+    let many = count_of(l);
+    let target = atom_at(work, p + 9, width);
+    let q = put_nonterminal_head(work, p, l.name, many, width, lim, to);
+    let r = put_alternatives(work, places, keys, width, ids, target, l, lim, q);
+    if l.lowest {
+        return r;
+    }
+    fall_through(work, p, l.below, width, lim, r)
 }
