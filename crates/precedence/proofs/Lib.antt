@@ -36,3 +36,4 @@ mod LevelStays
 mod LevelKeyCode
 mod LevelKeysCode
 mod LevelWholeCode
+mod LevelMean
