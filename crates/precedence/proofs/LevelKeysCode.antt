@@ -20,11 +20,11 @@ use Rattle.precedence.proofs.LevelStays.{Between, renamed-between}
 
 -- ---- what is read stays
 -- a number that stands apart from what is written
-number-stays : (n a : ℕ) (w out : List ℕ) (lim to : ℕ) → ((x : ℕ) → (x < to) ⊎ (lim + 16 ≤ x) → getD out x 0 ≡ getD w x 0) → Apart a (a + n) to (lim + 16) → leAt n out a ≡ leAt n w a
+pub number-stays : (n a : ℕ) (w out : List ℕ) (lim to : ℕ) → ((x : ℕ) → (x < to) ⊎ (lim + 16 ≤ x) → getD out x 0 ≡ getD w x 0) → Apart a (a + n) to (lim + 16) → leAt n out a ≡ leAt n w a
 number-stays n a w out lim to f (inl h) = leAt-agree n w out a (λ i k l. f i (inl (omega arith)))
 number-stays n a w out lim to f (inr h) = leAt-agree n w out a (λ i k l. f i (inr (omega arith)))
 
-apart-part : (a b c d to lim : ℕ) → c ≤ a → b ≤ d → Apart c d to lim → Apart a b to lim
+pub apart-part : (a b c d to lim : ℕ) → c ≤ a → b ≤ d → Apart c d to lim → Apart a b to lim
 apart-part a b c d to lim h k (inl x) = inl (omega arith)
 apart-part a b c d to lim h k (inr x) = inr (omega arith)
 
@@ -41,7 +41,7 @@ symbols-stay wd w out p e to f h k =
 
 module _ (wd : ℕ) (w out : List ℕ) (places lim to q k : ℕ) (on : to ≤ q) (same : length out ≡ length w)
     (kept : (x : ℕ) → (x < to) ⊎ (lim + 16 ≤ x) → getD out x 0 ≡ getD w x 0) (g : KeyInside wd w places lim to k) where
-  key-stays : KeyInside wd out places lim q k
+  pub key-stays : KeyInside wd out places lim q k
   unfolding keyPlace keyEnd
   key-stays =
       let x = number-stays 8 (keyEntry places k) w out lim to kept (apart-part (keyEntry places k) (keyEntry places k + 8) (keyEntry places k) (keyEntry places k + 16) to (lim + 16) (omega arith) (omega arith) (g .apart)) in

@@ -37,3 +37,4 @@ mod LevelKeyCode
 mod LevelKeysCode
 mod LevelWholeCode
 mod LevelMean
+mod LevelKeysMean
