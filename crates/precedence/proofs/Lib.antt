@@ -38,3 +38,4 @@ mod LevelKeysCode
 mod LevelWholeCode
 mod LevelMean
 mod LevelKeysMean
+mod LevelWholeMean
