@@ -1,13 +1,13 @@
 -- The ways out of put_number, put_named and put_nonterminal_head. Assumes nothing.
-use mathlib.Core.Path.{_≡_, refl, sym, ap, _∙_}
-use mathlib.Core.Logic.{_⊎_, inl, inr}
-use mathlib.Core.List.{List, [], _∷_, _++_}
-use Prim.Native.Nat.{ℕ, zero, suc, _+_, _-_, _*_, _^_, _<_, _≤_}
+use mathlib.Core.Path.{_≡_, sym, _∙_}
+use mathlib.Core.Logic.{inl}
+use mathlib.Core.List.{List, _++_}
+use Prim.Native.Nat.{ℕ, _+_, _-_, _^_, _<_, _≤_}
 use native.Mathlib.Omega.{arith}
 use mir.Syntax.{w64}
 use mir.Val.{Fits}
 use borrow.Author.Needs.{needs}
-use lib.ListN.{length, getD}
+use lib.ListN.{length}
 use Rattle.octets.specs.plain.Numbers.{le}
 use Rattle.octets.specs.plain.Runs.{part}
 use Rattle.octets.specs.working.Stores.{store}
@@ -16,7 +16,7 @@ use Rattle.texts.proofs.TableStays.{part-agree}
 use Rattle.precedence.specs.Annotations.{firstAlternative}
 use Rattle.precedence.specs.Write.{Puts}
 use Rattle.precedence.specs.Level.{namedOut, nonterminalOut}
-use Rattle.precedence.proofs.WriteLaws.{puts-beside, puts-on, puts-upto, puts-append, puts-whole, puts-not}
+use Rattle.precedence.proofs.WriteLaws.{puts-beside, puts-on, puts-append, puts-whole, puts-not}
 use Rattle.precedence.proofs.WriteWholeCode.{behind-two}
 
 -- ---- put_number

@@ -1,9 +1,9 @@
 -- What the alternatives of a level that are put mean: those of its group, substituted. Assumes nothing.
-use mathlib.Core.Path.{_≡_, refl, sym, ap, _∙_}
+use mathlib.Core.Path.{_≡_, refl, ap, _∙_}
 use mathlib.Core.Bool.{Bool, true, cond}
 use mathlib.Core.Logic.{_⊎_, inl, inr}
-use mathlib.Core.List.{List, [], _∷_, _++_, map, append-nil}
-use Prim.Native.Nat.{ℕ, suc, _+_, _-_, _*_, _<_, _≤_}
+use mathlib.Core.List.{List, [], _∷_, map, append-nil}
+use Prim.Native.Nat.{ℕ, suc, _+_, _*_, _<_, _≤_}
 use native.Mathlib.Omega.{arith}
 use lib.ListN.{length, getD}
 use Rattle.octets.specs.plain.Numbers.{leAt}
@@ -17,11 +17,10 @@ use Rattle.passes.specs.Outcome.{withAttributes}
 use Rattle.passes.specs.Grades.{precedence, assoc, withoutFirst, Graded}
 use Rattle.passes.specs.Levels.{Group, lowerName, substitute}
 use Rattle.laws.proofs.Flat.{syms-fit}
-use Rattle.resolve.specs.Whole.{Apart}
 use Rattle.resolve.proofs.CellsLaws.{lies-agree}
 use Rattle.precedence.specs.declared.level.Level.{Level}
 use Rattle.precedence.specs.Annotations.{firstWith}
-use Rattle.precedence.specs.Write.{Puts, PutsRenamed, firstIndex}
+use Rattle.precedence.specs.Write.{Puts, firstIndex}
 use Rattle.precedence.specs.Level.{keySide, keyEntry, keyPlace, keyEnd, KeyInside, PutsKey, PutsKeys, KeysInside}
 use Rattle.precedence.proofs.AnnotationsMean.{positionOf}
 use Rattle.precedence.proofs.AlternativesMean.{idsIn, alternative-means as read-means}
@@ -43,6 +42,11 @@ module _ (four : Bool) (wd : ℕ) (ts : List Text) (places : ℕ) where
     pub lies : Lies w (keyPlace w places k) (alternativeBytes wd ts source) (keyEnd w places k)
     pub is : g .alternative ≡ withAttributes source (withoutFirst assoc (withoutFirst precedence (source .attributes)))
     pub sided : sideMeant (keySide k) ≡ g .side
+
+  -- each key from the i-th on leads to one of these
+  abbrev pub KeysMean : ℕ → List ℕ → ℕ → List Graded → Type 0
+  KeysMean keys w i [] = Unit {0}
+  KeysMean keys w i (g ∷ gs) = KeyMeans w (leAt 8 w (keys + 8 * i)) g × KeysMean keys w (i + 1) gs
 
   -- it still is where the bytes that are read are as they were
   means-stays : (w out : List ℕ) (lim to k : ℕ) (g : Graded) → length out ≡ length w → ((x : ℕ) → (x < to) ⊎ (lim + 16 ≤ x) → getD out x 0 ≡ getD w x 0) → to ≤ length w
@@ -69,15 +73,10 @@ module _ (four : Bool) (wd : ℕ) (ts : List Text) (places : ℕ) where
         alternative-means wd ts E group g a known (syms-fit wd ts four (a .symbols) 64 (m .within .symbols)) (m .is) (keySide k) (m .sided) w p (keyEnd w places k) lim to r w1 (m .lies) room
         (rw (i, j, named, lower) at (q .puts))
 
-    -- each key from the i-th on leads to one of these
-    abbrev pub KeysMean : List ℕ → ℕ → List Graded → Type 0
-    KeysMean w i [] = Unit {0}
-    KeysMean w i (g ∷ gs) = KeyMeans w (leAt 8 w (keys + 8 * i)) g × KeysMean w (i + 1) gs
-
     module _ (w : List ℕ) (to : ℕ) (room : lim + 16 ≤ length w) (stop : to ≤ lim + 1) (inside : KeysInside wd w places keys l lim to) where
       -- theorem: the alternatives of a level are put as its group has them
       pub keys-mean : (gs : List Graded) (i : ℕ) (out : List ℕ) (q r : ℕ) (w1 : List ℕ) → l .first ≤ i → i + length gs ≤ l .last → length out ≡ length w → ((x : ℕ) → (x < to) ⊎ (lim + 16 ≤ x) → getD out x 0 ≡ getD w x 0)
-          → to ≤ q → q ≤ lim + 1 → KeysMean w i gs → PutsKeys wd (idsIn ts) places keys (number ts E) l lim (length gs) i out q r w1
+          → to ≤ q → q ≤ lim + 1 → KeysMean keys w i gs → PutsKeys wd (idsIn ts) places keys (number ts E) l lim (length gs) i out q r w1
           → Puts out lim q (bytesOfEach (alternativeBytes wd ts) (map (substitute E group) gs)) r w1
       unfolding bytesOfEach
       keys-mean [] i out q r w1 a b same kept on upto m p = let x = p .0 in let y = p .1 in rw (x, y) (puts-none out lim q upto)

@@ -1,12 +1,12 @@
 -- What is put of a level, on trees: the head of the nonterminal with another name and other alternatives. Assumes nothing.
-use mathlib.Core.Path.{_≡_, refl, sym, ap, _∙_}
+use mathlib.Core.Path.{_≡_, sym, ap, _∙_}
 use mathlib.Core.Bool.{Bool}
 use mathlib.Core.List.{List, [], _∷_, _++_, append-assoc}
-use Prim.Native.Nat.{ℕ, _+_, _*_}
+use Prim.Native.Nat.{ℕ, _+_}
 use native.Mathlib.Omega.{arith}
-use lib.ListN.{length, length-append}
+use lib.ListN.{length}
 use Rattle.octets.specs.plain.Numbers.{le}
-use Rattle.octets.specs.plain.Runs.{part, Lies}
+use Rattle.octets.specs.plain.Runs.{part}
 use Rattle.octets.proofs.LiesLaws.{lies-split, lies-from, lies-to, lies-part}
 use Rattle.octets.proofs.NumbersLaws.{length-le}
 use Rattle.parse_tree.specs.plain.Tree.{Text, Alternative, Nonterminal}

@@ -1,11 +1,11 @@
 -- What stays where an alternative is put and renamed: the bytes below it, and those from lim + 16 on. Assumes nothing.
-use mathlib.Core.Path.{_≡_, refl, sym, ap, _∙_}
+use mathlib.Core.Path.{_≡_, refl, _∙_}
 use mathlib.Core.Bool.{Bool, true, false}
 use mathlib.Core.Logic.{_⊎_, inl, inr}
 use mathlib.Core.List.{List, _++_}
-use Prim.Native.Nat.{ℕ, zero, suc, _+_, _-_, _*_, _<_, _≤_}
+use Prim.Native.Nat.{ℕ, zero, suc, _+_, _-_, _<_, _≤_}
 use native.Mathlib.Omega.{arith}
-use borrow.Author.Tests.{leb-true, leb-false, ltb-true, le-leb, lt-leb}
+use borrow.Author.Tests.{leb-false, ltb-true, le-leb, lt-leb}
 use lib.Dec.{leb, ltb, eqb}
 use lib.ListN.{length, getD, length-append}
 use Rattle.octets.specs.working.Choice.{pick}
@@ -19,8 +19,8 @@ use Rattle.resolve.specs.Commands.{longOf}
 use Rattle.precedence.specs.declared.Assoc.{Assoc}
 use Rattle.precedence.specs.declared.substitute.Marks.{Marks}
 use Rattle.precedence.specs.Substitute.{namesAt, markedAt, replaceOut, replaceAll, nameOut, substituteOut}
-use Rattle.precedence.specs.Write.{Puts, keptBytes, headOut, fewerBy, conditionsFrom, symbolsFrom, strippedOut, PutsRenamed}
-use Rattle.precedence.proofs.WriteLaws.{fits-or-not, puts-beside, puts-on, puts-upto}
+use Rattle.precedence.specs.Write.{keptBytes, headOut, fewerBy, conditionsFrom, symbolsFrom, strippedOut, PutsRenamed}
+use Rattle.precedence.proofs.WriteLaws.{fits-or-not, puts-beside}
 
 -- from w to w′ no byte below a or from e + 16 on has changed
 pub record Between (a e : ℕ) (w w′ : List ℕ) : Type 0 where

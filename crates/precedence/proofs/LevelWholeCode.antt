@@ -1,14 +1,12 @@
 -- The ways out of count_of and write_level. Assumes nothing.
-use mathlib.Core.Path.{_≡_, refl, sym, ap, _∙_}
+use mathlib.Core.Path.{_≡_, _∙_}
 use mathlib.Core.Bool.{true, false}
-use mathlib.Core.Logic.{_⊎_, inl, inr}
+use mathlib.Core.Logic.{inl}
 use mathlib.Core.List.{List, []}
-use Prim.Native.Nat.{ℕ, _+_, _-_, _*_, _^_, _<_, _≤_}
+use Prim.Native.Nat.{ℕ, _+_, _-_, _≤_}
 use native.Mathlib.Omega.{arith}
-use mir.Syntax.{w64}
-use mir.Val.{Fits}
 use borrow.Author.Needs.{needs}
-use lib.ListN.{length, getD}
+use lib.ListN.{length}
 use Rattle.octets.specs.working.Choice.{pick}
 use Rattle.octets.specs.plain.Numbers.{leAt}
 use Rattle.texts.proofs.TableStays.{leAt-agree}
@@ -34,16 +32,6 @@ pub ruleset counting-level = (needs, count-lowest, count-more)
 
 -- ---- write_level
 module _ (wd : ℕ) (w : List ℕ) (p places keys : ℕ) (l : Level) (lim to : ℕ) (g : LevelInside wd w p places keys l lim to) where
-  pub level-name : p + 9 + wd ≤ length w
-  unfolding firstAlternative
-  level-name = omega (arith, g .head, g .stop, g .room)
-
-  pub level-nine-fits : length w < 2 ^ 64 → Fits w64 (p + 9)
-  level-nine-fits z = record { fits = omega (arith, level-name) }
-
-  pub level-ordered : l .first ≤ l .last
-  level-ordered = g .level .ordered
-
   module _ (xs : List ℕ) (q : ℕ) (w1 : List ℕ) (x : Puts w lim to xs q w1) where
     pub level-keys : KeysInside wd w1 places keys l lim q
     level-keys = keys-stay wd w w1 places keys l lim to xs q (g .stop) (g .level) x
@@ -74,7 +62,7 @@ module _ (wd : ℕ) (w : List ℕ) (p places keys : ℕ) (l : Level) (lim to : �
         let s = span-stays (nonterminalOut wd w p (l .name) many) q w1 x ids target r w2 y in
         whole e w3 (rw (b, ← s) z)
 
-pub ruleset levelled-put = (needs, level-name, level-nine-fits, level-ordered, level-lowest, level-falls)
+pub ruleset levelled-put = (needs, level-lowest, level-falls)
 
 pub ruleset level-read = (needs, level-keys)
 

@@ -1,16 +1,16 @@
 -- What a level that is put means: the item of its group, with its fall-through. Assumes nothing.
 use mathlib.Core.Path.{_≡_, refl, sym, ap, _∙_}
 use mathlib.Core.Bool.{Bool, true, false}
-use mathlib.Core.Logic.{_⊎_, inl, inr}
+use mathlib.Core.Logic.{inl, inr}
 use mathlib.Core.List.{List, [], _∷_, _++_, map, append-assoc}
 use mathlib.Core.Option.{Option, none, some}
-use Prim.Native.Nat.{ℕ, _+_, _-_, _*_, _<_, _≤_}
+use Prim.Native.Nat.{ℕ, _+_, _-_}
 use native.Mathlib.Omega.{arith}
-use lib.ListN.{length, getD, length-append}
+use lib.ListN.{length, length-append, length-map}
 use Rattle.octets.specs.working.Choice.{pick}
 use Rattle.octets.specs.plain.Numbers.{leAt, Bytes}
 use Rattle.octets.proofs.LiesLaws.{lies-split}
-use Rattle.parse_tree.specs.plain.Tree.{Text, Alternative, Nonterminal, item}
+use Rattle.parse_tree.specs.plain.Tree.{Text, Alternative, Nonterminal}
 use Rattle.parse_tree.specs.plain.Texts.{has, number}
 use Rattle.parse_tree.specs.plain.WriteTape.{bytesOfEach}
 use Rattle.parse_tree.specs.working.Nodes.{nodeBytes}
@@ -39,10 +39,6 @@ unfolding bytesOfEach
 bytes-of-both f [] ys = refl
 bytes-of-both f (x ∷ xs) ys = ap (λ (r : List ℕ). f x ++ r) (bytes-of-both f xs ys) ∙ sym (append-assoc (f x) (bytesOfEach f xs) (bytesOfEach f ys))
 
-map-long : {A B : Type 0} (f : A → B) (xs : List A) → length (map f xs) ≡ length xs
-map-long f [] = refl
-map-long f (x ∷ xs) = omega (arith, map-long f xs)
-
 count-means : (as′ : List Alternative) (s : Span) (o : Option Text) (b : Bool) (n : ℕ) → b ≡ isLowest o → n ≡ length as′ → pick b n (n + 1) ≡ length (as′ ++ fallThrough s o)
 unfolding pick
 count-means as′ s none b n z y = rw z (omega (arith, y, length-append as′ (fallThrough s none)))
@@ -65,7 +61,7 @@ module _ (four : Bool) (wd : ℕ) (ts : List Text) (w : List ℕ) (p e : ℕ) (d
       rw (z, y) (fall-means wd ts w d p _ n bytes (node .0))
 
   module _ (places keys : ℕ) (group : Group Graded) (l : Level) (lim to : ℕ) (known : has (d .name) ts ≡ true) (of : LevelOf ts group l) (inside : LevelInside wd w p places keys l lim to)
-      (means : KeysMean four wd ts places keys (d .name) group known l (of .name) (of .below) lim w (l .first) (group .alternatives)) where
+      (means : KeysMean four wd ts places keys w (l .first) (group .alternatives)) where
     abbrev Mapped : List Alternative
     Mapped = map (substitute (d .name) group) (group .alternatives)
 
@@ -74,7 +70,7 @@ module _ (four : Bool) (wd : ℕ) (ts : List Text) (w : List ℕ) (p e : ℕ) (d
 
     count-is : levelCount l ≡ length (Mapped ++ Falls)
     unfolding levelCount
-    count-is = count-means Mapped (d .span) (group .lower) (l .lowest) (l .last - l .first) (of .lowest) (omega (arith, of .many, map-long (substitute (d .name) group) (group .alternatives)))
+    count-is = count-means Mapped (d .span) (group .lower) (l .lowest) (l .last - l .first) (of .lowest) (omega (arith, of .many, length-map (group .alternatives) (substitute (d .name) group)))
 
     -- theorem: what is put is the item of the level's group
     pub level-means : (r : ℕ) (w1 : List ℕ) → PutsLevel wd (idsIn ts) p places keys l lim w to r w1 → Puts w lim to (itemBytes wd ts (withFallThrough d (substituted (d .name) group))) r w1

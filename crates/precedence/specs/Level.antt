@@ -1,6 +1,5 @@
 -- The nonterminal of one level, put behind what is written so far. wd is the width of an atom's number in bytes. Assumes nothing: these are definitions.
 use mathlib.Core.Path.{_≡_}
-use mathlib.Core.Bool.{Bool}
 use mathlib.Core.Logic.{_⊎_}
 use mathlib.Core.List.{List, [], _++_}
 use Prim.Native.Nat.{ℕ, zero, suc, _+_, _-_, _*_, _/_, _%_, _≤_, _<_}

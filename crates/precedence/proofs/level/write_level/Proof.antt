@@ -14,10 +14,10 @@ count-of-requires : tie.Need-count-of-requires
 count-of-requires c κs = search needs
 
 add-atom-at : tie.Need-add-atom-at
-add-atom-at c = search levelled-put
+add-atom-at c = search needs
 
 atom-at-requires : tie.Need-atom-at-requires
-atom-at-requires c κs = search levelled-put
+atom-at-requires c κs = search needs
 
 put-nonterminal-head-requires : tie.Need-put-nonterminal-head-requires
 put-nonterminal-head-requires c κs = search needs
