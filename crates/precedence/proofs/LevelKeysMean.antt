@@ -3,7 +3,7 @@ use mathlib.Core.Path.{_≡_, refl, ap, _∙_}
 use mathlib.Core.Bool.{Bool, true, cond}
 use mathlib.Core.Logic.{_⊎_, inl, inr}
 use mathlib.Core.List.{List, [], _∷_, map, append-nil}
-use Prim.Native.Nat.{ℕ, suc, _+_, _*_, _<_, _≤_}
+use Prim.Native.Nat.{ℕ, suc, _+_, _*_, _/_, _%_, _<_, _≤_}
 use native.Mathlib.Omega.{arith}
 use lib.ListN.{length, getD}
 use Rattle.octets.specs.plain.Numbers.{leAt}
@@ -17,6 +17,7 @@ use Rattle.passes.specs.Outcome.{withAttributes}
 use Rattle.passes.specs.Grades.{precedence, assoc, withoutFirst, Graded}
 use Rattle.passes.specs.Levels.{Group, lowerName, substitute}
 use Rattle.laws.proofs.Flat.{syms-fit}
+use Rattle.resolve.specs.Whole.{Apart}
 use Rattle.resolve.proofs.CellsLaws.{lies-agree}
 use Rattle.precedence.specs.declared.level.Level.{Level}
 use Rattle.precedence.specs.Annotations.{firstWith}
@@ -25,8 +26,8 @@ use Rattle.precedence.specs.Level.{keySide, keyEntry, keyPlace, keyEnd, 
 use Rattle.precedence.proofs.AnnotationsMean.{positionOf}
 use Rattle.precedence.proofs.AlternativesMean.{idsIn, alternative-means as read-means}
 use Rattle.precedence.proofs.SubstituteMean.{sideMeant}
-use Rattle.precedence.proofs.WriteLaws.{puts-beside, puts-on, puts-upto, puts-append, puts-none}
-use Rattle.precedence.proofs.WriteWholeMean.{alternative-means}
+use Rattle.precedence.proofs.WriteLaws.{fits-or-not, puts-beside, puts-on, puts-upto, puts-append, puts-none}
+use Rattle.precedence.proofs.WriteWholeMean.{symbols-upto, alternative-means}
 use Rattle.precedence.proofs.LevelKeysCode.{number-stays, apart-part}
 
 position-is : (id : Text) (xs : List Attribute) → positionOf id xs ≡ firstIndex id xs
@@ -47,6 +48,29 @@ module _ (four : Bool) (wd : ℕ) (ts : List Text) (places : ℕ) where
   abbrev pub KeysMean : ℕ → List ℕ → ℕ → List Graded → Type 0
   KeysMean keys w i [] = Unit {0}
   KeysMean keys w i (g ∷ gs) = KeyMeans w (leAt 8 w (keys + 8 * i)) g × KeysMean keys w (i + 1) gs
+
+  module _ (w : List ℕ) (keys n lim to : ℕ) (room : places + 8 * n + 8 ≤ length w) (apart : Apart places (places + 8 * n + 8) to (lim + 16)) where
+    key-inside : (k : ℕ) (g : Graded) → k / 4 % 65536 < n → keyEnd w places k ≤ to → KeyMeans w k g → KeyInside wd w places lim to k
+    key-inside k g h u m = record {
+      entry = omega arith;
+      apart = apart-part (keyEntry places k) (keyEntry places k + 16) places (places + 8 * n + 8) to (lim + 16) (omega arith) (omega arith) apart;
+      symbols = symbols-upto wd ts (m .source) w (keyPlace w places k) (keyEnd w places k) (m .lies);
+      upto = u;
+    }
+
+    -- theorem: where n places are noted, keys that lead to alternatives below `to` can be put
+    pub keys-inside : (gs : List Graded) (i : ℕ) → KeysMean keys w i gs
+        → ((j : ℕ) → i ≤ j → j < i + length gs → (leAt 8 w (keys + 8 * j) / 4 % 65536 < n) × (keyEnd w places (leAt 8 w (keys + 8 * j)) ≤ to))
+        → (j : ℕ) → i ≤ j → j < i + length gs → KeyInside wd w places lim to (leAt 8 w (keys + 8 * j))
+    keys-inside [] i m f j a b = absurd (omega arith)
+    keys-inside (g ∷ gs) i m f j a b = go (fits-or-not j i) (λ c. keys-inside gs (i + 1) (m .1) (λ x y z. f x (omega arith) (omega arith)) j c (omega arith))
+      where
+        go : (j ≤ i) ⊎ (i < j) → (i + 1 ≤ j → KeyInside wd w places lim to (leAt 8 w (keys + 8 * j))) → KeyInside wd w places lim to (leAt 8 w (keys + 8 * j))
+        go (inl c) rest =
+            let z : j ≡ i = omega arith in
+            let h = f i (omega arith) (omega arith) in
+            rw z (key-inside (leAt 8 w (keys + 8 * i)) g (h .0) (h .1) (m .0))
+        go (inr c) rest = rest (omega arith)
 
   -- it still is where the bytes that are read are as they were
   means-stays : (w out : List ℕ) (lim to k : ℕ) (g : Graded) → length out ≡ length w → ((x : ℕ) → (x < to) ⊎ (lim + 16 ≤ x) → getD out x 0 ≡ getD w x 0) → to ≤ length w

@@ -44,9 +44,9 @@ keyEnd w places k = leAt 8 w (keyEntry places k + 8)
 -- the alternative of a key is put as its level has it
 pub record PutsKey (wd : ℕ) (ids : Ids) (places target : ℕ) (l : Level) (lim k : ℕ) (w : List ℕ) (to r : ℕ) (w′ : List ℕ) : Type 0 where
   pub puts : PutsRenamed wd w (keyPlace w places k) (keyEnd w places k)
-    (firstWith wd (ids .precedence) w (keyPlace w places k + (14 + wd)) (getD w (keyPlace w places k + 9) 0))
-    (firstWith wd (ids .assoc) w (keyPlace w places k + (14 + wd)) (getD w (keyPlace w places k + 9) 0))
-    target (l .name) (l .below) (keySide k) lim to r w′
+      (firstWith wd (ids .precedence) w (keyPlace w places k + (14 + wd)) (getD w (keyPlace w places k + 9) 0))
+      (firstWith wd (ids .assoc) w (keyPlace w places k + (14 + wd)) (getD w (keyPlace w places k + 9) 0))
+      target (l .name) (l .below) (keySide k) lim to r w′
 
 -- its alternative stands below `to`, its entry apart from what is written
 pub record KeyInside (wd : ℕ) (w : List ℕ) (places lim to k : ℕ) : Type 0 where
