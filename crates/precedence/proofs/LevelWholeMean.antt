@@ -4,7 +4,7 @@ use mathlib.Core.Bool.{Bool, true, false}
 use mathlib.Core.Logic.{inl, inr}
 use mathlib.Core.List.{List, [], _∷_, _++_, map, append-assoc}
 use mathlib.Core.Option.{Option, none, some}
-use Prim.Native.Nat.{ℕ, _+_, _-_}
+use Prim.Native.Nat.{ℕ, _+_, _-_, _*_, _/_, _%_, _<_, _≤_}
 use native.Mathlib.Omega.{arith}
 use lib.ListN.{length, length-append, length-map}
 use Rattle.octets.specs.working.Choice.{pick}
@@ -19,15 +19,16 @@ use Rattle.parse_tree.specs.declared.syntax.Span.{Span}
 use Rattle.passes.specs.Outcome.{withAlternatives, withName}
 use Rattle.passes.specs.Grades.{Graded}
 use Rattle.passes.specs.Levels.{Group, lowerName, substitute, substituted, fallThrough, withFallThrough}
+use Rattle.resolve.specs.Whole.{Apart}
 use Rattle.resolve.proofs.GrammarLaws.{Headed}
 use Rattle.precedence.specs.declared.level.Level.{Level}
 use Rattle.precedence.specs.Write.{Puts, fallBytes}
-use Rattle.precedence.specs.Level.{nonterminalOut, PutsKeys, levelCount, LevelInside, PutsLevel}
-use Rattle.precedence.proofs.AlternativesMean.{idsIn}
+use Rattle.precedence.specs.Level.{nonterminalOut, keyEnd, PutsKeys, levelCount, LevelInside, PutsLevel}
+use Rattle.precedence.proofs.AlternativesMean.{idsIn, first-means}
 use Rattle.precedence.proofs.WriteLaws.{puts-beside, puts-on, puts-upto, puts-append}
 use Rattle.precedence.proofs.WriteMean.{fall-means}
 use Rattle.precedence.proofs.LevelMean.{head-means}
-use Rattle.precedence.proofs.LevelKeysMean.{KeysMean, keys-mean}
+use Rattle.precedence.proofs.LevelKeysMean.{KeysMean, keys-inside, keys-mean}
 
 -- whether there is no lower level
 abbrev pub isLowest : Option Text → Bool
@@ -51,6 +52,14 @@ pub record LevelOf (ts : List Text) (group : Group Graded) (l : Level) : Type 0 
   pub lowest : l .lowest ≡ isLowest (group .lower)
   pub many : l .last ≡ l .first + length (group .alternatives)
 
+-- the two arrays, and of n places noted those of the level's keys
+pub record ArraysOf (w : List ℕ) (places keys n : ℕ) (l : Level) (lim to : ℕ) : Type 0 where
+  pub keys-there : keys + 8 * l .last ≤ length w
+  pub keys-apart : Apart keys (keys + 8 * l .last) to (lim + 16)
+  pub places-there : places + 8 * n + 8 ≤ length w
+  pub places-apart : Apart places (places + 8 * n + 8) to (lim + 16)
+  pub noted : (j : ℕ) → l .first ≤ j → j < l .last → (leAt 8 w (keys + 8 * j) / 4 % 65536 < n) × (keyEnd w places (leAt 8 w (keys + 8 * j)) ≤ to)
+
 module _ (four : Bool) (wd : ℕ) (ts : List Text) (w : List ℕ) (p e : ℕ) (d : Nonterminal) (bytes : Bytes w) (h : Headed w wd ts p d e) where
   falls-mean : (o : Option Text) (v : Text) (b : Bool) (below : ℕ) → b ≡ isLowest o → below ≡ number ts (elim o [ none ↦ v | some n ↦ n ])
       → pick b [] (fallBytes wd (leAt 8 w (p + 1)) below) ≡ bytesOfEach (alternativeBytes wd ts) (fallThrough (d .span) o)
@@ -59,6 +68,28 @@ module _ (four : Bool) (wd : ℕ) (ts : List Text) (w : List ℕ) (p e : ℕ) (d
   falls-mean (some n) v b below z y =
       let node = lies-split w p _ (nodeBytes wd (nonterminalNode ts d)) (bytesOfEach (argumentBytes wd ts) (d .args)) (h .front) in
       rw (z, y) (fall-means wd ts w d p _ n bytes (node .0))
+
+  -- theorem: where the nonterminal stands before `to` and its arrays apart, the level can be written
+  pub level-inside : (places keys n : ℕ) (group : Group Graded) (l : Level) (lim to : ℕ) → LevelOf ts group l → KeysMean four wd ts places keys w (l .first) (group .alternatives) → ArraysOf w places keys n l lim to
+      → length (group .alternatives) < 65536 → e ≤ to → to ≤ lim + 1 → lim + 16 ≤ length w → LevelInside wd w p places keys l lim to
+  level-inside places keys n group l lim to of means a few below stop room =
+      let m = of .many in
+      let f = first-means four wd ts w p e d h in
+      let z = h .alternatives .end in
+      let ends : l .first + length (group .alternatives) ≡ l .last = sym m in
+      record {
+        inside = omega arith;
+        head = omega arith;
+        level = record {
+          ordered = omega arith;
+          inside = a .keys-there;
+          apart = a .keys-apart;
+          each = λ i b c. keys-inside four wd ts places w keys n lim to (a .places-there) (a .places-apart) (group .alternatives) (l .first) means (λ j x y. a .noted j x (omega arith)) i b (omega arith);
+        };
+        few = omega arith;
+        stop = stop;
+        room = room;
+      }
 
   module _ (places keys : ℕ) (group : Group Graded) (l : Level) (lim to : ℕ) (known : has (d .name) ts ≡ true) (of : LevelOf ts group l) (inside : LevelInside wd w p places keys l lim to)
       (means : KeysMean four wd ts places keys w (l .first) (group .alternatives)) where
