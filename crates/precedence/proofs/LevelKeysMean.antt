@@ -19,6 +19,8 @@ use Rattle.passes.specs.Levels.{Group, lowerName, substitute}
 use Rattle.laws.proofs.Flat.{syms-fit}
 use Rattle.resolve.specs.Whole.{Apart}
 use Rattle.resolve.proofs.CellsLaws.{lies-agree}
+use Rattle.octets.specs.working.Choice.{pick}
+use Rattle.precedence.specs.declared.Assoc.{Assoc}
 use Rattle.precedence.specs.declared.level.Level.{Level}
 use Rattle.precedence.specs.Annotations.{firstWith}
 use Rattle.precedence.specs.Write.{Puts, firstIndex}
@@ -29,6 +31,37 @@ use Rattle.precedence.proofs.SubstituteMean.{sideMeant}
 use Rattle.precedence.proofs.WriteLaws.{fits-or-not, puts-beside, puts-on, puts-upto, puts-append, puts-none}
 use Rattle.precedence.proofs.WriteWholeMean.{symbols-upto, alternative-means}
 use Rattle.precedence.proofs.LevelKeysCode.{number-stays, apart-part}
+
+-- the number of a side in a key
+abbrev pub sideCode : Assoc → ℕ
+sideCode Assoc.Left = 0
+sideCode Assoc.Right = 1
+sideCode Assoc.NonAssoc = 2
+sideCode Assoc.FullyAssoc = 3
+
+side-of-rest : (k n : ℕ) → k % 4 ≡ n → n < 4 → keySide k ≡ keySide n
+unfolding keySide
+side-of-rest k n z h = let y : n % 4 ≡ n = omega arith in rw (z, y)
+
+side-of-code : (s : Assoc) → keySide (sideCode s) ≡ s
+unfolding keySide pick
+side-of-code Assoc.Left = refl
+side-of-code Assoc.Right = refl
+side-of-code Assoc.NonAssoc = refl
+side-of-code Assoc.FullyAssoc = refl
+
+code-small : (s : Assoc) → sideCode s < 4
+code-small Assoc.Left = omega arith
+code-small Assoc.Right = omega arith
+code-small Assoc.NonAssoc = omega arith
+code-small Assoc.FullyAssoc = omega arith
+
+-- theorem: of a key of a level, an index and a side these are read
+pub key-reads : (v i : ℕ) (s : Assoc) → i < 65536
+    → (keySide ((v * 65536 + i) * 4 + sideCode s) ≡ s) × (((v * 65536 + i) * 4 + sideCode s) / 4 % 65536 ≡ i) × (((v * 65536 + i) * 4 + sideCode s) / 262144 ≡ v)
+key-reads v i s h =
+    let c = code-small s in
+    (side-of-rest ((v * 65536 + i) * 4 + sideCode s) (sideCode s) (omega arith) c ∙ side-of-code s, omega arith, omega arith)
 
 position-is : (id : Text) (xs : List Attribute) → positionOf id xs ≡ firstIndex id xs
 unfolding firstIndex
