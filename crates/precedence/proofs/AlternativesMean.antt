@@ -140,7 +140,7 @@ module _ (four : Bool) (wd : ℕ) (ts : List Text) where
   arguments-long (x ∷ xs) =
       omega (arith, length-append (argumentBytes wd ts x) (bytesOfEach (argumentBytes wd ts) xs), argument-long x, arguments-long xs, mul-suc (1 + wd) (length xs))
 
-  first-means : (w : List ℕ) (at e : ℕ) (d : Nonterminal) → Headed w wd ts at d e → firstAlternative wd w at ≡ at + 13 + wd + length (bytesOfEach (argumentBytes wd ts) (d .args))
+  pub first-means : (w : List ℕ) (at e : ℕ) (d : Nonterminal) → Headed w wd ts at d e → firstAlternative wd w at ≡ at + 13 + wd + length (bytesOfEach (argumentBytes wd ts) (d .args))
   unfolding firstAlternative
   first-means w at e d h = ap (λ (k : ℕ). at + 13 + wd + (1 + wd) * k) (h .args) ∙ ap (λ (k : ℕ). at + 13 + wd + k) (sym (arguments-long (d .args)))
 

@@ -37,3 +37,11 @@ mod WriteWholeCode
 mod WriteMean
 mod WriteCountMean
 mod WriteWholeMean
+mod LevelCode
+mod LevelStays
+mod LevelKeyCode
+mod LevelKeysCode
+mod LevelWholeCode
+mod LevelMean
+mod LevelKeysMean
+mod LevelWholeMean

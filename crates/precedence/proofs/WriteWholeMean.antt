@@ -119,6 +119,10 @@ module _ (wd : ℕ) (ts : List Text) (a : Alternative) where
       let r = lies-part w (conditionsFrom wd w p) e (Conditions ++ Symbols) (s .rest) in
       rw (n, f, b, c, k, r)
 
+  -- the symbols begin where the alternative ends or before
+  pub symbols-upto : (w : List ℕ) (p e : ℕ) → Lies w p (alternativeBytes wd ts a) e → symbolsFrom wd w p ≤ e
+  symbols-upto w p e l = omega (arith, standing w p e l .symbols)
+
 -- ---- and with its symbols renamed
 renamed-count : (E : Text) (f : ℕ → Text) (xs : Syms) (j : ℕ) → count (replaceOccurrencesIn E f xs j) ≡ count xs
 unfolding replaceOccurrencesIn count

@@ -56,7 +56,7 @@ fn annotated(work: &[u8], at: usize, width: usize, ids: Ids) -> bool
 }
 
 // Where the first alternative of the nonterminal at a place stands.
-fn first_alternative(work: &[u8], at: usize, width: usize) -> usize
+pub fn first_alternative(work: &[u8], at: usize, width: usize) -> usize
     requires { ⌜ (2 ≤ width) × (width ≤ 3) × (at + 16 ≤ length (now work)) ⌝ }
     ensures { λ r. ⌜ r ≡ firstAlternative width (now (work .entry)) at ⌝ }
 {
