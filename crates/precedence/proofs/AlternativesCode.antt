@@ -17,8 +17,7 @@ use Rattle.octets.proofs.NumbersLaws.{length-le}
 use Rattle.octets.proofs.StoreLaws.{length-store, getD-store-before, getD-store-after}
 use Rattle.parse_tree.specs.plain.Tree.{Text}
 use Rattle.texts.specs.declared.Map.{Map}
-use Rattle.texts.specs.Table.{Table, Above, Agree, Stays, texts}
-use Rattle.texts.proofs.TableStays.{stays, above-stays}
+use Rattle.texts.specs.Table.{Above, Agree, texts}
 use Rattle.resolve.specs.Whole.{Apart}
 use Rattle.precedence.specs.declared.Assoc.{Assoc}
 use Rattle.precedence.specs.declared.GradeRead.{GradeRead}
@@ -26,9 +25,10 @@ use Rattle.precedence.specs.declared.Graded.{Graded}
 use Rattle.precedence.specs.declared.Ids.{Ids}
 use Rattle.precedence.specs.declared.Lowest.{Lowest}
 use Rattle.precedence.specs.Annotations.{attributesEnd, beforeSymbols, symbolsAt, alternativeEnd}
-use Rattle.precedence.specs.Grading.{gradedAt, ReadsGrade}
+use Rattle.precedence.specs.Grading.{Worded, gradedAt, ReadsGrade}
 use Rattle.precedence.specs.Sort.{levelAt}
 use Rattle.precedence.specs.Alternatives.{sideNumber, gradeKey, nextGrade, storedGrade, OffTable, Gradable, gradeThen, gradeFrom, Grades, stillAscends, placeOfKey, lowestFrom}
+use Rattle.precedence.proofs.WordedLaws.{worded-stays}
 
 -- ---- side_number
 module _ (s : Assoc) where
@@ -96,17 +96,17 @@ ascends-still b level v h = cc (le-ltb v level h)
 
 pub ruleset ascending = (needs, ascends-not, ascends-still)
 
--- ---- the table stays where an array is written
+-- ---- the texts stay where an array is written
 agree-store : (w : List ℕ) (at : ℕ) (vs : List ℕ) (a b x y : ℕ) → x ≤ at → at + length vs ≤ y → Apart a b x y → Agree w (store w at vs) a b
 agree-store w at vs a b x y h k (inl l) = record { agree = λ i p q. getD-store-before w at vs i (omega arith) }
 agree-store w at vs a b x y h k (inr l) = record { agree = λ i p q. getD-store-after w at vs i (omega arith) }
 
-store-stays : (s w : List ℕ) (m : Map) (z x y at : ℕ) (vs : List ℕ) → Table s w m → Above s w m z → OffTable m (length w) z x y → x ≤ at → at + length vs ≤ y → Stays s w m (store w at vs) m
+store-stays : (s w : List ℕ) (m : Map) (z x y at : ℕ) (vs : List ℕ) → Worded s w m → Above s w m z → OffTable m (length w) z x y → x ≤ at → at + length vs ≤ y
+    → Worded s (store w at vs) m × (texts s (store w at vs) m ≡ texts s w m) × Above s (store w at vs) m z
 store-stays s w m z x y at vs g a o h k =
-    stays s w (store w at vs) m z g a (length-store w at vs)
+    worded-stays s w (store w at vs) m z g a (length-store w at vs)
     (record { agree = λ i p q. getD-store-after w at vs i (omega (arith, o .below)) })
     (agree-store w at vs (m .base) (m .base + 24 * m .count) x y h k (o .records))
-    (agree-store w at vs (m .base) (m .base + 24 * m .buckets) x y h k (o .heads))
 
 pub stored-long : (w : List ℕ) (places keys i at level : ℕ) (side : Assoc) → length (storedGrade w places keys i at level side) ≡ length w
 unfolding storedGrade
@@ -117,29 +117,32 @@ module _ (s w : List ℕ) (m : Map) (places keys n e : ℕ) (g : Gradable s w m 
   abbrev first : List ℕ
   first = store w (places + 8 * i) (le 8 at)
 
-  first-stays : Stays s w m first m
-  first-stays = store-stays s w m (g .texts-from) places (places + 8 * n + 8) (places + 8 * i) (le 8 at) (g .table) (g .above) (g .places-off) (omega arith) (omega (arith, length-le 8 at))
+  first-stays : Worded s first m × (texts s first m ≡ texts s w m) × Above s first m (g .texts-from)
+  first-stays = store-stays s w m (g .texts-from) places (places + 8 * n + 8) (places + 8 * i) (le 8 at) (g .worded) (g .above) (g .places-off) (omega arith) (omega (arith, length-le 8 at))
 
   first-long : length first ≡ length w
   first-long = length-store w (places + 8 * i) (le 8 at)
 
-  both-stay : Stays s first m (storedGrade w places keys i at level side) m
+  abbrev both : List ℕ
+  both = storedGrade w places keys i at level side
+
+  both-stay : Worded s both m × (texts s both m ≡ texts s first m) × Above s both m (g .texts-from)
   unfolding storedGrade
-  both-stay = store-stays s first m (g .texts-from) keys (keys + 8 * n) (keys + 8 * i) (le 8 (gradeKey level i side)) (first-stays .table) (above-stays s w m first m (g .texts-from) first-stays (g .above))
+  both-stay = store-stays s first m (g .texts-from) keys (keys + 8 * n) (keys + 8 * i) (le 8 (gradeKey level i side)) (first-stays .0) (first-stays .2)
       (rw first-long (g .keys-off)) (omega arith) (omega (arith, length-le 8 (gradeKey level i side)))
 
   pub texts-kept : texts s (storedGrade w places keys i at level side) m ≡ texts s w m
-  texts-kept = both-stay .same ∙ first-stays .same
+  texts-kept = both-stay .1 ∙ first-stays .1
 
   pub gradable-stays : Gradable s (storedGrade w places keys i at level side) m places keys n e
   gradable-stays =
       let l = stored-long w places keys i at level side in
       record {
-        table = both-stay .table;
+        worded = both-stay .0;
         few = g .few;
         inside = rw l (g .inside);
         texts-from = g .texts-from;
-        above = above-stays s first m (storedGrade w places keys i at level side) m (g .texts-from) both-stay (above-stays s w m first m (g .texts-from) first-stays (g .above));
+        above = both-stay .2;
         places-off = rw l (g .places-off);
         keys-off = rw l (g .keys-off);
       }
@@ -181,8 +184,8 @@ module _ (wd : ℕ) (ids : Ids) (ts : List Text) (w : List ℕ) (p e level : ℕ
 
 module _ (s w₀ : List ℕ) (m : Map) (wd : ℕ) (ids : Ids) (places keys n at e : ℕ) (w : List ℕ) (p i level : ℕ) (side : Assoc) (b : Bool)
     (g : Walking s w₀ m wd ids places keys n at e w p i level side b) where
-  pub walk-table : Table s w m
-  walk-table = g .gradable .table
+  pub walk-worded : Worded s w m
+  walk-worded = g .gradable .worded
 
   pub walk-inside : e + 16 ≤ length w
   walk-inside = g .gradable .inside
@@ -229,7 +232,7 @@ module _ (s w₀ : List ℕ) (m : Map) (wd : ℕ) (ids : Ids) (places keys n at 
           carry = cc (one, f .answered, z, a, o, k) ∙ g .carry;
         }
 
-pub ruleset walking = (needs, walk-start, read-small, read-before, walk-table, walk-inside, walk-last, walk-done, walk-few, walk-place, walk-key, walk-refused, walk-same, walk-next)
+pub ruleset walking = (needs, walk-start, read-small, read-before, walk-worded, walk-inside, walk-last, walk-done, walk-few, walk-place, walk-key, walk-refused, walk-same, walk-next)
 
 -- ---- place_of
 module _ (w : List ℕ) (places n k i : ℕ) (e : i ≡ k / 4 % 65536) where

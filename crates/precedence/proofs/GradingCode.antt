@@ -1,5 +1,5 @@
 -- Reading level and side: the ways out of the code. Assumes nothing.
-use mathlib.Core.Path.{_≡_, refl, sym, _∙_}
+use mathlib.Core.Path.{_≡_, refl, sym, ap, _∙_}
 use mathlib.Core.List.{List, []}
 use Prim.Native.Nat.{ℕ, suc, _+_, _*_, _^_, _≤_, _<_}
 use native.Mathlib.Omega.{arith}
@@ -13,8 +13,10 @@ use Rattle.octets.specs.working.Choice.{pick}
 use Rattle.octets.specs.plain.Numbers.{leAt}
 use Rattle.parse_tree.specs.plain.Tree.{Text}
 use Rattle.texts.specs.declared.Map.{Map}
+use Rattle.texts.specs.Fields.{markAt}
+use Rattle.texts.specs.Texts.{markedText, Whole}
 use Rattle.texts.specs.Table.{texts}
-use Rattle.texts.proofs.TextCode.{length-texts}
+use Rattle.texts.proofs.TextCode.{length-texts, texts-at}
 use Rattle.precedence.specs.declared.Assoc.{Assoc}
 use Rattle.precedence.specs.declared.AssocRead.{AssocRead}
 use Rattle.precedence.specs.declared.LevelRead.{LevelRead}
@@ -22,7 +24,7 @@ use Rattle.precedence.specs.declared.GradeRead.{GradeRead}
 use Rattle.precedence.specs.declared.Ids.{Ids}
 use Rattle.precedence.specs.Annotations.{attributesLong, Annotates, valueText}
 use Rattle.precedence.specs.Grade.{levelSaid, assocSaid, ReadsLevel}
-use Rattle.precedence.specs.Grading.{sideSaid, sidedAt, levelThen, gradedBy, gradedAt, ReadsGrade}
+use Rattle.precedence.specs.Grading.{Worded, sideSaid, sidedAt, levelThen, gradedBy, gradedAt, ReadsGrade}
 use Rattle.precedence.proofs.AnnotationsCode.{long-more, end-whole}
 
 -- ---- value
@@ -43,10 +45,14 @@ module _ (wd : ℕ) (s w : List ℕ) (m : Map) (at : ℕ) where
     pub value-beyond : m .count ≤ k → [] ≡ valueText wd (texts s w m) w at
     value-beyond l = sym (some ∙ List·getD-eq-default (texts s w m) [] {n = k} (omega (arith, many)))
 
-    pub value-some : (t : List ℕ) → t ≡ getD (texts s w m) k [] → t ≡ valueText wd (texts s w m) w at
-    value-some t e = e ∙ sym some
+    pub value-some : k < m .count → (y : ℕ) → y ≡ markAt w (m .base) k → (t : List ℕ) → t ≡ markedText s w y → t ≡ valueText wd (texts s w m) w at
+    unfolding texts
+    value-some l y p t e = e ∙ ap (markedText s w) p ∙ sym (texts-at s w (m .base) (m .count) k l) ∙ sym some
 
-pub ruleset valuing = (needs, value-none, value-beyond, value-some)
+pub value-whole : (s w : List ℕ) (m : Map) (k y : ℕ) → Worded s w m → k < m .count → y ≡ markAt w (m .base) k → Whole s w y
+value-whole s w m k y g h e = rw e (g .whole k h)
+
+pub ruleset valuing = (needs, value-none, value-beyond, value-some, value-whole)
 
 -- ---- nth_value
 module _ (wd n j : ℕ) (l : j < n) where

@@ -3,6 +3,7 @@ mod AnnotationsCode
 mod AnnotationsMean
 mod GradeCode
 mod GradingCode
+mod WordedLaws
 mod AlternativesCode
 mod AlternativesMean
 mod GradingMean

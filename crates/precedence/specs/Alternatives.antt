@@ -11,7 +11,7 @@ use Rattle.octets.specs.working.Choice.{pick}
 use Rattle.octets.specs.working.Stores.{store}
 use Rattle.parse_tree.specs.plain.Tree.{Text}
 use Rattle.texts.specs.declared.Map.{Map}
-use Rattle.texts.specs.Table.{Table, Above, texts}
+use Rattle.texts.specs.Table.{Above, texts}
 use Rattle.resolve.specs.Whole.{Apart}
 use Rattle.precedence.specs.declared.Assoc.{Assoc}
 use Rattle.precedence.specs.declared.GradeRead.{GradeRead}
@@ -19,7 +19,7 @@ use Rattle.precedence.specs.declared.Graded.{Graded}
 use Rattle.precedence.specs.declared.Ids.{Ids}
 use Rattle.precedence.specs.declared.Lowest.{Lowest}
 use Rattle.precedence.specs.Annotations.{symbolsAt, alternativeEnd}
-use Rattle.precedence.specs.Grading.{gradedAt}
+use Rattle.precedence.specs.Grading.{Worded, gradedAt}
 use Rattle.precedence.specs.Sort.{levelAt}
 
 -- a side in a key
@@ -47,11 +47,10 @@ pub record OffTable (m : Map) (long z a b : ℕ) : Type 0 where
   pub inside : b ≤ long
   pub below : b ≤ z
   pub records : Apart (m .base) (m .base + 24 * m .count) a b
-  pub heads : Apart (m .base) (m .base + 24 * m .buckets) a b
 
 -- n alternatives before e can be graded: there is room for both arrays
 pub record Gradable (s w : List ℕ) (m : Map) (places keys n e : ℕ) : Type 0 where
-  pub table : Table s w m
+  pub worded : Worded s w m
   pub few : n < 65536
   pub inside : e + 16 ≤ length w
   pub texts-from : ℕ

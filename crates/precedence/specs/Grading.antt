@@ -2,11 +2,14 @@
 -- Assumes nothing: these are definitions.
 use mathlib.Core.Path.{_≡_}
 use mathlib.Core.List.{List}
-use Prim.Native.Nat.{ℕ, _+_, _<_}
+use Prim.Native.Nat.{ℕ, _+_, _*_, _≤_, _<_}
 use lib.Dec.{ltb}
-use lib.ListN.{getD}
+use lib.ListN.{length, getD}
 use Rattle.octets.specs.working.Choice.{pick}
 use Rattle.parse_tree.specs.plain.Tree.{Text}
+use Rattle.texts.specs.declared.Map.{Map}
+use Rattle.texts.specs.Fields.{markAt}
+use Rattle.texts.specs.Texts.{Whole}
 use Rattle.precedence.specs.declared.Assoc.{Assoc}
 use Rattle.precedence.specs.declared.AssocRead.{AssocRead}
 use Rattle.precedence.specs.declared.LevelRead.{LevelRead}
@@ -14,6 +17,11 @@ use Rattle.precedence.specs.declared.GradeRead.{GradeRead}
 use Rattle.precedence.specs.declared.Ids.{Ids}
 use Rattle.precedence.specs.Annotations.{attributesLong, firstWith, valueText}
 use Rattle.precedence.specs.Grade.{levelSaid, assocSaid}
+
+-- the texts of the table can be read
+pub record Worded (s w : List ℕ) (m : Map) : Type 0 where
+  pub room : m .base + 24 * m .count ≤ length w
+  pub whole : (i : ℕ) → i < m .count → Whole s w (markAt w (m .base) i)
 
 -- a level and the side that was read
 unfoldable pub sideSaid : ℕ → AssocRead → GradeRead

@@ -18,8 +18,8 @@ ghost use Prim.Native.Nat.{_+_, _*_, _≤_, _<_};
 ghost use lib.ListN.{length};
 ghost use Rattle.octets.specs.plain.Numbers.{le};
 ghost use Rattle.octets.specs.working.Stores.{store};
-ghost use Rattle.texts.specs.Table.{Table, texts};
-ghost use Rattle.precedence.specs.Grading.{ReadsGrade};
+ghost use Rattle.texts.specs.Table.{texts};
+ghost use Rattle.precedence.specs.Grading.{Worded, ReadsGrade};
 ghost use Rattle.precedence.specs.Alternatives.{sideNumber, gradeKey, nextGrade, storedGrade, Gradable, gradeFrom, Grades, stillAscends, placeOfKey, lowestFrom};
 
 fn side_number(side: Assoc) -> usize
@@ -45,7 +45,7 @@ fn next_grade<'a>(
     level: usize,
     side: Assoc,
 ) -> GradeRead
-    requires { ⌜ Table (now tape) (now work) m × (2 ≤ width) × (width ≤ 3) × (level < 4294967296) × (e + 16 ≤ length (now work)) ⌝ }
+    requires { ⌜ Worded (now tape) (now work) m × (2 ≤ width) × (width ≤ 3) × (level < 4294967296) × (e + 16 ≤ length (now work)) ⌝ }
     ensures { λ r. ⌜ ReadsGrade (nextGrade width ids (texts (now (tape .entry)) (now (work .entry)) m) (now (work .entry)) at e level side) r ⌝ }
 {
     if e <= at {

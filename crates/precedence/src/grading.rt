@@ -11,17 +11,18 @@ use octets::numbers::atom_at;
 use octets::wide::from8;
 use octets::wide::from32;
 use texts::Map;
-use texts::text::text;
+use texts::fields::mark;
+use texts::text::text_at;
 ghost use mathlib.Core.Path.{_≡_};
 ghost use Prim.Native.Nat.{_+_, _*_, _≤_, _<_};
 ghost use lib.ListN.{length};
-ghost use Rattle.texts.specs.Table.{Table, texts};
+ghost use Rattle.texts.specs.Table.{texts};
 ghost use Rattle.precedence.specs.Annotations.{valueText, attributesLong, attributesEnd};
-ghost use Rattle.precedence.specs.Grading.{sidedAt, gradedAt, ReadsGrade};
+ghost use Rattle.precedence.specs.Grading.{Worded, sidedAt, gradedAt, ReadsGrade};
 
 // The text of the value of the attribute at a place; empty where it has none.
 fn value<'a>(tape: &'a [u8], work: &'a [u8], m: Map, at: usize, width: usize) -> &'a [u8]
-    requires { ⌜ Table (now tape) (now work) m × (2 ≤ width) × (width ≤ 3) × (at + (2 + 3 * width) ≤ length (now work)) ⌝ }
+    requires { ⌜ Worded (now tape) (now work) m × (2 ≤ width) × (width ≤ 3) × (at + (2 + 3 * width) ≤ length (now work)) ⌝ }
     ensures { λ r. ⌜ now r ≡ valueText width (texts (now (tape .entry)) (now (work .entry)) m) (now (work .entry)) at ⌝ }
 {
     let kind = work[at + 1 + width];
@@ -31,7 +32,8 @@ fn value<'a>(tape: &'a [u8], work: &'a [u8], m: Map, at: usize, width: usize) ->
     } else if m.count <= k {
         &tape[0..0]
     } else {
-        text(tape, work, m, k)
+        let x = mark(work, m.base, k);
+        text_at(tape, work, x)
     }
 }
 
@@ -45,7 +47,7 @@ fn nth_value<'a>(
     n: usize,
     i: usize,
 ) -> &'a [u8]
-    requires { ⌜ Table (now tape) (now work) m × (2 ≤ width) × (width ≤ 3) × (n < 256) × (i < n) × (at + attributesLong width n ≤ length (now work)) ⌝ }
+    requires { ⌜ Worded (now tape) (now work) m × (2 ≤ width) × (width ≤ 3) × (n < 256) × (i < n) × (at + attributesLong width n ≤ length (now work)) ⌝ }
     ensures { λ r. ⌜ now r ≡ valueText width (texts (now (tape .entry)) (now (work .entry)) m) (now (work .entry)) (at + attributesLong width i) ⌝ }
 {
     value(tape, work, m, at + (2 + 3 * width) * i, width)
@@ -63,7 +65,7 @@ fn sided<'a>(
     level: usize,
     side: Assoc,
 ) -> GradeRead
-    requires { ⌜ Table (now tape) (now work) m × (2 ≤ width) × (width ≤ 3) × (n < 256) × (level < 4294967296) × (at + attributesLong width n ≤ length (now work)) ⌝ }
+    requires { ⌜ Worded (now tape) (now work) m × (2 ≤ width) × (width ≤ 3) × (n < 256) × (level < 4294967296) × (at + attributesLong width n ≤ length (now work)) ⌝ }
     ensures { λ r. ⌜ ReadsGrade (sidedAt width (texts (now (tape .entry)) (now (work .entry)) m) (now (work .entry)) at n j level side) r ⌝ }
 {
     if j < n {
@@ -86,7 +88,7 @@ pub fn graded<'a>(
     level: usize,
     side: Assoc,
 ) -> GradeRead
-    requires { ⌜ Table (now tape) (now work) m × (2 ≤ width) × (width ≤ 3) × (level < 4294967296) × (attributesEnd width (now work) at ≤ length (now work)) ⌝ }
+    requires { ⌜ Worded (now tape) (now work) m × (2 ≤ width) × (width ≤ 3) × (level < 4294967296) × (attributesEnd width (now work) at ≤ length (now work)) ⌝ }
     ensures { λ r. ⌜ ReadsGrade (gradedAt width ids (texts (now (tape .entry)) (now (work .entry)) m) (now (work .entry)) at level side) r ⌝ }
 {
     let n = from8(work[at + 9]);

@@ -2,11 +2,6 @@ use Rattle.precedence.proofs.GradingCode.{valuing}
 use borrow.Author.Needs.{needs}
 use Rattle.precedence.proofs.grading.value.Statement.{statement}
 use Rattle.precedence.proofs.grading.value.Tie as tie
-use Rattle.precedence.proofs.grading.value.Reads as reads
-use Rattle.precedence.proofs.grading.value.Lts as lts
-use Rattle.octets.proofs.numbers.atom_at.Reads as atom-at-reads
-use Rattle.octets.proofs.wide.from32.Reads as from32-reads
-use Rattle.texts.proofs.text.text.Reads as text-reads
 
 add-kind : tie.Need-add-kind
 add-kind c = search needs
@@ -50,8 +45,11 @@ part-result-start-2 c = search needs
 part-result-end-2 : tie.Need-part-result-end-2
 part-result-end-2 c = search needs
 
-text-requires : tie.Need-text-requires
-text-requires c κs = search needs
+mark-requires : tie.Need-mark-requires
+mark-requires c κs = search needs
+
+text-at-requires : tie.Need-text-at-requires
+text-at-requires c κs = search valuing
 
 returns : tie.Need-returns
 returns c = search valuing
@@ -80,7 +78,8 @@ value-spec =
     sub-result-2
     part-result-start-2
     part-result-end-2
-    text-requires
+    mark-requires
+    text-at-requires
     returns
     returns-2
     returns-3)
