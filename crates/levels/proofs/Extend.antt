@@ -1,18 +1,15 @@
 -- What lies within some texts lies within more of them, and has the same bytes. Assumes nothing.
 use mathlib.Core.Path.{_≡_, refl, ap}
 use mathlib.Core.Bool.{Bool, true}
-use mathlib.Core.List.{List, [], _∷_, _++_}
+use mathlib.Core.List.{List, [], _∷_}
 use mathlib.Core.Option.{Option, none, some}
 use Prim.Native.Nat.{ℕ, zero, suc}
 use Rattle.parse_tree.specs.plain.Tree.{Text, Leaf, Around, Over, Sym, Syms, Action, Attribute, Condition, Alternative, Nonterminal, Item, ambiguous, bare, quoted, regex, nonterminal, lookahead, lookbehind, error, repeat, choose, name, macro, group, leaf, around, over, nil, cons, noAction, user, fallible, lookaheadAction, lookbehindAction, item, count, conditions}
 use Rattle.parse_tree.specs.plain.Texts.{isName, isLiteral, isAscii, has}
 use Rattle.parse_tree.specs.plain.WriteTape.{bytesOfEach}
 use Rattle.parse_tree.specs.working.Nodes.{nodeBytes}
-use Rattle.parse_tree.specs.working.Encode.{leafNode, aroundNode, overNode, actionText, alternativeNode, attributeNode, conditionNode, nonterminalNode, symBytes, symsBytes, argumentBytes, attributeBytes, conditionBytes, alternativeBytes, itemBytes}
+use Rattle.parse_tree.specs.working.Encode.{overNode, actionText, alternativeNode, attributeNode, conditionNode, nonterminalNode, symBytes, symsBytes, argumentBytes, attributeBytes, conditionBytes, alternativeBytes, itemBytes}
 use Rattle.parse_tree.specs.working.Within.{Each, Uses, LeafWithin, AroundWithin, OverWithin, SymWithin, SymsWithin, ActionWithin, ArgumentWithin, AttributeWithin, ConditionWithin, AlternativeWithin, NonterminalWithin, ItemWithin}
-use Rattle.parse_tree.specs.declared.syntax.Leaf.{Leaf as LeafNode}
-use Rattle.parse_tree.specs.declared.syntax.SymbolKind.{SymbolKind}
-use Rattle.parse_tree.specs.declared.syntax.Node.{Node}
 use Rattle.replacing.proofs.SlotsMean.{each-map}
 use Rattle.replacing.proofs.Going.{Extends, extends-has, extends-number}
 use Rattle.replacing.proofs.SymbolsGo.{leaf-later, around-later}

@@ -1,5 +1,4 @@
 -- Graded alternatives lie within the limits of those that they come from, and so do those of one level. Assumes nothing.
-use mathlib.Core.Path.{_≡_}
 use mathlib.Core.Bool.{Bool, true, false, cond}
 use mathlib.Core.List.{List, [], _∷_}
 use Prim.Native.Nat.{ℕ, suc, _≤_}
@@ -10,7 +9,7 @@ use Rattle.octets.specs.plain.Runs.{sameAs}
 use Rattle.parse_tree.specs.plain.Tree.{Text, Attribute, Alternative, Nonterminal}
 use Rattle.parse_tree.specs.working.Within.{Each, AttributeWithin, AlternativeWithin, NonterminalWithin}
 use Rattle.passes.specs.Outcome.{withAttributes}
-use Rattle.passes.specs.Grades.{Side, all, precedence, assoc, valueOf, withoutFirst, isGiven, Levelled, levelOf, withLevels, Graded, sideOf, withSides, graded}
+use Rattle.passes.specs.Grades.{Side, all, precedence, assoc, valueOf, withoutFirst, Levelled, levelOf, withLevels, Graded, sideOf, withSides, graded}
 use Rattle.passes.specs.Levels.{ofLevel}
 
 without-few : (id : Text) (xs : List Attribute) → length (withoutFirst id xs) ≤ length xs
@@ -29,7 +28,7 @@ without-each P id (a ∷ xs) h = go (sameAs id (a .id)) (without-each P id xs (h
     go true i = h .1
     go false i = (h .0, i)
 
--- what holds of all graded alternatives holds of those of one level
+-- theorem: what holds of all graded alternatives holds of those of one level
 pub of-level-each : (P : Graded → Type 0) (v : ℕ) (gs : List Graded) → Each P gs → Each P (ofLevel v gs)
 unfolding ofLevel
 of-level-each P v [] h = tt
@@ -64,6 +63,6 @@ module _ (four : Bool) (wd : ℕ) (ts : List Text) where
   sides-within s (x ∷ rest) h =
       (attributes-within assoc (x .alternative) (h .0), sides-within (sideOf (cond (x .isNew) all s) (valueOf assoc (x .alternative .attributes))) rest (h .1))
 
-  -- theorem
+  -- theorem: the graded alternatives of a nonterminal within limits are within them
   pub graded-within : (d : Nonterminal) → NonterminalWithin four wd ts d → Each GradedWithin (graded d)
   graded-within d h = sides-within all (withLevels 0 (d .alternatives)) (levels-within 0 (d .alternatives) (h .alternatives))

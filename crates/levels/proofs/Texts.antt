@@ -16,7 +16,7 @@ use Rattle.levels.specs.Names.{groupNames, levelNames}
 use Rattle.levels.proofs.Graded.{GradedWithin, of-level-each, graded-within}
 use Rattle.levels.proofs.There.{texts-append, LowerIn, item-there, level-there}
 
--- a text that was entered is known
+-- theorem: a text that was entered is known
 pub new-has : (us : List Text) (x : Text) → has x (withNew us (x ∷ [])) ≡ true
 unfolding withNew
 new-has us x = go (has x us) refl

@@ -9,12 +9,12 @@ use Rattle.octets.specs.plain.Runs.{sameAs}
 use Rattle.parse_tree.specs.plain.Tree.{Text, Leaf, Over, Sym, Syms, Action, Attribute, Condition, Alternative, Nonterminal, Item, ambiguous, bare, quoted, regex, nonterminal, lookahead, lookbehind, error, macro, group, leaf, around, over, nil, cons, noAction, user, fallible, lookaheadAction, lookbehindAction, item, count, conditions}
 use Rattle.parse_tree.specs.plain.Texts.{isName, has}
 use Rattle.parse_tree.specs.plain.References.{textsOfEach, leafTexts, aroundTexts, overTexts, symTexts, symsTexts, actionTexts, attributeTexts, conditionTexts, alternativeTexts, itemTexts}
-use Rattle.parse_tree.specs.working.Within.{Each, Uses, LeafWithin, OverWithin, SymWithin, SymsWithin, ActionWithin, ArgumentWithin, AttributeWithin, ConditionWithin, AlternativeWithin, NonterminalWithin, ItemWithin}
+use Rattle.parse_tree.specs.working.Within.{Each, Uses, LeafWithin, OverWithin, SymWithin, SymsWithin, ActionWithin, ArgumentWithin, ConditionWithin, AlternativeWithin, NonterminalWithin, ItemWithin}
 use Rattle.parse_tree.specs.declared.syntax.Span.{Span}
 use Rattle.parse_tree.proofs.ReadingLaws.{each-append}
 use Rattle.passes.specs.Outcome.{withSymbols}
 use Rattle.passes.specs.Grades.{Side, all, non, left, right, Graded, ceiling}
-use Rattle.passes.specs.Levels.{Group, lowerName, occurs, occursIn, replaceOccurrences, replaceOccurrencesIn, substitute, substituted, fallThrough, withFallThrough}
+use Rattle.passes.specs.Levels.{Group, lowerName, occurs, occursIn, replaceOccurrences, replaceOccurrencesIn, substitute, fallThrough}
 use Rattle.replacing.proofs.SlotsMean.{each-map}
 use Rattle.replacing.proofs.Going.{Extends, extends-has, There}
 use Rattle.replacing.proofs.SymbolsGo.{leaf-there, around-there}
@@ -176,7 +176,7 @@ module _ (four : Bool) (wd : ℕ) (ts us : List Text) (p : Extends ts us) where
       alternative-there (g .alternative) (replaceOccurrencesIn E f xs 0) h
       (all-replaced-there E f (λ j. ceiling-has us (g .side) (level .name) (lowerName level) (occursIn E xs) j own (lower-has (level .name) (level .lower) own low)) xs 0 64 (h .symbols))
 
-  -- what stands behind the name in a level's item
+  -- theorem: so are those behind the name in a level's item
   pub level-there : (d : Nonterminal) (level : Group Graded) → NonterminalWithin four wd ts d → Each (GradedWithin four wd ts) (level .alternatives) → has (level .name) us ≡ true → LowerIn us (level .lower)
       → There us (d .args ++ textsOfEach alternativeTexts (map (substitute (d .name) level) (level .alternatives) ++ fallThrough (d .span) (level .lower)))
   level-there d level h gs own low =
