@@ -1,0 +1,9 @@
+-- Laws of a levelled tree: Texts has its new texts, Fits its sizes; Extend is on any tree. Assumes nothing.
+pub mod Extend
+pub mod Graded
+pub mod There
+pub mod Texts
+pub mod Digits
+pub mod Few
+pub mod Fits
+pub mod Ids

@@ -1,0 +1,2 @@
+-- What the laws of a levelled tree speak of.
+pub mod Names
