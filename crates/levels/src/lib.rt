@@ -1,1 +1,25 @@
-// Laws of a levelled tree: its texts, its sizes and its bytes. Proofs only, in proofs/. No code.
+// Precedence levels of a whole grammar: the items that stand resolved in work, written again level by level. Touches nothing but the slices
+// that it is handed: of work the records behind the table's, the arrays, and the room for the items.
+use parse_tree::refusal::Refusal;
+
+pub mod expand;
+pub mod fresh;
+pub mod whole;
+
+// Where the pass writes: the arrays of the nonterminal at hand, and the items from `at` up to `lim`.
+pub struct Room {
+    pub arrays: usize,
+    pub at: usize,
+    pub lim: usize,
+}
+
+// What is written so far: the place behind the items, lim + 1 where they don't fit, and how many texts there are.
+pub struct Written {
+    pub to: usize,
+    pub count: usize,
+}
+
+pub enum Levelled {
+    Is(Written),
+    Refused(Refusal),
+}

@@ -107,7 +107,7 @@ fn same_names(a: &[u8], u: usize, b: &[u8], v: usize) -> bool
 }
 
 // A text of the table.
-fn base_text<'a>(tape: &'a [u8], work: &'a [u8], m: Map, k: usize) -> &'a [u8]
+pub fn base_text<'a>(tape: &'a [u8], work: &'a [u8], m: Map, k: usize) -> &'a [u8]
     requires { ⌜ Based (now tape) (now work) m k ⌝ }
     ensures { λ r. ⌜ BaseText (now (tape .entry)) (now (work .entry)) m k (now r) ⌝ }
 {
