@@ -1,4 +1,6 @@
 -- What the proofs of several functions use: NameCode of code, NameLaws of lists, NameMean of what the definitions that follow the code mean.
+mod IdsCode
+mod IdsMean
 mod AnnotationsCode
 mod AnnotationsMean
 mod GradeCode
