@@ -4,7 +4,7 @@ use mathlib.Core.Bool.{Bool, true, false, _||_}
 use mathlib.Core.List.{List, [], _∷_, _++_}
 use Prim.Native.Nat.{ℕ, suc, _+_, _*_, _^_, _<_, _≤_}
 use native.Mathlib.Omega.{arith}
-use native.Mathlib.Nat.{mul-suc}
+use native.Mathlib.Nat.{mul-comm, mul-suc}
 use borrow.Author.Tests.{ne-eqb}
 use lib.Dec.{ltb}
 use lib.ListN.{length, getD, length-append}
@@ -27,7 +27,7 @@ use Rattle.laws.proofs.Flat.{syms-fit}
 use Rattle.resolve.proofs.GrammarLaws.{Headed, headed, terminal-headed}
 use Rattle.precedence.specs.Skip.{skipOut}
 use Rattle.precedence.specs.Ids.{idOf, idsIn}
-use Rattle.precedence.specs.Annotations.{attributesLong, attributesEnd, firstWith, annotatedAt, HeadInside, firstAlternative, hasPrecAttr, beforeSymbols, symbolsAt, alternativeEnd}
+use Rattle.precedence.specs.Annotations.{attributesLong, attributesEnd, firstWith, annotatedAt, HeadInside, firstAlternative, hasPrecAttr, conditionsFrom, symbolsFrom, alternativeEnd}
 use Rattle.precedence.proofs.SkipMean.{skip-means}
 use Rattle.precedence.proofs.AnnotationsMean.{Value, attributes-long, value-means}
 
@@ -38,7 +38,7 @@ module _ (four : Bool) (wd : ℕ) (ts : List Text) where
     pub lies : Lies w (p + 14 + wd) (bytesOfEach (attributeBytes wd ts) (a .attributes)) (p + 14 + wd + length (bytesOfEach (attributeBytes wd ts) (a .attributes)))
     pub inside : attributesEnd wd w p ≤ length w
     pub symbols : leAt 2 w (p + 12 + wd) ≡ count (a .symbols)
-    pub place : Lies w (symbolsAt wd w p) (symsBytes wd ts (a .symbols)) (p + length (alternativeBytes wd ts a))
+    pub place : Lies w (symbolsFrom wd w p) (symsBytes wd ts (a .symbols)) (p + length (alternativeBytes wd ts a))
 
   condition-long : (x : Condition) → length (conditionBytes wd ts x) ≡ 10 + 2 * wd
   unfolding conditionBytes conditionNode nodeBytes
@@ -50,9 +50,9 @@ module _ (four : Bool) (wd : ℕ) (ts : List Text) where
   conditions-long (x ∷ xs) =
       omega (arith, length-append (conditionBytes wd ts x) (bytesOfEach (conditionBytes wd ts) xs), condition-long x, conditions-long xs, mul-suc (10 + 2 * wd) (length xs))
 
-  symbols-place : (w : List ℕ) (p m n : ℕ) → attributesLong wd (getD w (p + 9) 0) ≡ m → (10 + 2 * wd) * getD w (p + 10) 0 ≡ n → symbolsAt wd w p ≡ p + 14 + wd + m + n
-  unfolding symbolsAt beforeSymbols
-  symbols-place w p m n e f = omega (arith, e, f)
+  symbols-place : (w : List ℕ) (p m n : ℕ) → attributesLong wd (getD w (p + 9) 0) ≡ m → (10 + 2 * wd) * getD w (p + 10) 0 ≡ n → symbolsFrom wd w p ≡ p + 14 + wd + m + n
+  unfolding symbolsFrom conditionsFrom attributesLong
+  symbols-place w p m n e f = omega (arith, e, f, mul-comm (getD w (p + 9) 0) (2 + 3 * wd), mul-comm (getD w (p + 10) 0) (10 + 2 * wd))
 
   pub alternative-read : (w : List ℕ) (p e : ℕ) (a : Alternative) (more : List ℕ) → AlternativeWithin four wd ts a → Lies w p (alternativeBytes wd ts a ++ more) e → AlternativeAt w p a
   unfolding alternativeBytes alternativeNode nodeBytes
@@ -93,8 +93,8 @@ module _ (four : Bool) (wd : ℕ) (ts : List Text) where
   unfolding alternativeEnd
   end-means w p e d a more h l i =
       let r = alternative-read w p d a more h l in
-      ap (skipOut wd e w (symbolsAt wd w p) e) (r .symbols)
-      ∙ skip-means wd ts (a .symbols) (syms-fit wd ts four (a .symbols) 64 (h .symbols)) w (symbolsAt wd w p) (p + length (alternativeBytes wd ts a)) e i (r .place)
+      ap (skipOut wd e w (symbolsFrom wd w p) e) (r .symbols)
+      ∙ skip-means wd ts (a .symbols) (syms-fit wd ts four (a .symbols) 64 (h .symbols)) w (symbolsFrom wd w p) (p + length (alternativeBytes wd ts a)) e i (r .place)
 
   -- what the two indices say of it
   pub record Annotations (w : List ℕ) (p : ℕ) (a : Alternative) : Type 0 where

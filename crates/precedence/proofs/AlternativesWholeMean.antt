@@ -33,7 +33,7 @@ use Rattle.resolve.proofs.CellsLaws.{lies-agree, part-apart}
 use Rattle.precedence.specs.declared.Assoc.{Assoc}
 use Rattle.precedence.specs.declared.GradeRead.{GradeRead}
 use Rattle.precedence.specs.declared.Graded.{Graded}
-use Rattle.precedence.specs.Annotations.{beforeSymbols, symbolsAt, alternativeEnd}
+use Rattle.precedence.specs.Annotations.{conditionsFrom, symbolsFrom, alternativeEnd}
 use Rattle.precedence.specs.Grade.{assocOf}
 use Rattle.precedence.specs.Ids.{idsIn}
 use Rattle.precedence.specs.Sort.{keysAt}
@@ -139,8 +139,8 @@ module _ (four : Bool) (wd : ℕ) (ts : List Text) (s : List ℕ) (m : Map) (pla
     place : AlternativeAt four wd ts w p a
     place = alternative-read four wd ts w p e a more (r .within .0) lies-all
 
-    symbols-past : p + 14 ≤ symbolsAt wd w p
-    unfolding symbolsAt beforeSymbols
+    symbols-past : p + 14 ≤ symbolsFrom wd w p
+    unfolding symbolsFrom conditionsFrom
     symbols-past = omega arith
 
     before : p + 14 ≤ e
@@ -150,7 +150,7 @@ module _ (four : Bool) (wd : ℕ) (ts : List Text) (s : List ℕ) (m : Map) (pla
     unfolding nextGrade pick
     read-is =
         let x = lt-leb e p (omega (arith, before)) in
-        let y = le-ltb e (symbolsAt wd w p) (omega (arith, place .place .end, split .1 .end)) in
+        let y = le-ltb e (symbolsFrom wd w p) (omega (arith, place .place .end, split .1 .end)) in
         rw (r .same, x, y) (graded-means four wd ts (r .width) w p e a more (r .within .0) lies-all level side)
 
     end-is : alternativeEnd wd w p e ≡ next

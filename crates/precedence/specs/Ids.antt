@@ -10,7 +10,7 @@ use Rattle.texts.specs.Table.{Is}
 use Rattle.passes.specs.Grades.{precedence, assoc}
 use Rattle.precedence.specs.declared.Ids.{Ids}
 
--- the number of a text; one that no text has where it is not there
+-- the number of a text; where it is not there one that is too wide for the id of an attribute, whose number has up to three bytes
 unfoldable pub idOf : List Text → Text → ℕ
 idOf ts x = pick (has x ts) (number ts x) 4294967296
 
@@ -18,7 +18,7 @@ idOf ts x = pick (has x ts) (number ts x) 4294967296
 abbrev pub idsIn : List Text → Ids
 idsIn ts = record { precedence = idOf ts precedence; assoc = idOf ts assoc }
 
--- r is the number of x among the texts, or that one
+-- r is the number of x, or that one
 pub record IdFound (ts : List Text) (x : Text) (r : ℕ) : Type 0 where
   pub here : has x ts ≡ true → Is ts x r
   pub absent : has x ts ≡ false → r ≡ 4294967296

@@ -1,4 +1,4 @@
-// The numbers of the ids of the two attributes. One that no text has stands for an id that is not there: it stays so where texts are added.
+// The numbers of the ids of the two attributes. Where one is not there the answer is 2^32, which no attribute has for its id, also when texts are added.
 use crate::Ids;
 use texts::Found;
 use texts::Map;
