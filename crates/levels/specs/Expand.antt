@@ -26,7 +26,7 @@ use Rattle.laws.specs.Sort.{Ascends, byLevels}
 use Rattle.precedence.specs.declared.Ids.{Ids}
 use Rattle.precedence.specs.declared.level.Level.{Level}
 use Rattle.precedence.specs.declared.names.LevelName.{LevelName}
-use Rattle.precedence.specs.Annotations.{idsIn}
+use Rattle.precedence.specs.Ids.{idsIn}
 use Rattle.precedence.specs.Names.{Naming, LevelNamed, namedTexts}
 use Rattle.precedence.specs.Sort.{keysAt, Sorted}
 use Rattle.precedence.proofs.AscendsMean.{codeOf}

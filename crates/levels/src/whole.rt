@@ -5,7 +5,7 @@ use crate::Written;
 use crate::expand::expand_nonterm;
 use precedence::Ids;
 use precedence::annotations::has_prec_attr;
-use precedence::ids::ids;
+use precedence::identify::ids;
 use precedence::write::put_run;
 use resolve::Grammar;
 use resolve::items::place;

@@ -5,10 +5,11 @@ use mathlib.Core.Logic.{inl, inr}
 use mathlib.Core.List.{List}
 use Prim.Native.Nat.{ℕ, suc, _+_, _-_, _*_, _/_, _%_, _≤_, _<_}
 use native.Mathlib.Omega.{arith}
+use native.Mathlib.Nat.{mul-comm}
 use borrow.Author.Needs.{needs}
 use borrow.Author.Tests.{not-true, not-false, lt-ltb, le-ltb, le-leb, lt-leb, leb-false, eq-eqb, ne-eqb}
 use lib.Dec.{eqb, leb, ltb}
-use lib.ListN.{length}
+use lib.ListN.{length, getD}
 use Rattle.octets.specs.working.Choice.{pick}
 use Rattle.octets.specs.plain.Numbers.{leAt, le}
 use Rattle.octets.specs.working.Stores.{store}
@@ -24,7 +25,7 @@ use Rattle.precedence.specs.declared.GradeRead.{GradeRead}
 use Rattle.precedence.specs.declared.Graded.{Graded}
 use Rattle.precedence.specs.declared.Ids.{Ids}
 use Rattle.precedence.specs.declared.Lowest.{Lowest}
-use Rattle.precedence.specs.Annotations.{attributesEnd, beforeSymbols, symbolsAt, alternativeEnd}
+use Rattle.precedence.specs.Annotations.{attributesLong, attributesEnd, conditionsFrom, symbolsFrom, alternativeEnd}
 use Rattle.precedence.specs.Grading.{Worded, gradedAt, ReadsGrade}
 use Rattle.precedence.specs.Sort.{levelAt}
 use Rattle.precedence.specs.Alternatives.{sideNumber, gradeKey, nextGrade, storedGrade, OffTable, Gradable, gradeThen, gradeFrom, Grades, stillAscends, placeOfKey, lowestFrom}
@@ -56,7 +57,7 @@ module _ (wd : ℕ) (ids : Ids) (ts : List Text) (w : List ℕ) (at e level : �
   unfolding nextGrade pick
   next-none h = record { answered = cc (le-leb e at h); small = tt }
 
-  module _ (h : at < e) (x : ℕ) (q : x ≡ symbolsAt wd w at) where
+  module _ (h : at < e) (x : ℕ) (q : x ≡ symbolsFrom wd w at) where
     pub next-short : e < x → ReadsGrade (nextGrade wd ids ts w at e level side) (GradeRead.Refused 0)
     unfolding nextGrade pick
     next-short l = record { answered = cc (lt-leb e at h, lt-ltb e x l); small = tt }
@@ -68,11 +69,11 @@ module _ (wd : ℕ) (ids : Ids) (ts : List Text) (w : List ℕ) (at e level : �
     pub next-there : x ≤ e → (r : GradeRead) → ReadsGrade (gradedAt wd ids ts w at level side) r → ReadsGrade (nextGrade wd ids ts w at e level side) r
     next-there l r g = rw (there l) g
 
-before-ends : (wd : ℕ) (w : List ℕ) (at : ℕ) → attributesEnd wd w at ≤ symbolsAt wd w at
-unfolding symbolsAt beforeSymbols
-before-ends wd w at = omega arith
+before-ends : (wd : ℕ) (w : List ℕ) (at : ℕ) → attributesEnd wd w at ≤ symbolsFrom wd w at
+unfolding symbolsFrom conditionsFrom attributesLong
+before-ends wd w at = omega (arith, mul-comm (getD w (at + 9) 0) (2 + 3 * wd))
 
-pub next-fits : (wd : ℕ) (w : List ℕ) (at e x : ℕ) → x ≡ symbolsAt wd w at → x ≤ e → e + 16 ≤ length w → attributesEnd wd w at ≤ length w
+pub next-fits : (wd : ℕ) (w : List ℕ) (at e x : ℕ) → x ≡ symbolsFrom wd w at → x ≤ e → e + 16 ≤ length w → attributesEnd wd w at ≤ length w
 next-fits wd w at e x q l k = omega (arith, before-ends wd w at)
 
 pub ruleset nexting = (needs, next-none, next-short, next-there, next-fits)
@@ -177,7 +178,7 @@ any-before p e (GradeRead.Refused q) h = tt
 module _ (wd : ℕ) (ids : Ids) (ts : List Text) (w : List ℕ) (p e level : ℕ) (side : Assoc) (r : GradeRead) (f : ReadsGrade (nextGrade wd ids ts w p e level side) r) (v : ℕ) (t : Assoc) (q : r ≡ GradeRead.Is v t) where
   next-before : IsBefore p e (nextGrade wd ids ts w p e level side)
   unfolding nextGrade
-  next-before = by-pick (IsBefore p e) (leb e p) (λ h. tt) (λ h. any-before p e (pick (ltb e (symbolsAt wd w p)) (GradeRead.Refused 0) (gradedAt wd ids ts w p level side)) (leb-false e p h))
+  next-before = by-pick (IsBefore p e) (leb e p) (λ h. tt) (λ h. any-before p e (pick (ltb e (symbolsFrom wd w p)) (GradeRead.Refused 0) (gradedAt wd ids ts w p level side)) (leb-false e p h))
 
   pub read-before : p < e
   read-before = let z : IsBefore p e r = rw (f .answered) next-before in rw q at z

@@ -4,7 +4,7 @@ use mathlib.Core.Bool.{Bool, true, false, _||_}
 use mathlib.Core.List.{List, [], _∷_, _++_}
 use Prim.Native.Nat.{ℕ, suc, _+_, _*_, _^_, _<_, _≤_}
 use native.Mathlib.Omega.{arith}
-use native.Mathlib.Nat.{mul-suc}
+use native.Mathlib.Nat.{mul-comm, mul-suc}
 use borrow.Author.Tests.{ne-eqb}
 use lib.Dec.{ltb}
 use lib.ListN.{length, getD, length-append}
@@ -25,15 +25,11 @@ use Rattle.parse_tree.proofs.SpanLaws.{length-span}
 use Rattle.passes.specs.Grades.{precedence, assoc, valueOf, isGiven, startsAnnotated, annotated}
 use Rattle.laws.proofs.Flat.{syms-fit}
 use Rattle.resolve.proofs.GrammarLaws.{Headed, headed, terminal-headed}
-use Rattle.precedence.specs.declared.Ids.{Ids}
 use Rattle.precedence.specs.Skip.{skipOut}
-use Rattle.precedence.specs.Annotations.{attributesLong, attributesEnd, firstWith, annotatedAt, HeadInside, firstAlternative, hasPrecAttr, beforeSymbols, symbolsAt, alternativeEnd}
+use Rattle.precedence.specs.Ids.{idOf, idsIn}
+use Rattle.precedence.specs.Annotations.{attributesLong, attributesEnd, firstWith, annotatedAt, HeadInside, firstAlternative, hasPrecAttr, conditionsFrom, symbolsFrom, alternativeEnd}
 use Rattle.precedence.proofs.SkipMean.{skip-means}
 use Rattle.precedence.proofs.AnnotationsMean.{Value, attributes-long, value-means}
-
--- the numbers of the two texts
-abbrev pub idsIn : List Text → Ids
-idsIn ts = record { precedence = number ts precedence; assoc = number ts assoc }
 
 module _ (four : Bool) (wd : ℕ) (ts : List Text) where
   -- ---- an alternative
@@ -42,7 +38,7 @@ module _ (four : Bool) (wd : ℕ) (ts : List Text) where
     pub lies : Lies w (p + 14 + wd) (bytesOfEach (attributeBytes wd ts) (a .attributes)) (p + 14 + wd + length (bytesOfEach (attributeBytes wd ts) (a .attributes)))
     pub inside : attributesEnd wd w p ≤ length w
     pub symbols : leAt 2 w (p + 12 + wd) ≡ count (a .symbols)
-    pub place : Lies w (symbolsAt wd w p) (symsBytes wd ts (a .symbols)) (p + length (alternativeBytes wd ts a))
+    pub place : Lies w (symbolsFrom wd w p) (symsBytes wd ts (a .symbols)) (p + length (alternativeBytes wd ts a))
 
   condition-long : (x : Condition) → length (conditionBytes wd ts x) ≡ 10 + 2 * wd
   unfolding conditionBytes conditionNode nodeBytes
@@ -54,9 +50,9 @@ module _ (four : Bool) (wd : ℕ) (ts : List Text) where
   conditions-long (x ∷ xs) =
       omega (arith, length-append (conditionBytes wd ts x) (bytesOfEach (conditionBytes wd ts) xs), condition-long x, conditions-long xs, mul-suc (10 + 2 * wd) (length xs))
 
-  symbols-place : (w : List ℕ) (p m n : ℕ) → attributesLong wd (getD w (p + 9) 0) ≡ m → (10 + 2 * wd) * getD w (p + 10) 0 ≡ n → symbolsAt wd w p ≡ p + 14 + wd + m + n
-  unfolding symbolsAt beforeSymbols
-  symbols-place w p m n e f = omega (arith, e, f)
+  symbols-place : (w : List ℕ) (p m n : ℕ) → attributesLong wd (getD w (p + 9) 0) ≡ m → (10 + 2 * wd) * getD w (p + 10) 0 ≡ n → symbolsFrom wd w p ≡ p + 14 + wd + m + n
+  unfolding symbolsFrom conditionsFrom attributesLong
+  symbols-place w p m n e f = omega (arith, e, f, mul-comm (getD w (p + 9) 0) (2 + 3 * wd), mul-comm (getD w (p + 10) 0) (10 + 2 * wd))
 
   pub alternative-read : (w : List ℕ) (p e : ℕ) (a : Alternative) (more : List ℕ) → AlternativeWithin four wd ts a → Lies w p (alternativeBytes wd ts a ++ more) e → AlternativeAt w p a
   unfolding alternativeBytes alternativeNode nodeBytes
@@ -97,8 +93,8 @@ module _ (four : Bool) (wd : ℕ) (ts : List Text) where
   unfolding alternativeEnd
   end-means w p e d a more h l i =
       let r = alternative-read w p d a more h l in
-      ap (skipOut wd e w (symbolsAt wd w p) e) (r .symbols)
-      ∙ skip-means wd ts (a .symbols) (syms-fit wd ts four (a .symbols) 64 (h .symbols)) w (symbolsAt wd w p) (p + length (alternativeBytes wd ts a)) e i (r .place)
+      ap (skipOut wd e w (symbolsFrom wd w p) e) (r .symbols)
+      ∙ skip-means wd ts (a .symbols) (syms-fit wd ts four (a .symbols) 64 (h .symbols)) w (symbolsFrom wd w p) (p + length (alternativeBytes wd ts a)) e i (r .place)
 
   -- what the two indices say of it
   pub record Annotations (w : List ℕ) (p : ℕ) (a : Alternative) : Type 0 where
@@ -106,13 +102,13 @@ module _ (four : Bool) (wd : ℕ) (ts : List Text) where
     pub level : Value four wd ts w (p + 14 + wd) precedence (a .attributes)
     pub side : Value four wd ts w (p + 14 + wd) assoc (a .attributes)
 
-  pub alternative-means : (w : List ℕ) (p e : ℕ) (a : Alternative) (more : List ℕ) → AlternativeWithin four wd ts a → Lies w p (alternativeBytes wd ts a ++ more) e → Annotations w p a
-  alternative-means w p e a more h l =
+  pub alternative-means : wd ≤ 3 → (w : List ℕ) (p e : ℕ) (a : Alternative) (more : List ℕ) → AlternativeWithin four wd ts a → Lies w p (alternativeBytes wd ts a ++ more) e → Annotations w p a
+  alternative-means narrow w p e a more h l =
       let r = alternative-read w p e a more h l in
       record {
         many = r .many;
-        level = value-means four wd ts w (p + 14 + wd) _ precedence (a .attributes) (h .attributes) (r .lies);
-        side = value-means four wd ts w (p + 14 + wd) _ assoc (a .attributes) (h .attributes) (r .lies);
+        level = value-means four wd ts narrow w (p + 14 + wd) _ precedence (a .attributes) (h .attributes) (r .lies);
+        side = value-means four wd ts narrow w (p + 14 + wd) _ assoc (a .attributes) (h .attributes) (r .lies);
       }
 
   pick-or : (b c : Bool) → pick b true c ≡ (b || c)
@@ -123,9 +119,9 @@ module _ (four : Bool) (wd : ℕ) (ts : List Text) where
   pub annotated-means : (w : List ℕ) (p : ℕ) (a : Alternative) → Annotations w p a → annotatedAt wd (idsIn ts) w p ≡ (isGiven (valueOf precedence (a .attributes)) || isGiven (valueOf assoc (a .attributes)))
   unfolding annotatedAt
   annotated-means w p a r =
-      let i : ltb (firstWith wd (number ts precedence) w (p + 14 + wd) (length (a .attributes))) (length (a .attributes)) ≡ isGiven (valueOf precedence (a .attributes)) =
+      let i : ltb (firstWith wd (idOf ts precedence) w (p + 14 + wd) (length (a .attributes))) (length (a .attributes)) ≡ isGiven (valueOf precedence (a .attributes)) =
       ap (λ (k : ℕ). ltb k (length (a .attributes))) (r .level .index) ∙ r .level .given in
-      let j : ltb (firstWith wd (number ts assoc) w (p + 14 + wd) (length (a .attributes))) (length (a .attributes)) ≡ isGiven (valueOf assoc (a .attributes)) =
+      let j : ltb (firstWith wd (idOf ts assoc) w (p + 14 + wd) (length (a .attributes))) (length (a .attributes)) ≡ isGiven (valueOf assoc (a .attributes)) =
       ap (λ (k : ℕ). ltb k (length (a .attributes))) (r .side .index) ∙ r .side .given in
       rw (r .many, i, j) (pick-or (isGiven (valueOf precedence (a .attributes))) (isGiven (valueOf assoc (a .attributes))))
 
@@ -153,16 +149,16 @@ module _ (four : Bool) (wd : ℕ) (ts : List Text) where
   an-alternative w at n p h k l = cc (ne-eqb (leAt 2 w (at + 11 + wd)) 0 (λ z. absurd (omega (arith, k, z))))
 
   -- theorem: it is annotated as Grades says
-  pub has-means : (w : List ℕ) (at e : ℕ) (d : Nonterminal) → NonterminalWithin four wd ts d → Lies w at (itemBytes wd ts (item d)) e → hasPrecAttr wd (idsIn ts) w at ≡ annotated d
+  pub has-means : wd ≤ 3 → (w : List ℕ) (at e : ℕ) (d : Nonterminal) → NonterminalWithin four wd ts d → Lies w at (itemBytes wd ts (item d)) e → hasPrecAttr wd (idsIn ts) w at ≡ annotated d
   unfolding bytesOfEach
-  has-means w at e d h l = let g = headed four w wd ts at d e h l in go (d .alternatives) (h .alternatives) (g .many) (g .alternatives) g
+  has-means narrow w at e d h l = let g = headed four w wd ts at d e h l in go (d .alternatives) (h .alternatives) (g .many) (g .alternatives) g
     where
       go : (xs : List Alternative) → Each (AlternativeWithin four wd ts) xs → leAt 2 w (at + 11 + wd) ≡ length xs
           → Lies w (at + 13 + wd + length (bytesOfEach (argumentBytes wd ts) (d .args))) (bytesOfEach (alternativeBytes wd ts) xs) e → Headed w wd ts at d e → hasPrecAttr wd (idsIn ts) w at ≡ startsAnnotated xs
       go [] y k m g = no-alternative w at (g .code) k
       go (a ∷ rest) y k m g =
           an-alternative w at (length rest) _ (g .code) k (first-means w at e d g)
-          ∙ annotated-means w _ a (alternative-means w _ e a (bytesOfEach (alternativeBytes wd ts) rest) (y .0) m)
+          ∙ annotated-means w _ a (alternative-means narrow w _ e a (bytesOfEach (alternativeBytes wd ts) rest) (y .0) m)
 
   -- and what the code asks of work holds
   pub head-inside : (w : List ℕ) (at e : ℕ) (d : Nonterminal) → NonterminalWithin four wd ts d → Lies w at (itemBytes wd ts (item d)) e → at + 16 ≤ length w → HeadInside wd w at

@@ -33,11 +33,12 @@ use Rattle.resolve.proofs.CellsLaws.{lies-agree, part-apart}
 use Rattle.precedence.specs.declared.Assoc.{Assoc}
 use Rattle.precedence.specs.declared.GradeRead.{GradeRead}
 use Rattle.precedence.specs.declared.Graded.{Graded}
-use Rattle.precedence.specs.Annotations.{beforeSymbols, symbolsAt, alternativeEnd}
+use Rattle.precedence.specs.Annotations.{conditionsFrom, symbolsFrom, alternativeEnd}
 use Rattle.precedence.specs.Grade.{assocOf}
+use Rattle.precedence.specs.Ids.{idsIn}
 use Rattle.precedence.specs.Sort.{keysAt}
 use Rattle.precedence.specs.Alternatives.{gradeKey, nextGrade, storedGrade, Gradable, GradesOut, gradesOut, gradeThen, gradeFrom, Grades, stillAscends}
-use Rattle.precedence.proofs.AlternativesMean.{idsIn, AlternativeAt, alternative-read, end-means}
+use Rattle.precedence.proofs.AlternativesMean.{AlternativeAt, alternative-read, end-means}
 use Rattle.precedence.proofs.GradingMean.{gradeSays, graded-means}
 use Rattle.precedence.proofs.AlternativesCode.{stored-long, texts-kept, gradable-stays}
 use Rattle.precedence.proofs.AscendsMean.{codeOf, ascendsFrom, side-few}
@@ -46,6 +47,7 @@ use Rattle.precedence.proofs.AlternativesLaws.{level-of-small, Outside,
 module _ (four : Bool) (wd : ℕ) (ts : List Text) (s : List ℕ) (m : Map) (places keys n e : ℕ) where
   -- the alternatives cs lie from p up to e, and both arrays are off them
   pub record Ready (w : List ℕ) (i p level : ℕ) (cs : List Alternative) : Type 0 where
+    pub width : wd ≤ 3
     pub gradable : Gradable s w m places keys n e
     pub same : texts s w m ≡ ts
     pub many : i + length cs ≡ n
@@ -137,8 +139,8 @@ module _ (four : Bool) (wd : ℕ) (ts : List Text) (s : List ℕ) (m : Map) (pla
     place : AlternativeAt four wd ts w p a
     place = alternative-read four wd ts w p e a more (r .within .0) lies-all
 
-    symbols-past : p + 14 ≤ symbolsAt wd w p
-    unfolding symbolsAt beforeSymbols
+    symbols-past : p + 14 ≤ symbolsFrom wd w p
+    unfolding symbolsFrom conditionsFrom
     symbols-past = omega arith
 
     before : p + 14 ≤ e
@@ -148,8 +150,8 @@ module _ (four : Bool) (wd : ℕ) (ts : List Text) (s : List ℕ) (m : Map) (pla
     unfolding nextGrade pick
     read-is =
         let x = lt-leb e p (omega (arith, before)) in
-        let y = le-ltb e (symbolsAt wd w p) (omega (arith, place .place .end, split .1 .end)) in
-        rw (r .same, x, y) (graded-means four wd ts w p e a more (r .within .0) lies-all level side)
+        let y = le-ltb e (symbolsFrom wd w p) (omega (arith, place .place .end, split .1 .end)) in
+        rw (r .same, x, y) (graded-means four wd ts (r .width) w p e a more (r .within .0) lies-all level side)
 
     end-is : alternativeEnd wd w p e ≡ next
     end-is = end-means four wd ts w p e e a more (r .within .0) lies-all (omega (arith, split .1 .end))
@@ -187,6 +189,7 @@ module _ (four : Bool) (wd : ℕ) (ts : List Text) (s : List ℕ) (m : Map) (pla
     ready =
         let l = stored-long w places keys i p v (assocOf t) in
         record {
+          width = r .width;
           gradable = gradable-stays s w m places keys n e (r .gradable) i p v (assocOf t) fewer;
           same = texts-kept s w m places keys n e (r .gradable) i p v (assocOf t) fewer ∙ r .same;
           many = omega (arith, r .many);

@@ -4,7 +4,7 @@ use mathlib.Core.Bool.{Bool, true, false}
 use mathlib.Core.List.{List}
 use Prim.Native.Nat.{ℕ, suc, _+_, _-_, _*_, _^_, _≤_, _<_}
 use native.Mathlib.Omega.{arith}
-use native.Mathlib.Nat.{mul-suc, mul-le-mul-right}
+use native.Mathlib.Nat.{mul-suc, mul-le-mul, mul-le-mul-right}
 use borrow.Author.Needs.{needs}
 use borrow.Author.Tests.{lt-ltb, le-ltb, eq-eqb, ne-eqb}
 use mir.Val.{Fits}
@@ -15,7 +15,7 @@ use Rattle.octets.specs.working.Choice.{pick}
 use Rattle.octets.specs.plain.Numbers.{leAt}
 use Rattle.precedence.specs.declared.Ids.{Ids}
 use Rattle.precedence.specs.Skip.{skipOut}
-use Rattle.precedence.specs.Annotations.{attributesLong, firstWith, Finding, Annotates, attributesEnd, annotatedAt, firstAlternative, hasPrecAttr, HeadInside, beforeSymbols, symbolsAt, alternativeEnd}
+use Rattle.precedence.specs.Annotations.{attributesLong, firstWith, Finding, Annotates, attributesEnd, annotatedAt, firstAlternative, hasPrecAttr, HeadInside, conditionsFrom, symbolsFrom, alternativeEnd}
 
 -- ---- the bytes of attributes
 pub long-more : (wd n : ℕ) → attributesLong wd (suc n) ≡ attributesLong wd n + (2 + 3 * wd)
@@ -144,44 +144,35 @@ module _ (wd : ℕ) (w : List ℕ) (at : ℕ) where
 
 pub ruleset heading = (needs, has-other, has-none, has-fits, has-first)
 
--- ---- before_symbols
-module _ (wd n c : ℕ) (h : wd ≤ 3) (k : n < 256) (l : c < 256) where
-  few-attributes : (2 + 3 * wd) * n ≤ 11 * n
-  few-attributes = mul-le-mul-right {m = 2 + 3 * wd} {n = 11} n (omega arith)
+-- ---- products of a count
+few-attributes : (n wd : ℕ) → n < 256 → wd ≤ 3 → n * (2 + 3 * wd) ≤ 2805
+few-attributes n wd a b = mul-le-mul {n₁ = n} {m₁ = 2 + 3 * wd} {n₂ = 255} {m₂ = 11} (omega arith) (omega arith)
 
-  few-conditions : (10 + 2 * wd) * c ≤ 16 * c
-  few-conditions = mul-le-mul-right {m = 10 + 2 * wd} {n = 16} c (omega arith)
+few-conditions : (n wd : ℕ) → n < 256 → wd ≤ 3 → n * (10 + 2 * wd) ≤ 4080
+few-conditions n wd a b = mul-le-mul {n₁ = n} {m₁ = 10 + 2 * wd} {n₂ = 255} {m₂ = 16} (omega arith) (omega arith)
 
-  pub before-first : Fits w64 ((2 + 3 * wd) * n)
-  before-first = omega (arith, few-attributes)
+pub times-attributes : (n wd : ℕ) → n < 256 → wd ≤ 3 → Fits w64 (n * (2 + 3 * wd))
+times-attributes n wd a b = record { fits = omega (arith, few-attributes n wd a b) }
 
-  pub before-second : Fits w64 ((10 + 2 * wd) * c)
-  before-second = omega (arith, few-conditions)
-
-  pub before-conditions : Fits w64 (14 + wd + (2 + 3 * wd) * n)
-  before-conditions = omega (arith, few-attributes)
-
-  pub before-fits : Fits w64 (14 + wd + (2 + 3 * wd) * n + (10 + 2 * wd) * c)
-  before-fits = omega (arith, few-attributes, few-conditions)
-
-  pub before-few : 14 + wd + (2 + 3 * wd) * n + (10 + 2 * wd) * c < 8192
-  before-few = omega (arith, few-attributes, few-conditions)
-
-pub before-is : (wd n c : ℕ) → 14 + wd + (2 + 3 * wd) * n + (10 + 2 * wd) * c ≡ beforeSymbols wd n c
-unfolding beforeSymbols attributesLong
-before-is wd n c = refl
-
-pub ruleset standing = (needs, before-first, before-second, before-conditions, before-fits, before-few, before-is)
+pub times-conditions : (n wd : ℕ) → n < 256 → wd ≤ 3 → Fits w64 (n * (10 + 2 * wd))
+times-conditions n wd a b = record { fits = omega (arith, few-conditions n wd a b) }
 
 -- ---- symbols
-pub symbols-is : (wd : ℕ) (w : List ℕ) (at n c r : ℕ) → r ≡ beforeSymbols wd n c → n ≡ getD w (at + 9) 0 → c ≡ getD w (at + 10) 0 → at + r ≡ symbolsAt wd w at
-unfolding symbolsAt
-symbols-is wd w at n c r e p q = cc
+module _ (w : List ℕ) (wd p : ℕ) (k : wd ≤ 3) (l : p + 11 ≤ length w) (n : ℕ) (h : n < 256) where
+  pub sum-attributes : length w * 1 < 2 ^ 63 → Fits w64 (p + (14 + wd) + n * (2 + 3 * wd))
+  sum-attributes x = record { fits = omega (arith, few-attributes n wd h k) }
 
-pub ruleset symboling = (needs, symbols-is)
+  pub sum-conditions : (m : ℕ) → m < 256 → length w * 1 < 2 ^ 63 → Fits w64 (p + (14 + wd) + n * (2 + 3 * wd) + m * (10 + 2 * wd))
+  sum-conditions m o x = record { fits = omega (arith, few-attributes n wd h k, few-conditions m wd o k) }
+
+pub symbols-are : (w : List ℕ) (wd p n m : ℕ) → n ≡ getD w (p + 9) 0 → m ≡ getD w (p + 10) 0 → p + (14 + wd) + n * (2 + 3 * wd) + m * (10 + 2 * wd) ≡ symbolsFrom wd w p
+unfolding symbolsFrom conditionsFrom
+symbols-are w wd p n m z y = cc
+
+pub ruleset symboling = (needs, times-attributes, times-conditions, sum-attributes, sum-conditions, symbols-are)
 
 -- ---- alternative_end
-pub end-is : (wd : ℕ) (w : List ℕ) (at e s x n r : ℕ) → s ≡ symbolsAt wd w at → x ≡ leAt 2 w (at + 12 + wd) → n ≡ x → r ≡ skipOut wd e w s e n → r ≡ alternativeEnd wd w at e
+pub end-is : (wd : ℕ) (w : List ℕ) (at e s x n r : ℕ) → s ≡ symbolsFrom wd w at → x ≡ leAt 2 w (at + 12 + wd) → n ≡ x → r ≡ skipOut wd e w s e n → r ≡ alternativeEnd wd w at e
 unfolding alternativeEnd
 end-is wd w at e s x n r p q i j = cc
 

@@ -4,7 +4,7 @@ use mathlib.Core.Path.{_≡_, refl, sym, ap, _∙_}
 use mathlib.Core.Bool.{Bool, true, false, cond}
 use mathlib.Core.List.{List, [], _∷_, _++_}
 use mathlib.Core.Option.{Option, none, some}
-use Prim.Native.Nat.{ℕ, suc, _+_, _*_, _<_}
+use Prim.Native.Nat.{ℕ, suc, _+_, _*_, _<_, _≤_}
 use native.Mathlib.Omega.{arith}
 use borrow.Author.Tests.{lt-ltb, le-ltb, ltb-true, ltb-false}
 use lib.Dec.{eqb, ltb}
@@ -22,15 +22,12 @@ use Rattle.parse_tree.specs.working.Encode.{attributeNode, attributeBytes}
 use Rattle.parse_tree.specs.working.Within.{Each, ArgumentWithin, AttributeWithin}
 use Rattle.parse_tree.proofs.FieldLaws.{byte-read, le-read-then, le-read-last}
 use Rattle.parse_tree.proofs.TextLaws.{text-number}
-use Rattle.laws.proofs.Rename.{number-tells}
 use Rattle.passes.specs.Grades.{valueOf, isGiven}
 use Rattle.precedence.specs.Annotations.{attributesLong, firstWith, valueText}
+use Rattle.precedence.specs.Ids.{idOf}
+use Rattle.precedence.specs.Write.{firstIndex}
+use Rattle.precedence.proofs.IdsMean.{id-tells}
 use Rattle.precedence.proofs.AnnotationsCode.{long-more, long-none}
-
--- the position of the first attribute of an id; how many there are where none is
-abbrev pub positionOf : Text → List Attribute → ℕ
-positionOf id [] = 0
-positionOf id (a ∷ rest) = cond (sameAs id (a .id)) 0 (suc (positionOf id rest))
 
 -- the text of a value that may be missing
 abbrev pub textOf : Option (Text × Text) → Text
@@ -106,11 +103,11 @@ module _ (four : Bool) (wd : ℕ) (ts : List Text) where
 
   -- what Grades takes of the attributes, and what the index says
   pub record Value (w : List ℕ) (at : ℕ) (id : Text) (xs : List Attribute) : Type 0 where
-    pub index : firstWith wd (number ts id) w at (length xs) ≡ positionOf id xs
-    pub given : ltb (positionOf id xs) (length xs) ≡ isGiven (valueOf id xs)
-    pub text : positionOf id xs < length xs → valueText wd ts w (at + attributesLong wd (positionOf id xs)) ≡ textGiven (valueOf id xs)
+    pub index : firstWith wd (idOf ts id) w at (length xs) ≡ firstIndex id xs
+    pub given : ltb (firstIndex id xs) (length xs) ≡ isGiven (valueOf id xs)
+    pub text : firstIndex id xs < length xs → valueText wd ts w (at + attributesLong wd (firstIndex id xs)) ≡ textGiven (valueOf id xs)
 
-  none-there : (w : List ℕ) (p : ℕ) (id : Text) → firstWith wd (number ts id) w p 0 ≡ 0
+  none-there : (w : List ℕ) (p : ℕ) (id : Text) → firstWith wd (idOf ts id) w p 0 ≡ 0
   unfolding firstWith
   none-there w p id = refl
 
@@ -126,36 +123,37 @@ module _ (four : Bool) (wd : ℕ) (ts : List Text) where
       go none = refl
       go (some kv) = refl
 
-  -- theorem: the index is the position, and the value there is the one that is taken
-  pub value-means : (w : List ℕ) (at e : ℕ) (id : Text) (xs : List Attribute) → Each (AttributeWithin four wd ts) xs → Lies w at (bytesOfEach (attributeBytes wd ts) xs) e → Value w at id xs
-  unfolding bytesOfEach
-  value-means w at e id [] h l = record { index = none-there w at id; given = refl; text = λ k. absurd (omega arith) }
-  value-means w at e id (a ∷ rest) h l =
-      let s = lies-split w at e (attributeBytes wd ts a) (bytesOfEach (attributeBytes wd ts) rest) l in
-      let q : at + length (attributeBytes wd ts a) ≡ at + (2 + 3 * wd) = ap (λ (k : ℕ). at + k) (attribute-long a) in
-      let o = attribute-read w at _ a (h .0) (s .0) in
-      let t : eqb (number ts id) (leAt wd w (at + 1)) ≡ sameAs id (a .id) = ap (eqb (number ts id)) (o .id) ∙ number-tells ts (a .id) id (h .0 .0 .0) in
-      go (sameAs id (a .id)) refl o t (value-means w (at + (2 + 3 * wd)) e id rest (h .1) (lies-from q (s .1)))
-    where
-      go : (b : Bool) → sameAs id (a .id) ≡ b → AttributeAt w at a → eqb (number ts id) (leAt wd w (at + 1)) ≡ sameAs id (a .id) → Value w (at + (2 + 3 * wd)) id rest → Value w at id (a ∷ rest)
-      go true z o t v =
-          let i : positionOf id (a ∷ rest) ≡ 0 = ap (λ (x : Bool). cond x 0 (suc (positionOf id rest))) z in
-          let y : valueOf id (a ∷ rest) ≡ some (elim (a .argument) [ none ↦ none | some kv ↦ some (kv .1) ]) =
-          ap (λ (x : Bool). cond x (some (elim (a .argument) [ none ↦ none | some kv ↦ some (kv .1) ])) (valueOf id rest)) z in
-          let p : at + attributesLong wd (positionOf id (a ∷ rest)) ≡ at = omega (arith, ap (attributesLong wd) i, long-none wd) in
-          record {
-            index = one-there w at (number ts id) (length rest) true (t ∙ z) ∙ sym i;
-            given = ap (λ (k : ℕ). ltb k (suc (length rest))) i ∙ lt-ltb 0 (suc (length rest)) (omega arith) ∙ sym (ap isGiven y);
-            text = λ k. ap (valueText wd ts w) p ∙ o .text ∙ value-in a ∙ sym (ap textGiven y);
-          }
-      go false z o t v =
-          let i : positionOf id (a ∷ rest) ≡ suc (positionOf id rest) = ap (λ (x : Bool). cond x 0 (suc (positionOf id rest))) z in
-          let y : valueOf id (a ∷ rest) ≡ valueOf id rest =
-          ap (λ (x : Bool). cond x (some (elim (a .argument) [ none ↦ none | some kv ↦ some (kv .1) ])) (valueOf id rest)) z in
-          let p : at + attributesLong wd (positionOf id (a ∷ rest)) ≡ at + (2 + 3 * wd) + attributesLong wd (positionOf id rest) =
-          omega (arith, ap (attributesLong wd) i, long-more wd (positionOf id rest)) in
-          record {
-            index = one-there w at (number ts id) (length rest) false (t ∙ z) ∙ ap suc (v .index) ∙ sym i;
-            given = ap (λ (k : ℕ). ltb k (suc (length rest))) i ∙ ltb-suc (positionOf id rest) (length rest) ∙ v .given ∙ sym (ap isGiven y);
-            text = λ k. ap (valueText wd ts w) p ∙ v .text (omega (arith, i)) ∙ sym (ap textGiven y);
-          }
+  module _ (narrow : wd ≤ 3) where
+    -- theorem: the index is that of the first of them, and the value there is the one that is taken
+    pub value-means : (w : List ℕ) (at e : ℕ) (id : Text) (xs : List Attribute) → Each (AttributeWithin four wd ts) xs → Lies w at (bytesOfEach (attributeBytes wd ts) xs) e → Value w at id xs
+    unfolding bytesOfEach firstIndex
+    value-means w at e id [] h l = record { index = none-there w at id; given = refl; text = λ k. absurd (omega arith) }
+    value-means w at e id (a ∷ rest) h l =
+        let s = lies-split w at e (attributeBytes wd ts a) (bytesOfEach (attributeBytes wd ts) rest) l in
+        let q : at + length (attributeBytes wd ts a) ≡ at + (2 + 3 * wd) = ap (λ (k : ℕ). at + k) (attribute-long a) in
+        let o = attribute-read w at _ a (h .0) (s .0) in
+        let t : eqb (idOf ts id) (leAt wd w (at + 1)) ≡ sameAs id (a .id) = ap (eqb (idOf ts id)) (o .id) ∙ id-tells wd ts id (a .id) narrow (h .0 .0 .0) (h .0 .0 .1) in
+        go (sameAs id (a .id)) refl o t (value-means w (at + (2 + 3 * wd)) e id rest (h .1) (lies-from q (s .1)))
+      where
+        go : (b : Bool) → sameAs id (a .id) ≡ b → AttributeAt w at a → eqb (idOf ts id) (leAt wd w (at + 1)) ≡ sameAs id (a .id) → Value w (at + (2 + 3 * wd)) id rest → Value w at id (a ∷ rest)
+        go true z o t v =
+            let i : firstIndex id (a ∷ rest) ≡ 0 = ap (λ (x : Bool). cond x 0 (suc (firstIndex id rest))) z in
+            let y : valueOf id (a ∷ rest) ≡ some (elim (a .argument) [ none ↦ none | some kv ↦ some (kv .1) ]) =
+            ap (λ (x : Bool). cond x (some (elim (a .argument) [ none ↦ none | some kv ↦ some (kv .1) ])) (valueOf id rest)) z in
+            let p : at + attributesLong wd (firstIndex id (a ∷ rest)) ≡ at = omega (arith, ap (attributesLong wd) i, long-none wd) in
+            record {
+              index = one-there w at (idOf ts id) (length rest) true (t ∙ z) ∙ sym i;
+              given = ap (λ (k : ℕ). ltb k (suc (length rest))) i ∙ lt-ltb 0 (suc (length rest)) (omega arith) ∙ sym (ap isGiven y);
+              text = λ k. ap (valueText wd ts w) p ∙ o .text ∙ value-in a ∙ sym (ap textGiven y);
+            }
+        go false z o t v =
+            let i : firstIndex id (a ∷ rest) ≡ suc (firstIndex id rest) = ap (λ (x : Bool). cond x 0 (suc (firstIndex id rest))) z in
+            let y : valueOf id (a ∷ rest) ≡ valueOf id rest =
+            ap (λ (x : Bool). cond x (some (elim (a .argument) [ none ↦ none | some kv ↦ some (kv .1) ])) (valueOf id rest)) z in
+            let p : at + attributesLong wd (firstIndex id (a ∷ rest)) ≡ at + (2 + 3 * wd) + attributesLong wd (firstIndex id rest) =
+            omega (arith, ap (attributesLong wd) i, long-more wd (firstIndex id rest)) in
+            record {
+              index = one-there w at (idOf ts id) (length rest) false (t ∙ z) ∙ ap suc (v .index) ∙ sym i;
+              given = ap (λ (k : ℕ). ltb k (suc (length rest))) i ∙ ltb-suc (firstIndex id rest) (length rest) ∙ v .given ∙ sym (ap isGiven y);
+              text = λ k. ap (valueText wd ts w) p ∙ v .text (omega (arith, i)) ∙ sym (ap textGiven y);
+            }

@@ -3,7 +3,7 @@ use mathlib.Core.Path.{_≡_, refl, sym, ap, _∙_}
 use mathlib.Core.Bool.{Bool, true, false, cond}
 use mathlib.Core.List.{List, [], _∷_, _++_}
 use mathlib.Core.Option.{Option, none, some}
-use Prim.Native.Nat.{ℕ, _+_}
+use Prim.Native.Nat.{ℕ, _+_, _≤_}
 use borrow.Author.Tests.{ltb-true}
 use lib.Dec.{ltb}
 use lib.ListN.{length}
@@ -22,9 +22,11 @@ use Rattle.precedence.specs.declared.LevelRead.{LevelRead}
 use Rattle.precedence.specs.declared.GradeRead.{GradeRead}
 use Rattle.precedence.specs.Annotations.{attributesLong, valueText}
 use Rattle.precedence.specs.Grade.{assocOf, levelAnswer, assocAnswer, levelSaid, assocSaid}
+use Rattle.precedence.specs.Ids.{idsIn}
+use Rattle.precedence.specs.Write.{firstIndex}
 use Rattle.precedence.specs.Grading.{sideSaid, sidedAt, levelThen, gradedBy, gradedAt}
-use Rattle.precedence.proofs.AnnotationsMean.{positionOf, textGiven, Value}
-use Rattle.precedence.proofs.AlternativesMean.{idsIn, Annotations, alternative-means}
+use Rattle.precedence.proofs.AnnotationsMean.{textGiven, Value}
+use Rattle.precedence.proofs.AlternativesMean.{Annotations, alternative-means}
 
 -- ---- on values: what the code says of them
 abbrev sidedOn : Option (Option Text) → ℕ → Assoc → GradeRead
@@ -108,39 +110,39 @@ then-same f g h (LevelRead.Is v) = h v Assoc.FullyAssoc
 module _ (four : Bool) (wd : ℕ) (ts : List Text) (w : List ℕ) (at : ℕ) (xs : List Attribute) where
   -- a text is looked at only where there is an attribute
   given-text : {A : Type 0} (f : Text → A) (d : A) (id : Text) → Value four wd ts w at id xs
-      → pick (ltb (positionOf id xs) (length xs)) (f (valueText wd ts w (at + attributesLong wd (positionOf id xs)))) d ≡ pick (isGiven (valueOf id xs)) (f (textGiven (valueOf id xs))) d
+      → pick (ltb (firstIndex id xs) (length xs)) (f (valueText wd ts w (at + attributesLong wd (firstIndex id xs)))) d ≡ pick (isGiven (valueOf id xs)) (f (textGiven (valueOf id xs))) d
   unfolding pick
-  given-text f d id v = go (ltb (positionOf id xs) (length xs)) refl
+  given-text f d id v = go (ltb (firstIndex id xs) (length xs)) refl
     where
-      go : (b : Bool) → ltb (positionOf id xs) (length xs) ≡ b
-          → pick b (f (valueText wd ts w (at + attributesLong wd (positionOf id xs)))) d ≡ pick (isGiven (valueOf id xs)) (f (textGiven (valueOf id xs))) d
-      go true e = let z : isGiven (valueOf id xs) ≡ true = sym (v .given) ∙ e in rw z (ap f (v .text (ltb-true (positionOf id xs) (length xs) e)))
+      go : (b : Bool) → ltb (firstIndex id xs) (length xs) ≡ b
+          → pick b (f (valueText wd ts w (at + attributesLong wd (firstIndex id xs)))) d ≡ pick (isGiven (valueOf id xs)) (f (textGiven (valueOf id xs))) d
+      go true e = let z : isGiven (valueOf id xs) ≡ true = sym (v .given) ∙ e in rw z (ap f (v .text (ltb-true (firstIndex id xs) (length xs) e)))
       go false e = let z : isGiven (valueOf id xs) ≡ false = sym (v .given) ∙ e in rw z refl
 
-  sided-at : Value four wd ts w at assoc xs → (l : ℕ) (c : Assoc) → sidedAt wd ts w at (length xs) (positionOf assoc xs) l c ≡ sidedOn (valueOf assoc xs) l c
+  sided-at : Value four wd ts w at assoc xs → (l : ℕ) (c : Assoc) → sidedAt wd ts w at (length xs) (firstIndex assoc xs) l c ≡ sidedOn (valueOf assoc xs) l c
   unfolding sidedAt
   sided-at v l c = given-text (λ (t : Text). sideSaid l (assocSaid t)) (GradeRead.Is l c) assoc v
 
   graded-by : Value four wd ts w at precedence xs → Value four wd ts w at assoc xs → (l : ℕ) (c : Assoc)
-      → gradedBy wd ts w at (length xs) (positionOf precedence xs) (positionOf assoc xs) l c ≡ gradedOn (valueOf precedence xs) (valueOf assoc xs) l c
+      → gradedBy wd ts w at (length xs) (firstIndex precedence xs) (firstIndex assoc xs) l c ≡ gradedOn (valueOf precedence xs) (valueOf assoc xs) l c
   unfolding gradedBy
   graded-by u v l c =
-      given-text (λ (t : Text). levelThen (sidedAt wd ts w at (length xs) (positionOf assoc xs)) (levelSaid t)) (sidedAt wd ts w at (length xs) (positionOf assoc xs) l c) precedence u
-      ∙ ap (λ (x : GradeRead). pick (isGiven (valueOf precedence xs)) x (sidedAt wd ts w at (length xs) (positionOf assoc xs) l c))
-      (then-same (sidedAt wd ts w at (length xs) (positionOf assoc xs)) (sidedOn (valueOf assoc xs)) (sided-at v) (levelSaid (textGiven (valueOf precedence xs))))
+      given-text (λ (t : Text). levelThen (sidedAt wd ts w at (length xs) (firstIndex assoc xs)) (levelSaid t)) (sidedAt wd ts w at (length xs) (firstIndex assoc xs) l c) precedence u
+      ∙ ap (λ (x : GradeRead). pick (isGiven (valueOf precedence xs)) x (sidedAt wd ts w at (length xs) (firstIndex assoc xs) l c))
+      (then-same (sidedAt wd ts w at (length xs) (firstIndex assoc xs)) (sidedOn (valueOf assoc xs)) (sided-at v) (levelSaid (textGiven (valueOf precedence xs))))
       ∙ ap (pick (isGiven (valueOf precedence xs)) (levelThen (sidedOn (valueOf assoc xs)) (levelSaid (textGiven (valueOf precedence xs))))) (sided-at v l c)
 
 module _ (four : Bool) (wd : ℕ) (ts : List Text) where
   graded-at : (w : List ℕ) (p : ℕ) (a : Alternative) → Annotations four wd ts w p a → (l : ℕ) (c : Assoc)
-      → gradedAt wd (idsIn ts) ts w p l c ≡ gradedBy wd ts w (p + 14 + wd) (length (a .attributes)) (positionOf precedence (a .attributes)) (positionOf assoc (a .attributes)) l c
+      → gradedAt wd (idsIn ts) ts w p l c ≡ gradedBy wd ts w (p + 14 + wd) (length (a .attributes)) (firstIndex precedence (a .attributes)) (firstIndex assoc (a .attributes)) l c
   unfolding gradedAt
   graded-at w p a r l c = rw (r .many, r .level .index, r .side .index) refl
 
   -- theorem: the alternative at a place is refused as checkAttributes refuses it, else it has the level and the side that Grades gives
-  pub graded-means : (w : List ℕ) (p e : ℕ) (a : Alternative) (more : List ℕ) → AlternativeWithin four wd ts a → Lies w p (alternativeBytes wd ts a ++ more) e → (l : ℕ) (s : Side)
+  pub graded-means : wd ≤ 3 → (w : List ℕ) (p e : ℕ) (a : Alternative) (more : List ℕ) → AlternativeWithin four wd ts a → Lies w p (alternativeBytes wd ts a ++ more) e → (l : ℕ) (s : Side)
       → gradedAt wd (idsIn ts) ts w p l (assocOf s) ≡ gradeSays l s a
-  graded-means w p e a more h k l s =
-      let r = alternative-means four wd ts w p e a more h k in
+  graded-means narrow w p e a more h k l s =
+      let r = alternative-means four wd ts narrow w p e a more h k in
       graded-at w p a r l (assocOf s)
       ∙ graded-by four wd ts w (p + 14 + wd) (a .attributes) (r .level) (r .side) l (assocOf s)
       ∙ graded-on (valueOf precedence (a .attributes)) (valueOf assoc (a .attributes)) l s

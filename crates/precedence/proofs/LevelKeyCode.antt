@@ -14,8 +14,8 @@ use Rattle.octets.specs.plain.Numbers.{leAt}
 use Rattle.precedence.specs.declared.Assoc.{Assoc}
 use Rattle.precedence.specs.declared.Ids.{Ids}
 use Rattle.precedence.specs.declared.level.Level.{Level}
-use Rattle.precedence.specs.Annotations.{attributesLong, Annotates}
-use Rattle.precedence.specs.Write.{conditionsFrom, symbolsFrom, PutsRenamed}
+use Rattle.precedence.specs.Annotations.{attributesLong, Annotates, conditionsFrom, symbolsFrom}
+use Rattle.precedence.specs.Write.{PutsRenamed}
 use Rattle.precedence.specs.Level.{keySide, keyEntry, keyPlace, keyEnd, KeyInside, PutsKey}
 
 -- ---- side_of

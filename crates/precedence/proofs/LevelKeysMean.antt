@@ -1,14 +1,14 @@
 -- What the alternatives of a level that are put mean: those of its group, substituted. Assumes nothing.
-use mathlib.Core.Path.{_≡_, refl, ap, _∙_}
-use mathlib.Core.Bool.{Bool, true, cond}
+use mathlib.Core.Path.{_≡_, refl, _∙_}
+use mathlib.Core.Bool.{Bool, true}
 use mathlib.Core.Logic.{_⊎_, inl, inr}
 use mathlib.Core.List.{List, [], _∷_, map, append-nil}
-use Prim.Native.Nat.{ℕ, suc, _+_, _*_, _/_, _%_, _<_, _≤_}
+use Prim.Native.Nat.{ℕ, _+_, _*_, _/_, _%_, _<_, _≤_}
 use native.Mathlib.Omega.{arith}
 use lib.ListN.{length, getD}
 use Rattle.octets.specs.plain.Numbers.{leAt}
-use Rattle.octets.specs.plain.Runs.{sameAs, Lies}
-use Rattle.parse_tree.specs.plain.Tree.{Text, Attribute, Alternative}
+use Rattle.octets.specs.plain.Runs.{Lies}
+use Rattle.parse_tree.specs.plain.Tree.{Text, Alternative}
 use Rattle.parse_tree.specs.plain.Texts.{has, number}
 use Rattle.parse_tree.specs.plain.WriteTape.{bytesOfEach}
 use Rattle.parse_tree.specs.working.Encode.{alternativeBytes}
@@ -23,10 +23,10 @@ use Rattle.octets.specs.working.Choice.{pick}
 use Rattle.precedence.specs.declared.Assoc.{Assoc}
 use Rattle.precedence.specs.declared.level.Level.{Level}
 use Rattle.precedence.specs.Annotations.{firstWith}
+use Rattle.precedence.specs.Ids.{idOf, idsIn}
 use Rattle.precedence.specs.Write.{Puts, firstIndex}
 use Rattle.precedence.specs.Level.{keySide, keyEntry, keyPlace, keyEnd, KeyInside, PutsKey, PutsKeys, KeysInside}
-use Rattle.precedence.proofs.AnnotationsMean.{positionOf}
-use Rattle.precedence.proofs.AlternativesMean.{idsIn, alternative-means as read-means}
+use Rattle.precedence.proofs.AlternativesMean.{alternative-means as read-means}
 use Rattle.precedence.proofs.SubstituteMean.{sideMeant}
 use Rattle.precedence.proofs.WriteLaws.{fits-or-not, puts-beside, puts-on, puts-upto, puts-append, puts-none}
 use Rattle.precedence.proofs.WriteWholeMean.{symbols-upto, alternative-means}
@@ -62,11 +62,6 @@ pub key-reads : (v i : ℕ) (s : Assoc) → i < 65536
 key-reads v i s h =
     let c = code-small s in
     (side-of-rest ((v * 65536 + i) * 4 + sideCode s) (sideCode s) (omega arith) c ∙ side-of-code s, omega arith, omega arith)
-
-position-is : (id : Text) (xs : List Attribute) → positionOf id xs ≡ firstIndex id xs
-unfolding firstIndex
-position-is id [] = refl
-position-is id (a ∷ rest) = ap (λ (n : ℕ). cond (sameAs id (a .id)) 0 (suc n)) (position-is id rest)
 
 module _ (four : Bool) (wd : ℕ) (ts : List Text) (places : ℕ) where
   -- the alternative that a key leads to is the graded one, but for its annotations
@@ -116,17 +111,17 @@ module _ (four : Bool) (wd : ℕ) (ts : List Text) (places : ℕ) where
       let l = lies-agree w out (leAt 8 w (keyEntry places k)) (leAt 8 w (keyEntry places k + 8)) (alternativeBytes wd ts (m .source)) same (omega arith) (λ j a b. kept j (inl (omega arith))) (m .lies) in
       record { source = m .source; within = m .within; lies = rw (x, y) l; is = m .is; sided = m .sided }
 
-  module _ (keys : ℕ) (E : Text) (group : Group Graded) (known : has E ts ≡ true) (l : Level) (named : l .name ≡ number ts (group .name)) (lower : l .below ≡ number ts (lowerName group)) (lim : ℕ) where
+  module _ (narrow : wd ≤ 3) (keys : ℕ) (E : Text) (group : Group Graded) (known : has E ts ≡ true) (l : Level) (named : l .name ≡ number ts (group .name)) (lower : l .below ≡ number ts (lowerName group)) (lim : ℕ) where
     key-means : (w : List ℕ) (k to r : ℕ) (w1 : List ℕ) (g : Graded) → lim + 16 ≤ length w → KeyMeans w k g → PutsKey wd (idsIn ts) places (number ts E) l lim k w to r w1
         → Puts w lim to (alternativeBytes wd ts (substitute E group g)) r w1
     key-means w k to r w1 g room m q =
         let a = m .source in
         let p = keyPlace w places k in
-        let v = read-means four wd ts w p (keyEnd w places k) a [] (m .within) (rw (append-nil (alternativeBytes wd ts a)) (m .lies)) in
+        let v = read-means four wd ts narrow w p (keyEnd w places k) a [] (m .within) (rw (append-nil (alternativeBytes wd ts a)) (m .lies)) in
         let c : p + 14 + wd ≡ p + (14 + wd) = omega arith in
         let n = v .many in
-        let i : firstWith wd (number ts precedence) w (p + (14 + wd)) (getD w (p + 9) 0) ≡ firstIndex precedence (a .attributes) = rw (← c, n) (v .level .index ∙ position-is precedence (a .attributes)) in
-        let j : firstWith wd (number ts assoc) w (p + (14 + wd)) (getD w (p + 9) 0) ≡ firstIndex assoc (a .attributes) = rw (← c, n) (v .side .index ∙ position-is assoc (a .attributes)) in
+        let i : firstWith wd (idOf ts precedence) w (p + (14 + wd)) (getD w (p + 9) 0) ≡ firstIndex precedence (a .attributes) = rw (← c, n) (v .level .index) in
+        let j : firstWith wd (idOf ts assoc) w (p + (14 + wd)) (getD w (p + 9) 0) ≡ firstIndex assoc (a .attributes) = rw (← c, n) (v .side .index) in
         alternative-means wd ts E group g a known (syms-fit wd ts four (a .symbols) 64 (m .within .symbols)) (m .is) (keySide k) (m .sided) w p (keyEnd w places k) lim to r w1 (m .lies) room
         (rw (i, j, named, lower) at (q .puts))
 

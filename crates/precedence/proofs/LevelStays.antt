@@ -19,7 +19,8 @@ use Rattle.resolve.specs.Commands.{longOf}
 use Rattle.precedence.specs.declared.Assoc.{Assoc}
 use Rattle.precedence.specs.declared.substitute.Marks.{Marks}
 use Rattle.precedence.specs.Substitute.{namesAt, markedAt, replaceOut, replaceAll, nameOut, substituteOut}
-use Rattle.precedence.specs.Write.{keptBytes, headOut, fewerBy, conditionsFrom, symbolsFrom, strippedOut, PutsRenamed}
+use Rattle.precedence.specs.Annotations.{conditionsFrom, symbolsFrom}
+use Rattle.precedence.specs.Write.{keptBytes, headOut, fewerBy, strippedOut, PutsRenamed}
 use Rattle.precedence.proofs.WriteLaws.{fits-or-not, puts-beside}
 
 -- from w to w′ no byte below a or from e + 16 on has changed

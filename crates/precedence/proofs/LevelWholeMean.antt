@@ -22,9 +22,10 @@ use Rattle.passes.specs.Levels.{Group, lowerName, substitute, substituted, fall
 use Rattle.resolve.specs.Whole.{Apart}
 use Rattle.resolve.proofs.GrammarLaws.{Headed}
 use Rattle.precedence.specs.declared.level.Level.{Level}
+use Rattle.precedence.specs.Ids.{idsIn}
 use Rattle.precedence.specs.Write.{Puts, fallBytes}
 use Rattle.precedence.specs.Level.{nonterminalOut, keyEnd, PutsKeys, levelCount, LevelInside, PutsLevel}
-use Rattle.precedence.proofs.AlternativesMean.{idsIn, first-means}
+use Rattle.precedence.proofs.AlternativesMean.{first-means}
 use Rattle.precedence.proofs.WriteLaws.{puts-beside, puts-on, puts-upto, puts-append}
 use Rattle.precedence.proofs.WriteMean.{fall-means}
 use Rattle.precedence.proofs.LevelMean.{head-means}
@@ -91,7 +92,7 @@ module _ (four : Bool) (wd : ℕ) (ts : List Text) (w : List ℕ) (p e : ℕ) (d
         room = room;
       }
 
-  module _ (places keys : ℕ) (group : Group Graded) (l : Level) (lim to : ℕ) (known : has (d .name) ts ≡ true) (of : LevelOf ts group l) (inside : LevelInside wd w p places keys l lim to)
+  module _ (narrow : wd ≤ 3) (places keys : ℕ) (group : Group Graded) (l : Level) (lim to : ℕ) (known : has (d .name) ts ≡ true) (of : LevelOf ts group l) (inside : LevelInside wd w p places keys l lim to)
       (means : KeysMean four wd ts places keys w (l .first) (group .alternatives)) where
     abbrev Mapped : List Alternative
     Mapped = map (substitute (d .name) group) (group .alternatives)
@@ -118,7 +119,7 @@ module _ (four : Bool) (wd : ℕ) (ts : List Text) (w : List ℕ) (p e : ℕ) (d
         let t = h .name in
         let k : PutsKeys wd (idsIn ts) places keys (number ts (d .name)) l lim (length (group .alternatives)) (l .first) (q .headed) (q .behind) (q .last) (q .filled) = rw (n, t) at (q .alternatives .each) in
         let y : Puts (q .headed) lim (q .behind) Y (q .last) (q .filled)
-        = keys-mean four wd ts places keys (d .name) group known l (of .name) (of .below) lim w to (inside .room) (inside .stop) (inside .level) (group .alternatives) (l .first) (q .headed) (q .behind) (q .last) (q .filled)
+        = keys-mean four wd ts places narrow keys (d .name) group known l (of .name) (of .below) lim w to (inside .room) (inside .stop) (inside .level) (group .alternatives) (l .first) (q .headed) (q .behind) (q .last) (q .filled)
         (omega arith) (omega (arith, of .many)) (x .long)
         (λ i o. puts-beside w (q .headed) lim to (Node ++ Args) (q .behind) x i (elim o [ inl u ↦ inl u | inr u ↦ inr (omega arith) ]))
         (puts-on w (q .headed) lim to (Node ++ Args) (q .behind) x (inside .stop)) (puts-upto w (q .headed) lim to (Node ++ Args) (q .behind) x) means k in

@@ -1,25 +1,27 @@
 -- What the proofs of several functions use: NameCode of code, NameLaws of lists, NameMean of what the definitions that follow the code mean.
+mod IdsCode
+pub mod IdsMean
 mod AnnotationsCode
 mod AnnotationsMean
 mod GradeCode
 mod GradingCode
-mod WordedLaws
+pub mod WordedLaws
 mod AlternativesCode
-mod AlternativesMean
+pub mod AlternativesMean
 mod GradingMean
 mod AlternativesLaws
-mod AscendsMean
-mod AlternativesWholeMean
-mod KeysMean
-mod LowestMean
+pub mod AscendsMean
+pub mod AlternativesWholeMean
+pub mod KeysMean
+pub mod LowestMean
 mod DecimalLaws
 mod DecimalCode
-mod NamesCode
+pub mod NamesCode
 mod NamesHashCode
 mod NamesFindCode
-mod NamesStays
+pub mod NamesStays
 mod NamesDescribeCode
-mod NamesMean
+pub mod NamesMean
 mod SortLaws
 mod SortCode
 mod SortRunsCode
@@ -32,17 +34,17 @@ mod CodesMean
 mod SkipMean
 mod SubstituteRuns
 mod SubstituteMean
-mod WriteLaws
+pub mod WriteLaws
 mod WriteCode
 mod WriteWholeCode
-mod WriteMean
+pub mod WriteMean
 mod WriteCountMean
 mod WriteWholeMean
 mod LevelCode
-mod LevelStays
+pub mod LevelStays
 mod LevelKeyCode
 mod LevelKeysCode
 mod LevelWholeCode
 mod LevelMean
-mod LevelKeysMean
-mod LevelWholeMean
+pub mod LevelKeysMean
+pub mod LevelWholeMean

@@ -1,10 +1,10 @@
--- The ways out of put_byte, put_head, fewer, put_parts, symbols_from and put_alternative. Assumes nothing.
+-- The ways out of put_byte, put_head, fewer, put_parts and put_alternative. Assumes nothing.
 use mathlib.Core.Path.{_≡_, refl, _∙_}
 use mathlib.Core.Logic.{inl}
 use mathlib.Core.List.{List, [], _∷_, _++_}
 use Prim.Native.Nat.{ℕ, zero, suc, _+_, _-_, _*_, _^_, _<_, _≤_}
 use native.Mathlib.Omega.{arith}
-use native.Mathlib.Nat.{suc-mul, mul-le-mul}
+use native.Mathlib.Nat.{suc-mul}
 use mir.Syntax.{w64}
 use mir.Val.{Fits}
 use borrow.Author.Needs.{needs}
@@ -16,7 +16,9 @@ use Rattle.octets.specs.working.Stores.{store}
 use Rattle.texts.proofs.TableStays.{part-agree}
 use Rattle.precedence.specs.declared.Assoc.{Assoc}
 use Rattle.precedence.specs.Substitute.{substituteOut}
-use Rattle.precedence.specs.Write.{Puts, keptBytes, headOut, fewerBy, conditionsFrom, symbolsFrom, strippedOut, PutsRenamed}
+use Rattle.precedence.specs.Annotations.{conditionsFrom, symbolsFrom}
+use Rattle.precedence.specs.Write.{Puts, keptBytes, headOut, fewerBy, strippedOut, PutsRenamed}
+use Rattle.precedence.proofs.AnnotationsCode.{times-attributes}
 use Rattle.precedence.proofs.WriteLaws.{puts-beside, puts-on, puts-upto, puts-append, puts-whole, puts-not}
 use Rattle.precedence.proofs.WriteCode.{kept-agree}
 
@@ -87,19 +89,6 @@ module _ (m n i : ℕ) where
 
 pub ruleset lessening = (needs, fewer-none, fewer-zero, fewer-one)
 
--- ---- products of a count
-few-attributes : (n wd : ℕ) → n < 256 → wd ≤ 3 → n * (2 + 3 * wd) ≤ 2805
-few-attributes n wd a b = mul-le-mul {n₁ = n} {m₁ = 2 + 3 * wd} {n₂ = 255} {m₂ = 11} (omega arith) (omega arith)
-
-few-conditions : (n wd : ℕ) → n < 256 → wd ≤ 3 → n * (10 + 2 * wd) ≤ 4080
-few-conditions n wd a b = mul-le-mul {n₁ = n} {m₁ = 10 + 2 * wd} {n₂ = 255} {m₂ = 16} (omega arith) (omega arith)
-
-pub times-attributes : (n wd : ℕ) → n < 256 → wd ≤ 3 → Fits w64 (n * (2 + 3 * wd))
-times-attributes n wd a b = record { fits = omega (arith, few-attributes n wd a b) }
-
-pub times-conditions : (n wd : ℕ) → n < 256 → wd ≤ 3 → Fits w64 (n * (10 + 2 * wd))
-times-conditions n wd a b = record { fits = omega (arith, few-conditions n wd a b) }
-
 -- ---- put_parts
 module _ (w : List ℕ) (wd p e lim to : ℕ) (c : conditionsFrom wd w p ≤ e) (d : e ≤ to) (k : to ≤ lim + 1) (l : lim + 16 ≤ length w) where
   pub head-inside : p + (14 + wd) ≤ to
@@ -157,20 +146,6 @@ pub ruleset stopping = (needs, puts-upto)
 pub ruleset rooming = (needs, room-one)
 
 pub ruleset standing-behind = (needs, behind-two)
-
--- ---- symbols_from
-module _ (w : List ℕ) (wd p : ℕ) (k : wd ≤ 3) (l : p + 11 ≤ length w) (n : ℕ) (h : n < 256) where
-  pub sum-attributes : length w * 1 < 2 ^ 63 → Fits w64 (p + (14 + wd) + n * (2 + 3 * wd))
-  sum-attributes x = record { fits = omega (arith, few-attributes n wd h k) }
-
-  pub sum-conditions : (m : ℕ) → m < 256 → length w * 1 < 2 ^ 63 → Fits w64 (p + (14 + wd) + n * (2 + 3 * wd) + m * (10 + 2 * wd))
-  sum-conditions m o x = record { fits = omega (arith, few-attributes n wd h k, few-conditions m wd o k) }
-
-pub symbols-are : (w : List ℕ) (wd p n m : ℕ) → n ≡ getD w (p + 9) 0 → m ≡ getD w (p + 10) 0 → p + (14 + wd) + n * (2 + 3 * wd) + m * (10 + 2 * wd) ≡ symbolsFrom wd w p
-unfolding symbolsFrom conditionsFrom
-symbols-are w wd p n m z y = cc
-
-pub ruleset placing = (needs, times-attributes, times-conditions, sum-attributes, sum-conditions, symbols-are)
 
 -- ---- put_alternative
 module _ (w : List ℕ) (wd p e lim to : ℕ) (c : symbolsFrom wd w p ≤ e) (d : e ≤ to) (k : to ≤ lim + 1) (l : lim + 16 ≤ length w) where

@@ -28,7 +28,8 @@ use Rattle.laws.proofs.Rename.{renamed-all-length}
 use Rattle.resolve.proofs.CellsLaws.{store-over}
 use Rattle.precedence.specs.declared.Assoc.{Assoc}
 use Rattle.precedence.specs.Substitute.{substituteOut}
-use Rattle.precedence.specs.Write.{Puts, headOut, conditionsFrom, symbolsFrom, strippedOut, PutsRenamed, firstIndex}
+use Rattle.precedence.specs.Annotations.{conditionsFrom, symbolsFrom}
+use Rattle.precedence.specs.Write.{Puts, headOut, strippedOut, PutsRenamed, firstIndex}
 use Rattle.precedence.proofs.SubstituteMean.{sideMeant, substitute-means}
 use Rattle.precedence.proofs.WriteLaws.{fits-or-not}
 use Rattle.precedence.proofs.WriteMean.{attribute-long, span-long, kept-means, annotations-gone}

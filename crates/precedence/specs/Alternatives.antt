@@ -18,7 +18,7 @@ use Rattle.precedence.specs.declared.GradeRead.{GradeRead}
 use Rattle.precedence.specs.declared.Graded.{Graded}
 use Rattle.precedence.specs.declared.Ids.{Ids}
 use Rattle.precedence.specs.declared.Lowest.{Lowest}
-use Rattle.precedence.specs.Annotations.{symbolsAt, alternativeEnd}
+use Rattle.precedence.specs.Annotations.{symbolsFrom, alternativeEnd}
 use Rattle.precedence.specs.Grading.{Worded, gradedAt}
 use Rattle.precedence.specs.Sort.{levelAt}
 
@@ -36,7 +36,7 @@ gradeKey level i side = (level * 65536 + i) * 4 + sideNumber side
 -- level and side of the alternative at a place; question 0 where none stands there before e
 unfoldable pub nextGrade : ℕ → Ids → List Text → List ℕ → ℕ → ℕ → ℕ → Assoc → GradeRead
 nextGrade wd ids ts w at e level side =
-    pick (leb e at) (GradeRead.Refused 0) (pick (ltb e (symbolsAt wd w at)) (GradeRead.Refused 0) (gradedAt wd ids ts w at level side))
+    pick (leb e at) (GradeRead.Refused 0) (pick (ltb e (symbolsFrom wd w at)) (GradeRead.Refused 0) (gradedAt wd ids ts w at level side))
 
 -- its place and its key stored
 unfoldable pub storedGrade : List ℕ → ℕ → ℕ → ℕ → ℕ → ℕ → Assoc → List ℕ

@@ -58,14 +58,14 @@ pub record HeadInside (wd : ℕ) (w : List ℕ) (at : ℕ) : Type 0 where
   pub head : at + 16 ≤ length w
   pub first : getD w at 0 ≡ 16 → (leAt 2 w (at + 11 + wd) ≡ 0 → ⊥) → attributesEnd wd w (firstAlternative wd w at) ≤ length w
 
--- how many bytes of an alternative stand before its symbols, of so many attributes and conditions
-unfoldable pub beforeSymbols : ℕ → ℕ → ℕ → ℕ
-beforeSymbols wd n c = 14 + wd + attributesLong wd n + (10 + 2 * wd) * c
+-- where the conditions of the alternative at a place begin
+unfoldable pub conditionsFrom : ℕ → List ℕ → ℕ → ℕ
+conditionsFrom wd w p = p + (14 + wd) + getD w (p + 9) 0 * (2 + 3 * wd)
 
--- where the symbols of the alternative at a place stand
-unfoldable pub symbolsAt : ℕ → List ℕ → ℕ → ℕ
-symbolsAt wd w at = at + beforeSymbols wd (getD w (at + 9) 0) (getD w (at + 10) 0)
+-- and where its symbols do
+unfoldable pub symbolsFrom : ℕ → List ℕ → ℕ → ℕ
+symbolsFrom wd w p = conditionsFrom wd w p + getD w (p + 10) 0 * (10 + 2 * wd)
 
 -- the place behind it, before e
 unfoldable pub alternativeEnd : ℕ → List ℕ → ℕ → ℕ → ℕ
-alternativeEnd wd w at e = skipOut wd e w (symbolsAt wd w at) e (leAt 2 w (at + 12 + wd))
+alternativeEnd wd w at e = skipOut wd e w (symbolsFrom wd w at) e (leAt 2 w (at + 12 + wd))

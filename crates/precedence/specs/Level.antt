@@ -11,9 +11,9 @@ use Rattle.octets.specs.plain.Runs.{part}
 use Rattle.precedence.specs.declared.Assoc.{Assoc}
 use Rattle.precedence.specs.declared.Ids.{Ids}
 use Rattle.precedence.specs.declared.level.Level.{Level}
-use Rattle.precedence.specs.Annotations.{firstWith, firstAlternative}
+use Rattle.precedence.specs.Annotations.{firstWith, firstAlternative, symbolsFrom}
 use Rattle.resolve.specs.Whole.{Apart}
-use Rattle.precedence.specs.Write.{Puts, symbolsFrom, fallBytes, PutsRenamed}
+use Rattle.precedence.specs.Write.{Puts, fallBytes, PutsRenamed}
 
 -- a nonterminal's command at p with another name, up to the count of its alternatives
 unfoldable pub namedOut : ℕ → List ℕ → ℕ → ℕ → List ℕ

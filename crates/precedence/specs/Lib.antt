@@ -3,6 +3,7 @@ pub mod Alternatives
 pub mod Annotations
 pub mod Grade
 pub mod Grading
+pub mod Ids
 pub mod Level
 pub mod Names
 pub mod Skip

@@ -12,6 +12,7 @@ use Rattle.octets.specs.plain.Runs.{part, sameAs}
 use Rattle.octets.specs.working.Stores.{store}
 use Rattle.parse_tree.specs.plain.Tree.{Text, Attribute}
 use Rattle.precedence.specs.declared.Assoc.{Assoc}
+use Rattle.precedence.specs.Annotations.{conditionsFrom, symbolsFrom}
 use Rattle.precedence.specs.Substitute.{substituteOut}
 
 -- xs, put to w from `to` on, leaves w′ and the cursor r: all of it, or some bytes from `to` up to lim
@@ -46,14 +47,6 @@ headOut wd w p count = part p (p + 9) w ++ (count ∷ part (p + 10) (p + (14 + w
 -- one less than m, if i is an index below n
 unfoldable pub fewerBy : ℕ → ℕ → ℕ → ℕ
 fewerBy m n i = pick (leb n i) m (m - 1)
-
--- where the conditions of the alternative at p begin
-unfoldable pub conditionsFrom : ℕ → List ℕ → ℕ → ℕ
-conditionsFrom wd w p = p + (14 + wd) + getD w (p + 9) 0 * (2 + 3 * wd)
-
--- and where its symbols do
-unfoldable pub symbolsFrom : ℕ → List ℕ → ℕ → ℕ
-symbolsFrom wd w p = conditionsFrom wd w p + getD w (p + 10) 0 * (10 + 2 * wd)
 
 -- the alternative from p up to e without the attributes of two indices
 unfoldable pub strippedOut : ℕ → List ℕ → ℕ → ℕ → ℕ → ℕ → List ℕ

@@ -9,7 +9,7 @@ use octets::wide::from32;
 ghost use mathlib.Core.Path.{_≡_};
 ghost use Prim.Native.Nat.{_+_, _≤_, _<_};
 ghost use lib.ListN.{length};
-ghost use Rattle.precedence.specs.Annotations.{attributesLong, Finding, Annotates, attributesEnd, annotatedAt, firstAlternative, HeadInside, hasPrecAttr, beforeSymbols, symbolsAt, alternativeEnd};
+ghost use Rattle.precedence.specs.Annotations.{attributesLong, Finding, Annotates, attributesEnd, annotatedAt, firstAlternative, HeadInside, hasPrecAttr, symbolsFrom, alternativeEnd};
 
 // The index of the first attribute of an id among the n that stand from a place on; n where there is none.
 fn position(work: &[u8], at: usize, n: usize, width: usize, id: usize) -> usize
@@ -80,22 +80,14 @@ pub fn has_prec_attr(work: &[u8], at: usize, width: usize, ids: Ids) -> bool
     false
 }
 
-// How many bytes of an alternative stand before its symbols, of so many attributes and conditions.
-fn before_symbols(n: usize, c: usize, width: usize) -> usize
-    requires { ⌜ (width ≤ 3) × (n < 256) × (c < 256) ⌝ }
-    ensures { λ r. ⌜ (r ≡ beforeSymbols width n c) × (r < 8192) ⌝ }
+// Where the symbols of the alternative at p begin.
+pub fn symbols(work: &[u8], p: usize, width: usize) -> usize
+    requires { ⌜ (2 ≤ width) × (width ≤ 3) × (p + 11 ≤ length (now work)) ⌝ }
+    ensures { λ r. ⌜ r ≡ symbolsFrom width (now (work .entry)) p ⌝ }
 {
-    14 + width + (2 + 3 * width) * n + (10 + 2 * width) * c
-}
-
-// Where the symbols of the alternative at a place stand.
-pub fn symbols(work: &[u8], at: usize, width: usize) -> usize
-    requires { ⌜ (2 ≤ width) × (width ≤ 3) × (at + 16 ≤ length (now work)) ⌝ }
-    ensures { λ r. ⌜ r ≡ symbolsAt width (now (work .entry)) at ⌝ }
-{
-    let n = from8(work[at + 9]);
-    let c = from8(work[at + 10]);
-    at + before_symbols(n, c, width)
+    let n = from8(work[p + 9]);
+    let c = from8(work[p + 10]);
+    p + (14 + width) + n * (2 + 3 * width) + c * (10 + 2 * width)
 }
 
 // The place behind the alternative at a place, which ends before e.

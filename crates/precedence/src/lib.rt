@@ -3,6 +3,7 @@ pub mod alternatives;
 pub mod annotations;
 pub mod grade;
 pub mod grading;
+pub mod identify;
 pub mod level;
 pub mod names;
 pub mod skip;

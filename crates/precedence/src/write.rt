@@ -1,5 +1,6 @@
 // An alternative of one level, written behind what is written so far. What does not fit before lim is not written, and the cursor stops at lim + 1.
 use crate::Assoc;
+use crate::annotations::symbols;
 use crate::substitute::put_atom;
 use crate::substitute::substitute;
 use octets::numbers::store16;
@@ -13,7 +14,8 @@ ghost use lib.ListN.{length};
 ghost use Rattle.octets.specs.plain.Numbers.{leAt, le};
 ghost use Rattle.octets.specs.plain.Runs.{part};
 ghost use Rattle.octets.specs.working.Stores.{store};
-ghost use Rattle.precedence.specs.Write.{Puts, keptOne, keptBytes, singleHead, fallBytes, headOut, fewerBy, conditionsFrom, symbolsFrom, strippedOut, PutsRenamed};
+ghost use Rattle.precedence.specs.Annotations.{conditionsFrom, symbolsFrom};
+ghost use Rattle.precedence.specs.Write.{Puts, keptOne, keptBytes, singleHead, fallBytes, headOut, fewerBy, strippedOut, PutsRenamed};
 
 // The bytes from a up to e, to a place behind them.
 fn copy_within(work: &mut [u8], a: usize, e: usize, to: usize)
@@ -202,16 +204,6 @@ fn put_parts(
     put_run(work, a + n * (2 + 3 * width), e, lim, r)
 }
 
-// Where the symbols of the alternative at p begin.
-fn symbols_from(work: &[u8], p: usize, width: usize) -> usize
-    requires { ⌜ (2 ≤ width) × (width ≤ 3) × (p + 11 ≤ length (now work)) ⌝ }
-    ensures { λ r. ⌜ r ≡ symbolsFrom width (now (work .entry)) p ⌝ }
-{
-    let n = from8(work[p + 9]);
-    let c = from8(work[p + 10]);
-    p + (14 + width) + n * (2 + 3 * width) + c * (10 + 2 * width)
-}
-
 // An alternative without two of its attributes, its occurrences of the target renamed as its side says.
 pub fn put_alternative(
     work: &mut [u8],
@@ -230,7 +222,7 @@ pub fn put_alternative(
     requires { ⌜ (2 ≤ width) × (width ≤ 3) × (symbolsFrom width (now work) p ≤ e) × (e ≤ to) × (to ≤ lim + 1) × (lim + 16 ≤ length (now work)) ⌝ }
     ensures { λ r. ⌜ PutsRenamed width (now (work .entry)) p e i j target here below side lim to r (now (work .exit)) ⌝ }
 {
-    let s = symbols_from(work, p, width);
+    let s = symbols(work, p, width);
     let q = put_parts(work, p, e, i, j, width, lim, to);
     if q <= lim {
         substitute(work, q - (e - s), q, width, target, here, below, side);

@@ -6,10 +6,10 @@ use Rattle.precedence.proofs.write.put_alternative.Reads as reads
 use Rattle.precedence.proofs.write.put_alternative.Lts as lts
 use Rattle.precedence.proofs.substitute.substitute.Reads as substitute-reads
 use Rattle.precedence.proofs.write.put_parts.Reads as put-parts-reads
-use Rattle.precedence.proofs.write.symbols_from.Reads as symbols-from-reads
+use Rattle.precedence.proofs.annotations.symbols.Reads as symbols-reads
 
-symbols-from-requires : tie.Need-symbols-from-requires
-symbols-from-requires c κs = search renaming-put
+symbols-requires : tie.Need-symbols-requires
+symbols-requires c κs = search renaming-put
 
 put-parts-requires : tie.Need-put-parts-requires
 put-parts-requires c κs = search renaming-put
@@ -39,7 +39,7 @@ pub put-alternative-spec : {M : Type 1} → statement M
 put-alternative-spec =
     tie.close
     (tie.spec
-    symbols-from-requires
+    symbols-requires
     put-parts-requires
     sub-substitute
     sub-substitute-2
