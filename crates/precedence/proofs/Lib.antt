@@ -45,3 +45,4 @@ mod LevelWholeCode
 mod LevelMean
 mod LevelKeysMean
 mod LevelWholeMean
+mod GroupMean
