@@ -46,3 +46,4 @@ mod LevelMean
 mod LevelKeysMean
 mod LevelWholeMean
 mod GroupMean
+mod LeadMean
