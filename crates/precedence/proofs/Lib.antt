@@ -48,3 +48,5 @@ mod LevelWholeCode
 mod LevelMean
 pub mod LevelKeysMean
 pub mod LevelWholeMean
+pub mod GroupMean
+pub mod LeadMean
