@@ -153,7 +153,6 @@ module _ (s : List ℕ) (m : Map) (room : Room) (wd : ℕ) (ids : Ids) (p e : �
       pub on : i < r .last
       pub left : Left (r .last) (r .name) (record { to = r .to; count = r .count }) w′ four d (some (levelName (d .name) level above)) above
       pub wrote : Wrote s m room wd ids w v 1 (levelItem d o level above ∷ []) (record { to = r .to; count = r .count }) w′
-          → Wrote s m room wd ids w v (namesLeft d o vs) (itemsLeft d o vs) v″ w″
 
     unfoldable pub Steps : ℕ → ℕ → Written → List ℕ → Next → List ℕ → Type 0
     Steps i below v w r w′ = (four : Bool) (d : Nonterminal) (o : Option Text) (vs : List ℕ) → Left i below v w four d o vs → Stepped i below v w four d o vs r w′

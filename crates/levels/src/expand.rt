@@ -52,7 +52,7 @@ fn name_level(
     level: usize,
     highest: bool,
 ) -> LevelName
-    requires { ⌜ highest ≡ false → Describing (now tape) (now work) m n base level ⌝ }
+    requires { ⌜ (highest ≡ false → Describing (now tape) (now work) m n base level) ⌝ }
     ensures { λ r. ⌜ NamesLevel (now (tape .entry)) (now (work .entry)) m n base level highest r (now (work .exit)) ⌝ }
 {
     if highest {
@@ -219,7 +219,20 @@ pub fn expand_nonterm(
             match lowest(work, k, n, places) {
                 Lowest::At(a) => Levelled::Refused(refused(work, 16, a)),
                 Lowest::Nothing => {
-                    Levelled::Is(write_levels(tape, work, m, room, width, ids, p, e, places, k, n, v))
+                    Levelled::Is(write_levels(
+                        tape,
+                        work,
+                        m,
+                        room,
+                        width,
+                        ids,
+                        p,
+                        e,
+                        places,
+                        k,
+                        n,
+                        v,
+                    ))
                 }
             }
         }

@@ -23,7 +23,7 @@ pub struct Fresh {
 }
 
 // How long name k is, of those described up to n.
-fn name_length(tape: &[u8], work: &[u8], m: Map, n: usize, k: usize) -> usize
+fn name_length<'a>(tape: &'a [u8], work: &'a [u8], m: Map, n: usize, k: usize) -> usize
     requires { ⌜ Naming (now tape) (now work) m n × (m .count ≤ k) × (k < n) ⌝ }
     ensures { λ r. ⌜ NameLong (now (tape .entry)) (now (work .entry)) m k r ⌝ }
 {
@@ -33,7 +33,7 @@ fn name_length(tape: &[u8], work: &[u8], m: Map, n: usize, k: usize) -> usize
 }
 
 // Of all names described up to n.
-pub fn fresh(tape: &[u8], work: &[u8], m: Map, n: usize) -> Fresh
+pub fn count_bytes<'a>(tape: &'a [u8], work: &'a [u8], m: Map, n: usize) -> Fresh
     requires { ⌜ Naming (now tape) (now work) m n ⌝ }
     ensures { λ r. ⌜ r ≡ freshOf (newTexts (now (tape .entry)) (now (work .entry)) m n) ⌝ }
 {
@@ -55,9 +55,9 @@ pub fn fresh(tape: &[u8], work: &[u8], m: Map, n: usize) -> Fresh
 }
 
 // Name k as an atom, to out from `to` on; says the place behind. Behind it there is room for ten digits.
-fn put_name(
-    tape: &[u8],
-    work: &[u8],
+fn put_name<'a>(
+    tape: &'a [u8],
+    work: &'a [u8],
     m: Map,
     n: usize,
     k: usize,
@@ -78,9 +78,9 @@ fn put_name(
 }
 
 // All names described up to n, by number.
-pub fn put_names(
-    tape: &[u8],
-    work: &[u8],
+pub fn put_names<'a>(
+    tape: &'a [u8],
+    work: &'a [u8],
     m: Map,
     n: usize,
     out: &mut [u8],
