@@ -63,12 +63,13 @@ pub record Laid (m : Map) (room : Room) (most n long : ℕ) : Type 0 where
   pub inside : room .lim + 16 ≤ long
   pub narrow : long < 256 ^ 8
 
--- n texts are known, no two equal; `precedence` and `assoc` have the numbers ids
+-- n texts are known, no two equal; `precedence` and `assoc` have the numbers ids, and had them before any name was described
 pub record NamesAt (s w : List ℕ) (m : Map) (room : Room) (ids : Ids) (n : ℕ) : Type 0 where
   pub naming : Naming s w m n
   pub above : Above s w m (room .lim + 16)
   pub apart : distinct (namedTexts s w m n) ≡ true
   pub ids-are : ids ≡ idsIn (namedTexts s w m n)
+  pub ids-table : ids ≡ idsIn (texts s w m)
 
 -- a byte that writing from `to` on keeps: before the records, of the items so far, behind the room
 abbrev pub Kept : Map → Room → ℕ → ℕ → Type 0
