@@ -7,7 +7,7 @@ use native.Mathlib.Omega.{arith}
 use borrow.Author.Needs.{needs}
 use borrow.Author.Tests.{ltb-true, ltb-false, lt-ltb, le-ltb}
 use lib.Dec.{ltb}
-use lib.ListN.{length, getD, set, length-set, length-append}
+use lib.ListN.{length, set, length-set, length-append}
 use lib.Seq.{take-all}
 use mir.Syntax.{w16, w64}
 use mir.Val.{Fits}
@@ -164,7 +164,7 @@ module _ (s w : List ℕ) (m : Map) (n k bytes : ℕ) (long : Bool) (c : Countin
 
 pub ruleset counting = (needs, count-start, count-fits, count-long, count-short, count-done)
 
--- ---- put_name
+-- ---- put_name: a byte, the length, the text and the digits, each behind the one before
 pub put-kept : (o a b r : List ℕ) (to v : ℕ) → length a ≡ length (set o to v) → length b ≡ length a → length r ≡ length b → length r ≡ length o
 put-kept o a b r to v p q u = omega (arith, p, q, u, length-set o to v)
 
@@ -209,13 +209,14 @@ module _ (s w : List ℕ) (m : Map) (k : ℕ) (l : m .count ≤ k) (x : ℕ) (e 
         let d = levelDigits (x % 4294967296) in
         let y : List ℕ = 1 ∷ le 2 (length t + z) in
         let i : b ≡ store o to (y ++ t) = command-text o a b to (length t + z) t f g in
-        let j : r ≡ store o to ((y ++ t) ++ d) = u .bytes ∙ ap (λ (l : List ℕ). store l (to + 3 + length t) d) i ∙ store-append o to (to + 3 + length t) (y ++ t) d (omega (arith, length-append y t, length-le 2 (length t + z))) in
+        let v : to + 3 + length t ≡ to + length (y ++ t) = omega (arith, length-append y t, length-le 2 (length t + z)) in
+        let j : r ≡ store o to ((y ++ t) ++ d) = u .bytes ∙ ap (λ (l : List ℕ). store l (to + 3 + length t) d) i ∙ store-append o to (to + 3 + length t) (y ++ t) d v in
         record {
           bytes = j ∙ ap (store o to) (sym atom-is);
           after = omega (arith, u .after, atom-size 2 (namedText s w m k), name-size s w m k l x e t c);
         }
 
-pub ruleset nameputting = (needs, name-based, put-kept, put-head, put-base, put-digits, put-cast, put-name-done)
+pub ruleset namePutting = (needs, name-based, put-kept, put-head, put-base, put-digits, put-cast, put-name-done)
 
 -- ---- put_names: those before k stand in o′ from `to` on, and end at q
 pub record NamesPut (s w : List ℕ) (m : Map) (n to : ℕ) (o o′ : List ℕ) (k q : ℕ) : Type 0 where
@@ -275,4 +276,4 @@ module _ (s w : List ℕ) (m : Map) (n to : ℕ) (o o′ : List ℕ) (k q : ℕ)
       let f = ap (λ (i : ℕ). bytesOfEach (atomBytes 2) (newTexts s w m i)) z in
       record { bytes = c .bytes ∙ ap (store o to) f; after = c .place ∙ ap (λ (l : List ℕ). to + length l) f }
 
-pub ruleset namesputting = (needs, names-start, names-same, names-short, names-room, names-next, names-done)
+pub ruleset namesPutting = (needs, names-start, names-same, names-short, names-room, names-next, names-done)

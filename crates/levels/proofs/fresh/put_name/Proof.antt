@@ -1,4 +1,4 @@
-use Rattle.levels.proofs.FreshCode.{nameputting}
+use Rattle.levels.proofs.FreshCode.{namePutting}
 use borrow.Author.Needs.{needs}
 use Rattle.levels.proofs.fresh.put_name.Statement.{statement}
 use Rattle.levels.proofs.fresh.put_name.Tie as tie
@@ -15,7 +15,7 @@ mark-requires : tie.Need-mark-requires
 mark-requires c κs = search needs
 
 base-text-requires : tie.Need-base-text-requires
-base-text-requires c κs = search nameputting
+base-text-requires c κs = search namePutting
 
 decimal-size-requires : tie.Need-decimal-size-requires
 decimal-size-requires c κs = search needs
@@ -30,16 +30,16 @@ add-store16 : tie.Need-add-store16
 add-store16 c = search needs
 
 cast-store16 : tie.Need-cast-store16
-cast-store16 c = search nameputting
+cast-store16 c = search namePutting
 
 store16-requires : tie.Need-store16-requires
-store16-requires c κs = search nameputting
+store16-requires c κs = search namePutting
 
 add-copy : tie.Need-add-copy
 add-copy c = search needs
 
 copy-requires : tie.Need-copy-requires
-copy-requires c κs = search nameputting
+copy-requires c κs = search namePutting
 
 add-put-decimal : tie.Need-add-put-decimal
 add-put-decimal c = search needs
@@ -48,13 +48,13 @@ add-put-decimal-2 : tie.Need-add-put-decimal-2
 add-put-decimal-2 c = search needs
 
 put-decimal-requires : tie.Need-put-decimal-requires
-put-decimal-requires c κs = search nameputting
+put-decimal-requires c κs = search namePutting
 
 same-length : tie.Need-same-length
-same-length c = search nameputting
+same-length c = search namePutting
 
 returns : tie.Need-returns
-returns c = search nameputting
+returns c = search namePutting
 
 pub put-name-spec : {M : Type 1} → statement M
 put-name-spec =
