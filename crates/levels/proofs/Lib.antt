@@ -7,3 +7,7 @@ pub mod Digits
 pub mod Few
 pub mod Fits
 pub mod Ids
+pub mod ExpandMean
+pub mod ExpandMeanSorted
+pub mod ExpandMeanLeft
+pub mod ExpandMeanCode
