@@ -1,14 +1,13 @@
 -- An annotated nonterminal that stands in work can be graded; what `grade` then says of it. Assumes nothing.
-use mathlib.Core.Path.{_≡_, refl, sym, ap, _∙_}
+use mathlib.Core.Path.{_≡_, refl, sym, _∙_}
 use mathlib.Core.Bool.{Bool, true}
-use mathlib.Core.Logic.{inl, inr}
+use mathlib.Core.Logic.{inl}
 use mathlib.Core.List.{List}
-use Prim.Native.Nat.{ℕ, suc, _+_, _*_, _≤_, _<_}
+use Prim.Native.Nat.{ℕ, _+_, _*_, _≤_}
 use native.Mathlib.Omega.{arith}
 use lib.ListN.{length}
 use Rattle.octets.specs.plain.Numbers.{leAt}
-use Rattle.parse_tree.specs.plain.Tree.{Text, Nonterminal}
-use Rattle.parse_tree.specs.declared.syntax.Span.{Span}
+use Rattle.parse_tree.specs.plain.Tree.{Nonterminal}
 use Rattle.parse_tree.specs.declared.refusal.Refusal.{Refusal}
 use Rattle.parse_tree.specs.working.Nodes.{spanIn}
 use Rattle.parse_tree.specs.working.Refusals.{refusalOver}

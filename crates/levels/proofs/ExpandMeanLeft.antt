@@ -1,20 +1,18 @@
 -- An annotated nonterminal whose keys are sorted is left to `write_levels`, with all levels; and what that writes is its levels. Assumes nothing.
 use mathlib.Core.Path.{_≡_, refl, sym, ap, _∙_}
-use mathlib.Core.Bool.{Bool, true}
+use mathlib.Core.Bool.{Bool}
 use mathlib.Core.Logic.{_⊎_, inl, inr}
 use mathlib.Core.List.{List, [], _∷_}
 use mathlib.Core.Option.{none}
-use Prim.Native.Nat.{ℕ, zero, suc, _+_, _-_, _*_, _≤_, _<_}
+use Prim.Native.Nat.{ℕ, suc, _+_, _-_, _*_, _≤_, _<_}
 use native.Mathlib.Omega.{arith}
-use lib.ListN.{length, getD}
+use lib.ListN.{length}
 use Rattle.parse_tree.specs.plain.Tree.{Text, Alternative, Nonterminal, Item, item}
-use Rattle.parse_tree.specs.plain.Texts.{distinct, withNew}
+use Rattle.parse_tree.specs.plain.Texts.{withNew}
 use Rattle.parse_tree.specs.plain.References.{textsOfEach, itemTexts}
 use Rattle.parse_tree.specs.working.Encode.{itemBytes, alternativeBytes}
-use Rattle.parse_tree.specs.working.Within.{NonterminalWithin}
 use Rattle.texts.specs.declared.Map.{Map}
 use Rattle.texts.specs.Table.{Above, Agree, texts}
-use Rattle.passes.specs.Outcome.{Outcome, yes, no}
 use Rattle.passes.specs.Grades.{graded}
 use Rattle.passes.specs.Levels.{levelsOf, levelItems}
 use Rattle.laws.specs.Sort.{byLevels}
@@ -46,9 +44,6 @@ places-same four wd ts s m places keys n e p (a ∷ rest) = ap (λ (xs : List �
 
 module _ (s : List ℕ) (m : Map) (room : Room) (wd : ℕ) (ids : Ids) (p e : ℕ) (v : Written) (w : List ℕ) (four : Bool) (d : Nonterminal) (S : Standing s m room wd ids p e v w four d) (n : ℕ) (many : n ≡ length (d .alternatives))
     (k : ℕ) (w2 : List ℕ) (O : Ordered s m room wd p e w four d n k w2) where
-  abbrev vs : List ℕ
-  vs = levelsOf (graded d)
-
   fewer : length (levelsOf (graded d)) ≤ length (d .alternatives)
   fewer = omega (arith, levels-few (graded d), graded-length d)
 

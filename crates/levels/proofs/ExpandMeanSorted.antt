@@ -8,7 +8,7 @@ use native.Mathlib.Omega.{arith}
 use lib.ListN.{length, getD}
 use Rattle.octets.specs.plain.Numbers.{leAt}
 use Rattle.octets.specs.plain.Runs.{Lies}
-use Rattle.parse_tree.specs.plain.Tree.{Text, Nonterminal}
+use Rattle.parse_tree.specs.plain.Tree.{Nonterminal}
 use Rattle.parse_tree.specs.declared.syntax.Span.{Span}
 use Rattle.parse_tree.specs.declared.refusal.Refusal.{Refusal}
 use Rattle.parse_tree.specs.plain.WriteTape.{bytesOfEach}
@@ -18,7 +18,7 @@ use Rattle.parse_tree.specs.working.Refusals.{refusalOver}
 use Rattle.texts.specs.declared.Map.{Map}
 use Rattle.texts.specs.Table.{texts}
 use Rattle.texts.proofs.TableStays.{leAt-agree}
-use Rattle.passes.specs.Outcome.{Outcome, yes, no, after}
+use Rattle.passes.specs.Outcome.{Outcome, yes, no}
 use Rattle.passes.specs.Grades.{all, withLevels, graded}
 use Rattle.passes.specs.Levels.{levelsOf, grouped, checkLowest}
 use Rattle.laws.specs.Sort.{byLevels}
