@@ -8,3 +8,7 @@ pub mod Few
 pub mod Fits
 pub mod Ids
 mod FreshCode
+pub mod ExpandMean
+pub mod ExpandMeanSorted
+pub mod ExpandMeanLeft
+pub mod ExpandMeanCode
