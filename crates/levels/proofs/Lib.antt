@@ -8,3 +8,6 @@ pub mod Few
 pub mod Fits
 pub mod Ids
 mod SmallCode
+pub mod ThereBytes
+pub mod WroteLaws
+mod LevelsCode
