@@ -8,7 +8,6 @@ use native.Mathlib.Omega.{arith}
 use borrow.Author.Needs.{needs}
 use lib.ListN.{length, length-append}
 use Rattle.parse_tree.specs.plain.Tree.{Nonterminal, Item}
-use Rattle.parse_tree.specs.plain.Texts.{withNew}
 use Rattle.texts.specs.declared.Map.{Map}
 use Rattle.passes.specs.Grades.{Graded, graded}
 use Rattle.passes.specs.Levels.{levelName, ofLevel, groupsOf}
@@ -106,7 +105,7 @@ module _ (s : List ℕ) (m : Map) (room : Room) (wd : ℕ) (ids : Ids) (p e plac
               done = x .done ++ (one ∷ []);
               news = x .news + 1;
               left = y .left;
-              wrote = wrote-append s m room wd ids w₀ v₀ (x .news) (x .done) now w (x .wrote) (l .from) (l .upto) 1 (one ∷ []) then w1 (y .wrote);
+              wrote = wrote-append s m room wd ids w₀ v₀ (x .news) (x .done) now w 1 (one ∷ []) then w1 (l .from) (l .upto) (x .wrote) (y .wrote);
               items =
                   x .items ∙ ap (λ (us : List ℕ). x .done ++ itemsLeft d (x .lower) us) (y .first) ∙ ap (λ (us : List Item). x .done ++ us) (items-first d (x .lower) (y .level) (y .above))
                   ∙ sym (append-assoc (x .done) (one ∷ []) rest);
@@ -128,7 +127,7 @@ module _ (s : List ℕ) (m : Map) (room : Room) (wd : ℕ) (ids : Ids) (p e plac
           let none-left : x .levels ≡ [] = no-levels (graded d) (x .levels) (x .left .some) (sym (x .left .keyed) ∙ ap (keysAt w (keys + 8 * i)) z) in
           let all : itemsLeft d o vs ≡ x .done = x .items ∙ ap (λ (us : List ℕ). x .done ++ itemsLeft d (x .lower) us) none-left ∙ ap (λ (us : List Item). x .done ++ us) (items-none d (x .lower)) ∙ append-nil (x .done) in
           subst (λ (us : List Item). Wrote s m room wd ids w₀ v₀ (length vs) us now w) (sym all)
-          (wrote-more s m room wd ids w₀ v₀ (x .news) (x .done) now w (x .wrote) (length vs) (omega (arith, x .few)))
+          (wrote-more s m room wd ids w₀ v₀ (x .news) (x .done) now w (length vs) (omega (arith, x .few)) (x .wrote))
 
     pub levels-done : n ≤ i → Finishes s m room wd ids p e places keys n i₀ below₀ v₀ w₀ (record { to = to; count = count }) w
     unfolding Finishes

@@ -5,14 +5,12 @@ use mathlib.Core.List.{List}
 use Prim.Native.Nat.{ℕ, _+_}
 use borrow.Author.Needs.{needs}
 use borrow.Author.Tests.{eq-eqb, ne-eqb}
-use lib.Dec.{eqb}
 use Rattle.octets.specs.working.Choice.{pick}
 use Rattle.parse_tree.specs.declared.syntax.Span.{Span}
 use Rattle.parse_tree.specs.declared.refusal.Refusal.{Refusal}
 use Rattle.parse_tree.specs.working.Nodes.{spanIn}
 use Rattle.parse_tree.specs.working.Refusals.{refusalOver}
 use Rattle.texts.specs.declared.Map.{Map}
-use Rattle.precedence.specs.declared.level.Level.{Level}
 use Rattle.precedence.specs.declared.names.LevelName.{LevelName}
 use Rattle.precedence.specs.Names.{Describing, LevelNamed}
 use Rattle.precedence.specs.Sort.{Sorted}

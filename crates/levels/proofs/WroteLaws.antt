@@ -45,26 +45,26 @@ module _ (s : List ℕ) (m : Map) (room : Room) (wd : ℕ) (ids : Ids) where
     kept = λ i h. refl;
   }
 
+  -- theorem: the bound of new texts may be higher
+  pub wrote-more : (w : List ℕ) (v : Written) (k : ℕ) (is : List Item) (v1 : Written) (w1 : List ℕ) (k2 : ℕ) → k ≤ k2 → Wrote s m room wd ids w v k is v1 w1 → Wrote s m room wd ids w v k2 is v1 w1
+  wrote-more w v k is v1 w1 k2 h x = record {
+    long = x .long;
+    named = x .named;
+    least = x .least;
+    most = omega (arith, x .most);
+    names = x .names;
+    same = x .same;
+    whole = x .whole;
+    over = x .over;
+    kept = x .kept;
+  }
+
   module _ (w : List ℕ) (v : Written) (k : ℕ) (is : List Item) (v1 : Written) (w1 : List ℕ) (x : Wrote s m room wd ids w v k is v1 w1) where
     abbrev U1 : List Text
     U1 = namedTexts s w1 m (v1 .count)
 
     abbrev B1 : List ℕ
     B1 = bytesOfEach (itemBytes wd U1) is
-
-    -- theorem: the bound of new texts may be higher
-    pub wrote-more : (k2 : ℕ) → k ≤ k2 → Wrote s m room wd ids w v k2 is v1 w1
-    wrote-more k2 h = record {
-      long = x .long;
-      named = x .named;
-      least = x .least;
-      most = omega (arith, x .most);
-      names = x .names;
-      same = x .same;
-      whole = x .whole;
-      over = x .over;
-      kept = x .kept;
-    }
 
     -- the cursor is behind the bytes, or says that they don't fit
     cursor : ((v .to + length B1 ≤ room .lim) × (v1 .to ≡ v .to + length B1)) ⊎ ((room .lim < v .to + length B1) × (v1 .to ≡ room .lim + 1))
@@ -129,9 +129,8 @@ module _ (s : List ℕ) (m : Map) (room : Room) (wd : ℕ) (ids : Ids) where
           go (inl c) = omega (arith, c .1)
           go (inr c) = omega (arith, c .1)
 
-      -- theorem: what is written behind a run, and the run, are written as one
-      pub wrote-append : Wrote s m room wd ids w v (k + k2) (is ++ is2) v2 w2
-      wrote-append = record {
+      joined : Wrote s m room wd ids w v (k + k2) (is ++ is2) v2 w2
+      joined = record {
         long = y .long ∙ x .long;
         named =
             y .named ∙ ap (λ (l : List Text). withNew l (textsOfEach itemTexts is2)) (x .named)
@@ -145,3 +144,8 @@ module _ (s : List ℕ) (m : Map) (room : Room) (wd : ℕ) (ids : Ids) where
         over = λ h. over-both (omega (arith, both-long));
         kept = λ i h. y .kept i (kept-later i h) ∙ x .kept i h;
       }
+
+  -- theorem: what is written behind a run, and the run, are written as one
+  pub wrote-append : (w : List ℕ) (v : Written) (k : ℕ) (is : List Item) (v1 : Written) (w1 : List ℕ) (k2 : ℕ) (is2 : List Item) (v2 : Written) (w2 : List ℕ) → room .at ≤ v .to → v .to ≤ room .lim + 1
+      → Wrote s m room wd ids w v k is v1 w1 → Wrote s m room wd ids w1 v1 k2 is2 v2 w2 → Wrote s m room wd ids w v (k + k2) (is ++ is2) v2 w2
+  wrote-append w v k is v1 w1 k2 is2 v2 w2 from upto x y = joined w v k is v1 w1 x from upto k2 is2 v2 w2 y
