@@ -12,3 +12,7 @@ pub mod ExpandMean
 pub mod ExpandMeanSorted
 pub mod ExpandMeanLeft
 pub mod ExpandMeanCode
+mod SmallCode
+pub mod ThereBytes
+pub mod WroteLaws
+mod LevelsCode
