@@ -18,7 +18,7 @@ mod DecimalLaws
 mod DecimalCode
 pub mod NamesCode
 mod NamesHashCode
-mod NamesFindCode
+pub mod NamesFindCode
 pub mod NamesStays
 mod NamesDescribeCode
 pub mod NamesMean
