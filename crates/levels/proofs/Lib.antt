@@ -8,3 +8,5 @@ pub mod Few
 pub mod Fits
 pub mod Ids
 pub mod StepMeanNames
+pub mod StepMean
+pub mod StepMeanWrote
