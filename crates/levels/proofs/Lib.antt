@@ -16,3 +16,6 @@ mod SmallCode
 pub mod ThereBytes
 pub mod WroteLaws
 mod LevelsCode
+pub mod StepMeanNames
+pub mod StepMean
+pub mod StepMeanWrote
