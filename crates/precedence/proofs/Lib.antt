@@ -17,11 +17,7 @@ pub mod LowestMean
 mod DecimalLaws
 mod DecimalCode
 pub mod NamesCode
-<<<<<<< HEAD
 pub mod NamesHashCode
-=======
-mod NamesHashCode
->>>>>>> 623618e6006141bd13d4a771da9730fc5c66205e
 pub mod NamesFindCode
 pub mod NamesStays
 mod NamesDescribeCode
