@@ -7,6 +7,7 @@ pub mod Digits
 pub mod Few
 pub mod Fits
 pub mod Ids
-pub mod StepMeanNames
-pub mod StepMean
-pub mod StepMeanWrote
+mod FreshCode
+mod StepMeanNames
+mod StepMean
+mod StepMeanWrote

@@ -17,7 +17,7 @@ pub mod LowestMean
 mod DecimalLaws
 mod DecimalCode
 pub mod NamesCode
-mod NamesHashCode
+pub mod NamesHashCode
 pub mod NamesFindCode
 pub mod NamesStays
 mod NamesDescribeCode
