@@ -11,3 +11,7 @@ mod FreshCode
 mod StepMeanNames
 mod StepMean
 mod StepMeanWrote
+mod SmallCode
+pub mod ThereBytes
+pub mod WroteLaws
+mod LevelsCode
