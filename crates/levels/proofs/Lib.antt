@@ -15,3 +15,4 @@ mod SmallCode
 pub mod ThereBytes
 pub mod WroteLaws
 mod LevelsCode
+mod StepCode

@@ -1,0 +1,66 @@
+use Rattle.levels.proofs.StepCode.{describing-next, naming-next, below-next, writing-next, stepping}
+use borrow.Author.Needs.{needs}
+use Rattle.levels.proofs.expand.next_level.Statement.{statement}
+use Rattle.levels.proofs.expand.next_level.Tie as tie
+use Rattle.levels.proofs.expand.next_level.Reads as reads
+use Rattle.levels.proofs.expand.next_level.Lts as lts
+use Rattle.levels.proofs.expand.level_of.Reads as level-of-reads
+use Rattle.levels.proofs.expand.name_level.Reads as name-level-reads
+use Rattle.octets.proofs.numbers.atom_at.Reads as atom-at-reads
+use Rattle.octets.proofs.numbers.u64_at.Reads as u64-at-reads
+use Rattle.octets.proofs.wide.from32.Reads as from32-reads
+use Rattle.precedence.proofs.level.write_level.Reads as write-level-reads
+use Rattle.precedence.proofs.sort.group_end.Reads as group-end-reads
+
+group-end-requires : tie.Need-group-end-requires
+group-end-requires c κs = search needs
+
+add-atom-at : tie.Need-add-atom-at
+add-atom-at c = search needs
+
+atom-at-requires : tie.Need-atom-at-requires
+atom-at-requires c κs = search needs
+
+from32-requires : tie.Need-from32-requires
+from32-requires c κs = search needs
+
+mul-u64-at : tie.Need-mul-u64-at
+mul-u64-at c = search needs
+
+add-u64-at : tie.Need-add-u64-at
+add-u64-at c = search needs
+
+u64-at-requires : tie.Need-u64-at-requires
+u64-at-requires c κs = search needs
+
+name-level-requires : tie.Need-name-level-requires
+name-level-requires c κs = λ f. search (describing-next, c .before .before .before .before .before .before .before .before .before .before .pre .3)
+
+level-of-requires : tie.Need-level-of-requires
+level-of-requires c κs = (search naming-next, search below-next)
+
+write-level-requires : tie.Need-write-level-requires
+write-level-requires c κs = (search needs, search needs, search (writing-next, c .before .before .before .before .before .before .before .before .before .before .before .before .before .before .before .pre .3))
+
+same-length : tie.Need-same-length
+same-length c = search needs
+
+returns : tie.Need-returns
+returns c = search (stepping, c .before .before .before .before .before .before .before .before .before .before .before .before .before .before .before .before .before .before .pre .3)
+
+pub next-level-spec : {M : Type 1} → statement M
+next-level-spec =
+    tie.close
+    (tie.spec
+    group-end-requires
+    add-atom-at
+    atom-at-requires
+    from32-requires
+    mul-u64-at
+    add-u64-at
+    u64-at-requires
+    name-level-requires
+    level-of-requires
+    write-level-requires
+    same-length
+    returns)
