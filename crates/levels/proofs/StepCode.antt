@@ -1,18 +1,16 @@
 -- The ways out of `next_level`: what it asks of the functions that it calls, and what it leaves. Assumes nothing.
 use mathlib.Core.Path.{_≡_, refl}
-use mathlib.Core.Bool.{Bool, false}
+use mathlib.Core.Bool.{Bool}
 use mathlib.Core.Logic.{_⊎_, inl, inr}
 use mathlib.Core.List.{List, [], _∷_}
 use mathlib.Core.Option.{Option, none, some}
 use Prim.Native.Nat.{ℕ, _+_, _*_, _/_, _≤_, _<_}
-use native.Mathlib.Omega.{arith}
 use borrow.Author.Needs.{needs}
 use lib.Dec.{eqb}
 use lib.ListN.{length, getD}
 use mir.Syntax.{w8}
 use mir.Val as Bound
 use Rattle.octets.specs.plain.Numbers.{leAt}
-use Rattle.octets.proofs.LiesLaws.{lies-inside}
 use Rattle.parse_tree.specs.plain.Tree.{Text, Nonterminal}
 use Rattle.texts.specs.declared.Map.{Map}
 use Rattle.passes.specs.Levels.{levelName}
@@ -24,7 +22,6 @@ use Rattle.precedence.specs.Sort.{GroupEnd}
 use Rattle.precedence.specs.Level.{LevelInside, PutsLevel}
 use Rattle.levels.specs.declared.Room.{Room}
 use Rattle.levels.specs.declared.Written.{Written}
-use Rattle.levels.specs.declared.expand.Next.{Next}
 use Rattle.levels.specs.Expand.{NamesLevel, levelFrom, LowerIs, Left, SomeLeft, Stepped, Steps}
 use Rattle.levels.proofs.StepMeanNames.{name-small}
 use Rattle.levels.proofs.StepMean.{some-level, step-describing, step-known, step-inside, step-puts}
@@ -59,8 +56,8 @@ module _ (s : List ℕ) (m : Map) (room : Room) (wd : ℕ) (ids : Ids) (p e plac
         next-name =
             with-level (S .four) (S .nonterminal) (S .lower) (S .levels) (x .name < 4294967296) h (S .left)
             (λ v0 above z L.
-                name-small s m room ids w (v .count) (levelName (S .nonterminal .name) v0 above) x w1
-                (step-known s m room wd ids p e places keys n i below v w (S .four) (S .nonterminal) (S .lower) v0 above L j g x w1 (rw (b, r, l) at f)))
+            name-small s m room ids w (v .count) (levelName (S .nonterminal .name) v0 above) x w1
+            (step-known s m room wd ids p e places keys n i below v w (S .four) (S .nonterminal) (S .lower) v0 above L j g x w1 (rw (b, r, l) at f)))
 
         module _ (long : length w1 ≡ length w) (bytes : (k : ℕ) → Bound.Fits w8 (getD w1 k 0)) (y : Level) (q : y ≡ levelFrom i j (x .name) below) where
           -- theorem: it can be written
@@ -68,8 +65,8 @@ module _ (s : List ℕ) (m : Map) (room : Room) (wd : ℕ) (ids : Ids) (p e plac
           next-inside =
               with-level (S .four) (S .nonterminal) (S .lower) (S .levels) (LevelInside wd w1 p places keys y (room .lim) (v .to)) h (S .left)
               (λ v0 above z L.
-                  let k = step-known s m room wd ids p e places keys n i below v w (S .four) (S .nonterminal) (S .lower) v0 above L j g x w1 (rw (b, r, l) at f) in
-                  rw q (step-inside s m room wd ids p e places keys n i below v w (S .four) (S .nonterminal) (S .lower) v0 above L j g x w1 long k bytes))
+              let k = step-known s m room wd ids p e places keys n i below v w (S .four) (S .nonterminal) (S .lower) v0 above L j g x w1 (rw (b, r, l) at f) in
+              rw q (step-inside s m room wd ids p e places keys n i below v w (S .four) (S .nonterminal) (S .lower) v0 above L j g x w1 long k bytes))
 
           -- theorem: and is written
           pub next-steps : wd ≤ 3 → (to : ℕ) (w2 : List ℕ) → PutsLevel wd ids p places keys y (room .lim) w1 (v .to) to w2
@@ -79,16 +76,12 @@ module _ (s : List ℕ) (m : Map) (room : Room) (wd : ℕ) (ids : Ids) (p e plac
               let T : Type 0 = Stepped s m room wd ids p e places keys n i below v w four d o vs (record { last = j; name = x .name; count = x .count; to = to }) w2 in
               with-level four d o vs T h L₀
               (λ v0 above z L.
-                  let k = step-known s m room wd ids p e places keys n i below v w four d o v0 above L j g x w1 (rw (b, r, l) at f) in
-                  let put = step-puts s m room wd ids p e places keys n i below v w four d o v0 above L j g x w1 long k bytes narrow to w2 (rw q at t) in
-                  rw z (level-steps s m room wd ids p e places keys n i below v w four d o v0 above L j g x w1 long k to w2 put))
+              let k = step-known s m room wd ids p e places keys n i below v w four d o v0 above L j g x w1 (rw (b, r, l) at f) in
+              let put = step-puts s m room wd ids p e places keys n i below v w four d o v0 above L j g x w1 long k bytes narrow to w2 (rw q at t) in
+              rw z (level-steps s m room wd ids p e places keys n i below v w four d o v0 above L j g x w1 long k to w2 put))
 
 pub ruleset describing-next = (needs, next-describing)
 
 pub ruleset naming-next = (needs, next-name)
 
 pub ruleset below-next = (needs, next-below)
-
-pub ruleset writing-next = (needs, next-inside)
-
-pub ruleset stepping = (needs, next-steps)

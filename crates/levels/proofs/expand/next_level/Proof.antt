@@ -1,4 +1,4 @@
-use Rattle.levels.proofs.StepCode.{describing-next, naming-next, below-next, writing-next, stepping}
+use Rattle.levels.proofs.StepCode.{describing-next, naming-next, below-next, next-inside, next-steps}
 use borrow.Author.Needs.{needs}
 use Rattle.levels.proofs.expand.next_level.Statement.{statement}
 use Rattle.levels.proofs.expand.next_level.Tie as tie
@@ -40,13 +40,19 @@ level-of-requires : tie.Need-level-of-requires
 level-of-requires c κs = (search naming-next, search below-next)
 
 write-level-requires : tie.Need-write-level-requires
-write-level-requires c κs = (search needs, search needs, search (writing-next, c .before .before .before .before .before .before .before .before .before .before .before .before .before .before .before .pre .3))
+write-level-requires c κs = (
+  search needs,
+  search needs,
+  next-inside _ _ _ _ _ _ _ _ _ _ _ _ _ _ (c .before .before .before .before .before .before .before .before .before .before .before .before .before .before .before .pre .3) (c .before .before .before .before .before .before .before .before .before .before .before .before .before .before .before .pre .2) _ (c .before .before .before .before .before .before .before .before .before .before .before .group-end .ensures) _ _ _ (c .before .before .before .before .before .before .before .before .before .atom-at .ensures) (c .before .before .before .before .before .before .before .before .from32 .ensures .0) (c .before .before .before .before .before .before .u64-at .ensures) _ _ (c .before .before .before .before .name-level .ensures) (search needs) (c .before .before .slice-known2 .given) _ (c .before .level-of .ensures),
+)
 
 same-length : tie.Need-same-length
 same-length c = search needs
 
 returns : tie.Need-returns
-returns c = search (stepping, c .before .before .before .before .before .before .before .before .before .before .before .before .before .before .before .before .before .before .pre .3)
+returns c =
+    next-steps _ _ _ _ _ _ _ _ _ _ _ _ _ _ (c .before .before .before .before .before .before .before .before .before .before .before .before .before .before .before .before .before .before .pre .3) (c .before .before .before .before .before .before .before .before .before .before .before .before .before .before .before .before .before .before .pre .2) _ (c .before .before .before .before .before .before .before .before .before .before .before .before .before .before .group-end .ensures) _ _ _ (c .before .before .before .before .before .before .before .before .before .before .before .before .atom-at .ensures) (c .before .before .before .before .before .before .before .before .before .before .before .from32 .ensures .0) (c .before .before .before .before .before .before .before .before .before .u64-at .ensures) _ _ (c .before .before .before .before .before .before .before .name-level .ensures)
+    (search needs) (c .before .before .before .before .before .slice-known2 .given) _ (c .before .before .before .before .level-of .ensures) (c .before .before .before .before .before .before .before .before .before .before .before .before .before .before .before .before .before .before .pre .1) _ _ (c .before .before .write-level .ensures)
 
 pub next-level-spec : {M : Type 1} → statement M
 next-level-spec =
