@@ -40,19 +40,28 @@ level-of-requires : tie.Need-level-of-requires
 level-of-requires c κs = (search naming-next, search below-next)
 
 write-level-requires : tie.Need-write-level-requires
-write-level-requires c κs = (
-  search needs,
-  search needs,
-  next-inside _ _ _ _ _ _ _ _ _ _ _ _ _ _ (c .before .before .before .before .before .before .before .before .before .before .before .before .before .before .before .pre .3) (c .before .before .before .before .before .before .before .before .before .before .before .before .before .before .before .pre .2) _ (c .before .before .before .before .before .before .before .before .before .before .before .group-end .ensures) _ _ _ (c .before .before .before .before .before .before .before .before .before .atom-at .ensures) (c .before .before .before .before .before .before .before .before .from32 .ensures .0) (c .before .before .before .before .before .before .u64-at .ensures) _ _ (c .before .before .before .before .name-level .ensures) (search needs) (c .before .before .slice-known2 .given) _ (c .before .level-of .ensures),
-)
+write-level-requires c κs =
+    let named = c .before .before .before .before in
+    let read = named .before .before .before .before in
+    let ended = read .before .before .before in
+    let start = ended .before .before .before .before in (
+      search needs,
+      search needs,
+      next-inside _ _ _ _ _ _ _ _ _ _ _ _ _ _ (start .pre .3) (start .pre .2) _ (ended .group-end .ensures) _ _ _ (read .before .atom-at .ensures) (read .from32 .ensures .0) (named .before .before .u64-at .ensures) _ _ (named .name-level .ensures)
+          (search needs) (c .before .before .slice-known2 .given) _ (c .before .level-of .ensures),
+    )
 
 same-length : tie.Need-same-length
 same-length c = search needs
 
 returns : tie.Need-returns
 returns c =
-    next-steps _ _ _ _ _ _ _ _ _ _ _ _ _ _ (c .before .before .before .before .before .before .before .before .before .before .before .before .before .before .before .before .before .before .pre .3) (c .before .before .before .before .before .before .before .before .before .before .before .before .before .before .before .before .before .before .pre .2) _ (c .before .before .before .before .before .before .before .before .before .before .before .before .before .before .group-end .ensures) _ _ _ (c .before .before .before .before .before .before .before .before .before .before .before .before .atom-at .ensures) (c .before .before .before .before .before .before .before .before .before .before .before .from32 .ensures .0) (c .before .before .before .before .before .before .before .before .before .u64-at .ensures) _ _ (c .before .before .before .before .before .before .before .name-level .ensures)
-    (search needs) (c .before .before .before .before .before .slice-known2 .given) _ (c .before .before .before .before .level-of .ensures) (c .before .before .before .before .before .before .before .before .before .before .before .before .before .before .before .before .before .before .pre .1) _ _ (c .before .before .write-level .ensures)
+    let named = c .before .before .before .before .before .before .before in
+    let read = named .before .before .before .before in
+    let ended = read .before .before .before in
+    let start = ended .before .before .before .before in
+    next-steps _ _ _ _ _ _ _ _ _ _ _ _ _ _ (start .pre .3) (start .pre .2) _ (ended .group-end .ensures) _ _ _ (read .before .atom-at .ensures) (read .from32 .ensures .0) (named .before .before .u64-at .ensures) _ _ (named .name-level .ensures)
+    (search needs) (c .before .before .before .before .before .slice-known2 .given) _ (c .before .before .before .before .level-of .ensures) (start .pre .1) _ _ (c .before .before .write-level .ensures)
 
 pub next-level-spec : {M : Type 1} → statement M
 next-level-spec =
