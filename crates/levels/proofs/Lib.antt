@@ -12,10 +12,11 @@ pub mod ExpandMean
 pub mod ExpandMeanSorted
 pub mod ExpandMeanLeft
 pub mod ExpandMeanCode
+pub mod StepMeanNames
+pub mod StepMean
+pub mod StepMeanWrote
 mod SmallCode
 pub mod ThereBytes
 pub mod WroteLaws
 mod LevelsCode
-pub mod StepMeanNames
-pub mod StepMean
-pub mod StepMeanWrote
+mod StepCode
