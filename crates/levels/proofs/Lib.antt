@@ -7,3 +7,4 @@ pub mod Digits
 pub mod Few
 pub mod Fits
 pub mod Ids
+mod FreshCode

@@ -1,3 +1,4 @@
 -- A stage on its way: resolved in work, judged, handed over.
 pub mod Stages
 pub mod Handing
+pub mod Levelling

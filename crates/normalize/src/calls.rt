@@ -1,33 +1,24 @@
 // The calls as Rattle has them: each for every tape, output and work.
 use crate::Answer;
 use crate::Resolved;
+use crate::handing::hand_over;
+use crate::levelling::level_stage;
 use crate::resolving::resolve_tape;
 use crate::room::enough;
 use crate::room::judge;
 use crate::validating::validate_tape;
 use octets::runs::clear;
-use octets::runs::copy;
 use parse_tree::refusal;
 use resolve::Grammar;
 use texts::Map;
 ghost use mathlib.Core.Path.{_≡_};
 ghost use mathlib.Core.Bool.{true};
-ghost use Prim.Native.Nat.{_+_, _-_, _*_, _≤_};
+ghost use Prim.Native.Nat.{_+_, _*_, _≤_};
 ghost use lib.ListN.{length};
-ghost use Rattle.passes.specs.Calls.{validateCall, resolveCall};
+ghost use Rattle.passes.specs.Calls.{validateCall, resolveCall, levelsCall};
 ghost use Rattle.normalize.specs.plain.Answers.{Called, Checked};
 ghost use Rattle.normalize.specs.working.Stages.{TapeResolves, resolved, Staged};
 ghost use Rattle.normalize.specs.declared.Resolved.{Resolved};
-ghost use Rattle.normalize.specs.working.Handing.{handed};
-
-// The tree goes to the front of the output: its atoms as they stand on the tape, its items as they stand in work from a on.
-fn hand_over(tape: &[u8], at: usize, work: &[u8], a: usize, output: &mut [u8])
-    requires { ⌜ (at ≤ length (now tape)) × (a + (length (now tape) - at) ≤ length (now work)) × (length (now tape) ≤ length (now output)) ⌝ }
-    ensures { λ _. ⌜ now (output .exit) ≡ handed at (now (tape .entry)) a (now (work .entry)) (now (output .entry)) ⌝ }
-{
-    copy(tape, 0, at, output, 0);
-    copy(work, a, a + (tape.len() - at), output, at);
-}
 
 // The tree of a tape that was resolved, handed over if its size is admitted.
 fn admit(tape: &[u8], output: &mut [u8], work: &[u8], m: Map, t: Grammar, at: usize) -> Answer
@@ -70,6 +61,19 @@ pub fn resolve(tape: &[u8], output: &mut [u8], work: &mut [u8]) -> Answer
 {
     if enough(tape.len(), output.len(), work.len()) {
         let r = resolve_stage(tape, output, work);
+        clear(work);
+        r
+    } else {
+        Answer::No(refusal::at(1, 0))
+    }
+}
+
+// Resolving and precedence levels: questions 1 to 16, 20 and 21.
+pub fn levels(tape: &[u8], output: &mut [u8], work: &mut [u8]) -> Answer
+    ensures { λ r. ⌜ Called (levelsCall true 2 (now (tape .entry)) (length (now (output .entry))) (length (now (work .entry)))) (now (tape .entry)) (now (output .entry)) (now (work .entry)) r (now (output .exit)) (now (work .exit)) ⌝ }
+{
+    if enough(tape.len(), output.len(), work.len()) {
+        let r = level_stage(tape, output, work);
         clear(work);
         r
     } else {

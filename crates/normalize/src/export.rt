@@ -1,11 +1,12 @@
 // The entries for Rust: byte slices in, five words out.
 use crate::Answer;
+use crate::calls::levels;
 use crate::calls::resolve;
 use crate::calls::validate;
 ghost use mathlib.Core.Path.{_≡_};
 ghost use mathlib.Core.Bool.{true};
 ghost use lib.ListN.{length};
-ghost use Rattle.passes.specs.Calls.{validateCall, resolveCall};
+ghost use Rattle.passes.specs.Calls.{validateCall, resolveCall, levelsCall};
 ghost use Rattle.normalize.specs.plain.Answers.{Exported, CheckedWords};
 ghost use Rattle.normalize.specs.working.Handing.{wordsOf};
 
@@ -44,4 +45,17 @@ pub extern "C" fn normalize_resolve(
     ensures { λ _. ⌜ Exported (resolveCall true 2 (now (tape .entry)) (length (now (output .entry))) (length (now (work .entry)))) (now (tape .entry)) (now (output .entry)) (now (work .entry)) (now (answer .exit)) (now (output .exit)) (now (work .exit)) ⌝ }
 {
     *answer = words(resolve(tape, output, work));
+}
+
+// Resolving and precedence levels; answer becomes the words of the answer.
+#[no_mangle]
+pub extern "C" fn normalize_levels(
+    tape: &[u8],
+    output: &mut [u8],
+    work: &mut [u8],
+    answer: &mut [u64; 5],
+)
+    ensures { λ _. ⌜ Exported (levelsCall true 2 (now (tape .entry)) (length (now (output .entry))) (length (now (work .entry)))) (now (tape .entry)) (now (output .entry)) (now (work .entry)) (now (answer .exit)) (now (output .exit)) (now (work .exit)) ⌝ }
+{
+    *answer = words(levels(tape, output, work));
 }

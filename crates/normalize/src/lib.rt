@@ -5,6 +5,8 @@ use texts::Map;
 
 pub mod calls;
 pub mod export;
+pub mod handing;
+pub mod levelling;
 pub mod resolving;
 pub mod room;
 pub mod validating;

@@ -1,10 +1,14 @@
 // The sizes that are asked: of the work buffer, and of a finished stage.
 use crate::Answer;
+use levels::Room;
+use levels::Written;
+use levels::fresh::Fresh;
 use parse_tree::refusal;
 ghost use mathlib.Core.Path.{_≡_};
-ghost use Prim.Native.Nat.{_+_, _*_};
+ghost use Prim.Native.Nat.{_+_, _*_, _≤_, _<_};
 ghost use lib.Dec.{leb};
 ghost use Rattle.normalize.specs.working.Stages.{sized};
+ghost use Rattle.normalize.specs.working.Levelling.{roomOf, sizedLevels};
 
 // "Is work at least 8 × (tape + output) bytes?" The sum may wrap, so it isn't made.
 pub fn enough(tape: usize, output: usize, work: usize) -> bool
@@ -28,4 +32,32 @@ pub fn judge(atoms: usize, n: usize, output: usize) -> Answer
         return Answer::No(refusal::at(21, 0));
     }
     Answer::Yes(n)
+}
+
+// Where levels are written, for a tape of so many bytes of which n are its items': behind the tape's share of work the records of new names, the arrays, and
+// the items, with as much behind them as the output has.
+pub fn levels_room(tape: usize, n: usize, output: usize) -> Room
+    requires { ⌜ (8 * (tape + output) < 9223372036854775808) × (n ≤ tape) ⌝ }
+    ensures { λ r. ⌜ r ≡ roomOf tape n output ⌝ }
+{
+    let at = 8 * tape + 6 * output - 2 * (output / 9);
+    Room {
+        arrays: 8 * tape + 2 * n,
+        at: at,
+        lim: at + output,
+    }
+}
+
+// 20 and 21 of the levelled stage: the tape's atoms have `at` bytes.
+pub fn judge_levels(v: Written, room: Room, at: usize, f: Fresh, output: usize) -> Answer
+    requires { ⌜ (room .at ≤ v .to) × (output < 9223372036854775808) × (at + f .bytes + v .to < 18446744073709551616) ⌝ }
+    ensures { λ r. ⌜ r ≡ sizedLevels v room at f output ⌝ }
+{
+    if f.long {
+        return Answer::No(refusal::at(20, 0));
+    }
+    if room.lim < v.to {
+        return judge(v.count, output + 1, output);
+    }
+    judge(v.count, at + f.bytes + (v.to - room.at), output)
 }

@@ -17,8 +17,8 @@ pub mod LowestMean
 mod DecimalLaws
 mod DecimalCode
 pub mod NamesCode
-mod NamesHashCode
-mod NamesFindCode
+pub mod NamesHashCode
+pub mod NamesFindCode
 pub mod NamesStays
 mod NamesDescribeCode
 pub mod NamesMean

@@ -2,25 +2,28 @@
 use mathlib.Core.Path.{_≡_}
 use mathlib.Core.Bool.{true}
 use mathlib.Core.List.{List}
-use Prim.Native.Nat.{ℕ, _+_, _-_, _≤_}
+use Prim.Native.Nat.{ℕ, _+_, _-_, _*_, _≤_, _<_}
 use lib.Dec.{ltb}
 use lib.ListN.{length, replicate}
 use Rattle.octets.specs.working.Choice.{pick}
 use Rattle.octets.specs.plain.Runs.{part}
-use Rattle.parse_tree.specs.plain.Tree.{Stage}
+use Rattle.parse_tree.specs.plain.Tree.{Text, Stage}
 use Rattle.parse_tree.specs.plain.Reading.{Reading, got, refused}
 use Rattle.parse_tree.specs.plain.ReadTape.{readTape}
 use Rattle.parse_tree.specs.plain.WriteTape.{bytesOfEach}
 use Rattle.parse_tree.specs.working.Decode.{decode}
 use Rattle.parse_tree.specs.working.Encode.{atomBytes, itemBytes}
 use Rattle.parse_tree.specs.working.Refusals.{refusalAt, refusalOver}
-use Rattle.parse_tree.specs.working.Within.{StageWithin}
+use Rattle.parse_tree.specs.working.Within.{Each, ItemWithin, StageWithin}
 use Rattle.texts.specs.declared.Map.{Map}
+use Rattle.texts.specs.Table.{Table, Above, texts}
 use Rattle.passes.specs.Outcome.{Tree, Outcome, yes, no, after}
 use Rattle.passes.specs.Resolve.{resolve}
 use Rattle.passes.specs.Stages.{resolveStage}
 use Rattle.passes.specs.Calls.{readAs, sizes, written}
 use Rattle.resolve.specs.declared.Grammar.{Grammar}
+use Rattle.resolve.proofs.GrammarLaws.{Row}
+use Rattle.levels.specs.Whole.{Before}
 use Rattle.normalize.specs.plain.Answers.{answerOf}
 use Rattle.normalize.specs.declared.Answer.{Answer}
 use Rattle.normalize.specs.declared.Resolved.{Resolved}
@@ -31,6 +34,22 @@ pub record Judged (s w : List ℕ) (r : Answer) (w′ : List ℕ) : Type 0 where
   pub zeroed : w′ ≡ replicate (length w) 0
 
 -- ---- a tape resolved: g is its tree, R the items resolved
+
+-- what levels ask of it: its table and its grammar, as they stand in work; all texts stand on the tape
+pub record Levelable (s w : List ℕ) (m : Map) (t : Grammar) (at : ℕ) (ts : List Text) (R : Tree) : Type 0 where
+  pub table : Table s w m
+  pub texts-are : texts s w m ≡ ts
+  pub on-tape : (z : ℕ) → Above s w m z
+  pub some : 0 < length R → 0 < m .buckets
+  pub width : t .width ≡ 2
+  pub row : Row t ts w 0 (t .at) R
+  pub within : Each (ItemWithin true 2 ts) R
+  pub many : t .count ≡ length R
+  pub before : 0 < t .count → Before m t
+  pub base : m .base ≡ 8 * (length s - at)
+  pub records : m .base + 24 * m .count ≤ 8 * length s
+  pub heads : m .base + 24 * m .buckets ≤ 8 * length s
+
 pub record Stands (s : List ℕ) (g : Stage) (R : Tree) (r : Resolved) (w : List ℕ) : Type 0 where
   pub table : Map
   pub grammar : Grammar
@@ -42,6 +61,7 @@ pub record Stands (s : List ℕ) (g : Stage) (R : Tree) (r : Resolved) (w : List
   pub atoms : part 0 place s ≡ bytesOfEach (atomBytes 2) (g .atoms)
   pub room : grammar .at + (length s - place) ≤ length w
   pub items : part (grammar .at) (grammar .at + (length s - place)) w ≡ bytesOfEach (itemBytes 2 (g .atoms)) R
+  pub levels : Levelable s w table grammar place (g .atoms) R
 
 unfoldable pub StandsBy : List ℕ → Stage → Outcome Tree → Resolved → List ℕ → Type 0
 StandsBy s g (yes R) r w = Stands s g R r w

@@ -4,7 +4,7 @@ use Rattle.normalize.proofs.calls.admit.Statement.{statement}
 use Rattle.normalize.proofs.calls.admit.Tie as tie
 use Rattle.normalize.proofs.calls.admit.Reads as reads
 use Rattle.normalize.proofs.calls.admit.Lts as lts
-use Rattle.normalize.proofs.calls.hand_over.Reads as hand-over-reads
+use Rattle.normalize.proofs.handing.hand_over.Reads as hand-over-reads
 use Rattle.normalize.proofs.room.judge.Reads as judge-reads
 
 judge-requires : tie.Need-judge-requires

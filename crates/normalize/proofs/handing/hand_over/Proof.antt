@@ -1,9 +1,9 @@
 use Rattle.normalize.proofs.HandOverCode.{handing}
 use borrow.Author.Needs.{needs}
-use Rattle.normalize.proofs.calls.hand_over.Statement.{statement}
-use Rattle.normalize.proofs.calls.hand_over.Tie as tie
-use Rattle.normalize.proofs.calls.hand_over.Reads as reads
-use Rattle.normalize.proofs.calls.hand_over.Lts as lts
+use Rattle.normalize.proofs.handing.hand_over.Statement.{statement}
+use Rattle.normalize.proofs.handing.hand_over.Tie as tie
+use Rattle.normalize.proofs.handing.hand_over.Reads as reads
+use Rattle.normalize.proofs.handing.hand_over.Lts as lts
 use Rattle.octets.proofs.runs.copy.Reads as copy-reads
 
 copy-requires : tie.Need-copy-requires
