@@ -8,3 +8,7 @@ pub mod Few
 pub mod Fits
 pub mod Ids
 mod FreshCode
+mod SmallCode
+pub mod ThereBytes
+pub mod WroteLaws
+mod LevelsCode
