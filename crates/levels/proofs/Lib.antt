@@ -12,3 +12,6 @@ mod SmallCode
 pub mod ThereBytes
 pub mod WroteLaws
 mod LevelsCode
+pub mod WholeMean
+pub mod WholeMeanItem
+pub mod WholeMeanLoop
