@@ -148,9 +148,14 @@ module _ (s : List ℕ) (m : Map) (t : Grammar) (room : Room) (ids : Ids) (i : �
         g .left .from,
       )
 
-      pub items-standing : t .width ≤ 3 → (b : Bool) → b ≡ hasPrecAttr (t .width) ids w p → b ≡ true → SomeStanding s m room (t .width) ids p e v w
-      items-standing n b z y = rw (pp, pe) (go (first .item) (first .left) (sym (first-annotated s m t room ids i v w (first .four) (first .item) (first .rest) (first .left) n) ∙ ap (hasPrecAttr (t .width) ids w) (sym pp) ∙ sym z ∙ y))
-        where
-          go : (x : Item) → ItemsLeft s m t room ids i v w (first .four) (x ∷ first .rest) → hasLevels x ≡ true → SomeStanding s m room (t .width) ids (itemPlaceIn t w i) (itemPlaceIn t w (i + 1)) v w
-          go (item d) L a = record { four = first .four; nonterminal = d; standing = first-stands s m t room ids i v w (first .four) d (first .rest) L }
-          go (Item.terminal sp o x) L a = absurd (false≢true a)
+-- b is what `has_prec_attr` answered; it stands first, for a search that is given it
+pub items-standing : (b : Bool) (s : List ℕ) (m : Map) (t : Grammar) (room : Room) (ids : Ids) (i : ℕ) (v : Written) (w : List ℕ) → SomeItems s m t room ids i v w → i < t .count → (p : ℕ) → p ≡ itemPlaceIn t w i
+    → (e : ℕ) → e ≡ itemPlaceIn t w (i + 1) → t .width ≤ 3 → b ≡ hasPrecAttr (t .width) ids w p → b ≡ true → SomeStanding s m room (t .width) ids p e v w
+items-standing b s m t room ids i v w g h p pp e pe n z y =
+    let f = first-of s m t room ids i v w (g .four) (g .items) h (g .left) in
+    let a : hasLevels (f .item) ≡ true = sym (first-annotated s m t room ids i v w (f .four) (f .item) (f .rest) (f .left) n) ∙ ap (hasPrecAttr (t .width) ids w) (sym pp) ∙ sym z ∙ y in
+    rw (pp, pe) (go (f .four) (f .item) (f .rest) (f .left) a)
+  where
+    go : (four : Bool) (x : Item) (rest : List Item) → ItemsLeft s m t room ids i v w four (x ∷ rest) → hasLevels x ≡ true → SomeStanding s m room (t .width) ids (itemPlaceIn t w i) (itemPlaceIn t w (i + 1)) v w
+    go four (item d) rest L a = record { four = four; nonterminal = d; standing = first-stands s m t room ids i v w four d rest L }
+    go four (Item.terminal sp o x) rest L a = absurd (false≢true a)

@@ -23,13 +23,7 @@ has-prec-attr-requires : tie.Need-has-prec-attr-requires
 has-prec-attr-requires c κs = search stepping
 
 expand-nonterm-requires : tie.Need-expand-nonterm-requires
-expand-nonterm-requires c κs =
-    let a = c .before .before .before .before .before .before .before .before .before .before .args in
-    let b = c .before .before .has-prec-attr .result in (
-      search needs,
-      search needs,
-      items-standing _ _ (a .t) _ _ (a .i) _ _ (search needs) (search needs) _ (search needs) _ (search needs) (search needs) b (search needs) (search needs),
-    )
+expand-nonterm-requires c κs = search (needs, items-standing (c .before .before .has-prec-attr .result))
 
 same-length : tie.Need-same-length
 same-length c = search needs
