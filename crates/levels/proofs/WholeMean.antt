@@ -2,7 +2,7 @@
 use mathlib.Core.Path.{_≡_, sym, ap, _∙_}
 use mathlib.Core.Bool.{Bool, true, false, false≢true}
 use mathlib.Core.List.{List, [], _∷_}
-use Prim.Native.Nat.{ℕ, _+_, _*_, _≤_, _<_}
+use Prim.Native.Nat.{ℕ, _+_, _≤_, _<_}
 use native.Mathlib.Omega.{arith}
 use lib.ListN.{length}
 use Rattle.octets.specs.plain.Runs.{Lies}
@@ -48,13 +48,13 @@ module _ (four : Bool) (wd : ℕ) (ts : List Text) (w : List ℕ) (p e : ℕ) wh
   item-annotated n (item d) h l = has-means four wd ts n w p e d h l
   item-annotated n (Item.terminal sp o x) h l = terminal-means four wd ts w p e sp o x (h .0) (h .1 .1) l
 
--- the alternatives of the first and of the others
+-- theorem: the alternatives of the first and of the others
 pub alternatives-split : (x : Item) (rest : List Item) → alternativesIn (x ∷ rest) ≡ alternativesIn (x ∷ []) + alternativesIn rest
 unfolding alternativesIn
 alternatives-split (item d) rest = omega arith
 alternatives-split (Item.terminal sp o x) rest = omega arith
 
--- less is laid out where more is
+-- theorem: there is room for fewer names and alternatives where there is for more
 pub laid-fewer : (m : Map) (room : Room) (most n long most′ n′ : ℕ) → most′ ≤ most → n′ ≤ n → Laid m room most n long → Laid m room most′ n′ long
 laid-fewer m room most n long most′ n′ h k l = record {
   heads = l .heads;
@@ -68,23 +68,27 @@ laid-fewer m room most n long most′ n′ h k l = record {
 
 module _ (s : List ℕ) (m : Map) (t : Grammar) (room : Room) (ids : Ids) (i : ℕ) (v : Written) (w : List ℕ) (four : Bool) (x : Item) (rest : List Item)
     (L : ItemsLeft s m t room ids i v w four (x ∷ rest)) where
-  -- ---- where it stands
+  -- theorem: the next one stands behind it
   pub next-place : itemPlaceIn t w (i + 1) ≡ itemPlaceIn t w i + length (itemBytes (t .width) (texts s w m) x)
   next-place = row-place t (texts s w m) w (i + 1) (itemPlaceIn t w i + length (itemBytes (t .width) (texts s w m) x)) rest (L .row .2)
 
+  -- theorem: its bytes stand between the two places
   pub first-lies : Lies w (itemPlaceIn t w i) (itemBytes (t .width) (texts s w m) x) (itemPlaceIn t w (i + 1))
   first-lies = lies-to (sym next-place) (L .row .1)
 
+  -- theorem: it ends before the records
   pub end-before : itemPlaceIn t w (i + 1) ≤ m .base
   end-before = omega (arith, row-below t (texts s w m) w (i + 1) (itemPlaceIn t w i + length (itemBytes (t .width) (texts s w m) x)) rest (L .row .2), next-place, L .before .items)
 
-  -- the records stand before the items that are written
+  -- theorem: the records stand before the items that are written
   pub base-before : m .base ≤ room .at
   base-before = omega (arith, L .laid .heads, L .laid .arrays)
 
+  -- theorem: what the code looks at of it lies in work
   pub first-head : HeadInside (t .width) w (itemPlaceIn t w i)
   first-head = item-head four (t .width) (texts s w m) w (itemPlaceIn t w i) (itemPlaceIn t w (i + 1)) x (L .within .0) first-lies (omega (arith, end-before, next-place, base-before, L .laid .ordered, L .laid .inside))
 
+  -- theorem: by the ids that were found it is annotated just where the tree says so
   pub first-annotated : t .width ≤ 3 → hasPrecAttr (t .width) ids w (itemPlaceIn t w i) ≡ hasLevels x
   first-annotated n =
       ap (λ (a : Ids). hasPrecAttr (t .width) a w (itemPlaceIn t w i)) (L .names .ids-table)
@@ -107,7 +111,7 @@ first-stands s m t room ids i v w four d rest L = record {
 }
 
 -- ---- what `expand_item` asks of the functions that it calls
--- the items that are left are not none
+-- the items that are left have a first one
 pub record First (s : List ℕ) (m : Map) (t : Grammar) (room : Room) (ids : Ids) (i : ℕ) (v : Written) (w : List ℕ) : Type 0 where
   pub four : Bool
   pub item : Item
@@ -122,23 +126,17 @@ module _ (s : List ℕ) (m : Map) (t : Grammar) (room : Room) (ids : Ids) (i : �
   first : First s m t room ids i v w
   first = first-of s m t room ids i v w (g .four) (g .items) h (g .left)
 
-  pub items-list : t .list + 8 * t .count ≤ length w
-  items-list = omega (arith, g .left .before .list, base-before s m t room ids i v w (first .four) (first .item) (first .rest) (first .left), g .left .laid .ordered, g .left .laid .inside)
-
-  pub items-ordered : t .at ≤ t .end
-  items-ordered = g .left .before .ordered
-
-  pub items-inside : room .lim + 16 ≤ length w
-  items-inside = g .left .laid .inside
-
   module _ (p : ℕ) (pp : p ≡ itemPlaceIn t w i) where
+    -- theorem: of `has_prec_attr`
     pub items-head : HeadInside (t .width) w p
     items-head = rw pp (first-head s m t room ids i v w (first .four) (first .item) (first .rest) (first .left))
 
     module _ (e : ℕ) (pe : e ≡ itemPlaceIn t w (i + 1)) where
+      -- theorem: of `put_run`, that the item's end is behind its place
       pub items-forward : p ≤ e
       items-forward = omega (arith, pp, pe, next-place s m t room ids i v w (first .four) (first .item) (first .rest) (first .left))
 
+      -- theorem: and before what is written
       pub items-behind : e ≤ v .to
       items-behind = omega (
         arith,
@@ -148,7 +146,7 @@ module _ (s : List ℕ) (m : Map) (t : Grammar) (room : Room) (ids : Ids) (i : �
         g .left .from,
       )
 
--- b is what `has_prec_attr` answered; it stands first, for a search that is given it
+-- theorem: of `expand_nonterm`. b is what `has_prec_attr` answered; it stands first, so that a search can be given it
 pub items-standing : (b : Bool) (s : List ℕ) (m : Map) (t : Grammar) (room : Room) (ids : Ids) (i : ℕ) (v : Written) (w : List ℕ) → SomeItems s m t room ids i v w → i < t .count → (p : ℕ) → p ≡ itemPlaceIn t w i
     → (e : ℕ) → e ≡ itemPlaceIn t w (i + 1) → t .width ≤ 3 → b ≡ hasPrecAttr (t .width) ids w p → b ≡ true → SomeStanding s m room (t .width) ids p e v w
 items-standing b s m t room ids i v w g h p pp e pe n z y =

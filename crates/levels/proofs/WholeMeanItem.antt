@@ -42,7 +42,7 @@ use Rattle.levels.specs.Whole.{alternativesIn, ItemsLeft, SteppedBy, Ite
 use Rattle.levels.proofs.Extend.{bytes-extend}
 use Rattle.levels.proofs.Texts.{plain-texts}
 use Rattle.levels.proofs.WroteLaws.{wrote-on, wrote-upto, wrote-more}
-use Rattle.levels.proofs.WholeMean.{hasLevels, alternatives-split, laid-fewer, base-before, next-place, first-lies, first-annotated, first-stands, items-list, items-ordered, items-inside, items-head, items-forward, items-behind}
+use Rattle.levels.proofs.WholeMean.{hasLevels, alternatives-split, laid-fewer, base-before, next-place, first-lies, first-annotated, first-stands, items-head, items-forward, items-behind}
 
 -- ---- bytes put to the room for the items
 module _ (s : List ℕ) (m : Map) (room : Room) (wd : ℕ) (ids : Ids) (w : List ℕ) (v : Written) (most n : ℕ) (laid : Laid m room most n (length w)) (many : v .count ≤ most)
@@ -101,7 +101,7 @@ module _ (s : List ℕ) (m : Map) (room : Room) (wd : ℕ) (ids : Ids) (w : List
       lies : v .to + length xs ≤ room .lim → Lies w1 (v .to) xs r
       lies h = rw (p .whole h, p .after h) (lies-store w (v .to) xs (omega (arith, laid .inside)))
 
--- the texts known now begin with the table's
+-- theorem: the texts known now begin with the table's
 pub named-extends : (s w : List ℕ) (m : Map) (n : ℕ) → Naming s w m n → Extends (texts s w m) (namedTexts s w m n)
 named-extends s w m n g =
     let z : n ≡ m .count + (n - m .count) = omega (arith, g .upto) in
@@ -214,4 +214,4 @@ module _ (s : List ℕ) (m : Map) (t : Grammar) (room : Room) (ids : Ids) (i : �
         (stepped-levels four d rest L a p e (after (checkAttributes (d .alternatives)) (λ u. checkLowest (grouped (d .name) (graded d)))) r w1 (g four d (rw (pp, pe) (first-stands s m t room ids i v w four d rest L))))
     item-levelled y r w1 g four (Item.terminal sp o x) rest L = absurd (false≢true (tells four (Item.terminal sp o x) rest L ∙ y))
 
-pub ruleset stepping = (needs, items-list, items-ordered, items-inside, items-head, items-forward, items-behind, item-copied, item-levelled)
+pub ruleset stepping = (needs, items-head, items-forward, items-behind, item-copied, item-levelled)

@@ -11,7 +11,7 @@ use Rattle.parse_tree.specs.plain.Texts.{distinct}
 use Rattle.parse_tree.specs.declared.refusal.Refusal.{Refusal}
 use Rattle.parse_tree.specs.working.Refusals.{refusalOver}
 use Rattle.texts.specs.declared.Map.{Map}
-use Rattle.texts.specs.Table.{Table, texts}
+use Rattle.texts.specs.Table.{texts}
 use Rattle.passes.specs.Outcome.{Outcome, yes, no, after}
 use Rattle.passes.specs.Grades.{annotated}
 use Rattle.passes.specs.Levels.{levelItems, levelled, checkNonterminal, checkLevels}
@@ -125,23 +125,26 @@ module _ (s : List ℕ) (m : Map) (t : Grammar) (room : Room) (w0 : List ℕ) (i
     abbrev v : Written
     v = record { to = to; count = count }
 
-    now-left : (four : Bool) (R : List Item) → GrammarStands s m t room w0 four R → Doing i v w four R
-    now-left = g .each
-
+    -- theorem: there are items that `expand_item` can take
     pub looping-some : SomeItems s m t room ids i v w
     looping-some =
         let x = g .each (g .some .four) (g .some .items) (g .some .stands) in
         record { four = g .some .four; items = x .items; left = x .left }
 
-    -- work is as long as it was
+    -- theorem: work is as long as it was
     pub looping-same : length w ≡ length w0
     looping-same = g .each (g .some .four) (g .some .items) (g .some .stands) .wrote .long
 
+    -- theorem: and so after a step
     pub looping-long : (w′ : List ℕ) → length w′ ≡ length w → length w′ ≡ length w0
     looping-long w′ e = e ∙ looping-same
 
-    -- one item more, where it is fine
+    -- ---- of one tree that stood there
     module _ (four : Bool) (R : List Item) (h : GrammarStands s m t room w0 four R) where
+      abbrev d : Doing i v w four R
+      d = g .each four R h
+
+      -- one item more is done, where it is fine
       did-next : (x : Item) (rest done : List Item) (k : ℕ) → R ≡ done ++ (x ∷ rest) → Wrote s m room (t .width) ids w0 (atFirst s m t room) k (levelled done) v w → k + alternativesIn (x ∷ rest) ≤ alternativesIn R
           → checkLevels R ≡ checkLevels (x ∷ rest) → checkLevels (x ∷ []) ≡ yes tt → (v′ : Written) (w′ : List ℕ) → Wrote s m room (t .width) ids w v (alternativesIn (x ∷ [])) (levelled (x ∷ [])) v′ w′
           → ItemsLeft s m t room ids (i + 1) v′ w′ four rest → Doing (i + 1) v′ w′ four R
@@ -177,16 +180,16 @@ module _ (s : List ℕ) (m : Map) (t : Grammar) (room : Room) (w0 : List ℕ) (i
 
       next-doing : i < t .count → (r : Levelled) (w′ : List ℕ) → ItemSteps s m t room ids i v w r w′ → (v′ : Written) → r ≡ Levelled.Is v′ → Doing (i + 1) v′ w′ four R
       unfolding ItemSteps
-      next-doing b r w′ f v′ z = let d = now-left four R h in go (d .items) (d .split) (d .left) (d .few) (d .check) d
+      next-doing b r w′ f v′ z = go (d .items) (d .split) (d .left) (d .few) (d .check)
         where
-          go : (is : List Item) → R ≡ now-left four R h .done ++ is → ItemsLeft s m t room ids i v w four is → now-left four R h .names + alternativesIn is ≤ alternativesIn R → checkLevels R ≡ checkLevels is
-              → Doing i v w four R → Doing (i + 1) v′ w′ four R
-          go [] e l k c d = absurd (omega (arith, l .many))
-          go (x ∷ rest) e l k c d = step-by x rest (now-left four R h .done) (now-left four R h .names) e (now-left four R h .wrote) k c r w′ v′ z (checkLevels (x ∷ [])) refl (f four x rest l)
+          go : (is : List Item) → R ≡ d .done ++ is → ItemsLeft s m t room ids i v w four is → d .names + alternativesIn is ≤ alternativesIn R → checkLevels R ≡ checkLevels is
+              → Doing (i + 1) v′ w′ four R
+          go [] e l k c = absurd (omega (arith, l .many))
+          go (x ∷ rest) e l k c = step-by x rest (d .done) (d .names) e (d .wrote) k c r w′ v′ z (checkLevels (x ∷ [])) refl (f four x rest l)
 
       refused-doing : i < t .count → (r : Levelled) (w′ : List ℕ) → ItemSteps s m t room ids i v w r w′ → (why : Refusal) → r ≡ Levelled.Refused why → LevelledBy s m t room (checkLevels R) w0 R (Levelled.Refused why) w′
       unfolding ItemSteps
-      refused-doing b r w′ f why z = let d = now-left four R h in go (d .items) (d .left) (d .check)
+      refused-doing b r w′ f why z = go (d .items) (d .left) (d .check)
         where
           go : (is : List Item) → ItemsLeft s m t room ids i v w four is → checkLevels R ≡ checkLevels is → LevelledBy s m t room (checkLevels R) w0 R (Levelled.Refused why) w′
           go [] l c = absurd (omega (arith, l .many))
@@ -194,12 +197,11 @@ module _ (s : List ℕ) (m : Map) (t : Grammar) (room : Room) (w0 : List ℕ) (i
 
       done-all : t .count ≤ i → LevelledBy s m t room (checkLevels R) w0 R (Levelled.Is v) w
       unfolding LevelledBy checkLevels
-      done-all b = let d = now-left four R h in go (d .items) (d .split) (d .left) (d .few) (d .check)
+      done-all b = go (d .items) (d .split) (d .left) (d .few) (d .check)
         where
-          go : (is : List Item) → R ≡ now-left four R h .done ++ is → ItemsLeft s m t room ids i v w four is → now-left four R h .names + alternativesIn is ≤ alternativesIn R → checkLevels R ≡ checkLevels is
+          go : (is : List Item) → R ≡ d .done ++ is → ItemsLeft s m t room ids i v w four is → d .names + alternativesIn is ≤ alternativesIn R → checkLevels R ≡ checkLevels is
               → LevelledBy s m t room (checkLevels R) w0 R (Levelled.Is v) w
           go [] e l k c =
-              let d = now-left four R h in
               let n : ids ≡ idsIn (texts s w0 m) = l .names .ids-table ∙ ap (λ (ts : List Text). idsIn ts) (d .wrote .same) in
               let j : R ≡ d .done = e ∙ append-nil (d .done) in
               let a = wrote-more s m room (t .width) ids w0 (atFirst s m t room) (d .names) (levelled (d .done)) v w (alternativesIn R) (omega (arith, k)) (d .wrote) in
@@ -220,10 +222,4 @@ module _ (s : List ℕ) (m : Map) (t : Grammar) (room : Room) (w0 : List ℕ) (i
     unfolding Levels
     looping-done b four R h = done-all four R h b
 
-pub grammar-table : (s : List ℕ) (m : Map) (t : Grammar) (room : Room) (w : List ℕ) → SomeGrammar s m t room w → Table s w m
-grammar-table s m t room w g = g .stands .table
-
-pub grammar-buckets : (s : List ℕ) (m : Map) (t : Grammar) (room : Room) (w : List ℕ) → SomeGrammar s m t room w → 0 < m .buckets
-grammar-buckets s m t room w g = g .stands .some
-
-pub ruleset looping = (needs, grammar-table, grammar-buckets, looping-start, looping-some, looping-same, looping-long, looping-next, looping-refused, looping-done)
+pub ruleset looping = (needs, looping-start, looping-some, looping-same, looping-long, looping-next, looping-refused, looping-done)
