@@ -14,8 +14,8 @@ use Rattle.replacing.proofs.SlotsMean.{each-map}
 use Rattle.replacing.proofs.Going.{Extends, extends-has, extends-number}
 use Rattle.replacing.proofs.SymbolsGo.{leaf-later, around-later}
 
--- functions that agree on each element
-bytes-each : {A : Type 0} (W : A → Type 0) (f g : A → List ℕ) → ((x : A) → W x → f x ≡ g x) → (xs : List A) → Each W xs → bytesOfEach f xs ≡ bytesOfEach g xs
+-- theorem: functions that agree on each element
+pub bytes-each : {A : Type 0} (W : A → Type 0) (f g : A → List ℕ) → ((x : A) → W x → f x ≡ g x) → (xs : List A) → Each W xs → bytesOfEach f xs ≡ bytesOfEach g xs
 unfolding bytesOfEach
 bytes-each W f g h [] e = refl
 bytes-each W f g h (x ∷ xs) e = rw (h x (e .0), bytes-each W f g h xs (e .1)) refl

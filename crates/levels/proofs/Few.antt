@@ -41,7 +41,8 @@ insert-few v (x ∷ xs) = go (ltb v x) (eqb v x) (insert-few v xs)
     go false true i = omega arith
     go false false i = omega arith
 
-levels-few : (gs : List Graded) → length (levelsOf gs) ≤ length gs
+-- theorem: there are no more levels than alternatives
+pub levels-few : (gs : List Graded) → length (levelsOf gs) ≤ length gs
 unfolding levelsOf
 levels-few [] = omega arith
 levels-few (g ∷ gs) = omega (arith, insert-few (g .level) (levelsOf gs), levels-few gs)

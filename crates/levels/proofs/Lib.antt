@@ -8,6 +8,10 @@ pub mod Few
 pub mod Fits
 pub mod Ids
 mod FreshCode
+pub mod ExpandMean
+pub mod ExpandMeanSorted
+pub mod ExpandMeanLeft
+pub mod ExpandMeanCode
 mod SmallCode
 pub mod ThereBytes
 pub mod WroteLaws
@@ -15,3 +19,6 @@ mod LevelsCode
 pub mod WholeMean
 pub mod WholeMeanItem
 pub mod WholeMeanLoop
+pub mod StepMeanNames
+pub mod StepMean
+pub mod StepMeanWrote

@@ -4,5 +4,6 @@ mod HandOverCode
 mod CallsCode
 mod ExportCode
 mod ResolvingMean
+mod LevelableMean
 mod ResolvingCode
 mod ValidatingCode

@@ -16,7 +16,7 @@ use Rattle.octets.specs.plain.Runs.{Lies, part}
 use Rattle.octets.specs.working.Stores.{store}
 use Rattle.octets.proofs.PartLaws.{part-length}
 use Rattle.octets.proofs.LiesLaws.{lies-part, lies-to}
-use Rattle.octets.proofs.StoreLaws.{length-store, lies-store, leAt-other}
+use Rattle.octets.proofs.StoreLaws.{length-store, lies-store, leAt-other, getD-store-after}
 use Rattle.parse_tree.specs.plain.Tree.{Text, Item, Stage, item, terminal}
 use Rattle.parse_tree.specs.plain.Reading.{got, then}
 use Rattle.parse_tree.specs.plain.WriteTape.{bytesOfEach}
@@ -33,6 +33,7 @@ use Rattle.texts.specs.Atoms.{atomsOf}
 use Rattle.texts.specs.Fields.{cellAt}
 use Rattle.texts.specs.declared.Map.{Map}
 use Rattle.texts.proofs.AtomsLaws.{length-atoms}
+use Rattle.texts.proofs.TableStays.{leAt-agree, linked-le}
 use Rattle.validate.specs.Steps.{Refuses, mapOf}
 use Rattle.validate.specs.Regions.{regionsOf}
 use Rattle.validate.specs.Whole.{Valid, Validates}
@@ -42,13 +43,16 @@ use Rattle.validate.specs.declared.Validated.{Validated}
 use Rattle.validate.proofs.NotesCode.{item-long}
 use Rattle.passes.specs.Outcome.{Tree, Outcome, yes, no}
 use Rattle.passes.specs.Resolve.{resolve}
+use Rattle.passes.proofs.ResolveWithin.{KeptItems, resolve-alike}
 use Rattle.resolve.specs.Items.{Standing}
-use Rattle.resolve.specs.Whole.{Holds, Answers, Resolves}
+use Rattle.resolve.specs.Whole.{Holds, Became, Answers, Resolves}
 use Rattle.resolve.specs.declared.Grammar.{Grammar}
 use Rattle.resolve.specs.declared.Verdict.{Verdict}
 use Rattle.resolve.proofs.CommandsCode.{fine-not}
-use Rattle.normalize.specs.working.Stages.{StandsBy, TapeReads, TapeResolves}
+use Rattle.resolve.proofs.GrammarLaws.{row-start}
+use Rattle.normalize.specs.working.Stages.{Levelable, StandsBy, TapeReads, TapeResolves}
 use Rattle.normalize.specs.declared.Resolved.{Resolved}
+use Rattle.normalize.proofs.LevelableMean.{atoms-long, some-linked, record-free, before-free, table-but-cells, texts-but-cells, above-but-cells}
 
 -- ---- an item has eleven bytes or more, and a name
 items-long : (ts : List Text) (is : List Item) → 11 * length is ≤ length (bytesOfEach (itemBytes 2 ts) is)
@@ -199,12 +203,54 @@ module _ (s w : List ℕ) (a : Atoms) (at n : ℕ) (v : Valid true 2 s w a at n)
           go (yes R) k = absurd (fine-not (sym (k .0) ∙ e))
           go (no q p) k = let z : why ≡ refusalOver q p = cc in rw z refl
 
+      -- the items resolved stand where the items stood, the table stands but for its cells
+      module _ (R : Tree) (yes-is : resolve (v .items) ≡ yes R) (k : Became table grammar ts R w₁ w₂) where
+        alike : KeptItems true 2 ts (v .items) R
+        alike = resolve-alike true 2 ts (v .items) R yes-is
+
+        few : a .buckets ≤ a .count
+        few = omega (arith, v .buckets, linked-le (a .count))
+
+        record-kept : (j x : ℕ) → j < a .count → a .base + 24 * j ≤ x → x < a .base + 24 * j + 20 → getD w₂ x 0 ≡ getD w x 0
+        record-kept j x h l u =
+            k .others x (record-free table grammar j x (omega (arith, v .base)) l u) ∙ ap (λ (y : List ℕ). getD y x 0) copied
+            ∙ getD-store-after w (7 * size) (part at (length s) s) x (omega (arith, copied-long, v .base))
+
+        listed : (j : ℕ) → j < n → leAt 8 w₂ (48 + 8 * j) ≡ length (bytesOfEach (itemBytes 2 ts) (take j R))
+        listed j h =
+            let l = many-fit (omega arith) in
+            leAt-agree 8 w₁ w₂ (48 + 8 * j) (λ x p q. k .others x (before-free table grammar x (omega arith) (omega (arith, v .base))))
+            ∙ before-same 8 (48 + 8 * j) (omega arith) ∙ v .noted j h ∙ sym (alike .sizes j)
+
+        levelable : Levelable s w₂ table grammar at ts R
+        unfolding mapOf
+        levelable =
+            let g = v .ready .ready .table in
+            let l = k .long ∙ long in
+            let c = atoms-long ts in
+            let z = length-atoms s (a .count) in
+            let m = v .many ∙ sym (alike .many) in
+            record {
+              table = table-but-cells s w w₂ table g (v .above) l few record-kept;
+              texts-are = texts-but-cells s w w₂ table g (v .above) l few record-kept ∙ v .ready .ready .same;
+              on-tape = above-but-cells s w w₂ table g (v .above) l few record-kept;
+              some = λ h. rw (v .buckets) (some-linked (a .count) (named (omega (arith, m))));
+              width = v .wide;
+              row = row-start grammar ts w₂ R m (λ j h. rw (v .wide) (listed j h)) (k .lies);
+              within = alike .within (within .items);
+              many = m;
+              before = λ h. record { ordered = omega arith; items = omega (arith, v .base); list = omega (arith, many-fit h, v .base) };
+              base = v .base;
+              records = omega (arith, v .base, begins, v .ready .inside);
+              heads = omega (arith, v .base, begins, v .ready .inside, few);
+            }
+
       valid-fine : r ≡ Verdict.Fine → TapeResolves s (Resolved.Is table grammar at) w₂
       unfolding Answers StandsBy
-      valid-fine e = reads (Resolved.Is table grammar at) (go (resolve (v .items)) answers)
+      valid-fine e = reads (Resolved.Is table grammar at) (go (resolve (v .items)) refl answers)
         where
-          go : (o : Outcome Tree) → Answers table grammar ts o w₁ r w₂ → StandsBy s tape o (Resolved.Is table grammar at) w₂
-          go (yes R) k = record {
+          go : (o : Outcome Tree) → resolve (v .items) ≡ o → Answers table grammar ts o w₁ r w₂ → StandsBy s tape o (Resolved.Is table grammar at) w₂
+          go (yes R) q k = record {
             table = table;
             grammar = grammar;
             place = at;
@@ -215,8 +261,9 @@ module _ (s w : List ℕ) (a : Atoms) (at n : ℕ) (v : Valid true 2 s w a at n)
             atoms = atoms-part;
             room = omega (arith, long, k .1 .long);
             items = rw (v .wide) at (lies-part w₂ (7 * size) (7 * size + size) (bytesOfEach (itemBytes (a .width) ts) R) (k .1 .lies));
+            levels = levelable R q (k .1);
           }
-          go (no q p) k = absurd (fine-not (sym e ∙ k))
+          go (no q p) _ k = absurd (fine-not (sym e ∙ k))
 
   -- ---- where g is the map of work
   abbrev grammarOf : Regions → Grammar

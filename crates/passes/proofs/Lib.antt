@@ -9,3 +9,4 @@ pub mod Build
 mod Starred
 mod Chosen
 pub mod ResolveKeeps
+pub mod ResolveWithin

@@ -17,10 +17,10 @@ use Rattle.passes.specs.Sizes.{each, overFits, symFits, symsFit, alterna
 use Rattle.parse_tree.proofs.TextLaws.{and-both}
 use Rattle.passes.proofs.Outcomes.{no≢yes, yes-inj, after-yes}
 
-no-yes : {A : Type 0} {n : ℕ} {s : Span} {a : A} → _≡_ {A = Outcome A} (no n s) (yes a) → ⊥
+pub no-yes : {A : Type 0} {n : ℕ} {s : Span} {a : A} → _≡_ {A = Outcome A} (no n s) (yes a) → ⊥
 no-yes {A} {n} {s} {a} e = no≢yes n s a e
 
-yes-as : {A : Type 0} (P : A → Type 0) {a b : A} → _≡_ {A = Outcome A} (yes a) (yes b) → P a → P b
+pub yes-as : {A : Type 0} (P : A → Type 0) {a b : A} → _≡_ {A = Outcome A} (yes a) (yes b) → P a → P b
 yes-as P {a} {b} e h = rw (← yes-inj a b e) h
 
 -- ---- how many there are

@@ -82,9 +82,10 @@ module _ (four : Bool) (wd : ℕ) (ts : List Text) (s : List ℕ) (m : Map) (pla
     pub places-are : keysAt (workOf x) (places + 8 * i) (suc (length cs)) ≡ placesFrom p cs
     pub others : Others w i (workOf x)
 
-  -- or one is refused, with its span
+  -- or one is refused, with its span; it stands before e
   pub record OneRefused (w : List ℕ) (i q : ℕ) (sp : Span) (x : GradesOut) : Type 0 where
     pub place : ℕ
+    pub inside : place + 14 ≤ e
     pub answer : answerOf x ≡ Graded.Refused q place
     pub span : spanIn (workOf x) (place + 1) ≡ sp
     pub long : length (workOf x) ≡ length w
@@ -172,7 +173,7 @@ module _ (four : Bool) (wd : ℕ) (ts : List Text) (s : List ℕ) (m : Map) (pla
     refused-is q z = cc z
 
     refused : (q : ℕ) (x : GradesOut) → x ≡ gradesOut (Graded.Refused q p) w → OneRefused w i q (a .span) x
-    refused q x z = rw z (record { place = p; answer = refl; span = span-is; long = refl; others = λ j c d. refl })
+    refused q x z = rw z (record { place = p; inside = before; answer = refl; span = span-is; long = refl; others = λ j c d. refl })
 
     fewer : i < n
     fewer = omega (arith, r .many)
@@ -267,6 +268,7 @@ module _ (four : Bool) (wd : ℕ) (ts : List Text) (s : List ℕ) (m : Map) (pla
       refused-next : (k : ℕ) (sp : Span) → OneRefused w1 (i + 1) k sp y → OneRefused w i k sp y
       refused-next k sp f = record {
         place = f .place;
+        inside = f .inside;
         answer = f .answer;
         span = f .span;
         long = f .long ∙ stored-long w places keys i p v (assocOf t);
