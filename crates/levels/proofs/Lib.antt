@@ -12,6 +12,9 @@ pub mod ExpandMean
 pub mod ExpandMeanSorted
 pub mod ExpandMeanLeft
 pub mod ExpandMeanCode
+mod StepMeanNames
+mod StepMean
+mod StepMeanWrote
 mod SmallCode
 pub mod ThereBytes
 pub mod WroteLaws
@@ -22,3 +25,4 @@ pub mod WholeMeanLoop
 pub mod StepMeanNames
 pub mod StepMean
 pub mod StepMeanWrote
+mod StepCode

@@ -1,10 +1,14 @@
 -- The ways out of name_level, level_of, sorted and refused. Assumes nothing.
 use mathlib.Core.Path.{_≡_, refl, ap, _∙_}
 use mathlib.Core.Bool.{Bool, true, false}
+use mathlib.Core.Logic.{_⊎_, inl, inr}
 use mathlib.Core.List.{List}
-use Prim.Native.Nat.{ℕ, _+_}
+use Prim.Native.Nat.{ℕ, _+_, _<_}
+use native.Mathlib.Omega.{arith}
 use borrow.Author.Needs.{needs}
 use borrow.Author.Tests.{eq-eqb, ne-eqb}
+use mir.Syntax.{w32}
+use mir.Val as Bound
 use Rattle.octets.specs.working.Choice.{pick}
 use Rattle.parse_tree.specs.declared.syntax.Span.{Span}
 use Rattle.parse_tree.specs.declared.refusal.Refusal.{Refusal}
@@ -41,7 +45,11 @@ module _ (i j name below : ℕ) where
   unfolding levelFrom pick
   level-other z a b x y = rw (x, y, ne-eqb i 0 z) refl
 
-pub ruleset making-level = (needs, level-first, level-other)
+  pub below-fits : (i ≡ 0) ⊎ (below < 4294967296) → (i ≡ 0 → ⊥) → Bound.Fits w32 below
+  below-fits (inl x) z = absurd (z x)
+  below-fits (inr x) z = record { fits = omega arith }
+
+pub ruleset making-level = (needs, level-first, level-other, below-fits)
 
 -- ---- sorted
 module _ (w : List ℕ) (keys other n : ℕ) (ascending : Bool) where

@@ -1,7 +1,7 @@
 -- One level of a nonterminal whose keys are sorted: where its keys end, what it is named, and that its item can be written. Assumes nothing.
 use mathlib.Core.Path.{_≡_, refl, sym, ap, _∙_}
-use mathlib.Core.Bool.{Bool, true, false}
-use mathlib.Core.Logic.{inl, inr}
+use mathlib.Core.Bool.{Bool}
+use mathlib.Core.Logic.{inl}
 use mathlib.Core.List.{List, [], _∷_}
 use mathlib.Core.Option.{Option, none, some}
 use Prim.Native.Nat.{ℕ, zero, suc, _+_, _-_, _*_, _/_, _≤_, _<_}
@@ -14,9 +14,8 @@ use mir.Val as Bound
 use Rattle.octets.specs.working.Choice.{pick}
 use Rattle.octets.specs.plain.Numbers.{leAt}
 use Rattle.octets.specs.plain.Runs.{Lies}
-use Rattle.octets.proofs.LiesLaws.{lies-inside}
 use Rattle.parse_tree.specs.plain.Tree.{Text, Alternative, Nonterminal, item}
-use Rattle.parse_tree.specs.plain.Texts.{isName, has, number}
+use Rattle.parse_tree.specs.plain.Texts.{isName, number}
 use Rattle.parse_tree.specs.plain.WriteTape.{bytesOfEach}
 use Rattle.parse_tree.specs.working.Encode.{itemBytes, argumentBytes, alternativeBytes}
 use Rattle.parse_tree.specs.working.Within.{Each, Uses, AlternativeWithin, NonterminalWithin}
@@ -24,7 +23,7 @@ use Rattle.texts.specs.declared.Map.{Map}
 use Rattle.texts.specs.Table.{texts}
 use Rattle.texts.proofs.TableStays.{leAt-agree}
 use Rattle.passes.specs.Grades.{Graded, all, graded}
-use Rattle.passes.specs.Levels.{Group, lowerName, levelName, ofLevel}
+use Rattle.passes.specs.Levels.{Group, levelName, ofLevel}
 use Rattle.laws.specs.Sort.{levelKeys, byLevels}
 use Rattle.replacing.proofs.Going.{Extends, extends-trans, extends-number, new-extends}
 use Rattle.resolve.proofs.CellsLaws.{lies-agree}

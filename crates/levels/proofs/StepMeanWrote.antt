@@ -1,8 +1,8 @@
 -- One level written: its item stands behind those before it, its name is known, and the levels above it are left. Assumes nothing.
 use mathlib.Core.Path.{_≡_, refl, sym, ap, _∙_}
-use mathlib.Core.Bool.{Bool, true}
+use mathlib.Core.Bool.{Bool}
 use mathlib.Core.Logic.{_⊎_, inl, inr}
-use mathlib.Core.List.{List, [], _∷_, _++_, append-nil}
+use mathlib.Core.List.{List, [], _∷_, append-nil}
 use mathlib.Core.Option.{Option, none, some}
 use Prim.Native.Nat.{ℕ, suc, _+_, _-_, _*_, _≤_, _<_}
 use native.Mathlib.Omega.{arith}
@@ -10,12 +10,11 @@ use lib.ListN.{length, getD}
 use Rattle.octets.specs.plain.Runs.{Lies}
 use Rattle.octets.proofs.LiesLaws.{lies-to}
 use Rattle.octets.proofs.StoreLaws.{lies-store}
-use Rattle.parse_tree.specs.plain.Tree.{Text, Nonterminal, Item, item}
-use Rattle.parse_tree.specs.plain.Texts.{has, number, withNew}
+use Rattle.parse_tree.specs.plain.Tree.{Text, Nonterminal, item}
+use Rattle.parse_tree.specs.plain.Texts.{withNew}
 use Rattle.parse_tree.specs.plain.References.{textsOfEach, itemTexts}
 use Rattle.parse_tree.specs.plain.WriteTape.{bytesOfEach}
 use Rattle.parse_tree.specs.working.Encode.{itemBytes}
-use Rattle.parse_tree.specs.working.Within.{NonterminalWithin}
 use Rattle.texts.specs.declared.Map.{Map}
 use Rattle.texts.specs.Table.{Above, Agree, texts}
 use Rattle.passes.specs.Grades.{Graded, graded}
@@ -33,7 +32,6 @@ use Rattle.precedence.proofs.WordedLaws.{naming-worded, worded-stays}
 use Rattle.precedence.proofs.WriteLaws.{puts-beside, puts-on, puts-upto}
 use Rattle.levels.specs.declared.Room.{Room}
 use Rattle.levels.specs.declared.Written.{Written}
-use Rattle.levels.specs.declared.expand.Next.{Next}
 use Rattle.levels.specs.Expand.{NamesAt, Kept, Wrote, Stood, placesOf, alternativesAt, LowerIs, levelItem, Left, Stepped}
 use Rattle.levels.proofs.Graded.{GradedWithin, graded-within, of-level-each}
 use Rattle.levels.proofs.There.{LowerIn}

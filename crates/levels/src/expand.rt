@@ -25,6 +25,7 @@ use precedence::sort::sort;
 use texts::Map;
 ghost use mathlib.Core.Path.{_≡_};
 ghost use mathlib.Core.Bool.{true, false};
+ghost use mathlib.Core.Logic.{_⊎_};
 ghost use Prim.Native.Nat.{_+_, _*_, _≤_, _<_};
 ghost use lib.ListN.{length};
 ghost use lib.Dec.{eqb};
@@ -66,7 +67,7 @@ fn name_level(
 
 // The level of the keys from i up to j. Below the lowest there is none: it has its own name there.
 fn level_of(i: usize, j: usize, name: usize, below: usize) -> Level
-    requires { ⌜ (name < 4294967296) × (below < 4294967296) ⌝ }
+    requires { ⌜ (name < 4294967296) × ((i ≡ 0) ⊎ (below < 4294967296)) ⌝ }
     ensures { λ r. ⌜ r ≡ levelFrom i j name below ⌝ }
 {
     if i == 0 {

@@ -18,7 +18,7 @@ cast-t8 : tie.Need-cast-t8
 cast-t8 c = search needs
 
 cast-t9 : tie.Need-cast-t9
-cast-t9 c = search needs
+cast-t9 c = search making-level
 
 returns-2 : tie.Need-returns-2
 returns-2 c = search making-level
