@@ -19,10 +19,7 @@ mod SmallCode
 pub mod ThereBytes
 pub mod WroteLaws
 mod LevelsCode
-pub mod WholeMean
-pub mod WholeMeanItem
-pub mod WholeMeanLoop
-pub mod StepMeanNames
-pub mod StepMean
-pub mod StepMeanWrote
+mod WholeMean
+mod WholeMeanItem
+mod WholeMeanLoop
 mod StepCode
