@@ -19,4 +19,7 @@ mod SmallCode
 pub mod ThereBytes
 pub mod WroteLaws
 mod LevelsCode
+mod WholeMean
+mod WholeMeanItem
+mod WholeMeanLoop
 mod StepCode

@@ -61,8 +61,8 @@ module _ (four : Bool) (wd : ℕ) (ts : List Text) where
   unfolding levelItems groupNames
   group-texts us d p h = levels-texts us d (graded d) none (levelsOf (graded d)) p h (graded-within four wd ts d h) tt
 
-  -- an item that stays
-  plain-texts : (us : List Text) (x : Item) → Extends ts us → ItemWithin four wd ts x → withNew us (textsOfEach itemTexts (x ∷ [])) ≡ us
+  -- theorem: an item that stays has no new text
+  pub plain-texts : (us : List Text) (x : Item) → Extends ts us → ItemWithin four wd ts x → withNew us (textsOfEach itemTexts (x ∷ [])) ≡ us
   unfolding textsOfEach
   plain-texts us x p h = ap (withNew us) (append-nil (itemTexts x)) ∙ new-there us us (itemTexts x) (extends-refl us) (item-there four wd ts us p x h)
 
