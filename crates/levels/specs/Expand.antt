@@ -57,7 +57,7 @@ SortsKeys w keys other n false r w′ = Sorted w keys other n r w′
 pub record Laid (m : Map) (room : Room) (most n long : ℕ) : Type 0 where
   pub heads : m .base + 24 * m .buckets ≤ room .arrays
   pub names : m .base + 24 * most ≤ room .arrays
-  pub few : most ≤ 4294967295
+  pub few : most ≤ 4294967296
   pub arrays : room .arrays + (24 * n + 8) ≤ room .at
   pub ordered : room .at ≤ room .lim
   pub inside : room .lim + 16 ≤ long

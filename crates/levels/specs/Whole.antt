@@ -68,6 +68,7 @@ module _ (s : List ℕ) (m : Map) (t : Grammar) (room : Room) where
     pub table : Table s w m
     pub above : Above s w m (room .lim + 16)
     pub some : 0 < m .buckets
+    pub few : m .count ≤ 4294967295
     pub apart : distinct (texts s w m) ≡ true
     pub row : Row t (texts s w m) w 0 (t .at) R
     pub within : Each (ItemWithin four (t .width) (texts s w m)) R
