@@ -29,25 +29,26 @@ use Rattle.passes.specs.Stages.{stage, resolveStage}
 use Rattle.passes.specs.Calls.{readAs, sizes, validateCall, resolveCall, written, workAfter}
 use Rattle.resolve.specs.declared.Grammar.{Grammar}
 use Rattle.normalize.specs.plain.Answers.{answerOf, Called, Checked}
-use Rattle.normalize.specs.working.Stages.{Judged, StandsBy, TapeReads, TapeResolves, sized, resolved, Staged}
+use Rattle.normalize.specs.working.Stages.{Judged, Levelable, StandsBy, TapeReads, TapeResolves, sized, resolved, Staged}
 use Rattle.normalize.specs.working.Handing.{handed}
 use Rattle.normalize.specs.declared.Answer.{Answer}
 use Rattle.normalize.specs.declared.Resolved.{Resolved}
 use Rattle.normalize.proofs.ResolvingMean.{admit-many, admit-long, admit-done}
 
 -- ---- `resolve_stage`: a tape that was resolved, its grammar t standing in w
-record Stood (s w : List ℕ) (m : Map) (t : Grammar) (at : ℕ) : Type 0 where
-  tape : Stage
-  end : ℕ
-  tree : Tree
-  decoded : decode s ≡ got tape end
-  is : resolve (tape .items) ≡ yes tree
-  within : StageWithin true 2 tape
-  many : m .count ≡ length (tape .atoms)
-  inside : at ≤ length s
-  atoms : part 0 at s ≡ bytesOfEach (atomBytes 2) (tape .atoms)
-  room : t .at + (length s - at) ≤ length w
-  items : part (t .at) (t .at + (length s - at)) w ≡ bytesOfEach (itemBytes 2 (tape .atoms)) tree
+pub record Stood (s w : List ℕ) (m : Map) (t : Grammar) (at : ℕ) : Type 0 where
+  pub tape : Stage
+  pub end : ℕ
+  pub tree : Tree
+  pub decoded : decode s ≡ got tape end
+  pub is : resolve (tape .items) ≡ yes tree
+  pub within : StageWithin true 2 tape
+  pub many : m .count ≡ length (tape .atoms)
+  pub inside : at ≤ length s
+  pub atoms : part 0 at s ≡ bytesOfEach (atomBytes 2) (tape .atoms)
+  pub room : t .at + (length s - at) ≤ length w
+  pub items : part (t .at) (t .at + (length s - at)) w ≡ bytesOfEach (itemBytes 2 (tape .atoms)) tree
+  pub levels : Levelable s w m t at (tape .atoms) tree
 
 is-no : (m : Map) (t : Grammar) (at : ℕ) (why : Refusal) → Resolved.Is m t at ≡ Resolved.Refused why → ⊥
 is-no m t at why e = let z : _≡_ {A = ℕ} 0 1 = cc in omega arith
@@ -66,7 +67,7 @@ module _ (s : List ℕ) (x : Resolved) (w : List ℕ) (i : TapeResolves s x w) w
       go (got g k) p h = by g (resolve (g .items)) h
       go (refused q k) p h = let z : why ≡ refusalAt q k = cc in record { answered = rw z refl; tree = refl }
 
-  stood : (m : Map) (t : Grammar) (at : ℕ) → x ≡ Resolved.Is m t at → Stood s w m t at
+  pub stood : (m : Map) (t : Grammar) (at : ℕ) → x ≡ Resolved.Is m t at → Stood s w m t at
   unfolding TapeResolves TapeReads StandsBy
   stood m t at e = go (decode s) refl i
     where
@@ -89,6 +90,8 @@ module _ (s : List ℕ) (x : Resolved) (w : List ℕ) (i : TapeResolves s x w) w
             room = subst (λ (u : Grammar). u .at + (length s - at) ≤ length w) d (subst (λ (u : ℕ). h .grammar .at + (length s - u) ≤ length w) f (h .room));
             items = subst (λ (u : Grammar). part (u .at) (u .at + (length s - at)) w ≡ bytesOfEach (itemBytes 2 (g .atoms)) R) d
                 (subst (λ (u : ℕ). part (h .grammar .at) (h .grammar .at + (length s - u)) w ≡ bytesOfEach (itemBytes 2 (g .atoms)) R) f (h .items));
+            levels = subst (λ (u : ℕ). Levelable s w m t u (g .atoms) R) f
+                (subst (λ (u : Grammar). Levelable s w m u (h .place) (g .atoms) R) d (subst (λ (u : Map). Levelable s w u (h .grammar) (h .place) (g .atoms) R) c (h .levels)));
           }
 
       go : (z : Reading Stage) → decode s ≡ z → TapeReads s z x w → Stood s w m t at
@@ -98,35 +101,53 @@ module _ (s : List ℕ) (x : Resolved) (w : List ℕ) (i : TapeResolves s x w) w
   pub stage-stands : (m : Map) (t : Grammar) (at : ℕ) → x ≡ Resolved.Is m t at → TapeResolves s (Resolved.Is m t at) w
   stage-stands m t at e = rw (← e) i
 
+-- ---- the stage of a resolved tape
+module _ (s w : List ℕ) (m : Map) (t : Grammar) (at : ℕ) (d : Stood s w m t at) where
+  abbrev pub treeOf : Stage
+  treeOf = record { atoms = d .tape .atoms; items = d .tree }
+
+  pub bytes-are : stageBytes 2 treeOf ≡ part 0 at s ++ part (t .at) (t .at + (length s - at)) w
+  unfolding stageBytes
+  bytes-are = rw (d .atoms, d .items) refl
+
+  pub size-is : length (stageBytes 2 treeOf) ≡ length s
+  size-is =
+      ap length bytes-are
+      ∙ omega (arith, d .inside, length-append (part 0 at s) (part (t .at) (t .at + (length s - at)) w), part-length 0 at s (d .inside), part-length (t .at) (t .at + (length s - at)) w (d .room))
+
+  pub said : (cap : ℕ) → resolved s cap ≡ sizes 2 cap (stageOf (d .tape .atoms) (d .tree))
+  unfolding resolved resolveStage
+  said cap = rw (d .decoded, d .is) refl
+
+  -- where it is admitted
+  module _ (few : m .count ≤ 65536) where
+    pub said-yes : (cap : ℕ) → length s ≤ cap → resolved s cap ≡ yes treeOf
+    said-yes cap fits = said cap ∙ admit-done (d .tape) (d .tree) (d .is) (d .within) cap (omega (arith, d .many)) (omega (arith, size-is))
+
+    pub stood-yes : (o o′ : List ℕ) → length s ≤ length o → o′ ≡ handed at s (t .at) w o → Staged (resolved s (length o)) o (Answer.Yes (length s)) o′
+    unfolding answerOf written handed
+    stood-yes o o′ fits h =
+        let u : tapeOf 2 treeOf ≡ part 0 at s ++ part (t .at) (t .at + (length s - at)) w = tape-is 2 treeOf ∙ bytes-are in
+        let l : length (tapeOf 2 treeOf) ≡ length s = ap length (tape-is 2 treeOf) ∙ size-is in
+        rw (said-yes (length o) fits)
+        (record {
+          answered = ap Answer.Yes (sym l);
+          tree = h ∙ sym (append-assoc (part 0 at s) (part (t .at) (t .at + (length s - at)) w) (drop (length s) o)) ∙ (let g : drop (length (tapeOf 2 treeOf)) o ≡ drop (length s) o = ap (λ (k : ℕ). drop k o) l in cc);
+        })
+
 -- ---- `admit`
 module _ (s w : List ℕ) (m : Map) (t : Grammar) (at : ℕ) (i : TapeResolves s (Resolved.Is m t at) w) where
+  abbrev d : Stood s w m t at
+  d = stood s (Resolved.Is m t at) w i m t at refl
+
   pub hand-inside : at ≤ length s
-  hand-inside = stood s (Resolved.Is m t at) w i m t at refl .inside
+  hand-inside = d .inside
 
   pub hand-room : t .at + (length s - at) ≤ length w
-  hand-room = stood s (Resolved.Is m t at) w i m t at refl .room
+  hand-room = d .room
 
   -- y is what `judge` answered
   module _ (o : List ℕ) (y : Answer) (j : y ≡ sized (m .count) (length s) (length o)) where
-    abbrev d : Stood s w m t at
-    d = stood s (Resolved.Is m t at) w i m t at refl
-
-    abbrev tree : Stage
-    tree = record { atoms = d .tape .atoms; items = d .tree }
-
-    bytes-are : stageBytes 2 tree ≡ part 0 at s ++ part (t .at) (t .at + (length s - at)) w
-    unfolding stageBytes
-    bytes-are = rw (d .atoms, d .items) refl
-
-    size-is : length (stageBytes 2 tree) ≡ length s
-    size-is =
-        ap length bytes-are
-        ∙ omega (arith, d .inside, length-append (part 0 at s) (part (t .at) (t .at + (length s - at)) w), part-length 0 at s (d .inside), part-length (t .at) (t .at + (length s - at)) w (d .room))
-
-    said : resolved s (length o) ≡ sizes 2 (length o) (stageOf (d .tape .atoms) (d .tree))
-    unfolding resolved resolveStage
-    said = rw (d .decoded, d .is) refl
-
     -- by what is asked of the sizes
     Judges : Bool → Bool → Type 0
     Judges many long = y ≡ pick many (Answer.No (refusalAt 20 0)) (pick long (Answer.No (refusalAt 21 0)) (Answer.Yes (length s)))
@@ -140,7 +161,7 @@ module _ (s w : List ℕ) (m : Map) (t : Grammar) (at : ℕ) (i : TapeResolves s
 
     pub stage-no : (why : Refusal) → y ≡ Answer.No why → Staged (resolved s (length o)) o (Answer.No why) o
     unfolding Judges pick answerOf written refusalAt
-    stage-no why z = rw said (go (ltb 65536 (m .count)) refl (ltb (length o) (length s)) refl judges)
+    stage-no why z = rw (said s w m t at d (length o)) (go (ltb 65536 (m .count)) refl (ltb (length o) (length s)) refl judges)
       where
         go : (a : Bool) → ltb 65536 (m .count) ≡ a → (b : Bool) → ltb (length o) (length s) ≡ b → Judges a b → Staged (sizes 2 (length o) (stageOf (d .tape .atoms) (d .tree))) o (Answer.No why) o
         go true p b q k =
@@ -151,11 +172,11 @@ module _ (s w : List ℕ) (m : Map) (t : Grammar) (at : ℕ) (i : TapeResolves s
             let h = ltb-false 65536 (m .count) p in
             let l = ltb-true (length o) (length s) q in
             let u : why ≡ refusalAt 21 0 = cc in
-            rw (admit-long (d .tape) (d .tree) (d .is) (d .within) (length o) (omega (arith, d .many)) (omega (arith, size-is))) (record { answered = rw u refl; tree = refl })
+            rw (admit-long (d .tape) (d .tree) (d .is) (d .within) (length o) (omega (arith, d .many)) (omega (arith, size-is s w m t at d))) (record { answered = rw u refl; tree = refl })
         go false p false q k = absurd (yes-no (length s) why (sym k ∙ z))
 
     module _ (n : ℕ) (z : y ≡ Answer.Yes n) where
-      judged : (m .count ≤ 65536) × (length s ≤ length o) × (n ≡ length s)
+      pub judged : (m .count ≤ 65536) × (length s ≤ length o) × (n ≡ length s)
       unfolding Judges pick
       judged = go (ltb 65536 (m .count)) refl (ltb (length o) (length s)) refl judges
         where
@@ -168,15 +189,7 @@ module _ (s w : List ℕ) (m : Map) (t : Grammar) (at : ℕ) (i : TapeResolves s
       hand-fits = judged .1
 
       pub stage-yes : (o′ : List ℕ) → o′ ≡ handed at s (t .at) w o → Staged (resolved s (length o)) o (Answer.Yes n) o′
-      unfolding answerOf written handed
-      stage-yes o′ h =
-          let u : tapeOf 2 tree ≡ part 0 at s ++ part (t .at) (t .at + (length s - at)) w = tape-is 2 tree ∙ bytes-are in
-          let l : length (tapeOf 2 tree) ≡ length s = ap length (tape-is 2 tree) ∙ size-is in
-          rw (said, admit-done (d .tape) (d .tree) (d .is) (d .within) (length o) (omega (arith, d .many, judged .0)) (omega (arith, size-is, judged .1)))
-          (record {
-            answered = ap Answer.Yes (judged .2 ∙ sym l);
-            tree = h ∙ sym (append-assoc (part 0 at s) (part (t .at) (t .at + (length s - at)) w) (drop (length s) o)) ∙ (let g : drop (length (tapeOf 2 tree)) o ≡ drop (length s) o = ap (λ (k : ℕ). drop k o) l in cc);
-          })
+      stage-yes o′ h = rw (judged .2) (stood-yes s w m t at d (judged .0) o o′ (judged .1) h)
 
 pub ruleset admitting = (needs, stage-no, hand-inside, hand-room, hand-fits, stage-yes)
 

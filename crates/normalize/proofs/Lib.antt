@@ -7,3 +7,7 @@ mod ResolvingMean
 mod LevelableMean
 mod ResolvingCode
 mod ValidatingCode
+mod LevellingMeanFew
+mod LevellingMeanStage
+mod LevellingMeanTexts
+mod LevellingMeanSize

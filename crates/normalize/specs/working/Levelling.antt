@@ -13,7 +13,7 @@ use Rattle.parse_tree.specs.plain.WriteTape.{bytesOfEach}
 use Rattle.parse_tree.specs.working.Decode.{decode}
 use Rattle.parse_tree.specs.working.Encode.{atomBytes, itemBytes}
 use Rattle.parse_tree.specs.working.Refusals.{refusalAt}
-use Rattle.parse_tree.specs.working.Within.{StageWithin}
+use Rattle.parse_tree.specs.working.Within.{Each, ItemWithin, StageWithin}
 use Rattle.texts.specs.declared.Map.{Map}
 use Rattle.texts.specs.Table.{texts}
 use Rattle.passes.specs.Outcome.{Tree, Outcome, yes, after}
@@ -76,6 +76,7 @@ pub record SomeLevels (s : List ℕ) (cap : ℕ) (m : Map) (at : ℕ) (room : Ro
   pub many : m .count ≡ length (tape .atoms)
   pub inside : at ≤ length s
   pub atoms : part 0 at s ≡ bytesOfEach (atomBytes 2) (tape .atoms)
+  pub tree-within : Each (ItemWithin true 2 (tape .atoms)) tree
   pub some : 0 < length tree
   pub room-is : room ≡ roomOf (length s) (length s - at) cap
   pub fits : length s ≤ cap
