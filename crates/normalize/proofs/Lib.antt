@@ -11,3 +11,4 @@ mod LevellingMeanFew
 mod LevellingMeanStage
 mod LevellingMeanTexts
 mod LevellingMeanSize
+mod LevellingCode
