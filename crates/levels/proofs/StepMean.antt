@@ -64,6 +64,10 @@ pub some-level : (w : List ℕ) (keys n i : ℕ) (gs : List Graded) → i < n �
 unfolding byLevels
 some-level w keys n i gs h k = absurd (omega (arith, no-keys w (keys + 8 * i) (n - i) k))
 
+some-above : (vs : List ℕ) → (vs ≡ [] → ⊥) → 1 ≤ length vs
+some-above [] h = absurd (h refl)
+some-above (u ∷ us) h = omega arith
+
 -- the places by the numbers of more texts
 places-extend : (four : Bool) (wd : ℕ) (ts us : List Text) → Extends ts us → (s : List ℕ) (m : Map) (places keys n e p : ℕ) (cs : List Alternative) → Each (AlternativeWithin four wd ts) cs
     → placesOf wd ts p cs ≡ placesFrom four wd us s m places keys n e p cs
@@ -99,15 +103,16 @@ module _ (s : List ℕ) (m : Map) (room : Room) (wd : ℕ) (ids : Ids) (p e plac
     unfolding levelAt
     level-is = group-is .level
 
-    -- theorem: its name can be described
-    pub step-describing : Describing s w m (v .count) (leAt wd w (p + 9)) (leAt 8 w (keys + 8 * i) / 262144)
-    step-describing =
+    -- theorem: where it isn't the highest, its name can be described
+    pub step-describing : eqb j n ≡ false → Describing s w m (v .count) (leAt wd w (p + 9)) (leAt 8 w (keys + 8 * i) / 262144)
+    step-describing other =
         let a = L .laid in
         let b = before-arrays in
         let c = base-is in
         let z = level-is in
         let names : m .base + 24 * (v .count + suc (length above)) ≤ room .arrays = a .names in
-        let most : v .count + suc (length above) ≤ 4294967295 = a .few in
+        let most : v .count + suc (length above) ≤ 4294967296 = a .few in
+        let more = some-above above (group-is .not-highest (eqb-false j n other)) in
         record {
           low = room .lim + 16;
           naming = L .names .naming;

@@ -180,7 +180,7 @@ module _ (s : List ℕ) (m : Map) (room : Room) (wd : ℕ) (ids : Ids) (p e plac
   step-left =
       let a = L .laid in
       let z = same-names in
-      let most : v .count + suc (length above) ≤ 4294967295 = a .few in
+      let most : v .count + suc (length above) ≤ 4294967296 = a .few in
       record {
         laid = record {
           heads = a .heads;
