@@ -1,6 +1,6 @@
 -- The ways out of `next_level`: what it asks of the functions that it calls, and what it leaves. Assumes nothing.
 use mathlib.Core.Path.{_≡_, refl}
-use mathlib.Core.Bool.{Bool}
+use mathlib.Core.Bool.{Bool, false}
 use mathlib.Core.Logic.{_⊎_, inl, inr}
 use mathlib.Core.List.{List, [], _∷_}
 use mathlib.Core.Option.{Option, none, some}
@@ -45,10 +45,10 @@ module _ (s : List ℕ) (m : Map) (room : Room) (wd : ℕ) (ids : Ids) (p e plac
 
     module _ (j : ℕ) (g : GroupEnd w keys n i j) (a base u : ℕ) (r : a ≡ leAt wd w (p + 9)) (b : base ≡ a) (l : u ≡ leAt 8 w (keys + 8 * i)) where
       -- theorem: the name of the next level can be described
-      pub next-describing : Describing s w m (v .count) base (u / 262144)
-      next-describing =
+      pub next-describing : eqb j n ≡ false → Describing s w m (v .count) base (u / 262144)
+      next-describing other =
           with-level (S .four) (S .nonterminal) (S .lower) (S .levels) (Describing s w m (v .count) base (u / 262144)) h (S .left)
-          (λ v0 above z L. rw (b, r, l) (step-describing s m room wd ids p e places keys n i below v w (S .four) (S .nonterminal) (S .lower) v0 above L j g))
+          (λ v0 above z L. rw (b, r, l) (step-describing s m room wd ids p e places keys n i below v w (S .four) (S .nonterminal) (S .lower) v0 above L j g other))
 
       module _ (x : LevelName) (w1 : List ℕ) (f : NamesLevel s w m (v .count) base (u / 262144) (eqb j n) x w1) where
         -- theorem: its number is a `u32`

@@ -90,7 +90,7 @@ module _ (s : List ℕ) (m : Map) (t : Grammar) (room : Room) (w0 : List ℕ) (i
         row = rw (row-place t (texts s w0 m) w0 0 (t .at) R (g .row)) (g .row);
         within = g .within;
         names = record {
-          naming = naming-start s w0 m (g .table) (g .some) (omega (arith, g .laid .few));
+          naming = naming-start s w0 m (g .table) (g .some) (g .few);
           above = g .above;
           apart = ap distinct e ∙ g .apart;
           ids-are = z ∙ ap (λ (ts : List Text). idsIn ts) (sym e);
