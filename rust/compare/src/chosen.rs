@@ -6,6 +6,7 @@ use crate::grow::Size;
 use crate::judge::expected;
 use crate::{mix, short};
 use oracle::chance::Chance;
+use oracle::Call;
 use reading::commands::hex;
 use reading::Outcome;
 use std::collections::BTreeMap;
@@ -21,7 +22,7 @@ pub const MOST_WORK: usize = 8_192;
 pub fn stored() -> Option<Vec<(Case, Outcome)>> {
     let mut found: BTreeMap<u8, Vec<(Case, Outcome)>> = BTreeMap::new();
     for case in candidates().take_while(|_| oracle::is_there()) {
-        let outcome = expected(&case)?;
+        let outcome = expected(&case, Call::Resolve)?;
         let number = outcome.as_ref().err().map_or(0, |refusal| refusal.number);
         let same = found.entry(number).or_default();
         if same.len() < OF_EACH && adds(same, &case, &outcome) {
