@@ -1,5 +1,5 @@
-//! Levels beside LALRPOP's `expand_precedence`, which has its resolved tree ready and resolves it once more: on the grammars, and on long ladders.
-//! What levels take of our call is the call without resolving.
+//! Levels beside LALRPOP's `expand_precedence`, which has its resolved tree ready and resolves it once more: on grammars and on long ladders.
+//! What levels take of our call is the call without the call for resolving; of theirs, `expand_precedence` without `resolve` of the same tree.
 use crate::callgrind::{self, per_byte, Call};
 use crate::functions;
 use crate::grammars::SIZES;

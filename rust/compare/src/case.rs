@@ -22,9 +22,9 @@ impl Case {
         Case { tape, room: Room::default() }
     }
 
-    /// With much more output than the tape is long.
+    /// With an output that a few levels fit in.
     pub fn roomy(tape: Vec<u8>) -> Case {
-        Case { room: Room { output: 3 * tape.len() as isize, work: 0 }, tape }
+        Case { room: Room { output: tape.len() as isize / 2 + 200, work: 0 }, tape }
     }
 
     pub fn output_len(&self) -> usize {

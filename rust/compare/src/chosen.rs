@@ -67,7 +67,7 @@ fn candidates() -> impl Iterator<Item = Case> {
     known.chain(room).chain(short).chain(random)
 }
 
-/// The chosen grammars and those of the unit tests of precedence, one behind another at each of their lengths, then random ones without end, with levels
+/// The chosen grammars and those of the unit tests of precedence, all at one length before all at the next; then random ones without end, with levels
 /// and as for resolving.
 fn level_candidates() -> impl Iterator<Item = Case> {
     let chosen = CASES.iter().chain(&OTHERS).map(|case| case.stage()).chain(REFUSED.iter().map(|case| case.stage()));

@@ -147,7 +147,7 @@ fn long_level_names() -> Vec<Vec<u8>> {
     ]
 }
 
-/// As many alternatives as there can be: at one level, and all but one at the higher of two; many at three; 700 levels, ascending and descending.
+/// As many alternatives as there can be, at one level and at two, all but one at the higher; many at three; 700 levels, ascending and descending.
 fn many_levels() -> Vec<Vec<u8>> {
     let front = level_atoms(b"E", 0, &[]);
     let with = |all: Vec<u16>| [&front[..], &levels(&all)].concat();
@@ -172,11 +172,12 @@ fn level_towers() -> Vec<Vec<u8>> {
     layers.iter().map(|layer| [&front[..], &nonterminal(0, 0, 2), &low, &high(layer)].concat()).collect()
 }
 
-/// Tapes at the limits for levels, each with outputs as long as its stages, one byte less, and longer.
+/// Tapes at the limits for levels, each with outputs as long as its stages, one byte less, and longer, and work just long enough.
 pub fn level_cases() -> Vec<Case> {
     let tapes = [many_level_atoms(), long_level_names(), many_levels(), level_towers()].concat();
     let mut chance = Chance(20);
-    tapes.into_iter().map(told_apart).flat_map(|tape| at_level_lengths(&mut chance, &tape)).collect()
+    let cases = tapes.into_iter().map(told_apart).flat_map(|tape| at_level_lengths(&mut chance, &tape));
+    cases.map(|case| Case { room: Room { work: 0, ..case.room }, ..case }).collect()
 }
 
 /// Each tape with just enough room, and with an output one byte too short.

@@ -67,8 +67,8 @@ fn made_names(chance: &mut Chance, stage: &mut Stage) {
     }
 }
 
-/// One nonterminal without arguments gets the name of another with a digit behind, wherever it stands, so that names of levels can meet it or its levels'.
-/// Both names, unless there is none or it is taken.
+/// One nonterminal without arguments gets the name of another with a digit behind, so that names of levels can meet it, or its own levels' names.
+/// Both names; nothing where there aren't two, or the new one is taken.
 fn name_alike(chance: &mut Chance, items: &mut [Item]) -> Option<(String, String)> {
     let names: Vec<String> = nonterminals(items).filter(|data| data.args.is_empty()).map(|data| data.name.clone()).collect();
     if names.len() < 2 {

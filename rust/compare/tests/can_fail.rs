@@ -119,7 +119,6 @@ fn shows(call: Call, faults: &[Fault]) {
 #[test]
 fn every_fault_shows() {
     shows(Call::Resolve, &PLAIN);
-    shows(Call::Levels, &PLAIN);
     if the_rust_is_there(OF_RESOLVING.len() + OF_LEVELS.len()) {
         shows(Call::Resolve, &OF_RESOLVING);
         shows(Call::Levels, &OF_LEVELS);
