@@ -131,7 +131,7 @@ impl Model {
 
     fn taken(&self, alternative: &mut Alternative, id: &str) -> Option<Option<String>> {
         let mut places = alternative.attributes.iter().enumerate().filter(|(_, attribute)| attribute.id == id).map(|(place, _)| place);
-        let place = if self.is(LastTaken) { places.last() } else { places.next() }?;
+        let place = if self.is(LastTaken) { places.next_back() } else { places.next() }?;
         let attribute = alternative.attributes.remove(place);
         if self.is(AllRemoved) {
             alternative.attributes.retain(|attribute| attribute.id != id);
