@@ -12,6 +12,11 @@ pub enum Call {
     Validate,
     Resolve,
     Lalrpop,
+    Levels,
+    /// LALRPOP's `resolve` of a tree that is resolved.
+    LalrpopAgain,
+    /// Its `expand_precedence` of the same.
+    LalrpopLevels,
 }
 
 impl Call {
@@ -20,6 +25,9 @@ impl Call {
             Call::Validate => "validate",
             Call::Resolve => "resolve",
             Call::Lalrpop => "lalrpop",
+            Call::Levels => "levels",
+            Call::LalrpopAgain => "lalrpop-again",
+            Call::LalrpopLevels => "lalrpop-levels",
         }
     }
 
@@ -27,7 +35,9 @@ impl Call {
         match self {
             Call::Validate => "normalize_validate",
             Call::Resolve => "normalize_resolve",
-            Call::Lalrpop => "*lalrpop_resolves*",
+            Call::Lalrpop | Call::LalrpopAgain => "*lalrpop_resolves*",
+            Call::Levels => "normalize_levels",
+            Call::LalrpopLevels => "*lalrpop_levels*",
         }
     }
 }
@@ -44,8 +54,12 @@ pub fn once(arguments: &[String]) {
     match call.as_str() {
         "validate" => subject.validate(&mut subject.work_of_validating()),
         "resolve" => subject.resolve(&mut subject.output(), &mut subject.work_of_resolving()),
+        // the call that would tell the tree's length would be counted too
+        "levels" => assert!(subject.levels_once() > 0),
         "lalrpop" => drop(black_box(subject.ready.map(lalrpop_resolves))),
-        _ => panic!("CALL is validate, resolve or lalrpop"),
+        "lalrpop-again" => drop(black_box(subject.ready.and_then(Ready::resolved).map(lalrpop_resolves))),
+        "lalrpop-levels" => drop(black_box(subject.ready.and_then(Ready::resolved).map(lalrpop_levels))),
+        _ => panic!("CALL is validate, resolve, levels, lalrpop, lalrpop-again or lalrpop-levels"),
     }
 }
 
@@ -53,6 +67,11 @@ pub fn once(arguments: &[String]) {
 #[inline(never)]
 fn lalrpop_resolves(ready: Ready) -> Option<Ready> {
     ready.resolved()
+}
+
+#[inline(never)]
+fn lalrpop_levels(ready: Ready) -> Option<Ready> {
+    ready.levelled()
 }
 
 /// The instructions of a call by function, the most first. Those of `memset`, which clears work and tables, are left out: callgrind counts one

@@ -1,15 +1,16 @@
-//! What the calls cost: beside LALRPOP's own name resolution on grammars like grammar files, in instructions, and at sizes up to 4 MiB.
+//! What the calls cost: beside LALRPOP's own name resolution and levels on grammars like grammar files, in instructions, and at sizes up to 4 MiB.
 //! Ends with status 1 where a byte takes more than half as long again at 4 MiB as at 64 KiB.
 mod callgrind;
 mod clock;
 mod grammars;
+mod levels;
 mod measure;
 mod subject;
 mod tapes;
 
 use callgrind::Call;
-use measure::Least as Figures;
 use grammars::SIZES;
+use measure::Least as Figures;
 use std::process::ExitCode;
 use subject::{Subject, SYMBOLS};
 
@@ -23,6 +24,7 @@ fn main() -> ExitCode {
     }
     compare();
     count();
+    levels::tell();
     let is_linear = sizes();
     names();
     if is_linear {
@@ -63,7 +65,7 @@ fn count() {
     for size in [4 << 10, 64 << 10, 1 << 20] {
         instructions_of(&format!("{SYMBOLS}{size}"), false);
     }
-    functions("128");
+    functions(Call::Resolve, "resolving", "128");
 }
 
 /// One line, with LALRPOP or without.
@@ -74,11 +76,11 @@ fn instructions_of(word: &str, with_theirs: bool) {
     println!("| {word} | {validating:.1} | {resolving:.1} | {theirs} |");
 }
 
-/// Where resolving spends its instructions.
-fn functions(word: &str) {
-    let all = callgrind::instructions(Call::Resolve, word);
+/// Where a call spends its instructions.
+fn functions(call: Call, name: &str, word: &str) {
+    let all = callgrind::instructions(call, word);
     let total: u64 = all.iter().map(|(count, _)| count).sum();
-    println!("\n| function, resolving at {word} nonterminals | share |\n|---|---|");
+    println!("\n| function, {name} at {word} nonterminals | share |\n|---|---|");
     for (count, name) in all {
         println!("| `{name}` | {:.0} % |", 100.0 * count as f64 / total as f64);
     }
@@ -97,7 +99,8 @@ fn sizes() -> bool {
     let is_linear = validating <= MOST_GROWTH && resolving <= MOST_GROWTH;
     let end = if is_linear { "no more than" } else { "and that is more than" };
     println!("\nA byte at 4 MiB, against 64 KiB: validating {validating:.2}, resolving {resolving:.2}: {end} {MOST_GROWTH}.");
-    let [validating, resolving] = [growth(|it| it.validating - it.clearing_of_validating), growth(|it| it.resolving - it.clearing_of_resolving)];
+    let [validating, resolving] =
+        [growth(|it| it.validating - it.clearing_of_validating), growth(|it| it.resolving - it.clearing_of_resolving)];
     println!("Without the clearing: validating {validating:.2}, resolving {resolving:.2}; the clearing alone {clearing:.2}.");
     is_linear
 }
@@ -105,7 +108,8 @@ fn sizes() -> bool {
 /// One line: nanoseconds for each byte.
 fn line(name: &str, tape: &[u8]) -> Figures {
     let it = measure::least(tape).over(tape.len());
-    let all = [it.validating, it.clearing_of_validating, it.resolving, it.clearing_of_resolving].map(|figure| format!("{figure:.2}")).join(" | ");
+    let all =
+        [it.validating, it.clearing_of_validating, it.resolving, it.clearing_of_resolving].map(|figure| format!("{figure:.2}")).join(" | ");
     println!("| {name} | {} | {all} |", tape.len());
     it
 }

@@ -9,7 +9,7 @@ const TURNS: usize = 15;
 const TURN: Duration = Duration::from_millis(5);
 
 /// Something that can be done so many times over, and tells how long that took.
-type Run<'a> = Box<dyn FnMut(u32) -> Duration + 'a>;
+pub type Run<'a> = Box<dyn FnMut(u32) -> Duration + 'a>;
 
 /// Nanoseconds for each byte of the tape.
 pub struct Figures {
@@ -23,19 +23,25 @@ pub struct Figures {
 /// The medians of the turns: validating, resolving, copying, LALRPOP's, and again. The tree is what the tape becomes.
 pub fn figures(subject: &Subject, tree: &[u8]) -> Figures {
     let mut runs = vec![validating(subject), resolving(subject), copying(subject, tree)];
-    runs.extend(subject.ready.as_ref().map(|ready| theirs(ready, &subject.tape)));
+    runs.extend(subject.ready.as_ref().map(|ready| theirs(ready, subject.tape.len(), Ready::resolved)));
+    let turns = turns(runs, subject.tape.len());
+    let ratios = |theirs: &Vec<f64>| theirs.iter().zip(&turns[1]).map(|(theirs, ours)| theirs / ours).collect();
+    let theirs = turns.get(3).map(|theirs| (median(theirs.clone()), median(ratios(theirs))));
+    let [validating, resolving, copying] = [0, 1, 2].map(|k| median(turns[k].clone()));
+    Figures { validating, resolving, copying, theirs }
+}
+
+/// Nanoseconds for each of so many bytes, turn by turn, of each run.
+pub fn turns(mut runs: Vec<Run>, bytes: usize) -> Vec<Vec<f64>> {
     let counts: Vec<u32> = runs.iter_mut().map(times_for_a_turn).collect();
     let mut turns: Vec<Vec<f64>> = vec![vec![]; runs.len()];
     for _ in 0..TURNS {
         for (k, run) in runs.iter_mut().enumerate() {
             let nanoseconds = run(counts[k]).as_nanos() as f64 / f64::from(counts[k]);
-            turns[k].push(nanoseconds / subject.tape.len() as f64);
+            turns[k].push(nanoseconds / bytes as f64);
         }
     }
-    let ratios = |theirs: &Vec<f64>| theirs.iter().zip(&turns[1]).map(|(theirs, ours)| theirs / ours).collect();
-    let theirs = turns.get(3).map(|theirs| (median(theirs.clone()), median(ratios(theirs))));
-    let [validating, resolving, copying] = [0, 1, 2].map(|k| median(turns[k].clone()));
-    Figures { validating, resolving, copying, theirs }
+    turns
 }
 
 /// How often it must be done for a turn.
@@ -47,7 +53,7 @@ fn times_for_a_turn(run: &mut Run) -> u32 {
     times
 }
 
-fn median(mut figures: Vec<f64>) -> f64 {
+pub fn median(mut figures: Vec<f64>) -> f64 {
     figures.sort_by(f64::total_cmp);
     figures[figures.len() / 2]
 }
@@ -61,9 +67,14 @@ fn validating(subject: &Subject) -> Run<'_> {
     Box::new(move |times| timed(times, || subject.validate(&mut work)))
 }
 
-fn resolving(subject: &Subject) -> Run<'_> {
+pub fn resolving(subject: &Subject) -> Run<'_> {
     let (mut output, mut work) = (subject.output(), subject.work_of_resolving());
     Box::new(move |times| timed(times, || subject.resolve(&mut output, &mut work)))
+}
+
+pub fn levelling(subject: &Subject) -> Run<'_> {
+    let (mut output, mut work) = (subject.output_of_levels(), subject.work_of_levels());
+    Box::new(move |times| timed(times, || subject.levels(&mut output, &mut work)))
 }
 
 /// Copying the tape and the tree, and clearing as much work as resolving clears.
@@ -81,16 +92,16 @@ fn copying<'a>(subject: &'a Subject, tree: &'a [u8]) -> Run<'a> {
 /// How many bytes of tapes go with the trees that are copied for LALRPOP at once: so few that they stay in a cache.
 const AT_ONCE: usize = 8_192;
 
-/// LALRPOP's own, on copies just made; neither making them nor dropping the answers is counted.
-fn theirs<'a>(ready: &'a Ready, tape: &[u8]) -> Run<'a> {
-    let most = AT_ONCE / tape.len() + 1;
+/// LALRPOP's own, on copies just made of the tree of a tape so long; neither making them nor dropping the answers is counted.
+pub fn theirs<'a>(ready: &'a Ready, tape: usize, pass: fn(Ready) -> Option<Ready>) -> Run<'a> {
+    let most = AT_ONCE / tape + 1;
     Box::new(move |times| {
         let (mut left, mut sum) = (times as usize, Duration::ZERO);
         while left > 0 {
             let inputs = vec![ready.clone(); most.min(left)];
             left -= inputs.len();
             let mut answers = Vec::with_capacity(inputs.len());
-            let (time, ()) = took(|| answers.extend(inputs.into_iter().map(Ready::resolved)));
+            let (time, ()) = took(|| answers.extend(inputs.into_iter().map(pass)));
             assert!(black_box(answers).iter().all(Option::is_some));
             sum += time;
         }
@@ -124,10 +135,15 @@ impl Least {
     }
 }
 
+/// The least nanoseconds of so many runs.
+pub fn least_of(mut run: Run, runs: usize) -> f64 {
+    (0..runs).map(|_| run(1).as_nanos() as f64).fold(f64::INFINITY, f64::min)
+}
+
 pub fn least(tape: &[u8]) -> Least {
     let subject = Subject::of_tape(tape.to_vec());
     let runs = (32_000_000 / tape.len()).clamp(25, 1_000);
-    let of = |mut run: Run| (0..runs).map(|_| run(1).as_nanos() as f64).fold(f64::INFINITY, f64::min);
+    let of = |run: Run| least_of(run, runs);
     Least {
         validating: of(validating(&subject)),
         resolving: of(resolving(&subject)),

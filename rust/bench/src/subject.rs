@@ -3,7 +3,10 @@ use crate::grammars::grammar;
 use crate::tapes::symbols;
 use normalize::work_len;
 use oracle::Ready;
-use reading::write;
+use oracle::{staged, Call};
+use reading::tree::Stage;
+use reading::{answer, write};
+use std::cell::OnceCell;
 
 /// What stands before the size of a tape of symbols.
 pub const SYMBOLS: &str = "symbols-";
@@ -12,17 +15,22 @@ pub struct Subject {
     pub tape: Vec<u8>,
     /// Nothing where LALRPOP's files are missing, and for tapes that aren't grammars.
     pub ready: Option<Ready>,
+    /// The length of the levelled tree, once it was asked for.
+    levelled: OnceCell<usize>,
 }
 
 impl Subject {
     pub fn of_tape(tape: Vec<u8>) -> Subject {
-        Subject { tape, ready: None }
+        Subject { tape, ready: None, levelled: OnceCell::new() }
     }
 
     /// A grammar of so many nonterminals.
     pub fn of_grammar(nonterminals: usize) -> Subject {
-        let stage = grammar(nonterminals);
-        Subject { tape: write(&stage), ready: Ready::of(&stage) }
+        Subject::of_stage(&grammar(nonterminals))
+    }
+
+    pub fn of_stage(stage: &Stage) -> Subject {
+        Subject { tape: write(stage), ready: Ready::of(stage), levelled: OnceCell::new() }
     }
 
     /// By what stands on the command line: a number of nonterminals, or `symbols-SIZE` for a tape of symbols of about that many bytes.
@@ -47,6 +55,18 @@ impl Subject {
         tree
     }
 
+    /// The levelled tree, once LALRPOP's, if it is there, was the same.
+    pub fn levelled_tree(&self) -> Vec<u8> {
+        let (mut tree, mut work) = (self.output_of_levels(), self.work_of_levels());
+        self.levels(&mut tree, &mut work);
+        let theirs = answer(&self.tape, tree.len(), work.len(), |stage| staged(stage, Call::Levels, 0));
+        tree.truncate(self.levelled());
+        if let Some(theirs) = theirs {
+            assert!(theirs.expect("a grammar that LALRPOP levels") == tree, "LALRPOP's tree is another");
+        }
+        tree
+    }
+
     /// The tree is as long as the tape.
     pub fn output(&self) -> Vec<u8> {
         vec![0; self.tape.len()]
@@ -62,6 +82,30 @@ impl Subject {
 
     pub fn validate(&self, work: &mut [u8]) {
         assert_eq!(normalize::validate(&self.tape, work), Ok(self.tape.len()));
+    }
+
+    fn levelled(&self) -> usize {
+        *self.levelled.get_or_init(|| self.levels_once())
+    }
+
+    /// Levels with an output twice as long as the tape, which suffices here: the length of the tree.
+    pub fn levels_once(&self) -> usize {
+        let mut output = vec![0; 2 * self.tape.len()];
+        let mut work = vec![0; work_len(self.tape.len(), output.len())];
+        normalize::levels(&self.tape, &mut output, &mut work).expect("a grammar that is levelled")
+    }
+
+    /// Just long enough for the resolved tree and the levelled one.
+    pub fn output_of_levels(&self) -> Vec<u8> {
+        vec![0; self.levelled().max(self.tape.len())]
+    }
+
+    pub fn work_of_levels(&self) -> Vec<u8> {
+        vec![0; work_len(self.tape.len(), self.levelled().max(self.tape.len()))]
+    }
+
+    pub fn levels(&self, output: &mut [u8], work: &mut [u8]) {
+        assert_eq!(normalize::levels(&self.tape, output, work), Ok(self.levelled()));
     }
 
     pub fn resolve(&self, output: &mut [u8], work: &mut [u8]) {

@@ -1,5 +1,6 @@
 //! What one call is given: a tape, and how long its buffers are.
 use oracle::chance::Chance;
+use oracle::Call;
 
 /// Lengths told from the tape, so that they keep their sense when the tape shrinks. Below zero bytes they are zero.
 #[derive(Clone, Copy, Debug, Default, PartialEq, Eq)]
@@ -21,6 +22,11 @@ impl Case {
         Case { tape, room: Room::default() }
     }
 
+    /// With an output that a few levels fit in.
+    pub fn roomy(tape: Vec<u8>) -> Case {
+        Case { room: Room { output: tape.len() as isize / 2 + 200, work: 0 }, tape }
+    }
+
     pub fn output_len(&self) -> usize {
         self.tape.len().saturating_add_signed(self.room.output)
     }
@@ -30,9 +36,10 @@ impl Case {
     }
 }
 
-/// A tape with every output up to three bytes longer, and with work of every length around what is asked for.
-pub fn every_room(tape: &[u8]) -> impl Iterator<Item = Case> + '_ {
-    let outputs = -(tape.len() as isize)..=3;
+/// A tape with every output up to three bytes longer than the longest stage, and with work of every length around what is asked for.
+pub fn every_room(tape: &[u8], longest: usize) -> impl Iterator<Item = Case> + '_ {
+    let beyond = longest.max(tape.len()) - tape.len();
+    let outputs = -(tape.len() as isize)..=beyond as isize + 3;
     let rooms = outputs.flat_map(|output| (-9..=9).map(move |work| Room { output, work }));
     rooms.map(|room| Case { tape: tape.to_vec(), room })
 }
@@ -49,12 +56,40 @@ pub fn room(chance: &mut Chance, tape: usize) -> Room {
         _ => -(chance.under(tape + 1) as isize),
     };
     let need = reading::work_needed(tape, tape.saturating_add_signed(output));
-    let work = match chance.under(20) {
+    Room { output, work: work(chance, need) }
+}
+
+/// Work beyond what is asked for: mostly enough.
+fn work(chance: &mut Chance, need: usize) -> isize {
+    match chance.under(20) {
         0..=9 => 0,
         10..=13 => chance.one_of(&[1, 7, 9]),
         14..=17 => chance.under(1_000) as isize,
         18 => -(chance.under(need + 1) as isize),
         _ => chance.one_of(&[-1, -8, -(need as isize), need as isize]),
+    }
+}
+
+/// The lengths of the resolved stage and of the levelled one, as far as the Rust comes.
+pub fn level_lengths(tape: &[u8]) -> Vec<usize> {
+    let Ok(stage) = reading::read(tape) else { return vec![] };
+    let steps = oracle::staged(&stage, Call::Levels, 0).unwrap_or_default();
+    reading::stage_lengths(stage.atoms, &steps)
+}
+
+/// A tape with outputs as long as itself, as each stage of levels, one byte shorter than each, and much longer.
+pub fn at_level_lengths(chance: &mut Chance, tape: &[u8]) -> Vec<Case> {
+    let mut lengths = level_lengths(tape);
+    lengths.push(tape.len());
+    let longest = lengths.iter().copied().max().unwrap_or(0);
+    lengths.extend(lengths.clone().iter().map(|length| length.saturating_sub(1)));
+    lengths.push(longest + 1 + chance.under(400));
+    lengths.sort();
+    lengths.dedup();
+    let with_room = |length: usize| {
+        let need = reading::work_needed(tape.len(), length);
+        let room = Room { output: length as isize - tape.len() as isize, work: if chance.percent(80) { 0 } else { work(chance, need) } };
+        Case { tape: tape.to_vec(), room }
     };
-    Room { output, work }
+    lengths.into_iter().map(with_room).collect()
 }

@@ -1,40 +1,55 @@
-//! The stored list: short cases, as many of each answer, answered by the second reading and the Rust.
-//! 20 is not among them: it takes more than 65,536 atoms.
-use crate::case::{Case, Room};
-use crate::grammars::{MACRO_EXPAND, RESOLVE};
+//! The stored lists: short cases of a call, as many of each answer, answered by the second reading and the Rust.
+//! 20 is not among them: it takes more than 65,536 atoms, or a name of 65,535 bytes.
+use crate::case::{at_level_lengths, Case, Room};
+use crate::grammars::{MACRO_EXPAND, PRECEDENCE, RESOLVE};
 use crate::grow::Size;
 use crate::judge::expected;
+use crate::ladders::graded;
+use crate::levels::{CASES, OTHERS, REFUSED};
 use crate::{mix, short};
 use oracle::chance::Chance;
+use oracle::Call;
 use reading::commands::hex;
 use reading::Outcome;
 use std::collections::BTreeMap;
 
-pub const NUMBERS: [u8; 15] = [0, 1, 2, 3, 4, 5, 6, 7, 8, 9, 10, 11, 12, 13, 21];
 pub const OF_EACH: usize = 20;
 const MOST_UNCHANGED: usize = 6;
 pub const LONGEST: usize = 399;
 pub const MOST_OUTPUT: usize = 512;
 pub const MOST_WORK: usize = 8_192;
 
+/// The answers of a call that are stored, 0 being a yes.
+pub fn numbers(call: Call) -> Vec<u8> {
+    let last = if call == Call::Levels { 16 } else { 13 };
+    (0..=last).chain([21]).collect()
+}
+
 /// The cases by answer, or nothing where the Rust isn't there.
-pub fn stored() -> Option<Vec<(Case, Outcome)>> {
+pub fn stored(call: Call) -> Option<Vec<(Case, Outcome)>> {
+    oracle::panics_are_answers();
+    let candidates: Box<dyn Iterator<Item = Case>> =
+        if call == Call::Levels { Box::new(level_candidates()) } else { Box::new(candidates()) };
     let mut found: BTreeMap<u8, Vec<(Case, Outcome)>> = BTreeMap::new();
-    for case in candidates().take_while(|_| oracle::is_there()) {
-        let outcome = expected(&case)?;
+    for case in candidates.filter(is_small).take_while(|_| oracle::is_there()) {
+        let outcome = expected(&case, call)?;
         let number = outcome.as_ref().err().map_or(0, |refusal| refusal.number);
         let same = found.entry(number).or_default();
         if same.len() < OF_EACH && adds(same, &case, &outcome) {
             same.push((case, outcome));
         }
-        if NUMBERS.iter().all(|number| found.get(number).is_some_and(|same| same.len() == OF_EACH)) {
+        if numbers(call).iter().all(|number| found.get(number).is_some_and(|same| same.len() == OF_EACH)) {
             return Some(found.into_values().flatten().collect());
         }
     }
     None
 }
 
-/// No case twice, and few trees that resolving leaves as they were.
+fn is_small(case: &Case) -> bool {
+    case.tape.len() <= LONGEST && case.output_len() <= MOST_OUTPUT && case.work_len() <= MOST_WORK
+}
+
+/// No case twice, and few trees that the call leaves as they were.
 fn adds(same: &[(Case, Outcome)], case: &Case, outcome: &Outcome) -> bool {
     let unchanged = |case: &Case, outcome: &Outcome| outcome.as_ref().is_ok_and(|tree| *tree == case.tape);
     let many = same.iter().filter(|(old, outcome)| unchanged(old, outcome)).count() >= MOST_UNCHANGED;
@@ -49,26 +64,58 @@ fn candidates() -> impl Iterator<Item = Case> {
     let short = short::of_bytes(1).into_iter().take(4).chain(short::of_commands(1).into_iter().step_by(4)).map(Case::fitting);
     let mut chance = Chance(1);
     let random = std::iter::repeat_with(move || mix::case(&mut chance, Size::Few, 30));
-    let small = |case: &Case| case.tape.len() <= LONGEST && case.output_len() <= MOST_OUTPUT && case.work_len() <= MOST_WORK;
-    known.chain(room).chain(short).chain(random).filter(small)
+    known.chain(room).chain(short).chain(random)
 }
 
-/// The lines of crates/cases for the list, each with its answer.
-pub fn lines(list: &[(Case, Outcome)]) -> Vec<(String, String)> {
-    list.iter().enumerate().map(|(index, (case, outcome))| (case_line(index, case), answer_line(index, outcome))).collect()
+/// The chosen grammars and those of the unit tests of precedence, all at one length before all at the next; then random ones without end, with levels
+/// and as for resolving.
+fn level_candidates() -> impl Iterator<Item = Case> {
+    let chosen = CASES.iter().chain(&OTHERS).map(|case| case.stage()).chain(REFUSED.iter().map(|case| case.stage()));
+    let tapes = chosen.chain(PRECEDENCE.iter().map(|known| known.stage())).map(|stage| reading::write(&stage));
+    let mut chance = Chance(1);
+    // the longest output first: a yes, or the refusal of levels
+    let known: Vec<Vec<Case>> = tapes.map(|tape| at_level_lengths(&mut chance, &tape).into_iter().rev().collect()).collect();
+    let most = known.iter().map(Vec::len).max().unwrap_or(0);
+    let in_turn = (0..most).flat_map(move |k| known.clone().into_iter().filter_map(move |cases| cases.get(k).cloned()));
+    let random = std::iter::repeat_with(move || {
+        let tape = reading::write(&graded(&mut chance, Size::Few));
+        let mut cases = at_level_lengths(&mut chance, &tape);
+        cases.push(mix::case(&mut chance, Size::Few, 30));
+        cases
+    });
+    in_turn.chain(random.flatten())
 }
 
-/// The call, the name, the tape in hex if it has a byte, the output's length, work's length.
-fn case_line(index: usize, case: &Case) -> String {
+/// What crates/cases calls it.
+pub fn word(call: Call) -> &'static str {
+    match call {
+        Call::Resolve => "resolve",
+        Call::Levels => "levels",
+        Call::Macros => "macros",
+        Call::Whole => "whole",
+    }
+}
+
+/// The lines of crates/cases for the list of a call, each with its answer.
+pub fn lines(call: Call, list: &[(Case, Outcome)]) -> Vec<(String, String)> {
+    let line = |(index, (case, outcome)): (usize, &(Case, Outcome))| {
+        let name = format!("{} stored-{index}", word(call));
+        (case_line(&name, case), answer_line(&name, outcome))
+    };
+    list.iter().enumerate().map(line).collect()
+}
+
+/// The call and the name, the tape in hex if it has a byte, the output's length, work's length.
+fn case_line(name: &str, case: &Case) -> String {
     let tape = if case.tape.is_empty() { String::new() } else { format!(" {}", hex(&case.tape)) };
-    format!("resolve stored-{index}{tape} o{} w{}", case.output_len(), case.work_len())
+    format!("{name}{tape} o{} w{}", case.output_len(), case.work_len())
 }
 
 /// `yes LENGTH TREE` or `refused NUMBER PLACE PLACE`, behind the call and the name.
-fn answer_line(index: usize, outcome: &Outcome) -> String {
+fn answer_line(name: &str, outcome: &Outcome) -> String {
     let answer = match outcome {
         Ok(tree) => format!("yes {} {}", tree.len(), hex(tree)),
         Err(refusal) => format!("refused {} {} {}", refusal.number, refusal.place.0, refusal.place.1),
     };
-    format!("resolve stored-{index} {answer}")
+    format!("{name} {answer}")
 }

@@ -46,6 +46,11 @@ pub fn tree(chance: &mut Chance, size: Size) -> Stage {
         Size::Some => 60,
         Size::Many => 4,
     };
+    tree_so_wild(chance, size, wild)
+}
+
+/// The same, so many choices in ten thousand being made without regard to what is defined.
+pub fn tree_so_wild(chance: &mut Chance, size: Size, wild: usize) -> Stage {
     let words = chance.percent(25);
     let mut grower = Grower { chance, size, heads: vec![], terminals: vec![], args: vec![], words, wild };
     grower.grow_heads();

@@ -2,11 +2,23 @@
 use crate::case::Case;
 use normalize::Words;
 use oracle::chance::Chance;
+use oracle::Call;
 use reading::commands::hex;
 use reading::Outcome;
 
-/// Our call: tape, output, work, and the words of the answer.
-pub type Ours<'a> = &'a dyn Fn(&[u8], &mut [u8], &mut [u8], &mut Words);
+/// Tape, output, work, and the words of the answer.
+pub type Made<'a> = &'a dyn Fn(&[u8], &mut [u8], &mut [u8], &mut Words);
+
+/// Our call, and which one of document 01's it should be.
+#[derive(Clone, Copy)]
+pub struct Ours<'a> {
+    pub call: Call,
+    pub made: Made<'a>,
+}
+
+/// Resolving and levels, by the archive.
+pub const RESOLVE: Ours = Ours { call: Call::Resolve, made: &normalize::resolve_words };
+pub const LEVELS: Ours = Ours { call: Call::Levels, made: &normalize::levels_words };
 
 #[derive(Clone, Debug, PartialEq, Eq)]
 pub enum Verdict {
@@ -47,12 +59,12 @@ impl Fenced {
 }
 
 /// What document 01 and the Rust say to the case.
-pub fn expected(case: &Case) -> Option<Outcome> {
-    reading::call(&case.tape, case.output_len(), case.work_len(), oracle::resolve)
+pub fn expected(case: &Case, call: Call) -> Option<Outcome> {
+    reading::answer(&case.tape, case.output_len(), case.work_len(), |stage| oracle::staged(stage, call, 0))
 }
 
 pub fn judge(case: &Case, dirt: u64, ours: Ours) -> Verdict {
-    match expected(case) {
+    match expected(case, ours.call) {
         None => Verdict::Skipped,
         Some(outcome) => against(case, dirt, &outcome, ours),
     }
@@ -71,7 +83,7 @@ fn against(case: &Case, dirt: u64, outcome: &Outcome, ours: Ours) -> Verdict {
     if case.work_len() >= reading::work_needed(case.tape.len(), case.output_len()) {
         right_work.inside().fill(0);
     }
-    ours(&case.tape, output.inside(), work.inside(), &mut answer);
+    (ours.made)(&case.tape, output.inside(), work.inside(), &mut answer);
     let right_answer = words(outcome);
     if answer != right_answer {
         return Verdict::Differs(format!("answer {answer:?}, expected {right_answer:?}"));

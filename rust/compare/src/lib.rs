@@ -7,6 +7,8 @@ pub mod edges;
 pub mod grammars;
 pub mod grow;
 pub mod judge;
+pub mod ladders;
+pub mod levels;
 pub mod mix;
 pub mod run;
 pub mod short;

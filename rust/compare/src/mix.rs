@@ -1,19 +1,37 @@
 //! The random cases: trees of all sizes, good and damaged, with any room.
-use crate::case::{room, Case};
+use crate::case::{at_level_lengths, room, Case};
 use crate::grow::{tree, Size};
+use crate::ladders::graded;
 use oracle::chance::Chance;
 use oracle::damage::damaged;
 
 /// Cases without end, fixed by the chance's seed.
 pub fn cases(mut chance: Chance) -> impl Iterator<Item = Case> {
     std::iter::repeat_with(move || {
-        let size = match chance.under(100) {
-            0..=71 => Size::Few,
-            72..=97 => Size::Some,
-            _ => Size::Many,
-        };
+        let size = size(&mut chance);
         case(&mut chance, size, 40)
     })
+}
+
+fn size(chance: &mut Chance) -> Size {
+    match chance.under(100) {
+        0..=71 => Size::Few,
+        72..=97 => Size::Some,
+        _ => Size::Many,
+    }
+}
+
+/// The same for levels, as many tapes, each at several lengths of output; few are damaged.
+pub fn level_cases(mut chance: Chance, tapes: usize) -> impl Iterator<Item = Case> {
+    let at_lengths = move |_| {
+        let size = size(&mut chance);
+        let mut tape = reading::write(&graded(&mut chance, size));
+        if chance.percent(15) {
+            tape = damaged(&mut chance, &tape);
+        }
+        at_level_lengths(&mut chance, &tape)
+    };
+    (0..tapes).flat_map(at_lengths)
 }
 
 /// A tree's tape, damaged so many times in a hundred.

@@ -26,3 +26,31 @@ fn told(case: &Case, dirt: u64, ours: Ours) -> String {
     let (output, work) = (case.output_len(), case.work_len());
     format!("differs: {text}\n  {} {output} {work}\n{}", hex(&case.tape), shown(&case.tape))
 }
+
+/// A comparison in parts: each is printed as it ends, and all are counted together.
+pub struct Parts<'a> {
+    pub ours: Ours<'a>,
+    pub seed: u64,
+    pub total: Tally,
+}
+
+impl<'a> Parts<'a> {
+    pub fn new(ours: Ours<'a>, seed: u64) -> Parts<'a> {
+        Parts { ours, seed, total: Tally::default() }
+    }
+
+    pub fn part(&mut self, name: &str, cases: impl Iterator<Item = Case>) {
+        let tally = run(cases, self.seed, self.ours);
+        println!("{:?}, {name}: {tally}", self.ours.call);
+        for told in &tally.told {
+            print!("{told}");
+        }
+        self.total.add(tally);
+    }
+
+    /// Prints the sum.
+    pub fn end(self) -> Tally {
+        println!("{:?}, all: {}", self.ours.call, self.total);
+        self.total
+    }
+}

@@ -1,36 +1,56 @@
 //! Our archive set against document 01's second reading and LALRPOP's Rust on a few thousand tapes.
 //! What needs the Rust is skipped where it isn't there, and the count of skipped tapes is printed.
-use compare::case::{every_room, Case};
-use compare::run::run;
+use compare::case::{at_level_lengths, every_room, level_lengths, Case};
+use compare::judge::{LEVELS, RESOLVE};
+use compare::run::Parts;
 use compare::tally::Tally;
-use compare::{edges, grammars, mix, short};
+use compare::{edges, grammars, ladders, levels, mix, short};
 use oracle::chance::Chance;
+use reading::write;
 
 const SEED: u64 = 20_261_116;
 const RANDOM: usize = 4_000;
 
 fn main() {
-    let mut total = Tally::default();
-    part(&mut total, "grammars of LALRPOP's unit tests", grammars::all().map(|known| Case::fitting(known.tape())));
-    part(&mut total, "every room", every_room(&grammars::MACRO_EXPAND[2].tape()));
-    part(&mut total, "short, of bytes", short::of_bytes(2).into_iter().map(Case::fitting));
-    part(&mut total, "short, of commands", short::of_commands(3).into_iter().map(Case::fitting));
-    part(&mut total, "at the limits", edges::cases().into_iter());
-    part(&mut total, "random", mix::cases(Chance(SEED)).take(RANDOM));
-    println!("all: {total}");
+    oracle::panics_are_answers();
+    has_all(resolving(), (0..=13).chain([20, 21]));
+    has_all(levelling(), (0..=16).chain([20, 21]));
+}
+
+fn resolving() -> Tally {
+    let mut parts = Parts::new(RESOLVE, SEED);
+    parts.part("grammars of LALRPOP's unit tests", grammars::all().map(|known| Case::fitting(known.tape())));
+    parts.part("every room", every_room(&grammars::MACRO_EXPAND[2].tape(), 0));
+    parts.part("short, of bytes", short::of_bytes(2).into_iter().map(Case::fitting));
+    parts.part("short, of commands", short::of_commands(3).into_iter().map(Case::fitting));
+    parts.part("at the limits", edges::cases().into_iter());
+    parts.part("random", mix::cases(Chance(SEED)).take(RANDOM));
+    parts.end()
+}
+
+fn levelling() -> Tally {
+    let mut parts = Parts::new(LEVELS, SEED);
+    let known = grammars::all().map(|known| known.stage());
+    let chosen = levels::CASES.iter().chain(&levels::OTHERS).map(|case| case.stage());
+    let tapes = known.chain(chosen).chain(levels::REFUSED.iter().map(|case| case.stage())).map(|stage| write(&stage));
+    let mut chance = Chance(SEED);
+    parts.part("grammars of LALRPOP's unit tests, chosen ones", tapes.flat_map(|tape| at_level_lengths(&mut chance, &tape)));
+    let left = write(&levels::CASES[0].stage());
+    parts.part("every room", every_room(&left, level_lengths(&left).into_iter().max().unwrap_or(0)));
+    parts.part("short, of bytes", short::of_bytes(1).into_iter().map(Case::fitting));
+    parts.part("short, of commands", short::of_commands(2).into_iter().map(Case::fitting));
+    parts.part("short, of levels", ladders::every(3).into_iter().map(|stage| Case::roomy(write(&stage))));
+    parts.part("at the limits", edges::level_cases().into_iter());
+    parts.part("random", mix::level_cases(Chance(SEED), RANDOM));
+    parts.end()
+}
+
+/// No difference, and each of these answers, 0 being a yes.
+fn has_all(total: Tally, numbers: impl Iterator<Item = u8>) {
     assert_eq!(total.differences, 0, "{} tapes differ", total.differences);
     if oracle::is_there() {
         assert_eq!(total.skipped, 0);
-        let missing: Vec<u8> = (0..=13).chain([20, 21]).filter(|number| !total.answers.contains_key(number)).collect();
+        let missing: Vec<u8> = numbers.filter(|number| !total.answers.contains_key(number)).collect();
         assert!(missing.is_empty(), "no tape with the answers {missing:?}");
     }
-}
-
-fn part(total: &mut Tally, name: &str, cases: impl Iterator<Item = Case>) {
-    let tally = run(cases, SEED, &normalize::resolve_words);
-    println!("{name}: {tally}");
-    for told in &tally.told {
-        print!("{told}");
-    }
-    total.add(tally);
 }

@@ -1,12 +1,14 @@
-//! The comparison can fail: a stand-in made of the second reading agrees, and with one fault planted it doesn't.
+//! The comparison can fail: a stand-in made of the second reading and the Rust agrees, and with one fault planted it doesn't.
 use compare::case::Case;
-use compare::judge::words;
+use compare::judge::{expected, words, Ours};
 use compare::mix;
 use compare::run::run;
 use compare::shrink::shrink;
+use compare::tally::Tally;
 use compare::the_rust_is_there;
 use normalize::Words;
 use oracle::chance::Chance;
+use oracle::{staged, Call};
 use reading::Outcome;
 
 /// What a call leaves behind.
@@ -18,10 +20,12 @@ struct Left<'a> {
 
 type Fault = fn(&Outcome, &mut Left);
 
-/// The stand-in, then the fault.
-fn stand_in(fault: Fault) -> impl Fn(&[u8], &mut [u8], &mut [u8], &mut Words) {
+/// The stand-in for a call, then the fault.
+fn stand_in(call: Call, fault: Fault) -> impl Fn(&[u8], &mut [u8], &mut [u8], &mut Words) {
+    oracle::panics_are_answers();
     move |tape, output, work, answer| {
-        let outcome = reading::call(tape, output.len(), work.len(), oracle::resolve).expect("the Rust was there to be asked");
+        let steps = |stage: &_| staged(stage, call, 0);
+        let outcome = reading::answer(tape, output.len(), work.len(), steps).expect("the Rust was there to be asked");
         if work.len() >= reading::work_needed(tape.len(), output.len()) {
             work.fill(0);
         }
@@ -37,8 +41,26 @@ fn refused(outcome: &Outcome, number: u8) -> bool {
     outcome.as_ref().is_err_and(|refusal| refusal.number == number)
 }
 
+/// How many cases each fault is tried on.
+const RESOLVED: usize = 1_500;
+const LEVELLED: usize = 800;
+
 fn cases() -> impl Iterator<Item = Case> {
-    mix::cases(Chance(7)).take(1_500)
+    mix::cases(Chance(7)).take(RESOLVED)
+}
+
+fn level_cases() -> impl Iterator<Item = Case> {
+    mix::level_cases(Chance(7), usize::MAX).take(LEVELLED)
+}
+
+/// The stand-in with this fault beside the Rust.
+fn tally(call: Call, fault: Fault) -> Tally {
+    let made = stand_in(call, fault);
+    let ours = Ours { call, made: &made };
+    match call {
+        Call::Levels => run(level_cases(), 7, ours),
+        _ => run(cases(), 7, ours),
+    }
 }
 
 fn turn(byte: Option<&mut u8>) {
@@ -49,9 +71,12 @@ fn turn(byte: Option<&mut u8>) {
 
 #[test]
 fn without_a_fault_all_agree() {
-    let tally = run(cases(), 7, &stand_in(|_, _| {}));
-    println!("{tally}");
-    assert_eq!((tally.differences, tally.agreed() + tally.skipped), (0, 1_500));
+    for call in [Call::Resolve, Call::Levels] {
+        let tally = tally(call, |_, _| {});
+        println!("{call:?}: {tally}");
+        let all = if call == Call::Levels { LEVELLED } else { RESOLVED };
+        assert_eq!((tally.differences, tally.agreed() + tally.skipped), (0, all));
+    }
 }
 
 /// Faults that show without the Rust too.
@@ -63,7 +88,7 @@ const PLAIN: [Fault; 4] = [
 ];
 
 /// Faults in what the Rust has to say.
-const RESOLVED: [Fault; 5] = [
+const OF_RESOLVING: [Fault; 5] = [
     |outcome, left| left.answer[2] ^= u64::from(outcome.is_ok()),
     |outcome, left| turn(left.output.first_mut().filter(|_| outcome.is_ok())),
     |outcome, left| {
@@ -74,13 +99,29 @@ const RESOLVED: [Fault; 5] = [
     |outcome, left| left.answer[2] += u64::from(refused(outcome, 9)),
 ];
 
+/// The same of levels, 14 for 15, 16 at another place, and a byte too few.
+const OF_LEVELS: [Fault; 5] = [
+    |outcome, left| turn(outcome.as_ref().ok().and_then(|tree| left.output[..tree.len()].last_mut())),
+    |outcome, left| left.answer[1] -= u64::from(refused(outcome, 15)),
+    |outcome, left| left.answer[2] ^= u64::from(refused(outcome, 16)),
+    |outcome, left| left.answer[3] ^= u64::from(refused(outcome, 14)),
+    |outcome, left| left.answer[1] -= u64::from(outcome.as_ref().is_ok_and(|tree| tree.len() == left.output.len() && !tree.is_empty())),
+];
+
+fn shows(call: Call, faults: &[Fault]) {
+    for (index, fault) in faults.iter().enumerate() {
+        let tally = tally(call, *fault);
+        assert!(tally.differences > 0, "{call:?}, fault {index}");
+        assert_eq!(tally.differences.min(5), tally.told.len(), "{call:?}, fault {index}");
+    }
+}
+
 #[test]
 fn every_fault_shows() {
-    let faults: Vec<Fault> = PLAIN.into_iter().chain(RESOLVED.into_iter().filter(|_| oracle::is_there())).collect();
-    for (index, fault) in faults.into_iter().enumerate() {
-        let tally = run(cases(), 7, &stand_in(fault));
-        assert!(tally.differences > 0, "fault {index}");
-        assert_eq!(tally.differences.min(5), tally.told.len(), "fault {index}");
+    shows(Call::Resolve, &PLAIN);
+    if the_rust_is_there(OF_RESOLVING.len() + OF_LEVELS.len()) {
+        shows(Call::Resolve, &OF_RESOLVING);
+        shows(Call::Levels, &OF_LEVELS);
     }
 }
 
@@ -90,10 +131,11 @@ fn a_difference_shrinks() {
     if !the_rust_is_there(1) {
         return;
     }
-    let ours = stand_in(|outcome, left| left.answer[1] -= 5 * u64::from(refused(outcome, 13)));
-    let number = |case: &Case| compare::judge::expected(case).unwrap().err().map(|refusal| refusal.number);
+    let made = stand_in(Call::Resolve, |outcome, left| left.answer[1] -= 5 * u64::from(refused(outcome, 13)));
+    let ours = Ours { call: Call::Resolve, made: &made };
+    let number = |case: &Case| expected(case, Call::Resolve).unwrap().err().map(|refusal| refusal.number);
     let case = cases().filter(|case| number(case) == Some(13)).max_by_key(|case| case.tape.len()).unwrap();
-    let least = shrink(&case, 7, &ours);
+    let least = shrink(&case, 7, ours);
     assert_eq!(number(&least), Some(13));
     assert!(case.tape.len() > 200 && least.tape.len() <= 80, "{} to {}", case.tape.len(), least.tape.len());
 }

@@ -1,6 +1,6 @@
 //! The smallest inputs of docs/DIFFERENCES.md: what the Rust does with each, and what of ours is in code.
 use compare::the_rust_is_there;
-use normalize::{resolve, work_len};
+use normalize::{levels, resolve, work_len};
 use oracle::{expand, Expanded};
 use reading::notation::parse;
 use reading::{read, within_operands, write, Refusal};
@@ -30,6 +30,25 @@ fn levels_and_sides_that_cannot_be_read_are_panics() {
     assert!(panicked(r#"E = #assoc(side="x") "n";"#, 9).contains("ParseAssocError"));
     assert!(panicked(r#"E = #assoc "n";"#, 9).contains("`None` value"));
     assert!(panicked(r#"E = #assoc(side="left") "n";"#, 9).contains("unexpected associativity attribute on the first precedence level"));
+}
+
+/// In ours they are refusals, at the alternative; and where the call for levels is given no room, it is 21 first.
+#[test]
+fn levels_and_sides_that_cannot_be_read_are_refused() {
+    let grammars = [
+        (r#"E = #precedence(level="x") "n";"#, 14),
+        (r#"E = #precedence "n";"#, 14),
+        (r#"E = #assoc(side="x") "n";"#, 15),
+        (r#"E = #assoc "n";"#, 15),
+        (r#"E = #assoc(side="left") "n";"#, 16),
+    ];
+    for (grammar, number) in grammars {
+        let (tape, span) = (write(&parse(grammar)), (4, grammar.len() as u64 - 1));
+        let mut work = vec![0; work_len(tape.len(), tape.len())];
+        let no = |number, place| Err(normalize::Refusal { number, place });
+        assert_eq!(levels(&tape, &mut vec![0; tape.len()], &mut work), no(number, span), "{grammar}");
+        assert_eq!(levels(&tape, &mut vec![0; tape.len() - 1], &mut work), no(21, (0, 0)), "{grammar}");
+    }
 }
 
 #[test]

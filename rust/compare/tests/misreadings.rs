@@ -1,10 +1,11 @@
 //! How sharp the comparison is: name resolution written once more, with one misreading at a time. Each must show in small random trees.
 use compare::case::Case;
 use compare::grow::Size;
-use compare::judge::{judge, words, Verdict};
+use compare::judge::{judge, words, Ours, Verdict};
 use compare::mix;
 use normalize::Words;
 use oracle::chance::Chance;
+use oracle::Call;
 use reading::tree::*;
 use reading::Refusal;
 use std::collections::HashMap;
@@ -225,7 +226,7 @@ impl Model {
 
 /// How many cases differ from the Rust under this misreading.
 fn differing(cases: &[Case], misreading: Misreading) -> usize {
-    let ours = |tape: &[u8], output: &mut [u8], work: &mut [u8], answer: &mut Words| {
+    let made = |tape: &[u8], output: &mut [u8], work: &mut [u8], answer: &mut Words| {
         let model = |stage: &Stage| Some(resolve(stage, misreading));
         let outcome = reading::call(tape, output.len(), work.len(), model).unwrap();
         if let Ok(tree) = &outcome {
@@ -234,7 +235,8 @@ fn differing(cases: &[Case], misreading: Misreading) -> usize {
         work.fill(0);
         *answer = words(&outcome);
     };
-    cases.iter().filter(|case| matches!(judge(case, 1, &ours), Verdict::Differs(_))).count()
+    let ours = Ours { call: Call::Resolve, made: &made };
+    cases.iter().filter(|case| matches!(judge(case, 1, ours), Verdict::Differs(_))).count()
 }
 
 /// Small trees, none damaged, with just enough room.

@@ -18,4 +18,14 @@ extern "C" {
         work_len: usize,
         answer: *mut Words,
     );
+
+    pub fn normalize_levels(
+        tape: *const u8,
+        tape_len: usize,
+        output: *mut u8,
+        output_len: usize,
+        work: *mut u8,
+        work_len: usize,
+        answer: *mut Words,
+    );
 }

@@ -44,6 +44,47 @@ pub fn resolve_words(tape: &[u8], output: &mut [u8], work: &mut [u8], answer: &m
     }
 }
 
+/// Name resolution, then precedence levels: questions 1 to 16, 20 and 21. At `Ok` the output begins with the tree, which has that length.
+///
+/// The tree may be longer than the tape, and an output that is too short for it is refused with 21, as is one that can't hold the tape itself.
+///
+/// ```
+/// use normalize::{levels, work_len, Refusal};
+///
+/// /// The atoms E, precedence, l, 1, 2, n, and an item E at 0 to 9: "n" at level 1, then "n" at the level that the atom says.
+/// fn two_levels(level: u8) -> Vec<u8> {
+///     let texts: [&[u8]; 6] = [b"E", b"precedence", b"l", b"1", b"2", b"n"];
+///     let mut tape: Vec<u8> = texts.iter().flat_map(|text| [&[0x01, text.len() as u8, 0][..], text].concat()).collect();
+///     tape.extend([0x10, 0, 0, 0, 0, 9, 0, 0, 0, 0, 0, 0, 0, 2, 0]);
+///     for (span, level) in [(1, 3), (2, level)] {
+///         tape.extend([0x12, span, 0, 0, 0, span, 0, 0, 0, 1, 0, 0, 0, 0, 1, 0]);
+///         tape.extend([0x13, 1, 0, 1, 2, 0, level, 0]);
+///         tape.extend([0x22, span, 0, 0, 0, span, 0, 0, 0, 5, 0]);
+///     }
+///     tape
+/// }
+///
+/// let (tape, mut output) = (two_levels(4), [0; 200]);
+/// let mut work = vec![0; work_len(tape.len(), output.len())];
+/// // a new atom E1; the item E1; the item E, whose last alternative falls through to E1; no attributes
+/// assert_eq!(levels(&tape, &mut output, &mut work), Ok(tape.len() + 5 + 15 + 27 - 2 * 8));
+/// // the level `n` is no number: 14 at the second alternative
+/// assert_eq!(levels(&two_levels(5), &mut output, &mut work), Err(Refusal { number: 14, place: (2, 2) }));
+/// ```
+pub fn levels(tape: &[u8], output: &mut [u8], work: &mut [u8]) -> Result<usize, Refusal> {
+    let mut answer = Words::default();
+    levels_words(tape, output, work, &mut answer);
+    answered(&answer)
+}
+
+/// The same, with the words as the archive writes them.
+pub fn levels_words(tape: &[u8], output: &mut [u8], work: &mut [u8], answer: &mut Words) {
+    // SAFETY: the export takes three slices, each by pointer and length, and an array, and asks nothing else of them.
+    unsafe {
+        archive::normalize_levels(tape.as_ptr(), tape.len(), output.as_mut_ptr(), output.len(), work.as_mut_ptr(), work.len(), answer);
+    }
+}
+
 /// The answer that the words say.
 fn answered(words: &Words) -> Result<usize, Refusal> {
     match *words {
@@ -138,6 +179,11 @@ mod tests {
         assert_eq!(answer, [0, 2, 0, 0, 0]);
         resolve_words(&ATOM_A, &mut [], &mut [], &mut answer);
         assert_eq!(answer, [0, 1, 0, 0, 0]);
+        answer = [7; WORDS];
+        levels_words(&ATOM_A, &mut [0; 4], &mut [0; 64], &mut answer);
+        assert_eq!(answer, [1, 4, 0, 0, 0]);
+        levels_words(&[0x30], &mut [], &mut [0; 8], &mut answer);
+        assert_eq!(answer, [0, 2, 0, 0, 0]);
     }
 
     /// As docs/TAPE.md says of it.
@@ -148,6 +194,49 @@ mod tests {
         tree[49] = 0x21;
         let need = work_len(71, 71);
         assert_eq!(run(tape, 71, need), (Ok(71), tree, vec![0; need]));
+    }
+
+    /// The atoms E, assoc, k and the side; E at 1 to 2, whose alternative at 5 to 6 has that side and names E.
+    fn sided(side: &[u8]) -> Vec<u8> {
+        let atoms = [b"E", &b"assoc"[..], b"k", side].map(|text| [&[0x01, text.len() as u8, 0][..], text].concat()).concat();
+        let head = [0x10, 1, 0, 0, 0, 2, 0, 0, 0, 0, 0, 3, 0, 1, 0];
+        let alternative = [0x12, 5, 0, 0, 0, 6, 0, 0, 0, 1, 0, 0, 0, 0, 1, 0];
+        let inside = [0x13, 1, 0, 1, 2, 0, 3, 0, 0x20, 7, 0, 0, 0, 8, 0, 0, 0, 0, 0];
+        [&atoms[..], &head, &alternative, &inside].concat()
+    }
+
+    /// The answer of levels, and both buffers, which held 0xaa before.
+    fn level(tape: &[u8], output: usize) -> (Result<usize, Refusal>, Vec<u8>, Vec<u8>) {
+        let (mut output, mut work) = (vec![0xaa; output], vec![0xaa; work_len(tape.len(), output)]);
+        let answer = levels(tape, &mut output, &mut work);
+        (answer, output, work)
+    }
+
+    /// A side alone is at level 0, the only one: the attribute goes, the name stays.
+    #[test]
+    fn the_only_level_keeps_its_name() {
+        let tape = sided(b"all");
+        let (start, end) = (tape.len() - 19, tape.len() - 11);
+        let mut tree = [&tape[..start], &tape[end..], &[0xaa; 8]].concat();
+        (tree[start - 7], tree[start]) = (0, 0x24);
+        assert_eq!(level(&tape, tape.len()), (Ok(tape.len() - 8), tree, vec![0; work_len(tape.len(), tape.len())]));
+    }
+
+    #[test]
+    fn a_side_that_cannot_be_is_refused() {
+        for (side, number) in [(&b"left"[..], 16), (b"right", 16), (b"none", 16), (b"both", 15), (b"", 15)] {
+            let tape = sided(side);
+            let no = Err(Refusal { number, place: (5, 6) });
+            assert_eq!(level(&tape, tape.len()), (no, vec![0xaa; tape.len()], vec![0; work_len(tape.len(), tape.len())]));
+        }
+    }
+
+    /// The tree is shorter than the tape, but the resolved tree isn't.
+    #[test]
+    fn the_resolved_tree_must_fit_too() {
+        let tape = sided(b"all");
+        assert_eq!(level(&tape, tape.len() - 1).0, Err(Refusal { number: 21, place: (0, 0) }));
+        assert_eq!(level(&sided(b"left"), tape.len()).0, Err(Refusal { number: 21, place: (0, 0) }));
     }
 
     #[test]

@@ -21,7 +21,7 @@ pub mod staging;
 mod stand_ins;
 
 pub use answers::{is_there, resolve, there_and_back, NOT_THERE};
-pub use expanding::{expand, Expanded};
+pub use expanding::{expand, panics_are_answers, Expanded};
 pub use ready::Ready;
 pub use staging::{staged, Call, CALLS};
 #[cfg(lalrpop)]

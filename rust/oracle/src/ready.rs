@@ -1,6 +1,10 @@
-//! LALRPOP's name resolution over a parse tree that is there already, for measuring it.
+//! LALRPOP's name resolution and levels over a parse tree that is there already, for measuring them.
 #[cfg(lalrpop)]
-use crate::{convert::to_grammar, grammar::parse_tree::Grammar, normalize::resolve::resolve};
+use crate::{
+    convert::to_grammar,
+    grammar::parse_tree::Grammar,
+    normalize::{precedence::expand_precedence, resolve::resolve},
+};
 use reading::tree::Stage;
 
 /// A tree in LALRPOP's own types.
@@ -18,6 +22,11 @@ impl Ready {
     pub fn resolved(self) -> Option<Ready> {
         resolve(self.0).ok().map(Ready)
     }
+
+    /// The levelled tree, or nothing where it is refused. `expand_precedence` resolves it first, be it resolved already.
+    pub fn levelled(self) -> Option<Ready> {
+        expand_precedence(self.0).ok().map(Ready)
+    }
 }
 
 #[cfg(not(lalrpop))]
@@ -27,6 +36,10 @@ impl Ready {
     }
 
     pub fn resolved(self) -> Option<Ready> {
+        None
+    }
+
+    pub fn levelled(self) -> Option<Ready> {
         None
     }
 }

@@ -1,10 +1,13 @@
-//! `compare SEED COUNT`: tapes with every room, short tapes, tapes at the limits, and COUNT random tapes that SEED fixes, resolved by us and by the Rust.
+//! `compare SEED COUNT`: tapes with every room, short tapes, tapes at the limits, and COUNT random tapes that SEED fixes, resolved by us and by the Rust;
+//! then the same for levels, each random tape at several lengths of output.
 //! Prints how often each answer came. Exit status: 0 all agreed, 1 one differs, 2 bad usage.
-use compare::case::{every_room, Case};
-use compare::run::run;
+use compare::case::{every_room, level_lengths, Case};
+use compare::judge::{LEVELS, RESOLVE};
+use compare::run::Parts;
 use compare::tally::Tally;
-use compare::{edges, grammars, mix, short};
+use compare::{edges, grammars, ladders, levels, mix, short};
 use oracle::chance::Chance;
+use reading::write;
 
 fn main() {
     let words: Option<Vec<u64>> = std::env::args().skip(1).map(|word| word.parse().ok()).collect();
@@ -12,24 +15,33 @@ fn main() {
         eprintln!("usage: compare SEED COUNT");
         std::process::exit(2);
     };
-    let mut total = Tally::default();
-    let tapes: Vec<Vec<u8>> = grammars::RESOLVE.iter().chain(&grammars::MACRO_EXPAND).map(|known| known.tape()).collect();
-    part(&mut total, "every room", *seed, tapes.iter().flat_map(|tape| every_room(tape)));
-    part(&mut total, "short, of bytes", *seed, short::of_bytes(3).into_iter().map(Case::fitting));
-    part(&mut total, "short, of commands", *seed, short::of_commands(5).into_iter().map(Case::fitting));
-    part(&mut total, "at the limits", *seed, edges::cases().into_iter());
-    part(&mut total, "random", *seed, mix::cases(Chance(*seed)).take(*count as usize));
-    println!("all: {total}");
-    if total.differences > 0 {
+    oracle::panics_are_answers();
+    let differences = resolving(*seed, *count as usize).differences + levelling(*seed, *count as usize).differences;
+    if differences > 0 {
         std::process::exit(1);
     }
 }
 
-fn part(total: &mut Tally, name: &str, seed: u64, cases: impl Iterator<Item = Case>) {
-    let tally = run(cases, seed, &normalize::resolve_words);
-    println!("{name}: {tally}");
-    for told in &tally.told {
-        print!("{told}");
-    }
-    total.add(tally);
+fn resolving(seed: u64, count: usize) -> Tally {
+    let mut parts = Parts::new(RESOLVE, seed);
+    let tapes: Vec<Vec<u8>> = grammars::RESOLVE.iter().chain(&grammars::MACRO_EXPAND).map(|known| known.tape()).collect();
+    parts.part("every room", tapes.iter().flat_map(|tape| every_room(tape, 0)));
+    parts.part("short, of bytes", short::of_bytes(3).into_iter().map(Case::fitting));
+    parts.part("short, of commands", short::of_commands(5).into_iter().map(Case::fitting));
+    parts.part("at the limits", edges::cases().into_iter());
+    parts.part("random", mix::cases(Chance(seed)).take(count));
+    parts.end()
+}
+
+fn levelling(seed: u64, count: usize) -> Tally {
+    let mut parts = Parts::new(LEVELS, seed);
+    let tapes: Vec<Vec<u8>> = levels::CASES.iter().map(|case| write(&case.stage())).collect();
+    let longest = |tape: &Vec<u8>| level_lengths(tape).into_iter().max().unwrap_or(0);
+    parts.part("every room", tapes.iter().flat_map(|tape| every_room(tape, longest(tape))));
+    parts.part("short, of bytes", short::of_bytes(2).into_iter().map(Case::fitting));
+    parts.part("short, of commands", short::of_commands(4).into_iter().map(Case::fitting));
+    parts.part("short, of levels", ladders::every(4).into_iter().map(|stage| Case::roomy(write(&stage))));
+    parts.part("at the limits", edges::level_cases().into_iter());
+    parts.part("random", mix::level_cases(Chance(seed), count));
+    parts.end()
 }

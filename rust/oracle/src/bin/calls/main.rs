@@ -14,12 +14,7 @@ mod show;
 
 #[cfg(lalrpop)]
 fn main() {
-    // the Rust's panics are answers
-    std::panic::set_hook(Box::new(|panic| {
-        if !panic.location().is_some_and(|place| place.file().contains("/normalize/precedence/")) {
-            eprintln!("{panic}");
-        }
-    }));
+    oracle::panics_are_answers();
     let words: Vec<String> = std::env::args().skip(1).collect();
     if words == ["chosen"] {
         return print!("{}", show::chosen(&chosen::cases()));
