@@ -1,5 +1,6 @@
 // The calls that a line can name.
 use normalize::Answer;
+use normalize::calls::levels;
 use normalize::calls::resolve;
 use normalize::calls::validate;
 use octets::runs::equal;
@@ -7,6 +8,7 @@ use octets::runs::equal;
 pub enum Call {
     Validate,
     Resolve,
+    Levels,
 }
 
 pub enum Named {
@@ -21,6 +23,9 @@ pub fn call_of(word: &[u8]) -> Named {
     if equal(word, b"resolve") {
         return Named::Is(Call::Resolve);
     }
+    if equal(word, b"levels") {
+        return Named::Is(Call::Levels);
+    }
     Named::Nothing
 }
 
@@ -29,6 +34,7 @@ pub fn usual_output(call: Call, tape: usize) -> usize {
     match call {
         Call::Validate => 0,
         Call::Resolve => tape,
+        Call::Levels => tape,
     }
 }
 
@@ -37,6 +43,7 @@ pub fn handed(call: Call, output: usize) -> usize {
     match call {
         Call::Validate => 0,
         Call::Resolve => output,
+        Call::Levels => output,
     }
 }
 
@@ -44,5 +51,6 @@ pub fn ask(call: Call, tape: &[u8], output: &mut [u8], work: &mut [u8]) -> Answe
     match call {
         Call::Validate => validate(tape, work),
         Call::Resolve => resolve(tape, output, work),
+        Call::Levels => levels(tape, output, work),
     }
 }

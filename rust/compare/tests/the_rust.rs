@@ -47,7 +47,7 @@ fn the_stored_lists_have_each_answer() {
 }
 
 /// The calls that crates/cases makes with stored cases.
-const STORED: [Call; 1] = [Call::Resolve];
+const STORED: [Call; 2] = [Call::Resolve, Call::Levels];
 
 /// What crates/cases puts to them is what these lists say.
 #[test]
