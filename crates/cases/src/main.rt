@@ -25,7 +25,7 @@ fn run(input: &[u8]) {
 }
 
 fn main() {
-    let mut input = [0u8; 786432];
+    let mut input = [0u8; 524288];
     let n = io::read_full(0, &mut input);
     run(&input[..n]);
 }

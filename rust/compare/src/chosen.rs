@@ -16,13 +16,15 @@ use std::collections::BTreeMap;
 pub const OF_EACH: usize = 20;
 const MOST_UNCHANGED: usize = 6;
 pub const LONGEST: usize = 399;
+/// Of levels: what crates/cases reads at once has 524,288 bytes.
+const LONGEST_OF_LEVELS: usize = 250;
 pub const MOST_OUTPUT: usize = 512;
 pub const MOST_WORK: usize = 8_192;
 
-/// The answers of a call that are stored, 0 being a yes.
+/// The answers of a call that are stored, 0 being a yes. Of levels only its own: 1 to 13 are resolving's, which the same code answers.
 pub fn numbers(call: Call) -> Vec<u8> {
-    let last = if call == Call::Levels { 16 } else { 13 };
-    (0..=last).chain([21]).collect()
+    let own = if call == Call::Levels { 14..=16 } else { 1..=13 };
+    [0].into_iter().chain(own).chain([21]).collect()
 }
 
 /// The cases by answer, or nothing where the Rust isn't there.
@@ -31,9 +33,12 @@ pub fn stored(call: Call) -> Option<Vec<(Case, Outcome)>> {
     let candidates: Box<dyn Iterator<Item = Case>> =
         if call == Call::Levels { Box::new(level_candidates()) } else { Box::new(candidates()) };
     let mut found: BTreeMap<u8, Vec<(Case, Outcome)>> = BTreeMap::new();
-    for case in candidates.filter(is_small).take_while(|_| oracle::is_there()) {
+    for case in candidates.filter(|case| is_small(case, call)).take_while(|_| oracle::is_there()) {
         let outcome = expected(&case, call)?;
         let number = outcome.as_ref().err().map_or(0, |refusal| refusal.number);
+        if !numbers(call).contains(&number) {
+            continue;
+        }
         let same = found.entry(number).or_default();
         if same.len() < OF_EACH && adds(same, &case, &outcome) {
             same.push((case, outcome));
@@ -45,8 +50,9 @@ pub fn stored(call: Call) -> Option<Vec<(Case, Outcome)>> {
     None
 }
 
-fn is_small(case: &Case) -> bool {
-    case.tape.len() <= LONGEST && case.output_len() <= MOST_OUTPUT && case.work_len() <= MOST_WORK
+fn is_small(case: &Case, call: Call) -> bool {
+    let longest = if call == Call::Levels { LONGEST_OF_LEVELS } else { LONGEST };
+    case.tape.len() <= longest && case.output_len() <= MOST_OUTPUT && case.work_len() <= MOST_WORK
 }
 
 /// No case twice, and few trees that the call leaves as they were.

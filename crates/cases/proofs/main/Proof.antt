@@ -5,7 +5,7 @@ use Rattle.cases.proofs.main.Statement.{statement}
 use Rattle.cases.proofs.main.Tie as tie
 
 slice-aggregate-read-full : tie.Need-slice-aggregate-read-full
-slice-aggregate-read-full c = zeros 786432
+slice-aggregate-read-full c = zeros 524288
 
 read-full-requires : tie.Need-read-full-requires
 read-full-requires c κs = search needs
