@@ -1,0 +1,1 @@
+-- Laws of printed forms of symbols that stand in work. Assumes nothing.

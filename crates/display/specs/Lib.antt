@@ -1,0 +1,2 @@
+-- What the contracts of display cite: symbols that stand in work, and what is said of their printed forms.
+pub mod Standing
