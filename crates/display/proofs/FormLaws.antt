@@ -1,0 +1,90 @@
+-- Forms of texts: a form goes on byte by byte, and is small enough to go on. Assumes nothing.
+use mathlib.Core.Path.{_≡_, refl, sym, ap, _∙_}
+use mathlib.Core.Bool.{Bool, true, false, _||_, cond}
+use mathlib.Core.List.{List, [], _∷_, _++_, append-assoc, append-nil}
+use Prim.Native.Nat.{ℕ, suc, _+_, _*_, _%_, _<_, _≤_}
+use native.Mathlib.Omega.{arith}
+use lib.Dec.{eqb}
+use lib.ListN.{length, length-append}
+use Rattle.octets.specs.working.Choice.{pick}
+use Rattle.parse_tree.specs.plain.Tree.{Text}
+use Rattle.parse_tree.specs.plain.Display.{escaped}
+use Rattle.texts.specs.Hash.{hashBy, powerBy, hashStep, hashFrom, hashOf, power}
+use Rattle.texts.specs.Forms.{stop, more}
+use Rattle.texts.specs.Forms.{Form as Parts, formOf as partsOf}
+use Rattle.texts.proofs.FormLaws.{power-small, stop-small, form-more}
+use Rattle.texts.proofs.HashLaws.{hash-small}
+use Rattle.texts.proofs.HashComposes.{hash-snoc}
+use Rattle.display.specs.declared.form.Form.{Form}
+use Rattle.display.specs.Form.{formOf, IsForm, moreOf, formFrom, From}
+
+-- ---- a byte more
+power-snoc : (t : Text) (b : ℕ) → power (length (t ++ (b ∷ []))) ≡ power (length t) * 2654435761 % 4294967296
+unfolding power powerBy
+power-snoc t b = let n : length (t ++ (b ∷ [])) ≡ suc (length t) = omega (arith, length-append t (b ∷ [])) in rw n refl
+
+stop-snoc : (t : Text) (b : ℕ) → stop (length (t ++ (b ∷ []))) ≡ stop (stop (length t) + 1)
+unfolding partsOf more
+stop-snoc t b = ap (λ (x : Parts). x .len) (form-more 2654435761 t b)
+
+pub form-snoc : (t : Text) (b : ℕ) → formOf (t ++ (b ∷ [])) ≡ moreOf (formOf t) b
+unfolding formOf moreOf
+form-snoc t b = cc (hash-snoc t b, power-snoc t b, stop-snoc t b)
+
+-- theorem: the form of a text goes on to that of a longer one
+pub from-form : (t u : Text) → formFrom (formOf t) u ≡ formOf (t ++ u)
+unfolding formFrom
+from-form t [] = ap formOf (sym (append-nil t))
+from-form t (b ∷ bs) = ap (λ (f : Form). formFrom f bs) (sym (form-snoc t b)) ∙ from-form (t ++ (b ∷ [])) bs ∙ ap formOf (append-assoc t (b ∷ []) bs)
+
+pub from-append : (f : Form) (t u : Text) → formFrom f (t ++ u) ≡ formFrom (formFrom f t) u
+unfolding formFrom
+from-append f [] u = refl
+from-append f (b ∷ bs) u = from-append (moreOf f b) bs u
+
+-- ---- From
+pub from-is : (f : Form) (t : Text) (r : Form) → IsForm f → r ≡ formFrom f t → From f t r
+from-is f t r g e = record { is = e; form = record { text = g .text ++ t; is = e ∙ ap (λ (x : Form). formFrom x t) (g .is) ∙ from-form (g .text) t } }
+
+pub from-none : (f : Form) → IsForm f → From f [] f
+unfolding formFrom
+from-none f g = record { is = refl; form = g }
+
+pub from-then : {f g r : Form} {t u : Text} → From f t g → From g u r → From f (t ++ u) r
+from-then {f} {g} {r} {t} {u} a b = record { is = b .is ∙ ap (λ (x : Form). formFrom x u) (a .is) ∙ sym (from-append f t u); form = b .form }
+
+pub from-as : {f r : Form} {t u : Text} → t ≡ u → From f t r → From f u r
+from-as {f} {r} {t} {u} e a = rw e at a
+
+-- ---- forms are small
+module _ (f : Form) (g : IsForm f) where
+  pub hash-fits : f .hash < 4294967296
+  unfolding formOf
+  hash-fits = let e = g .is in rw (g .is) (hash-small (g .text))
+
+  pub power-fits : f .power < 4294967296
+  unfolding formOf power
+  power-fits = rw (g .is) (power-small 2654435761 (length (g .text)))
+
+  pub len-fits : f .len ≤ 65536
+  unfolding formOf
+  len-fits = rw (g .is) (stop-small 2654435761 (length (g .text)))
+
+-- ---- escaped bytes
+pub escaped-then : (t r u : Text) → escaped t r ++ u ≡ escaped t (r ++ u)
+unfolding escaped
+escaped-then [] r u = refl
+escaped-then (b ∷ bs) r u = go (eqb b 34 || eqb b 92) (escaped-then bs r u)
+  where
+    go : (c : Bool) → escaped bs r ++ u ≡ escaped bs (r ++ u) →
+        cond {A = Text} c (92 ∷ b ∷ escaped bs r) (b ∷ escaped bs r) ++ u ≡ cond {A = Text} c (92 ∷ b ∷ escaped bs (r ++ u)) (b ∷ escaped bs (r ++ u))
+    go true h = ap {B = Text} (λ l. 92 ∷ b ∷ l) h
+    go false h = ap {B = Text} (λ l. b ∷ l) h
+
+pub escaped-one : (b : ℕ) (bs r : Text) → escaped (b ∷ bs) r ≡ escaped (b ∷ []) [] ++ escaped bs r
+unfolding escaped
+escaped-one b bs r = go (eqb b 34 || eqb b 92)
+  where
+    go : (c : Bool) → cond {A = Text} c (92 ∷ b ∷ escaped bs r) (b ∷ escaped bs r) ≡ cond {A = Text} c (92 ∷ b ∷ []) (b ∷ []) ++ escaped bs r
+    go true = refl
+    go false = refl

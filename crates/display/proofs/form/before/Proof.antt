@@ -1,0 +1,92 @@
+use Rattle.display.proofs.FormCode.{opening}
+use borrow.Author.Needs.{needs}
+use Rattle.display.proofs.form.before.Statement.{statement}
+use Rattle.display.proofs.form.before.Tie as tie
+use Rattle.display.proofs.form.before.Reads as reads
+use Rattle.display.proofs.form.before.Lts as lts
+use Rattle.display.proofs.form.label.Reads as label-reads
+use Rattle.display.proofs.form.leaf.Reads as leaf-reads
+use Rattle.display.proofs.form.more.Reads as more-reads
+use Rattle.display.proofs.form.word.Reads as word-reads
+use Rattle.display.proofs.form.words.Reads as words-reads
+
+shared-slice-read-c : tie.Need-shared-slice-read-c
+shared-slice-read-c c = search needs
+
+add-word : tie.Need-add-word
+add-word c = search needs
+
+word-requires : tie.Need-word-requires
+word-requires c κs = search needs
+
+words-requires : tie.Need-words-requires
+words-requires c κs = search needs
+
+more-requires : tie.Need-more-requires
+more-requires c κs = search needs
+
+returns : tie.Need-returns
+returns c = search opening
+
+returns-2 : tie.Need-returns-2
+returns-2 c = search opening
+
+more-requires-2 : tie.Need-more-requires-2
+more-requires-2 c κs = search needs
+
+returns-3 : tie.Need-returns-3
+returns-3 c = search opening
+
+label-requires : tie.Need-label-requires
+label-requires c κs = search needs
+
+add-word-2 : tie.Need-add-word-2
+add-word-2 c = search needs
+
+word-requires-2 : tie.Need-word-requires-2
+word-requires-2 c κs = search needs
+
+words-requires-2 : tie.Need-words-requires-2
+words-requires-2 c κs = search needs
+
+more-requires-3 : tie.Need-more-requires-3
+more-requires-3 c κs = search needs
+
+returns-4 : tie.Need-returns-4
+returns-4 c = search opening
+
+more-requires-4 : tie.Need-more-requires-4
+more-requires-4 c κs = search needs
+
+returns-5 : tie.Need-returns-5
+returns-5 c = search opening
+
+leaf-requires : tie.Need-leaf-requires
+leaf-requires c κs = search needs
+
+returns-6 : tie.Need-returns-6
+returns-6 c = search opening
+
+pub before-spec : {M : Type 1} → statement M
+before-spec =
+    tie.close
+    (tie.spec
+    shared-slice-read-c
+    add-word
+    word-requires
+    words-requires
+    more-requires
+    returns
+    returns-2
+    more-requires-2
+    returns-3
+    label-requires
+    add-word-2
+    word-requires-2
+    words-requires-2
+    more-requires-3
+    returns-4
+    more-requires-4
+    returns-5
+    leaf-requires
+    returns-6)

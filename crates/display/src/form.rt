@@ -1,0 +1,296 @@
+// Hash, power and length of printed forms: a form is handed on from byte to byte, so no form is ever made whole.
+use octets::numbers::atom_at;
+use octets::wide::from32;
+use precedence::skip::inside;
+use resolve::commands::long;
+use texts::Map;
+use texts::fields::mark;
+use texts::hash::next;
+use texts::text::text_at;
+ghost use mathlib.Core.Path.{_≡_};
+ghost use mathlib.Core.List.{[], _∷_};
+ghost use Prim.Native.Nat.{_+_, _≤_, _<_};
+ghost use lib.ListN.{length, getD};
+ghost use Rattle.octets.specs.plain.Numbers.{leAt};
+ghost use Rattle.parse_tree.specs.plain.Display.{escaped};
+ghost use Rattle.texts.specs.Table.{texts};
+ghost use Rattle.precedence.specs.Grading.{Worded};
+ghost use Rattle.display.specs.Standing.{Readable};
+ghost use Rattle.display.specs.Form.{IsForm, From, formOf, labelBy, opBy, sepText, sepBy, leafBy, beforeAt, behindAt, SpareSym, SpareSyms, Prints, PrintsAll};
+
+// Hash of a text, the power of the multiplier by its length, and the length, which stops at 65,536.
+pub struct Form {
+    pub hash: usize,
+    pub power: usize,
+    pub len: usize,
+}
+
+// The place behind symbols, and a form with theirs behind.
+pub struct Formed {
+    pub at: usize,
+    pub form: Form,
+}
+
+// The form of no bytes.
+pub fn none() -> Form
+    ensures { λ r. ⌜ (r ≡ formOf []) × IsForm r ⌝ }
+{
+    Form {
+        hash: 0,
+        power: 1,
+        len: 0,
+    }
+}
+
+// A byte more.
+pub fn more(f: Form, b: u8) -> Form
+    requires { ⌜ IsForm f ⌝ }
+    ensures { λ r. ⌜ From f (b ∷ []) r ⌝ }
+{
+    let h = next(f.hash, b);
+    let p = f.power * 2654435761 % 4294967296;
+    if f.len < 65536 {
+        return Form {
+            hash: h,
+            power: p,
+            len: f.len + 1,
+        };
+    }
+    Form {
+        hash: h,
+        power: p,
+        len: f.len,
+    }
+}
+
+// A text more.
+pub fn words(f: Form, t: &[u8]) -> Form
+    requires { ⌜ IsForm f ⌝ }
+    ensures { λ r. ⌜ From f (now (t .entry)) r ⌝ }
+{
+    let mut g = f;
+    let mut i = 0;
+    while i < t.len() {
+        g = more(g, t[i]);
+        i += 1;
+    }
+    g
+}
+
+// A byte of a quoted text more.
+fn escape(f: Form, b: u8) -> Form
+    requires { ⌜ IsForm f ⌝ }
+    ensures { λ r. ⌜ From f (escaped (b ∷ []) []) r ⌝ }
+{
+    if b == 34 {
+        return more(more(f, 92), b);
+    }
+    if b == 92 {
+        return more(more(f, 92), b);
+    }
+    more(f, b)
+}
+
+// The bytes of a quoted text more.
+fn escapes(f: Form, t: &[u8]) -> Form
+    requires { ⌜ IsForm f ⌝ }
+    ensures { λ r. ⌜ From f (escaped (now (t .entry)) []) r ⌝ }
+{
+    let mut g = f;
+    let mut i = 0;
+    while i < t.len() {
+        g = escape(g, t[i]);
+        i += 1;
+    }
+    g
+}
+
+// A text between quotes more.
+pub fn quoted_form(f: Form, t: &[u8]) -> Form
+    requires { ⌜ IsForm f ⌝ }
+    ensures { λ r. ⌜ From f (34 ∷ escaped (now (t .entry)) (34 ∷ [])) r ⌝ }
+{
+    more(escapes(more(f, 34), t), 34)
+}
+
+// The text whose number stands at a place; empty where there is none.
+fn word<'a>(tape: &'a [u8], work: &'a [u8], m: Map, width: usize, at: usize) -> &'a [u8]
+    requires { ⌜ Worded (now tape) (now work) m × (2 ≤ width) × (width ≤ 3) × (at + width ≤ length (now work)) ⌝ }
+    ensures { λ r. ⌜ now r ≡ getD (texts (now (tape .entry)) (now (work .entry)) m) (leAt width (now (work .entry)) at) [] ⌝ }
+{
+    let k = from32(atom_at(work, at, width));
+    if m.count <= k {
+        &tape[0..0]
+    } else {
+        let x = mark(work, m.base, k);
+        text_at(tape, work, x)
+    }
+}
+
+// `mut `, if the name at a place has it.
+fn label(work: &[u8], at: usize, f: Form) -> Form
+    requires { ⌜ (at + 16 ≤ length (now work)) × IsForm f ⌝ }
+    ensures { λ r. ⌜ From f (labelBy (getD (now (work .entry)) (at + 9) 0)) r ⌝ }
+{
+    if work[at + 9] == 0 {
+        return f;
+    }
+    more(more(more(more(f, 109), 117), 116), 32)
+}
+
+// A symbol of code c with none inside, more.
+fn leaf<'a>(tape: &'a [u8], work: &'a [u8], m: Map, width: usize, at: usize, c: u8, f: Form) -> Form
+    requires { ⌜ Worded (now tape) (now work) m × (2 ≤ width) × (width ≤ 3) × (at + 16 ≤ length (now work)) × IsForm f ⌝ }
+    ensures { λ r. ⌜ From f (leafBy width (texts (now (tape .entry)) (now (work .entry)) m) (now (work .entry)) at c) r ⌝ }
+{
+    if c == 42 {
+        return more(more(f, 64), 76);
+    }
+    if c == 43 {
+        return more(more(f, 64), 82);
+    }
+    if c == 44 {
+        return more(more(more(more(more(f, 101), 114), 114), 111), 114);
+    }
+    let t = word(tape, work, m, width, at + 9);
+    if c == 34 {
+        return quoted_form(f, t);
+    }
+    if c == 35 {
+        return more(quoted_form(more(more(f, 114), 35), t), 35);
+    }
+    words(f, t)
+}
+
+// What stands before the symbols inside the one at a place, more.
+fn before<'a>(tape: &'a [u8], work: &'a [u8], m: Map, width: usize, at: usize, f: Form) -> Form
+    requires { ⌜ Worded (now tape) (now work) m × (2 ≤ width) × (width ≤ 3) × (at + 16 ≤ length (now work)) × IsForm f ⌝ }
+    ensures { λ r. ⌜ From f (beforeAt width (texts (now (tape .entry)) (now (work .entry)) m) (now (work .entry)) at) r ⌝ }
+{
+    let c = work[at];
+    if c == 37 {
+        return more(words(f, word(tape, work, m, width, at + 9)), 60);
+    }
+    if c == 38 {
+        return f;
+    }
+    if c == 39 {
+        return more(f, 60);
+    }
+    if c == 40 {
+        return more(
+            words(label(work, at, f), word(tape, work, m, width, at + 10)),
+            58,
+        );
+    }
+    if c == 41 {
+        return more(f, 40);
+    }
+    leaf(tape, work, m, width, at, c, f)
+}
+
+// The byte of a repeat.
+fn op(v: u8) -> u8
+    ensures { λ r. ⌜ r ≡ opBy v ⌝ }
+{
+    if v == 0 {
+        return 42;
+    }
+    if v == 1 {
+        return 43;
+    }
+    63
+}
+
+// What stands behind the symbols inside the one at a place, more.
+fn behind(work: &[u8], at: usize, f: Form) -> Form
+    requires { ⌜ (at + 16 ≤ length (now work)) × IsForm f ⌝ }
+    ensures { λ r. ⌜ From f (behindAt (now (work .entry)) at) r ⌝ }
+{
+    let c = work[at];
+    if c == 37 {
+        return more(f, 62);
+    }
+    if c == 38 {
+        return more(f, op(work[at + 9]));
+    }
+    if c == 39 {
+        return more(f, 62);
+    }
+    if c == 41 {
+        return more(f, 41);
+    }
+    f
+}
+
+// Which separator stands between the symbols inside one of code c.
+fn separator(c: u8) -> usize
+    ensures { λ r. ⌜ r ≡ sepBy c ⌝ }
+{
+    if c == 37 {
+        return 2;
+    }
+    1
+}
+
+// A separator more: 0 is none.
+fn separated(f: Form, d: usize) -> Form
+    requires { ⌜ IsForm f ⌝ }
+    ensures { λ r. ⌜ From f (sepText d) r ⌝ }
+{
+    if d == 0 {
+        return f;
+    }
+    if d == 1 {
+        return more(f, 32);
+    }
+    more(more(f, 44), 32)
+}
+
+// The printed forms of n symbols with a separator between them, more. `left` levels of nesting are left.
+pub fn form_list<'a>(
+    tape: &'a [u8],
+    work: &'a [u8],
+    m: Map,
+    width: usize,
+    left: usize,
+    at: usize,
+    n: usize,
+    sep: usize,
+    f: Form,
+) -> Formed
+    requires { ⌜ Readable (now tape) (now work) m width × SpareSyms (now tape) (now work) m width n left at × IsForm f ⌝ }
+    ensures { λ r. ⌜ PrintsAll (now (tape .entry)) (now (work .entry)) m width n left at sep f r ⌝ }
+{
+    let mut p = at;
+    let mut k = n;
+    let mut d = 0;
+    let mut g = f;
+    while 0 < k {
+        let c = work[p];
+        let b = before(tape, work, m, width, p, separated(g, d));
+        let e = p + long(c, width);
+        let i = inside(work, p, width);
+        let q = form_list(tape, work, m, width, left - 1, e, i, separator(c), b);
+        g = behind(work, p, q.form);
+        p = q.at;
+        d = sep;
+        k -= 1;
+    }
+    Formed { at: p, form: g }
+}
+
+// The form of the printed form of the symbol at a place.
+pub fn form_symbol<'a>(
+    tape: &'a [u8],
+    work: &'a [u8],
+    m: Map,
+    width: usize,
+    left: usize,
+    at: usize,
+) -> Formed
+    requires { ⌜ Readable (now tape) (now work) m width × SpareSym (now tape) (now work) m width left at ⌝ }
+    ensures { λ r. ⌜ Prints (now (tape .entry)) (now (work .entry)) m width left at r ⌝ }
+{
+    form_list(tape, work, m, width, left, at, 1, 0, none())
+}
