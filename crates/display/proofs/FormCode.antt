@@ -2,11 +2,11 @@
 use mathlib.Core.Path.{_≡_, refl, sym, ap, _∙_}
 use mathlib.Core.Bool.{Bool, true, false, _||_, cond}
 use mathlib.Core.List.{List, [], _∷_, _++_}
-use Prim.Native.Nat.{ℕ, _+_, _*_, _-_, _%_, _^_, _<_, _≤_}
+use Prim.Native.Nat.{ℕ, suc, _+_, _*_, _-_, _/_, _%_, _^_, _<_, _≤_}
 use native.Mathlib.Omega.{arith}
-use native.Mathlib.Nat.{mul-le-mul}
+use native.Mathlib.Nat.{mul-le-mul, mod-lt}
 use borrow.Author.Needs.{needs}
-use borrow.Author.Tests.{lt-ltb, le-ltb, ne-eqb}
+use borrow.Author.Tests.{lt-ltb, le-ltb, ne-eqb, eqb-true, eqb-false}
 use mir.Val.{Fits}
 use mir.Syntax.{w64}
 use lib.Dec.{eqb, ltb}
@@ -21,14 +21,15 @@ use Rattle.parse_tree.specs.plain.Display.{escaped}
 use Rattle.texts.specs.declared.Map.{Map}
 use Rattle.texts.specs.Hash.{hashBy, powerBy, hashStep, hashFrom, hashOf, power}
 use Rattle.texts.specs.Forms.{stop}
-use Rattle.texts.specs.Fields.{markAt}
+use Rattle.texts.specs.Fields.{markAt, hashAt}
 use Rattle.texts.specs.Texts.{markedText, Whole}
 use Rattle.texts.specs.Table.{texts}
+use Rattle.texts.proofs.FormLaws.{power-small, power-times, mod-factor, mod-factor-right}
 use Rattle.texts.proofs.TextCode.{length-texts, texts-at}
 use Rattle.precedence.specs.Grading.{Worded}
 use Rattle.display.specs.declared.form.Form.{Form}
-use Rattle.display.specs.Form.{formOf, IsForm, moreOf, formFrom, From, labelBy, opBy, sepBy, sepText, wordAt, leafBy, beforeBy, beforeAt, behindBy, behindAt}
-use Rattle.display.proofs.FormLaws.{from-is, from-none, from-then, from-as, from-append, hash-fits, power-fits, len-fits, escaped-then, escaped-one}
+use Rattle.display.specs.Form.{formOf, IsForm, oddTimes, wholeOf, joinOf, Hashed, moreOf, formFrom, From, labelBy, opBy, sepBy, sepText, wordAt, leafBy, beforeBy, beforeAt, behindBy, behindAt}
+use Rattle.display.proofs.FormLaws.{from-is, from-join, from-none, from-then, from-as, from-append, hash-fits, power-fits, len-fits, escaped-then, escaped-one}
 
 -- ---- none, more
 pub none-is : record { hash = 0; power = 1; len = 0 } ≡ formOf []
@@ -61,25 +62,118 @@ module _ (f : Form) (g : IsForm f) where
 
 pub ruleset forming = (needs, none-is, none-form, more-hash, more-power, more-less, more-full)
 
--- ---- words, escapes: g is f with what was passed more
-pub record Passing (f : Form) (t : Text) (g : Form) (i : ℕ) : Type 0 where
-  pub rest : formFrom g (part i (length t) t) ≡ formFrom f t
-  pub form : IsForm g
-  pub upto : i ≤ length t
+-- ---- times, power_of
+pub times-fits : (a b : ℕ) → a < 4294967296 → b < 4294967296 → Fits w64 (a * b)
+times-fits a b h k = let z = mul-le-mul {n₁ = a} {m₁ = b} {n₂ = 4294967295} {m₂ = 4294967295} (omega arith) (omega arith) in record { fits = omega arith }
 
-pub words-start : (f : Form) (t : Text) → IsForm f → Passing f t f 0
-unfolding part
-words-start f t h = record { rest = ap (formFrom f) (take-all (length t - 0) t (omega arith)); form = h; upto = omega arith }
+pub times-small : (a b : ℕ) → a * b % 4294967296 < 4294967296
+times-small a b = mod-lt (a * b) (omega arith)
 
-module _ (f : Form) (t : Text) (g : Form) (i : ℕ) (p : Passing f t g i) where
-  pub words-next : (r : Form) → i < length t → From g (getD t i 0 ∷ []) r → Passing f t r (i + 1)
-  unfolding formFrom
-  words-next r l a = record { rest = cc (part-one i (length t) t l (omega arith), a .is, p .rest); form = a .form; upto = omega arith }
+-- r by the power of b by k is the power that is asked
+pub record Powering (n r b k : ℕ) : Type 0 where
+  pub is : r * powerBy b k % 4294967296 ≡ power n
+  pub small : r < 4294967296
+  pub base : b < 4294967296
 
-  pub words-done : length t ≤ i → From f t g
-  unfolding formFrom
-  words-done l = record { is = cc (part-none i (length t) t l, p .rest); form = p .form }
+pub power-start : (n : ℕ) → Powering n 1 2654435761 n
+unfolding power
+power-start n = record { is = omega (arith, power-small 2654435761 n); small = omega arith; base = omega arith }
 
+square : (b k : ℕ) → b < 4294967296 → powerBy (b * b % 4294967296) k ≡ powerBy b (k * 2)
+unfolding powerBy
+square b k h =
+    let z : 1 * b % 4294967296 ≡ b = omega arith in
+    let e : powerBy b 2 ≡ b * b % 4294967296 = ap (λ (x : ℕ). x * b % 4294967296) z in
+    ap (λ (x : ℕ). powerBy x k) (sym e) ∙ power-times b 2 k
+
+odd-power : (b k : ℕ) → k % 2 ≡ 1 → powerBy b k ≡ powerBy b (k / 2 * 2) * b % 4294967296
+unfolding powerBy
+odd-power b k h = let z : k ≡ suc (k / 2 * 2) = omega arith in ap (powerBy b) z
+
+turn : (r p b : ℕ) → r * (p * b % 4294967296) % 4294967296 ≡ r * b % 4294967296 * p % 4294967296
+turn r p b =
+    let z : r * (p * b) ≡ r * b * p = omega arith in
+    mod-factor-right r (p * b) ∙ ap (λ (x : ℕ). x % 4294967296) z ∙ sym (mod-factor (r * b) p)
+
+module _ (n r b k : ℕ) (g : Powering n r b k) (b′ k′ : ℕ) (sq : b′ ≡ b * b % 4294967296) (less : b′ < 4294967296) (half : k′ ≡ k / 2) where
+  squared : powerBy b′ k′ ≡ powerBy b (k / 2 * 2)
+  squared = ap (λ (x : ℕ). powerBy x k′) sq ∙ ap (λ (x : ℕ). powerBy (b * b % 4294967296) x) half ∙ square b (k / 2) (g .base)
+
+  power-odd : (r′ : ℕ) → k % 2 ≡ 1 → r′ ≡ r * b % 4294967296 → r′ < 4294967296 → Powering n r′ b′ k′
+  power-odd r′ h e l = record {
+    is = ap (λ (x : ℕ). r′ * x % 4294967296) squared
+        ∙ ap (λ (x : ℕ). x * powerBy b (k / 2 * 2) % 4294967296) e
+        ∙ sym (turn r (powerBy b (k / 2 * 2)) b)
+        ∙ ap (λ (x : ℕ). r * x % 4294967296) (sym (odd-power b k h))
+        ∙ g .is;
+    small = l;
+    base = less;
+  }
+
+  power-even : (k % 2 ≡ 1 → ⊥) → Powering n r b′ k′
+  power-even h =
+      let z : k / 2 * 2 ≡ k = omega arith in
+      record { is = ap (λ (x : ℕ). r * x % 4294967296) (squared ∙ ap (powerBy b) z) ∙ g .is; small = g .small; base = less }
+
+  pub power-next : (r′ : ℕ) → r′ ≡ oddTimes r b k → r′ < 4294967296 → Powering n r′ b′ k′
+  unfolding oddTimes pick
+  power-next r′ e l = go (eqb (k % 2) 1) refl
+    where
+      go : (c : Bool) → eqb (k % 2) 1 ≡ c → Powering n r′ b′ k′
+      go true z = let q : r′ ≡ r * b % 4294967296 = cc in power-odd r′ (eqb-true (k % 2) 1 z) q l
+      go false z = let q : r′ ≡ r = cc in rw q (power-even (eqb-false (k % 2) 1 z))
+
+pub odd-is : (r b k x : ℕ) → k % 2 ≡ 1 → x ≡ r * b % 4294967296 → x ≡ oddTimes r b k
+unfolding oddTimes pick
+odd-is r b k x h e = cc
+
+pub even-is : (r b k : ℕ) → (k % 2 ≡ 1 → ⊥) → r ≡ oddTimes r b k
+unfolding oddTimes pick
+even-is r b k h = cc (ne-eqb (k % 2) 1 h)
+
+pub power-done : (n r b k : ℕ) → Powering n r b k → k ≤ 0 → r ≡ power n
+unfolding powerBy
+power-done n r b k g h = let z : k ≡ 0 = omega arith in let q : r * powerBy b 0 % 4294967296 ≡ power n = rw z at (g .is) in omega (arith, g .small)
+
+pub ruleset powering = (needs, times-fits, times-small, power-start, power-next, power-done, odd-is, even-is)
+
+-- ---- stopped, whole, join
+pub stopped-less : (n : ℕ) → n < 65536 → n ≡ stop n
+unfolding stop pick
+stopped-less n l = cc (lt-ltb n 65536 l)
+
+pub stopped-full : (n : ℕ) → 65536 ≤ n → 65536 ≡ stop n
+unfolding stop pick
+stopped-full n l = cc (le-ltb n 65536 l)
+
+pub whole-done : (h n p l : ℕ) → p ≡ power n → l ≡ stop n → record { hash = h; power = p; len = l } ≡ wholeOf h n
+unfolding wholeOf
+whole-done h n p l e z = cc
+
+module _ (x y : Form) (g : IsForm x) (k : IsForm y) where
+  pub join-fits : Fits w64 (x .hash * y .power)
+  join-fits = times-fits (x .hash) (y .power) (hash-fits x g) (power-fits y k)
+
+  pub join-more-fits : Fits w64 (x .hash * y .power + y .hash)
+  join-more-fits =
+      let a = hash-fits x g in
+      let b = power-fits y k in
+      let z = mul-le-mul {n₁ = x .hash} {m₁ = y .power} {n₂ = 4294967295} {m₂ = 4294967295} (omega arith) (omega arith) in
+      record { fits = omega (arith, hash-fits y k) }
+
+  pub join-len-fits : Fits w64 (x .len + y .len)
+  join-len-fits = record { fits = omega (arith, len-fits x g, len-fits y k) }
+
+  pub join-done : (p l : ℕ) → p ≡ x .power * y .power % 4294967296 → l ≡ stop (x .len + y .len)
+      → record { hash = (x .hash * y .power + y .hash) % 4294967296; power = p; len = l } ≡ joinOf x y
+  unfolding joinOf
+  join-done p l e z = cc
+
+pub ruleset joining = (needs, stopped-less, stopped-full, whole-done, join-fits, join-more-fits, join-len-fits, join-done)
+
+pub ruleset fitting = (needs, power-fits)
+
+-- ---- escapes: g is f with what was passed more
 pub record Escaping (f : Form) (t : Text) (g : Form) (i : ℕ) : Type 0 where
   pub rest : formFrom g (escaped (part i (length t) t) []) ≡ formFrom f (escaped t [])
   pub form : IsForm g
@@ -109,7 +203,7 @@ module _ (f : Form) (t : Text) (g : Form) (i : ℕ) (p : Escaping f t g i) where
   unfolding formFrom escaped
   escapes-done l = record { is = cc (part-none i (length t) t l, p .rest); form = p .form }
 
-pub ruleset passing = (needs, words-start, words-next, words-done, escapes-start, escapes-next, escapes-done)
+pub ruleset passing = (needs, escapes-start, escapes-next, escapes-done)
 
 -- ---- escape, quoted_form
 module _ (f : Form) (b : ℕ) where
@@ -147,6 +241,25 @@ pub word-whole : (s w : List ℕ) (m : Map) (k y : ℕ) → Worded s w m → k <
 word-whole s w m k y g h e = rw e (g .whole k h)
 
 pub ruleset wording = (needs, word-beyond, word-some, word-whole)
+
+-- ---- named
+module _ (s w : List ℕ) (m : Map) (k h y : ℕ) (g : Hashed s w m) (l : k < m .count) (p : y ≡ markAt w (m .base) k) (q : h ≡ hashAt w (m .base) k) (t : Text) (e : t ≡ markedText s w y) where
+  whole-is : (n : ℕ) → n ≡ length t → wholeOf h n ≡ formOf t
+  unfolding wholeOf formOf
+  whole-is n z =
+      let a : h ≡ hashOf t = q ∙ g .hashes k l ∙ ap (λ (v : ℕ). hashOf (markedText s w v)) (sym p) ∙ ap hashOf (sym e) in
+      cc
+
+  pub whole-form : (n : ℕ) (v : Form) → n ≡ length t → v ≡ wholeOf h n → IsForm v
+  whole-form n v z o = record { text = t; is = o ∙ whole-is n z }
+
+  pub named-some : (wd at x : ℕ) → x ≡ leAt wd w at → k ≡ x → (n : ℕ) (v f r : Form) → n ≡ length t → v ≡ wholeOf h n → IsForm f → r ≡ joinOf f v → From f (getD (texts s w m) (leAt wd w at) []) r
+  named-some wd at x j u n v f r z o i b = from-as (word-some wd s w m at x k j u l y p t e) (from-join f t r i (b ∙ ap (joinOf f) (o ∙ whole-is n z)))
+
+pub named-beyond : (s w : List ℕ) (m : Map) (wd at x k : ℕ) (f : Form) → x ≡ leAt wd w at → k ≡ x → m .count ≤ k → IsForm f → From f (getD (texts s w m) (leAt wd w at) []) f
+named-beyond s w m wd at x k f j u l g = from-as (word-beyond wd s w m at x k j u l) (from-none f g)
+
+pub ruleset naming = (needs, word-whole, whole-form, named-some, named-beyond)
 
 -- ---- label, op, separator, separated
 pub label-none : (f : Form) (v : ℕ) → IsForm f → v ≡ 0 → From f (labelBy v) f
@@ -240,17 +353,17 @@ module _ (wd : ℕ) (ts : List Text) (w : List ℕ) (at c : ℕ) (f : Form) wher
         let q = from-as (ap {B = Text} (λ l. 114 ∷ 35 ∷ 34 ∷ l) (escaped-then t (34 ∷ []) (35 ∷ []))) (from-then a (from-then b (from-then d g))) in
         rw (e, ← j) q
 
-    pub leaf-name : (r : Form) → (c ≡ 42 → ⊥) → (c ≡ 43 → ⊥) → (c ≡ 44 → ⊥) → (c ≡ 34 → ⊥) → (c ≡ 35 → ⊥) → From f t r → From f (leafBy wd ts w at c) r
-    unfolding leafBy wordAt pick
-    leaf-name r n42 n43 n44 n34 n35 a = rw (ne-eqb c 42 n42, ne-eqb c 43 n43, ne-eqb c 44 n44, ne-eqb c 34 n34, ne-eqb c 35 n35, ← j) a
+  pub leaf-name : (r : Form) → (c ≡ 42 → ⊥) → (c ≡ 43 → ⊥) → (c ≡ 44 → ⊥) → (c ≡ 34 → ⊥) → (c ≡ 35 → ⊥) → From f (getD ts (leAt wd w (at + 9)) []) r → From f (leafBy wd ts w at c) r
+  unfolding leafBy wordAt pick
+  leaf-name r n42 n43 n44 n34 n35 a = rw (ne-eqb c 42 n42, ne-eqb c 43 n43, ne-eqb c 44 n44, ne-eqb c 34 n34, ne-eqb c 35 n35) a
 
 pub ruleset leafing = (needs, leaf-lookahead, leaf-lookbehind, leaf-error, leaf-quoted, leaf-regex, leaf-name)
 
 -- ---- before
 module _ (wd : ℕ) (ts : List Text) (w : List ℕ) (at c : ℕ) (i : c ≡ getD w at 0) (f : Form) where
-  pub before-macro : (t : Text) (x r : Form) → c ≡ 37 → t ≡ getD ts (leAt wd w (at + 9)) [] → From f t x → From x (60 ∷ []) r → From f (beforeAt wd ts w at) r
+  pub before-macro : (x r : Form) → c ≡ 37 → From f (getD ts (leAt wd w (at + 9)) []) x → From x (60 ∷ []) r → From f (beforeAt wd ts w at) r
   unfolding beforeAt beforeBy wordAt pick
-  before-macro t x r e j a b = rw (← i, e, ← j) (from-then a b)
+  before-macro x r e a b = rw (← i, e) (from-then a b)
 
   pub before-repeat : IsForm f → c ≡ 38 → From f (beforeAt wd ts w at) f
   unfolding beforeAt beforeBy pick
@@ -260,9 +373,9 @@ module _ (wd : ℕ) (ts : List Text) (w : List ℕ) (at c : ℕ) (i : c ≡ getD
   unfolding beforeAt beforeBy pick
   before-choose r e a = rw (← i, e) a
 
-  pub before-name : (t : Text) (x y r : Form) → c ≡ 40 → t ≡ getD ts (leAt wd w (at + 10)) [] → From f (labelBy (getD w (at + 9) 0)) x → From x t y → From y (58 ∷ []) r → From f (beforeAt wd ts w at) r
+  pub before-name : (x y r : Form) → c ≡ 40 → From f (labelBy (getD w (at + 9) 0)) x → From x (getD ts (leAt wd w (at + 10)) []) y → From y (58 ∷ []) r → From f (beforeAt wd ts w at) r
   unfolding beforeAt beforeBy wordAt pick
-  before-name t x y r e j a b d = rw (← i, e, ← j) (from-then a (from-then b d))
+  before-name x y r e a b d = rw (← i, e) (from-then a (from-then b d))
 
   pub before-group : (r : Form) → c ≡ 41 → From f (40 ∷ []) r → From f (beforeAt wd ts w at) r
   unfolding beforeAt beforeBy pick

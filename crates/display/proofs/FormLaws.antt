@@ -12,11 +12,11 @@ use Rattle.parse_tree.specs.plain.Display.{escaped}
 use Rattle.texts.specs.Hash.{hashBy, powerBy, hashStep, hashFrom, hashOf, power}
 use Rattle.texts.specs.Forms.{stop, more}
 use Rattle.texts.specs.Forms.{Form as Parts, formOf as partsOf}
-use Rattle.texts.proofs.FormLaws.{power-small, stop-small, form-more}
+use Rattle.texts.proofs.FormLaws.{power-small, stop-small, stop-add, form-more}
 use Rattle.texts.proofs.HashLaws.{hash-small}
-use Rattle.texts.proofs.HashComposes.{hash-snoc}
+use Rattle.texts.proofs.HashComposes.{hash-snoc, hash-join, power-join}
 use Rattle.display.specs.declared.form.Form.{Form}
-use Rattle.display.specs.Form.{formOf, IsForm, moreOf, formFrom, From}
+use Rattle.display.specs.Form.{formOf, IsForm, wholeOf, joinOf, moreOf, formFrom, From}
 
 -- ---- a byte more
 power-snoc : (t : Text) (b : ℕ) → power (length (t ++ (b ∷ []))) ≡ power (length t) * 2654435761 % 4294967296
@@ -55,6 +55,16 @@ from-then {f} {g} {r} {t} {u} a b = record { is = b .is ∙ ap (λ (x : Form). f
 
 pub from-as : {f r : Form} {t u : Text} → t ≡ u → From f t r → From f u r
 from-as {f} {r} {t} {u} e a = rw e at a
+
+-- theorem: forms join to that of both texts
+pub form-join : (t u : Text) → joinOf (formOf t) (formOf u) ≡ formOf (t ++ u)
+unfolding formOf joinOf
+form-join t u = cc (length-append t u, hash-join t u, power-join (length t) (length u), stop-add 2654435761 (length t) (length u))
+
+-- theorem: so a text's form joined is the text more
+pub from-join : (f : Form) (t : Text) (r : Form) → IsForm f → r ≡ joinOf f (formOf t) → From f t r
+from-join f t r g e =
+    from-is f t r g (e ∙ ap (λ (x : Form). joinOf x (formOf t)) (g .is) ∙ form-join (g .text) t ∙ sym (ap (λ (x : Form). formFrom x t) (g .is) ∙ from-form (g .text) t))
 
 -- ---- forms are small
 module _ (f : Form) (g : IsForm f) where

@@ -19,10 +19,10 @@ use Rattle.parse_tree.proofs.DisplayLaws.{shown-app}
 use Rattle.parse_tree.proofs.FieldLaws.{byte-read, le-read-then, le-read-last}
 use Rattle.parse_tree.proofs.TextLaws.{text-number}
 use Rattle.texts.specs.declared.Map.{Map}
-use Rattle.texts.specs.Table.{texts}
+use Rattle.texts.specs.Table.{texts, Table}
 use Rattle.laws.specs.Flat.{symNode, children}
-use Rattle.display.specs.Standing.{SymStands, SymsStand}
-use Rattle.display.specs.Form.{labelBy, opBy, sepBy, sepText, wordAt, leafBy, beforeBy, beforeAt, behindBy, behindAt}
+use Rattle.display.specs.Standing.{SymStands, SymsStand, SomeSym, SomeSyms}
+use Rattle.display.specs.Form.{Hashed, SpareSym, SpareSyms, labelBy, opBy, sepBy, sepText, wordAt, leafBy, beforeBy, beforeAt, behindBy, behindAt}
 use Rattle.display.proofs.StandsLaws.{after-span, node-lies}
 
 -- ---- a printed form by parts: before, inside, behind
@@ -138,3 +138,16 @@ stands-around s w m wd four left at e x h = go x left (h .within) (node-lies s w
     go (around sp a x) (suc left) {d} h k = around-is wd (texts s w m) w at d sp (h .0) four a x (h .1) k
     go (over sp o xs) zero {d} h k = absurd h
     go (over sp o xs) (suc left) {d} h k = over-is wd (texts s w m) w at d sp (h .0) four o xs (h .1) k
+
+-- ---- for callers
+-- theorem: the records of a table have the hashes of their texts
+pub table-hashed : (s w : List ℕ) (m : Map) → Table s w m → Hashed s w m
+table-hashed s w m g = record { hashes = g .hashes }
+
+-- theorem: a symbol that stands there, with 16 bytes behind
+pub spare-symbol : (s w : List ℕ) (m : Map) (wd left at : ℕ) (h : SomeSym s w m wd left at) → h .end + 16 ≤ length w → SpareSym s w m wd left at
+spare-symbol s w m wd left at h r = record { four = h .four; end = h .end; symbol = h .symbol; stands = h .stands; room = r }
+
+-- theorem: and n of them
+pub spare-symbols : (s w : List ℕ) (m : Map) (wd n left at : ℕ) (h : SomeSyms s w m wd n left at) → h .end + 16 ≤ length w → SpareSyms s w m wd n left at
+spare-symbols s w m wd n left at h r = record { four = h .four; end = h .end; symbols = h .symbols; many = h .many; stand = h .stand; room = r }

@@ -3,7 +3,7 @@
 use mathlib.Core.Path.{_≡_}
 use mathlib.Core.Bool.{Bool}
 use mathlib.Core.List.{List, [], _∷_, _++_}
-use Prim.Native.Nat.{ℕ, _+_, _*_, _%_, _≤_}
+use Prim.Native.Nat.{ℕ, _+_, _*_, _%_, _≤_, _<_}
 use lib.Dec.{eqb}
 use lib.ListN.{length, getD}
 use Rattle.octets.specs.working.Choice.{pick}
@@ -13,6 +13,8 @@ use Rattle.parse_tree.specs.plain.Display.{escaped, shownAll, print}
 use Rattle.texts.specs.declared.Map.{Map}
 use Rattle.texts.specs.Hash.{hashStep, hashOf, power}
 use Rattle.texts.specs.Forms.{stop}
+use Rattle.texts.specs.Fields.{markAt, hashAt}
+use Rattle.texts.specs.Texts.{markedText}
 use Rattle.display.specs.declared.form.Form.{Form}
 use Rattle.display.specs.declared.form.Formed.{Formed}
 use Rattle.display.specs.Standing.{SymStands, SymsStand}
@@ -25,6 +27,22 @@ formOf t = record { hash = hashOf t; power = power (length t); len = stop (lengt
 pub record IsForm (f : Form) : Type 0 where
   pub text : Text
   pub is : f ≡ formOf text
+
+-- r by b modulo 2^32, if k is odd
+unfoldable pub oddTimes : ℕ → ℕ → ℕ → ℕ
+oddTimes r b k = pick (eqb (k % 2) 1) (r * b % 4294967296) r
+
+-- that of a text of n bytes with the hash h
+unfoldable pub wholeOf : ℕ → ℕ → Form
+wholeOf h n = record { hash = h; power = power n; len = stop n }
+
+-- one text behind another
+unfoldable pub joinOf : Form → Form → Form
+joinOf x y = record { hash = (x .hash * y .power + y .hash) % 4294967296; power = x .power * y .power % 4294967296; len = stop (x .len + y .len) }
+
+-- the records have the hashes of their texts
+pub record Hashed (s w : List ℕ) (m : Map) : Type 0 where
+  pub hashes : (i : ℕ) → i < m .count → hashAt w (m .base) i ≡ hashOf (markedText s w (markAt w (m .base) i))
 
 -- with a byte more
 unfoldable pub moreOf : Form → ℕ → Form

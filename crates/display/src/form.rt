@@ -4,19 +4,22 @@ use octets::wide::from32;
 use precedence::skip::inside;
 use resolve::commands::long;
 use texts::Map;
+use texts::fields::hash;
 use texts::fields::mark;
 use texts::hash::next;
 use texts::text::text_at;
 ghost use mathlib.Core.Path.{_≡_};
 ghost use mathlib.Core.List.{[], _∷_};
-ghost use Prim.Native.Nat.{_+_, _≤_, _<_};
+ghost use Prim.Native.Nat.{_+_, _*_, _%_, _≤_, _<_};
 ghost use lib.ListN.{length, getD};
 ghost use Rattle.octets.specs.plain.Numbers.{leAt};
 ghost use Rattle.parse_tree.specs.plain.Display.{escaped};
+ghost use Rattle.texts.specs.Hash.{power};
+ghost use Rattle.texts.specs.Forms.{stop};
 ghost use Rattle.texts.specs.Table.{texts};
 ghost use Rattle.precedence.specs.Grading.{Worded};
 ghost use Rattle.display.specs.Standing.{Readable};
-ghost use Rattle.display.specs.Form.{IsForm, From, formOf, labelBy, opBy, sepText, sepBy, leafBy, beforeAt, behindAt, SpareSym, SpareSyms, Prints, PrintsAll};
+ghost use Rattle.display.specs.Form.{IsForm, From, formOf, oddTimes, wholeOf, joinOf, Hashed, labelBy, opBy, sepText, sepBy, leafBy, beforeAt, behindAt, SpareSym, SpareSyms, Prints, PrintsAll};
 
 // Hash of a text, the power of the multiplier by its length, and the length, which stops at 65,536.
 pub struct Form {
@@ -63,18 +66,70 @@ pub fn more(f: Form, b: u8) -> Form
     }
 }
 
-// A text more.
-pub fn words(f: Form, t: &[u8]) -> Form
-    requires { ⌜ IsForm f ⌝ }
-    ensures { λ r. ⌜ From f (now (t .entry)) r ⌝ }
+// A product modulo 2^32.
+fn times(a: usize, b: usize) -> usize
+    requires { ⌜ (a < 4294967296) × (b < 4294967296) ⌝ }
+    ensures { λ r. ⌜ (r ≡ a * b % 4294967296) × (r < 4294967296) ⌝ }
 {
-    let mut g = f;
-    let mut i = 0;
-    while i < t.len() {
-        g = more(g, t[i]);
-        i += 1;
+    a * b % 4294967296
+}
+
+// r by b, if k is odd.
+fn odd_times(r: usize, b: usize, k: usize) -> usize
+    requires { ⌜ (r < 4294967296) × (b < 4294967296) ⌝ }
+    ensures { λ x. ⌜ (x ≡ oddTimes r b k) × (x < 4294967296) ⌝ }
+{
+    if k % 2 == 1 {
+        return times(r, b);
     }
-    g
+    r
+}
+
+// The power of the multiplier by a length, by squaring.
+fn power_of(n: usize) -> usize
+    ensures { λ r. ⌜ (r ≡ power n) × (r < 4294967296) ⌝ }
+{
+    let mut r: usize = 1;
+    let mut b: usize = 2654435761;
+    let mut k = n;
+    while 0 < k {
+        r = odd_times(r, b, k);
+        b = times(b, b);
+        k = k / 2;
+    }
+    r
+}
+
+fn stopped(n: usize) -> usize
+    ensures { λ r. ⌜ (r ≡ stop n) × (r ≤ 65536) ⌝ }
+{
+    if n < 65536 {
+        return n;
+    }
+    65536
+}
+
+// The form of a text of n bytes with the hash h.
+fn whole(h: usize, n: usize) -> Form
+    ensures { λ r. ⌜ r ≡ wholeOf h n ⌝ }
+{
+    Form {
+        hash: h,
+        power: power_of(n),
+        len: stopped(n),
+    }
+}
+
+// One form behind another.
+pub fn join(x: Form, y: Form) -> Form
+    requires { ⌜ IsForm x × IsForm y ⌝ }
+    ensures { λ r. ⌜ r ≡ joinOf x y ⌝ }
+{
+    Form {
+        hash: (x.hash * y.power + y.hash) % 4294967296,
+        power: times(x.power, y.power),
+        len: stopped(x.len + y.len),
+    }
 }
 
 // A byte of a quoted text more.
@@ -127,6 +182,21 @@ fn word<'a>(tape: &'a [u8], work: &'a [u8], m: Map, width: usize, at: usize) -> 
     }
 }
 
+// The text whose number stands at a place, more: its hash is read, not made.
+fn named<'a>(tape: &'a [u8], work: &'a [u8], m: Map, width: usize, at: usize, f: Form) -> Form
+    requires { ⌜ Worded (now tape) (now work) m × Hashed (now tape) (now work) m × (2 ≤ width) × (width ≤ 3) × (at + width ≤ length (now work)) × IsForm f ⌝ }
+    ensures { λ r. ⌜ From f (getD (texts (now (tape .entry)) (now (work .entry)) m) (leAt width (now (work .entry)) at) []) r ⌝ }
+{
+    let k = from32(atom_at(work, at, width));
+    if m.count <= k {
+        return f;
+    }
+    let x = mark(work, m.base, k);
+    let h = hash(work, m.base, k);
+    let t = text_at(tape, work, x);
+    join(f, whole(h, t.len()))
+}
+
 // `mut `, if the name at a place has it.
 fn label(work: &[u8], at: usize, f: Form) -> Form
     requires { ⌜ (at + 16 ≤ length (now work)) × IsForm f ⌝ }
@@ -140,7 +210,7 @@ fn label(work: &[u8], at: usize, f: Form) -> Form
 
 // A symbol of code c with none inside, more.
 fn leaf<'a>(tape: &'a [u8], work: &'a [u8], m: Map, width: usize, at: usize, c: u8, f: Form) -> Form
-    requires { ⌜ Worded (now tape) (now work) m × (2 ≤ width) × (width ≤ 3) × (at + 16 ≤ length (now work)) × IsForm f ⌝ }
+    requires { ⌜ Worded (now tape) (now work) m × Hashed (now tape) (now work) m × (2 ≤ width) × (width ≤ 3) × (at + 16 ≤ length (now work)) × IsForm f ⌝ }
     ensures { λ r. ⌜ From f (leafBy width (texts (now (tape .entry)) (now (work .entry)) m) (now (work .entry)) at c) r ⌝ }
 {
     if c == 42 {
@@ -152,24 +222,24 @@ fn leaf<'a>(tape: &'a [u8], work: &'a [u8], m: Map, width: usize, at: usize, c: 
     if c == 44 {
         return more(more(more(more(more(f, 101), 114), 114), 111), 114);
     }
-    let t = word(tape, work, m, width, at + 9);
     if c == 34 {
-        return quoted_form(f, t);
+        return quoted_form(f, word(tape, work, m, width, at + 9));
     }
     if c == 35 {
+        let t = word(tape, work, m, width, at + 9);
         return more(quoted_form(more(more(f, 114), 35), t), 35);
     }
-    words(f, t)
+    named(tape, work, m, width, at + 9, f)
 }
 
 // What stands before the symbols inside the one at a place, more.
 fn before<'a>(tape: &'a [u8], work: &'a [u8], m: Map, width: usize, at: usize, f: Form) -> Form
-    requires { ⌜ Worded (now tape) (now work) m × (2 ≤ width) × (width ≤ 3) × (at + 16 ≤ length (now work)) × IsForm f ⌝ }
+    requires { ⌜ Worded (now tape) (now work) m × Hashed (now tape) (now work) m × (2 ≤ width) × (width ≤ 3) × (at + 16 ≤ length (now work)) × IsForm f ⌝ }
     ensures { λ r. ⌜ From f (beforeAt width (texts (now (tape .entry)) (now (work .entry)) m) (now (work .entry)) at) r ⌝ }
 {
     let c = work[at];
     if c == 37 {
-        return more(words(f, word(tape, work, m, width, at + 9)), 60);
+        return more(named(tape, work, m, width, at + 9, f), 60);
     }
     if c == 38 {
         return f;
@@ -178,10 +248,7 @@ fn before<'a>(tape: &'a [u8], work: &'a [u8], m: Map, width: usize, at: usize, f
         return more(f, 60);
     }
     if c == 40 {
-        return more(
-            words(label(work, at, f), word(tape, work, m, width, at + 10)),
-            58,
-        );
+        return more(named(tape, work, m, width, at + 10, label(work, at, f)), 58);
     }
     if c == 41 {
         return more(f, 40);
@@ -259,7 +326,7 @@ pub fn form_list<'a>(
     sep: usize,
     f: Form,
 ) -> Formed
-    requires { ⌜ Readable (now tape) (now work) m width × SpareSyms (now tape) (now work) m width n left at × IsForm f ⌝ }
+    requires { ⌜ Readable (now tape) (now work) m width × Hashed (now tape) (now work) m × SpareSyms (now tape) (now work) m width n left at × IsForm f ⌝ }
     ensures { λ r. ⌜ PrintsAll (now (tape .entry)) (now (work .entry)) m width n left at sep f r ⌝ }
 {
     let mut p = at;
@@ -289,7 +356,7 @@ pub fn form_symbol<'a>(
     left: usize,
     at: usize,
 ) -> Formed
-    requires { ⌜ Readable (now tape) (now work) m width × SpareSym (now tape) (now work) m width left at ⌝ }
+    requires { ⌜ Readable (now tape) (now work) m width × Hashed (now tape) (now work) m × SpareSym (now tape) (now work) m width left at ⌝ }
     ensures { λ r. ⌜ Prints (now (tape .entry)) (now (work .entry)) m width left at r ⌝ }
 {
     form_list(tape, work, m, width, left, at, 1, 0, none())

@@ -7,20 +7,16 @@ use Rattle.display.proofs.form.before.Lts as lts
 use Rattle.display.proofs.form.label.Reads as label-reads
 use Rattle.display.proofs.form.leaf.Reads as leaf-reads
 use Rattle.display.proofs.form.more.Reads as more-reads
-use Rattle.display.proofs.form.word.Reads as word-reads
-use Rattle.display.proofs.form.words.Reads as words-reads
+use Rattle.display.proofs.form.named.Reads as named-reads
 
 shared-slice-read-c : tie.Need-shared-slice-read-c
 shared-slice-read-c c = search needs
 
-add-word : tie.Need-add-word
-add-word c = search needs
+add-named : tie.Need-add-named
+add-named c = search needs
 
-word-requires : tie.Need-word-requires
-word-requires c κs = search needs
-
-words-requires : tie.Need-words-requires
-words-requires c κs = search needs
+named-requires : tie.Need-named-requires
+named-requires c κs = search needs
 
 more-requires : tie.Need-more-requires
 more-requires c κs = search needs
@@ -37,17 +33,14 @@ more-requires-2 c κs = search needs
 returns-3 : tie.Need-returns-3
 returns-3 c = search opening
 
+add-named-2 : tie.Need-add-named-2
+add-named-2 c = search needs
+
 label-requires : tie.Need-label-requires
 label-requires c κs = search needs
 
-add-word-2 : tie.Need-add-word-2
-add-word-2 c = search needs
-
-word-requires-2 : tie.Need-word-requires-2
-word-requires-2 c κs = search needs
-
-words-requires-2 : tie.Need-words-requires-2
-words-requires-2 c κs = search needs
+named-requires-2 : tie.Need-named-requires-2
+named-requires-2 c κs = search needs
 
 more-requires-3 : tie.Need-more-requires-3
 more-requires-3 c κs = search needs
@@ -72,18 +65,16 @@ before-spec =
     tie.close
     (tie.spec
     shared-slice-read-c
-    add-word
-    word-requires
-    words-requires
+    add-named
+    named-requires
     more-requires
     returns
     returns-2
     more-requires-2
     returns-3
+    add-named-2
     label-requires
-    add-word-2
-    word-requires-2
-    words-requires-2
+    named-requires-2
     more-requires-3
     returns-4
     more-requires-4

@@ -5,9 +5,9 @@ use Rattle.display.proofs.form.leaf.Tie as tie
 use Rattle.display.proofs.form.leaf.Reads as reads
 use Rattle.display.proofs.form.leaf.Lts as lts
 use Rattle.display.proofs.form.more.Reads as more-reads
+use Rattle.display.proofs.form.named.Reads as named-reads
 use Rattle.display.proofs.form.quoted_form.Reads as quoted-form-reads
 use Rattle.display.proofs.form.word.Reads as word-reads
-use Rattle.display.proofs.form.words.Reads as words-reads
 
 more-requires : tie.Need-more-requires
 more-requires c κs = search needs
@@ -57,6 +57,12 @@ quoted-form-requires c κs = search needs
 returns-4 : tie.Need-returns-4
 returns-4 c = search leafing
 
+add-word-2 : tie.Need-add-word-2
+add-word-2 c = search needs
+
+word-requires-2 : tie.Need-word-requires-2
+word-requires-2 c κs = search needs
+
 more-requires-10 : tie.Need-more-requires-10
 more-requires-10 c κs = search needs
 
@@ -72,8 +78,11 @@ more-requires-12 c κs = search needs
 returns-5 : tie.Need-returns-5
 returns-5 c = search leafing
 
-words-requires : tie.Need-words-requires
-words-requires c κs = search needs
+add-named : tie.Need-add-named
+add-named c = search needs
+
+named-requires : tie.Need-named-requires
+named-requires c κs = search needs
 
 returns-6 : tie.Need-returns-6
 returns-6 c = search leafing
@@ -98,10 +107,13 @@ leaf-spec =
     word-requires
     quoted-form-requires
     returns-4
+    add-word-2
+    word-requires-2
     more-requires-10
     more-requires-11
     quoted-form-requires-2
     more-requires-12
     returns-5
-    words-requires
+    add-named
+    named-requires
     returns-6)
