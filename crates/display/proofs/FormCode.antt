@@ -1,12 +1,12 @@
 -- Forms: the ways out of the code that makes a form longer. Assumes nothing.
 use mathlib.Core.Path.{_≡_, refl, sym, ap, _∙_}
-use mathlib.Core.Bool.{Bool, true, false, _||_, cond}
-use mathlib.Core.List.{List, [], _∷_, _++_}
-use Prim.Native.Nat.{ℕ, suc, _+_, _*_, _-_, _/_, _%_, _^_, _<_, _≤_}
+use mathlib.Core.Bool.{Bool, true, false}
+use mathlib.Core.List.{List, [], _∷_}
+use Prim.Native.Nat.{ℕ, suc, _+_, _*_, _-_, _/_, _%_, _<_, _≤_}
 use native.Mathlib.Omega.{arith}
 use native.Mathlib.Nat.{mul-le-mul, mod-lt}
 use borrow.Author.Needs.{needs}
-use borrow.Author.Tests.{lt-ltb, le-ltb, ne-eqb, eqb-true, eqb-false}
+use borrow.Author.Tests.{lt-ltb, le-ltb, ltb-false, ne-eqb, eqb-true, eqb-false}
 use mir.Val.{Fits}
 use mir.Syntax.{w64}
 use lib.Dec.{eqb, ltb}
@@ -29,9 +29,9 @@ use Rattle.texts.proofs.TextCode.{length-texts, texts-at}
 use Rattle.precedence.specs.Grading.{Worded}
 use Rattle.display.specs.declared.form.Form.{Form}
 use Rattle.display.specs.Form.{formOf, IsForm, oddTimes, wholeOf, joinOf, Hashed, moreOf, formFrom, From, labelBy, opBy, sepBy, sepText, wordAt, leafBy, beforeBy, beforeAt, behindBy, behindAt}
-use Rattle.display.proofs.FormLaws.{from-is, from-join, from-none, from-then, from-as, from-append, hash-fits, power-fits, len-fits, escaped-then, escaped-one}
+use Rattle.display.proofs.FormLaws.{from-is, from-form, from-join, from-none, from-then, from-as, from-append, hash-fits, power-fits, len-fits, escaped-then, escaped-one}
 
--- ---- none, more
+-- ---- none, snoc, one
 pub none-is : record { hash = 0; power = 1; len = 0 } ≡ formOf []
 unfolding formOf hashOf hashFrom hashBy power powerBy stop pick
 none-is = refl
@@ -40,27 +40,30 @@ pub none-form : IsForm (record { hash = 0; power = 1; len = 0 })
 none-form = record { text = []; is = none-is }
 
 module _ (f : Form) (g : IsForm f) where
-  pub more-hash : f .hash < 4294967296
-  more-hash = hash-fits f g
+  pub snoc-hash : f .hash < 4294967296
+  snoc-hash = hash-fits f g
 
-  pub more-power : Fits w64 (f .power * 2654435761)
-  more-power = let p = power-fits f g in record { fits = omega arith }
+  pub snoc-power : Fits w64 (f .power * 2654435761)
+  snoc-power = let p = power-fits f g in record { fits = omega arith }
 
-  pub more-less : (h b : ℕ) → h ≡ hashStep (f .hash) b → f .len < 65536 → From f (b ∷ []) (record { hash = h; power = f .power * 2654435761 % 4294967296; len = f .len + 1 })
+  pub snoc-less : (h b : ℕ) → h ≡ hashStep (f .hash) b → f .len < 65536 → From f (b ∷ []) (record { hash = h; power = f .power * 2654435761 % 4294967296; len = f .len + 1 })
   unfolding formFrom moreOf stop pick
-  more-less h b e l = from-is f (b ∷ []) _ g (go (ltb (f .len + 1) 65536) refl)
+  snoc-less h b e l = from-is f (b ∷ []) _ g (go (ltb (f .len + 1) 65536) refl)
     where
       go : (c : Bool) → ltb (f .len + 1) 65536 ≡ c → record { hash = h; power = f .power * 2654435761 % 4294967296; len = f .len + 1 } ≡ formFrom f (b ∷ [])
       go true z = cc
-      go false z = let n : f .len + 1 ≡ 65536 = omega (arith, borrow.Author.Tests.ltb-false (f .len + 1) 65536 z) in cc
+      go false z = let n : f .len + 1 ≡ 65536 = omega (arith, ltb-false (f .len + 1) 65536 z) in cc
 
-  pub more-full : (h b : ℕ) → h ≡ hashStep (f .hash) b → 65536 ≤ f .len → From f (b ∷ []) (record { hash = h; power = f .power * 2654435761 % 4294967296; len = f .len })
+  pub snoc-full : (h b : ℕ) → h ≡ hashStep (f .hash) b → 65536 ≤ f .len → From f (b ∷ []) (record { hash = h; power = f .power * 2654435761 % 4294967296; len = f .len })
   unfolding formFrom moreOf stop pick
-  more-full h b e l =
+  snoc-full h b e l =
       let n : f .len ≡ 65536 = omega (arith, len-fits f g) in
       from-is f (b ∷ []) _ g (cc n)
 
-pub ruleset forming = (needs, none-is, none-form, more-hash, more-power, more-less, more-full)
+pub one-is : (f r : Form) (b : ℕ) → f ≡ formOf [] → From f (b ∷ []) r → r ≡ formOf (b ∷ [])
+one-is f r b e a = a .is ∙ ap (λ (x : Form). formFrom x (b ∷ [])) e ∙ from-form [] (b ∷ [])
+
+pub ruleset forming = (needs, none-is, none-form, snoc-hash, snoc-power, snoc-less, snoc-full, one-is)
 
 -- ---- times, power_of
 pub times-fits : (a b : ℕ) → a < 4294967296 → b < 4294967296 → Fits w64 (a * b)
@@ -186,8 +189,6 @@ escapes-start f t h = record { rest = ap (λ (x : Text). formFrom f (escaped x [
 module _ (f : Form) (t : Text) (g : Form) (i : ℕ) (p : Escaping f t g i) where
   pub escapes-next : (r : Form) → i < length t → From g (escaped (getD t i 0 ∷ []) []) r → Escaping f t r (i + 1)
   escapes-next r l a =
-      let x = getD t i 0 in
-      let xs = part (i + 1) (length t) t in
       let z = part-one i (length t) t l (omega arith) in
       record {
         rest = ap (λ (y : Form). formFrom y (escaped (part (i + 1) (length t) t) [])) (a .is)

@@ -1,22 +1,21 @@
 -- Forms of texts: a form goes on byte by byte, and is small enough to go on. Assumes nothing.
 use mathlib.Core.Path.{_≡_, refl, sym, ap, _∙_}
 use mathlib.Core.Bool.{Bool, true, false, _||_, cond}
-use mathlib.Core.List.{List, [], _∷_, _++_, append-assoc, append-nil}
+use mathlib.Core.List.{[], _∷_, _++_, append-assoc, append-nil}
 use Prim.Native.Nat.{ℕ, suc, _+_, _*_, _%_, _<_, _≤_}
 use native.Mathlib.Omega.{arith}
 use lib.Dec.{eqb}
 use lib.ListN.{length, length-append}
-use Rattle.octets.specs.working.Choice.{pick}
 use Rattle.parse_tree.specs.plain.Tree.{Text}
 use Rattle.parse_tree.specs.plain.Display.{escaped}
-use Rattle.texts.specs.Hash.{hashBy, powerBy, hashStep, hashFrom, hashOf, power}
+use Rattle.texts.specs.Hash.{powerBy, power}
 use Rattle.texts.specs.Forms.{stop, more}
 use Rattle.texts.specs.Forms.{Form as Parts, formOf as partsOf}
 use Rattle.texts.proofs.FormLaws.{power-small, stop-small, stop-add, form-more}
 use Rattle.texts.proofs.HashLaws.{hash-small}
 use Rattle.texts.proofs.HashComposes.{hash-snoc, hash-join, power-join}
 use Rattle.display.specs.declared.form.Form.{Form}
-use Rattle.display.specs.Form.{formOf, IsForm, wholeOf, joinOf, moreOf, formFrom, From}
+use Rattle.display.specs.Form.{formOf, IsForm, joinOf, moreOf, formFrom, From}
 
 -- ---- a byte more
 power-snoc : (t : Text) (b : ℕ) → power (length (t ++ (b ∷ []))) ≡ power (length t) * 2654435761 % 4294967296
@@ -70,7 +69,7 @@ from-join f t r g e =
 module _ (f : Form) (g : IsForm f) where
   pub hash-fits : f .hash < 4294967296
   unfolding formOf
-  hash-fits = let e = g .is in rw (g .is) (hash-small (g .text))
+  hash-fits = rw (g .is) (hash-small (g .text))
 
   pub power-fits : f .power < 4294967296
   unfolding formOf power

@@ -1,8 +1,8 @@
 -- Forms of symbols: the loop of form_list, and the way out of form_symbol. Assumes nothing.
 use mathlib.Core.Path.{_≡_, refl, sym, ap, _∙_}
 use mathlib.Core.Bool.{Bool}
-use mathlib.Core.List.{List, [], _∷_, _++_, append-assoc}
-use Prim.Native.Nat.{ℕ, zero, suc, _+_, _-_, _<_, _≤_}
+use mathlib.Core.List.{List, [], _++_, append-assoc}
+use Prim.Native.Nat.{ℕ, _+_, _-_, _<_, _≤_}
 use native.Mathlib.Omega.{arith}
 use borrow.Author.Needs.{needs}
 use lib.ListN.{length, getD}
@@ -22,7 +22,7 @@ use Rattle.display.specs.Standing.{SymStands, SymsStand}
 use Rattle.display.specs.Form.{formOf, IsForm, formFrom, From, sepBy, sepText, beforeAt, behindAt, SpareSym, SpareSyms, PrintsAll, Prints}
 use Rattle.display.proofs.FormLaws.{from-form, from-append, from-then}
 use Rattle.display.proofs.FormMean.{beforeOf, behindOf, sepOf, shown-parts, stands-around}
-use Rattle.display.proofs.StandsLaws.{stands-deep, stands-count, stands-inside, stands-long, first-stands, none-stand, stand-upto, one-stands}
+use Rattle.display.proofs.StandsLaws.{stands-deep, stands-count, stands-inside, first-stands, none-stand, stand-upto, one-stands}
 
 -- what is printed of the symbols to come; d is the separator before them
 unfoldable pub restShown : ℕ → ℕ → Syms → Text

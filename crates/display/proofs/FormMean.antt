@@ -8,9 +8,9 @@ use lib.ListN.{length, getD}
 use Rattle.octets.specs.working.Choice.{pick}
 use Rattle.octets.specs.plain.Numbers.{leAt, le}
 use Rattle.octets.specs.plain.Runs.{Lies}
-use Rattle.parse_tree.specs.plain.Tree.{Text, Op, star, plus, question, Leaf, Around, Over, Sym, Syms, ambiguous, bare, quoted, regex, nonterminal, lookahead, lookbehind, error, repeat, choose, name, macro, group, leaf, around, over, nil, cons, count}
+use Rattle.parse_tree.specs.plain.Tree.{Text, Op, star, plus, question, Leaf, Around, Over, Sym, Syms, ambiguous, bare, quoted, regex, nonterminal, lookahead, lookbehind, error, repeat, choose, name, macro, group, leaf, around, over, count}
 use Rattle.parse_tree.specs.plain.Texts.{has, number}
-use Rattle.parse_tree.specs.plain.Display.{escaped, shownLeaf, shownBefore, shownBehind, shownOp, opening, separator, closing, shown, shownAll, shownMore}
+use Rattle.parse_tree.specs.plain.Display.{escaped, shownLeaf, shownBefore, shownBehind, shownOp, opening, closing, shown, shownAll}
 use Rattle.parse_tree.specs.working.Nodes.{nodeBytes, symbolBytes, leafCode, leafOperand, spanBytes}
 use Rattle.parse_tree.specs.working.Encode.{leafNode, aroundNode, overNode}
 use Rattle.parse_tree.specs.working.Within.{SpanWithin, LeafWithin, AroundWithin, OverWithin, SymWithin}
@@ -21,7 +21,7 @@ use Rattle.parse_tree.proofs.TextLaws.{text-number}
 use Rattle.texts.specs.declared.Map.{Map}
 use Rattle.texts.specs.Table.{texts, Table}
 use Rattle.laws.specs.Flat.{symNode, children}
-use Rattle.display.specs.Standing.{SymStands, SymsStand, SomeSym, SomeSyms}
+use Rattle.display.specs.Standing.{SymStands, SomeSym, SomeSyms}
 use Rattle.display.specs.Form.{Hashed, SpareSym, SpareSyms, labelBy, opBy, sepBy, sepText, wordAt, leafBy, beforeBy, beforeAt, behindBy, behindAt}
 use Rattle.display.proofs.StandsLaws.{after-span, node-lies}
 

@@ -1,11 +1,10 @@
 -- Symbols that stand in work: what is read at the place of one, and that what is inside stands behind its command. Assumes nothing.
-use mathlib.Core.Path.{_≡_, refl, sym, ap, _∙_}
+use mathlib.Core.Path.{_≡_, sym, ap, _∙_}
 use mathlib.Core.Bool.{Bool}
-use mathlib.Core.List.{List, [], _∷_, _++_, append-nil}
-use Prim.Native.Nat.{ℕ, zero, suc, _+_, _-_, _^_, _<_, _≤_}
+use mathlib.Core.List.{List, _∷_, _++_, append-nil}
+use Prim.Native.Nat.{ℕ, zero, suc, _+_, _-_, _<_, _≤_}
 use native.Mathlib.Omega.{arith}
 use lib.ListN.{length, getD}
-use Rattle.octets.specs.plain.Numbers.{leAt, le}
 use Rattle.octets.specs.plain.Runs.{Lies}
 use Rattle.octets.proofs.LiesLaws.{lies-split, lies-first, lies-from}
 use Rattle.parse_tree.specs.plain.Tree.{Text, Sym, Syms, leaf, around, over, nil, cons, count}
@@ -17,7 +16,7 @@ use Rattle.parse_tree.proofs.FieldLaws.{span-read}
 use Rattle.texts.specs.declared.Map.{Map}
 use Rattle.texts.specs.Table.{texts}
 use Rattle.laws.specs.Flat.{symNode, children, inside}
-use Rattle.laws.proofs.Flat.{SymFits, sym-fits, sym-bytes, inside-count, node-size}
+use Rattle.laws.proofs.Flat.{sym-fits, sym-bytes, inside-count}
 use Rattle.resolve.specs.Commands.{longOf}
 use Rattle.precedence.specs.Skip.{insideAt}
 use Rattle.precedence.proofs.CodesMean.{Codes, sym-codes}
@@ -76,11 +75,6 @@ module _ (s w : List ℕ) (m : Map) (wd : ℕ) (four : Bool) (left at e : ℕ) w
       within = inside-within four wd (texts s w m) x left (h .within);
       lies = lies-from (ap (λ (n : ℕ). at + n) (sym (codes .size))) (parts .1);
     }
-
-    -- theorem: a symbol has bytes
-    pub stands-long : at + 9 ≤ e
-    unfolding sizeOf
-    stands-long = omega (arith, node-size wd (texts s w m) x, parts .1 .end)
 
   -- theorem: the first of symbols stands there, and the others behind it
   pub first-stands : (x : Sym) (xs : Syms) → SymsStand s w m wd four left at e (cons x xs)

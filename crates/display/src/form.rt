@@ -1,4 +1,4 @@
-// Hash, power and length of printed forms: a form is handed on from byte to byte, so no form is ever made whole.
+// Hash, power and length of printed forms. They compose, so no printed form is ever made whole: one is handed on, and each piece makes it longer.
 use octets::numbers::atom_at;
 use octets::wide::from32;
 use precedence::skip::inside;
@@ -46,7 +46,7 @@ pub fn none() -> Form
 }
 
 // A byte more.
-pub fn more(f: Form, b: u8) -> Form
+pub fn snoc(f: Form, b: u8) -> Form
     requires { ⌜ IsForm f ⌝ }
     ensures { λ r. ⌜ From f (b ∷ []) r ⌝ }
 {
@@ -64,6 +64,13 @@ pub fn more(f: Form, b: u8) -> Form
         power: p,
         len: f.len,
     }
+}
+
+// The form of one byte.
+pub fn one(b: u8) -> Form
+    ensures { λ r. ⌜ (r ≡ formOf (b ∷ [])) × IsForm r ⌝ }
+{
+    snoc(none(), b)
 }
 
 // A product modulo 2^32.
@@ -100,6 +107,7 @@ fn power_of(n: usize) -> usize
     r
 }
 
+// A length, which stops at 65,536.
 fn stopped(n: usize) -> usize
     ensures { λ r. ⌜ (r ≡ stop n) × (r ≤ 65536) ⌝ }
 {
@@ -109,7 +117,7 @@ fn stopped(n: usize) -> usize
     65536
 }
 
-// The form of a text of n bytes with the hash h.
+// The form of a text of n bytes whose hash is h.
 fn whole(h: usize, n: usize) -> Form
     ensures { λ r. ⌜ r ≡ wholeOf h n ⌝ }
 {
@@ -138,12 +146,12 @@ fn escape(f: Form, b: u8) -> Form
     ensures { λ r. ⌜ From f (escaped (b ∷ []) []) r ⌝ }
 {
     if b == 34 {
-        return more(more(f, 92), b);
+        return snoc(snoc(f, 92), b);
     }
     if b == 92 {
-        return more(more(f, 92), b);
+        return snoc(snoc(f, 92), b);
     }
-    more(f, b)
+    snoc(f, b)
 }
 
 // The bytes of a quoted text more.
@@ -165,7 +173,7 @@ pub fn quoted_form(f: Form, t: &[u8]) -> Form
     requires { ⌜ IsForm f ⌝ }
     ensures { λ r. ⌜ From f (34 ∷ escaped (now (t .entry)) (34 ∷ [])) r ⌝ }
 {
-    more(escapes(more(f, 34), t), 34)
+    snoc(escapes(snoc(f, 34), t), 34)
 }
 
 // The text whose number stands at a place; empty where there is none.
@@ -205,7 +213,7 @@ fn label(work: &[u8], at: usize, f: Form) -> Form
     if work[at + 9] == 0 {
         return f;
     }
-    more(more(more(more(f, 109), 117), 116), 32)
+    snoc(snoc(snoc(snoc(f, 109), 117), 116), 32)
 }
 
 // A symbol of code c with none inside, more.
@@ -214,20 +222,20 @@ fn leaf<'a>(tape: &'a [u8], work: &'a [u8], m: Map, width: usize, at: usize, c: 
     ensures { λ r. ⌜ From f (leafBy width (texts (now (tape .entry)) (now (work .entry)) m) (now (work .entry)) at c) r ⌝ }
 {
     if c == 42 {
-        return more(more(f, 64), 76);
+        return snoc(snoc(f, 64), 76);
     }
     if c == 43 {
-        return more(more(f, 64), 82);
+        return snoc(snoc(f, 64), 82);
     }
     if c == 44 {
-        return more(more(more(more(more(f, 101), 114), 114), 111), 114);
+        return snoc(snoc(snoc(snoc(snoc(f, 101), 114), 114), 111), 114);
     }
     if c == 34 {
         return quoted_form(f, word(tape, work, m, width, at + 9));
     }
     if c == 35 {
         let t = word(tape, work, m, width, at + 9);
-        return more(quoted_form(more(more(f, 114), 35), t), 35);
+        return snoc(quoted_form(snoc(snoc(f, 114), 35), t), 35);
     }
     named(tape, work, m, width, at + 9, f)
 }
@@ -239,19 +247,19 @@ fn before<'a>(tape: &'a [u8], work: &'a [u8], m: Map, width: usize, at: usize, f
 {
     let c = work[at];
     if c == 37 {
-        return more(named(tape, work, m, width, at + 9, f), 60);
+        return snoc(named(tape, work, m, width, at + 9, f), 60);
     }
     if c == 38 {
         return f;
     }
     if c == 39 {
-        return more(f, 60);
+        return snoc(f, 60);
     }
     if c == 40 {
-        return more(named(tape, work, m, width, at + 10, label(work, at, f)), 58);
+        return snoc(named(tape, work, m, width, at + 10, label(work, at, f)), 58);
     }
     if c == 41 {
-        return more(f, 40);
+        return snoc(f, 40);
     }
     leaf(tape, work, m, width, at, c, f)
 }
@@ -276,16 +284,16 @@ fn behind(work: &[u8], at: usize, f: Form) -> Form
 {
     let c = work[at];
     if c == 37 {
-        return more(f, 62);
+        return snoc(f, 62);
     }
     if c == 38 {
-        return more(f, op(work[at + 9]));
+        return snoc(f, op(work[at + 9]));
     }
     if c == 39 {
-        return more(f, 62);
+        return snoc(f, 62);
     }
     if c == 41 {
-        return more(f, 41);
+        return snoc(f, 41);
     }
     f
 }
@@ -309,9 +317,9 @@ fn separated(f: Form, d: usize) -> Form
         return f;
     }
     if d == 1 {
-        return more(f, 32);
+        return snoc(f, 32);
     }
-    more(more(f, 44), 32)
+    snoc(snoc(f, 44), 32)
 }
 
 // The printed forms of n symbols with a separator between them, more. `left` levels of nesting are left.

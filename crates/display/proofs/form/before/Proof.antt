@@ -6,7 +6,7 @@ use Rattle.display.proofs.form.before.Reads as reads
 use Rattle.display.proofs.form.before.Lts as lts
 use Rattle.display.proofs.form.label.Reads as label-reads
 use Rattle.display.proofs.form.leaf.Reads as leaf-reads
-use Rattle.display.proofs.form.more.Reads as more-reads
+use Rattle.display.proofs.form.snoc.Reads as snoc-reads
 use Rattle.display.proofs.form.named.Reads as named-reads
 
 shared-slice-read-c : tie.Need-shared-slice-read-c
@@ -18,8 +18,8 @@ add-named c = search needs
 named-requires : tie.Need-named-requires
 named-requires c κs = search needs
 
-more-requires : tie.Need-more-requires
-more-requires c κs = search needs
+snoc-requires : tie.Need-snoc-requires
+snoc-requires c κs = search needs
 
 returns : tie.Need-returns
 returns c = search opening
@@ -27,8 +27,8 @@ returns c = search opening
 returns-2 : tie.Need-returns-2
 returns-2 c = search opening
 
-more-requires-2 : tie.Need-more-requires-2
-more-requires-2 c κs = search needs
+snoc-requires-2 : tie.Need-snoc-requires-2
+snoc-requires-2 c κs = search needs
 
 returns-3 : tie.Need-returns-3
 returns-3 c = search opening
@@ -42,14 +42,14 @@ label-requires c κs = search needs
 named-requires-2 : tie.Need-named-requires-2
 named-requires-2 c κs = search needs
 
-more-requires-3 : tie.Need-more-requires-3
-more-requires-3 c κs = search needs
+snoc-requires-3 : tie.Need-snoc-requires-3
+snoc-requires-3 c κs = search needs
 
 returns-4 : tie.Need-returns-4
 returns-4 c = search opening
 
-more-requires-4 : tie.Need-more-requires-4
-more-requires-4 c κs = search needs
+snoc-requires-4 : tie.Need-snoc-requires-4
+snoc-requires-4 c κs = search needs
 
 returns-5 : tie.Need-returns-5
 returns-5 c = search opening
@@ -67,17 +67,17 @@ before-spec =
     shared-slice-read-c
     add-named
     named-requires
-    more-requires
+    snoc-requires
     returns
     returns-2
-    more-requires-2
+    snoc-requires-2
     returns-3
     add-named-2
     label-requires
     named-requires-2
-    more-requires-3
+    snoc-requires-3
     returns-4
-    more-requires-4
+    snoc-requires-4
     returns-5
     leaf-requires
     returns-6)

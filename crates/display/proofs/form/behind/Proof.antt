@@ -4,14 +4,14 @@ use Rattle.display.proofs.form.behind.Statement.{statement}
 use Rattle.display.proofs.form.behind.Tie as tie
 use Rattle.display.proofs.form.behind.Reads as reads
 use Rattle.display.proofs.form.behind.Lts as lts
-use Rattle.display.proofs.form.more.Reads as more-reads
+use Rattle.display.proofs.form.snoc.Reads as snoc-reads
 use Rattle.display.proofs.form.op.Reads as op-reads
 
 shared-slice-read-c : tie.Need-shared-slice-read-c
 shared-slice-read-c c = search needs
 
-more-requires : tie.Need-more-requires
-more-requires c κs = search needs
+snoc-requires : tie.Need-snoc-requires
+snoc-requires c κs = search needs
 
 returns : tie.Need-returns
 returns c = search behinding
@@ -25,20 +25,20 @@ shared-slice-read-op c = search needs
 op-requires : tie.Need-op-requires
 op-requires c κs = search needs
 
-more-requires-2 : tie.Need-more-requires-2
-more-requires-2 c κs = search needs
+snoc-requires-2 : tie.Need-snoc-requires-2
+snoc-requires-2 c κs = search needs
 
 returns-2 : tie.Need-returns-2
 returns-2 c = search behinding
 
-more-requires-3 : tie.Need-more-requires-3
-more-requires-3 c κs = search needs
+snoc-requires-3 : tie.Need-snoc-requires-3
+snoc-requires-3 c κs = search needs
 
 returns-3 : tie.Need-returns-3
 returns-3 c = search behinding
 
-more-requires-4 : tie.Need-more-requires-4
-more-requires-4 c κs = search needs
+snoc-requires-4 : tie.Need-snoc-requires-4
+snoc-requires-4 c κs = search needs
 
 returns-4 : tie.Need-returns-4
 returns-4 c = search behinding
@@ -51,15 +51,15 @@ behind-spec =
     tie.close
     (tie.spec
     shared-slice-read-c
-    more-requires
+    snoc-requires
     returns
     add-op
     shared-slice-read-op
     op-requires
-    more-requires-2
+    snoc-requires-2
     returns-2
-    more-requires-3
+    snoc-requires-3
     returns-3
-    more-requires-4
+    snoc-requires-4
     returns-4
     returns-5)

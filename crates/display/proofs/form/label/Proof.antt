@@ -4,7 +4,7 @@ use Rattle.display.proofs.form.label.Statement.{statement}
 use Rattle.display.proofs.form.label.Tie as tie
 use Rattle.display.proofs.form.label.Reads as reads
 use Rattle.display.proofs.form.label.Lts as lts
-use Rattle.display.proofs.form.more.Reads as more-reads
+use Rattle.display.proofs.form.snoc.Reads as snoc-reads
 
 add-if1 : tie.Need-add-if1
 add-if1 c = search needs
@@ -15,17 +15,17 @@ shared-slice-read-if1 c = search needs
 returns : tie.Need-returns
 returns c = search separating
 
-more-requires : tie.Need-more-requires
-more-requires c κs = search needs
+snoc-requires : tie.Need-snoc-requires
+snoc-requires c κs = search needs
 
-more-requires-2 : tie.Need-more-requires-2
-more-requires-2 c κs = search needs
+snoc-requires-2 : tie.Need-snoc-requires-2
+snoc-requires-2 c κs = search needs
 
-more-requires-3 : tie.Need-more-requires-3
-more-requires-3 c κs = search needs
+snoc-requires-3 : tie.Need-snoc-requires-3
+snoc-requires-3 c κs = search needs
 
-more-requires-4 : tie.Need-more-requires-4
-more-requires-4 c κs = search needs
+snoc-requires-4 : tie.Need-snoc-requires-4
+snoc-requires-4 c κs = search needs
 
 returns-2 : tie.Need-returns-2
 returns-2 c = search separating
@@ -37,8 +37,8 @@ label-spec =
     add-if1
     shared-slice-read-if1
     returns
-    more-requires
-    more-requires-2
-    more-requires-3
-    more-requires-4
+    snoc-requires
+    snoc-requires-2
+    snoc-requires-3
+    snoc-requires-4
     returns-2)

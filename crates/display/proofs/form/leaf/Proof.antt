@@ -4,43 +4,43 @@ use Rattle.display.proofs.form.leaf.Statement.{statement}
 use Rattle.display.proofs.form.leaf.Tie as tie
 use Rattle.display.proofs.form.leaf.Reads as reads
 use Rattle.display.proofs.form.leaf.Lts as lts
-use Rattle.display.proofs.form.more.Reads as more-reads
+use Rattle.display.proofs.form.snoc.Reads as snoc-reads
 use Rattle.display.proofs.form.named.Reads as named-reads
 use Rattle.display.proofs.form.quoted_form.Reads as quoted-form-reads
 use Rattle.display.proofs.form.word.Reads as word-reads
 
-more-requires : tie.Need-more-requires
-more-requires c κs = search needs
+snoc-requires : tie.Need-snoc-requires
+snoc-requires c κs = search needs
 
-more-requires-2 : tie.Need-more-requires-2
-more-requires-2 c κs = search needs
+snoc-requires-2 : tie.Need-snoc-requires-2
+snoc-requires-2 c κs = search needs
 
 returns : tie.Need-returns
 returns c = search leafing
 
-more-requires-3 : tie.Need-more-requires-3
-more-requires-3 c κs = search needs
+snoc-requires-3 : tie.Need-snoc-requires-3
+snoc-requires-3 c κs = search needs
 
-more-requires-4 : tie.Need-more-requires-4
-more-requires-4 c κs = search needs
+snoc-requires-4 : tie.Need-snoc-requires-4
+snoc-requires-4 c κs = search needs
 
 returns-2 : tie.Need-returns-2
 returns-2 c = search leafing
 
-more-requires-5 : tie.Need-more-requires-5
-more-requires-5 c κs = search needs
+snoc-requires-5 : tie.Need-snoc-requires-5
+snoc-requires-5 c κs = search needs
 
-more-requires-6 : tie.Need-more-requires-6
-more-requires-6 c κs = search needs
+snoc-requires-6 : tie.Need-snoc-requires-6
+snoc-requires-6 c κs = search needs
 
-more-requires-7 : tie.Need-more-requires-7
-more-requires-7 c κs = search needs
+snoc-requires-7 : tie.Need-snoc-requires-7
+snoc-requires-7 c κs = search needs
 
-more-requires-8 : tie.Need-more-requires-8
-more-requires-8 c κs = search needs
+snoc-requires-8 : tie.Need-snoc-requires-8
+snoc-requires-8 c κs = search needs
 
-more-requires-9 : tie.Need-more-requires-9
-more-requires-9 c κs = search needs
+snoc-requires-9 : tie.Need-snoc-requires-9
+snoc-requires-9 c κs = search needs
 
 returns-3 : tie.Need-returns-3
 returns-3 c = search leafing
@@ -63,17 +63,17 @@ add-word-2 c = search needs
 word-requires-2 : tie.Need-word-requires-2
 word-requires-2 c κs = search needs
 
-more-requires-10 : tie.Need-more-requires-10
-more-requires-10 c κs = search needs
+snoc-requires-10 : tie.Need-snoc-requires-10
+snoc-requires-10 c κs = search needs
 
-more-requires-11 : tie.Need-more-requires-11
-more-requires-11 c κs = search needs
+snoc-requires-11 : tie.Need-snoc-requires-11
+snoc-requires-11 c κs = search needs
 
 quoted-form-requires-2 : tie.Need-quoted-form-requires-2
 quoted-form-requires-2 c κs = search needs
 
-more-requires-12 : tie.Need-more-requires-12
-more-requires-12 c κs = search needs
+snoc-requires-12 : tie.Need-snoc-requires-12
+snoc-requires-12 c κs = search needs
 
 returns-5 : tie.Need-returns-5
 returns-5 c = search leafing
@@ -91,17 +91,17 @@ pub leaf-spec : {M : Type 1} → statement M
 leaf-spec =
     tie.close
     (tie.spec
-    more-requires
-    more-requires-2
+    snoc-requires
+    snoc-requires-2
     returns
-    more-requires-3
-    more-requires-4
+    snoc-requires-3
+    snoc-requires-4
     returns-2
-    more-requires-5
-    more-requires-6
-    more-requires-7
-    more-requires-8
-    more-requires-9
+    snoc-requires-5
+    snoc-requires-6
+    snoc-requires-7
+    snoc-requires-8
+    snoc-requires-9
     returns-3
     add-word
     word-requires
@@ -109,10 +109,10 @@ leaf-spec =
     returns-4
     add-word-2
     word-requires-2
-    more-requires-10
-    more-requires-11
+    snoc-requires-10
+    snoc-requires-11
     quoted-form-requires-2
-    more-requires-12
+    snoc-requires-12
     returns-5
     add-named
     named-requires

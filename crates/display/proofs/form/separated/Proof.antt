@@ -4,26 +4,26 @@ use Rattle.display.proofs.form.separated.Statement.{statement}
 use Rattle.display.proofs.form.separated.Tie as tie
 use Rattle.display.proofs.form.separated.Reads as reads
 use Rattle.display.proofs.form.separated.Lts as lts
-use Rattle.display.proofs.form.more.Reads as more-reads
+use Rattle.display.proofs.form.snoc.Reads as snoc-reads
 
 returns : tie.Need-returns
 returns c = search separating
 
-more-requires : tie.Need-more-requires
-more-requires c κs = search needs
+snoc-requires : tie.Need-snoc-requires
+snoc-requires c κs = search needs
 
 returns-2 : tie.Need-returns-2
 returns-2 c = search separating
 
-more-requires-2 : tie.Need-more-requires-2
-more-requires-2 c κs = search needs
+snoc-requires-2 : tie.Need-snoc-requires-2
+snoc-requires-2 c κs = search needs
 
-more-requires-3 : tie.Need-more-requires-3
-more-requires-3 c κs = search needs
+snoc-requires-3 : tie.Need-snoc-requires-3
+snoc-requires-3 c κs = search needs
 
 returns-3 : tie.Need-returns-3
 returns-3 c = search separating
 
 pub separated-spec : {M : Type 1} → statement M
 separated-spec =
-    tie.close (tie.spec returns more-requires returns-2 more-requires-2 more-requires-3 returns-3)
+    tie.close (tie.spec returns snoc-requires returns-2 snoc-requires-2 snoc-requires-3 returns-3)

@@ -1,9 +1,9 @@
 use Rattle.display.proofs.FormCode.{forming}
 use borrow.Author.Needs.{needs}
-use Rattle.display.proofs.form.more.Statement.{statement}
-use Rattle.display.proofs.form.more.Tie as tie
-use Rattle.display.proofs.form.more.Reads as reads
-use Rattle.display.proofs.form.more.Lts as lts
+use Rattle.display.proofs.form.snoc.Statement.{statement}
+use Rattle.display.proofs.form.snoc.Tie as tie
+use Rattle.display.proofs.form.snoc.Reads as reads
+use Rattle.display.proofs.form.snoc.Lts as lts
 use Rattle.texts.proofs.hash.next.Reads as next-reads
 
 next-requires : tie.Need-next-requires
@@ -21,5 +21,5 @@ returns c = search forming
 returns-2 : tie.Need-returns-2
 returns-2 c = search forming
 
-pub more-spec : {M : Type 1} → statement M
-more-spec = tie.close (tie.spec next-requires mul-p add-t7 returns returns-2)
+pub snoc-spec : {M : Type 1} → statement M
+snoc-spec = tie.close (tie.spec next-requires mul-p add-t7 returns returns-2)
