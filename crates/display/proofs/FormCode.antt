@@ -28,18 +28,21 @@ use Rattle.texts.proofs.FormLaws.{power-small, power-times, mod-factor, mod-fac
 use Rattle.texts.proofs.TextCode.{length-texts, texts-at}
 use Rattle.precedence.specs.Grading.{Worded}
 use Rattle.display.specs.declared.form.Form.{Form}
-use Rattle.display.specs.Form.{formOf, IsForm, oddTimes, wholeOf, joinOf, Hashed, moreOf, formFrom, From, labelBy, opBy, sepBy, sepText, wordAt, leafBy, beforeBy, beforeAt, behindBy, behindAt}
-use Rattle.display.proofs.FormLaws.{from-is, from-form, from-join, from-none, from-then, from-as, from-append, hash-fits, power-fits, len-fits, escaped-then, escaped-one}
+use Rattle.display.specs.Follow.{quotedText, wordAt, leafText, markText, mutText, nameText, beforeBy, opByte, behindBy, betweenBy}
+use Rattle.display.specs.Form.{textForm, SomeForm, oddTimes, wholeOf, joinOf, Hashed, moreOf, formFrom, From}
+use Rattle.display.proofs.FormLaws.{from-is, from-form, from-join, from-none, from-then, from-as, from-append, hash-fits, power-fits, len-fits}
+use Rattle.display.proofs.StandsLaws.{escaped-one}
+use Rattle.display.proofs.MeetCode.{word-beyond, word-some, word-whole, named-room, macro-room, name-room, name-read, repeat-room}
 
 -- ---- none, snoc, one
-pub none-is : record { hash = 0; power = 1; len = 0 } ≡ formOf []
-unfolding formOf hashOf hashFrom hashBy power powerBy stop pick
+pub none-is : record { hash = 0; power = 1; len = 0 } ≡ textForm []
+unfolding textForm hashOf hashFrom hashBy power powerBy stop pick
 none-is = refl
 
-pub none-form : IsForm (record { hash = 0; power = 1; len = 0 })
+pub none-form : SomeForm (record { hash = 0; power = 1; len = 0 })
 none-form = record { text = []; is = none-is }
 
-module _ (f : Form) (g : IsForm f) where
+module _ (f : Form) (g : SomeForm f) where
   pub snoc-hash : f .hash < 4294967296
   snoc-hash = hash-fits f g
 
@@ -60,7 +63,7 @@ module _ (f : Form) (g : IsForm f) where
       let n : f .len ≡ 65536 = omega (arith, len-fits f g) in
       from-is f (b ∷ []) _ g (cc n)
 
-pub one-is : (f r : Form) (b : ℕ) → f ≡ formOf [] → From f (b ∷ []) r → r ≡ formOf (b ∷ [])
+pub one-is : (f r : Form) (b : ℕ) → f ≡ textForm [] → From f (b ∷ []) r → r ≡ textForm (b ∷ [])
 one-is f r b e a = a .is ∙ ap (λ (x : Form). formFrom x (b ∷ [])) e ∙ from-form [] (b ∷ [])
 
 pub ruleset forming = (needs, none-is, none-form, snoc-hash, snoc-power, snoc-less, snoc-full, one-is)
@@ -153,7 +156,7 @@ pub whole-done : (h n p l : ℕ) → p ≡ power n → l ≡ stop n → record {
 unfolding wholeOf
 whole-done h n p l e z = cc
 
-module _ (x y : Form) (g : IsForm x) (k : IsForm y) where
+module _ (x y : Form) (g : SomeForm x) (k : SomeForm y) where
   pub join-fits : Fits w64 (x .hash * y .power)
   join-fits = times-fits (x .hash) (y .power) (hash-fits x g) (power-fits y k)
 
@@ -179,10 +182,10 @@ pub ruleset fitting = (needs, power-fits)
 -- ---- escapes: g is f with what was passed more
 pub record Escaping (f : Form) (t : Text) (g : Form) (i : ℕ) : Type 0 where
   pub rest : formFrom g (escaped (part i (length t) t) []) ≡ formFrom f (escaped t [])
-  pub form : IsForm g
+  pub form : SomeForm g
   pub upto : i ≤ length t
 
-pub escapes-start : (f : Form) (t : Text) → IsForm f → Escaping f t f 0
+pub escapes-start : (f : Form) (t : Text) → SomeForm f → Escaping f t f 0
 unfolding part
 escapes-start f t h = record { rest = ap (λ (x : Text). formFrom f (escaped x [])) (take-all (length t - 0) t (omega arith)); form = h; upto = omega arith }
 
@@ -193,7 +196,7 @@ module _ (f : Form) (t : Text) (g : Form) (i : ℕ) (p : Escaping f t g i) where
       record {
         rest = ap (λ (y : Form). formFrom y (escaped (part (i + 1) (length t) t) [])) (a .is)
             ∙ sym (from-append g (escaped (getD t i 0 ∷ []) []) (escaped (part (i + 1) (length t) t) []))
-            ∙ ap (formFrom g) (sym (escaped-one (getD t i 0) (part (i + 1) (length t) t) []))
+            ∙ ap (formFrom g) (sym (escaped-one (getD t i 0) (part (i + 1) (length t) t)))
             ∙ ap (λ (y : Text). formFrom g (escaped y [])) (sym z)
             ∙ p .rest;
         form = a .form;
@@ -220,170 +223,138 @@ module _ (f : Form) (b : ℕ) where
   unfolding escaped
   escape-plain r n m p = rw (ne-eqb b 34 n, ne-eqb b 92 m) p
 
-pub quoted-done : (f : Form) (t : Text) (x y r : Form) → From f (34 ∷ []) x → From x (escaped t []) y → From y (34 ∷ []) r → From f (34 ∷ escaped t (34 ∷ [])) r
-quoted-done f t x y r a b c = from-as (ap {B = Text} (λ l. 34 ∷ l) (escaped-then t [] (34 ∷ []))) (from-then a (from-then b c))
+pub quoted-done : (f : Form) (t : Text) (x y r : Form) → From f (34 ∷ []) x → From x (escaped t []) y → From y (34 ∷ []) r → From f (quotedText t) r
+unfolding quotedText
+quoted-done f t x y r a b c = from-then a (from-then b c)
 
 pub ruleset quoting = (needs, escape-quote, escape-slash, escape-plain, quoted-done)
 
--- ---- word
-module _ (wd : ℕ) (s w : List ℕ) (m : Map) (at x k : ℕ) (j : x ≡ leAt wd w at) (q : k ≡ x) where
-  many : length (texts s w m) ≡ m .count
-  unfolding texts
-  many = length-texts s w (m .base) (m .count)
-
-  pub word-beyond : m .count ≤ k → [] ≡ getD (texts s w m) (leAt wd w at) []
-  word-beyond l = sym (List·getD-eq-default (texts s w m) [] {n = leAt wd w at} (omega (arith, many)))
-
-  pub word-some : k < m .count → (y : ℕ) → y ≡ markAt w (m .base) k → (t : List ℕ) → t ≡ markedText s w y → t ≡ getD (texts s w m) (leAt wd w at) []
-  unfolding texts
-  word-some l y p t e = e ∙ ap (markedText s w) p ∙ sym (texts-at s w (m .base) (m .count) k l) ∙ ap (λ (z : ℕ). getD (texts s w m) z []) (q ∙ j)
-
-pub word-whole : (s w : List ℕ) (m : Map) (k y : ℕ) → Worded s w m → k < m .count → y ≡ markAt w (m .base) k → Whole s w y
-word-whole s w m k y g h e = rw e (g .whole k h)
-
-pub ruleset wording = (needs, word-beyond, word-some, word-whole)
-
 -- ---- named
 module _ (s w : List ℕ) (m : Map) (k h y : ℕ) (g : Hashed s w m) (l : k < m .count) (p : y ≡ markAt w (m .base) k) (q : h ≡ hashAt w (m .base) k) (t : Text) (e : t ≡ markedText s w y) where
-  whole-is : (n : ℕ) → n ≡ length t → wholeOf h n ≡ formOf t
-  unfolding wholeOf formOf
+  whole-is : (n : ℕ) → n ≡ length t → wholeOf h n ≡ textForm t
+  unfolding wholeOf textForm
   whole-is n z =
       let a : h ≡ hashOf t = q ∙ g .hashes k l ∙ ap (λ (v : ℕ). hashOf (markedText s w v)) (sym p) ∙ ap hashOf (sym e) in
       cc
 
-  pub whole-form : (n : ℕ) (v : Form) → n ≡ length t → v ≡ wholeOf h n → IsForm v
+  pub whole-form : (n : ℕ) (v : Form) → n ≡ length t → v ≡ wholeOf h n → SomeForm v
   whole-form n v z o = record { text = t; is = o ∙ whole-is n z }
 
-  pub named-some : (wd at x : ℕ) → x ≡ leAt wd w at → k ≡ x → (n : ℕ) (v f r : Form) → n ≡ length t → v ≡ wholeOf h n → IsForm f → r ≡ joinOf f v → From f (getD (texts s w m) (leAt wd w at) []) r
+  pub named-some : (wd at x : ℕ) → x ≡ leAt wd w at → k ≡ x → (n : ℕ) (v f r : Form) → n ≡ length t → v ≡ wholeOf h n → SomeForm f → r ≡ joinOf f v → From f (wordAt wd (texts s w m) w at) r
   named-some wd at x j u n v f r z o i b = from-as (word-some wd s w m at x k j u l y p t e) (from-join f t r i (b ∙ ap (joinOf f) (o ∙ whole-is n z)))
 
-pub named-beyond : (s w : List ℕ) (m : Map) (wd at x k : ℕ) (f : Form) → x ≡ leAt wd w at → k ≡ x → m .count ≤ k → IsForm f → From f (getD (texts s w m) (leAt wd w at) []) f
+pub named-beyond : (s w : List ℕ) (m : Map) (wd at x k : ℕ) (f : Form) → x ≡ leAt wd w at → k ≡ x → m .count ≤ k → SomeForm f → From f (wordAt wd (texts s w m) w at) f
 named-beyond s w m wd at x k f j u l g = from-as (word-beyond wd s w m at x k j u l) (from-none f g)
 
 pub ruleset naming = (needs, word-whole, whole-form, named-some, named-beyond)
 
--- ---- label, op, separator, separated
-pub label-none : (f : Form) (v : ℕ) → IsForm f → v ≡ 0 → From f (labelBy v) f
-unfolding labelBy pick
-label-none f v g e = rw e (from-none f g)
+-- ---- mutable, separated
+pub mutable-yes : (f a b c r : Form) (v : ℕ) → v ≡ 1 → From f (109 ∷ []) a → From a (117 ∷ []) b → From b (116 ∷ []) c → From c (32 ∷ []) r → From f (mutText v) r
+unfolding mutText pick
+mutable-yes f a b c r v e h i j k = rw e (from-then h (from-then i (from-then j k)))
 
-pub label-mut : (f a b c r : Form) (v : ℕ) → (v ≡ 0 → ⊥) → From f (109 ∷ []) a → From a (117 ∷ []) b → From b (116 ∷ []) c → From c (32 ∷ []) r → From f (labelBy v) r
-unfolding labelBy pick
-label-mut f a b c r v n h i j k = rw (ne-eqb v 0 n) (from-then h (from-then i (from-then j k)))
+pub mutable-no : (f : Form) (v : ℕ) → SomeForm f → (v ≡ 1 → ⊥) → From f (mutText v) f
+unfolding mutText pick
+mutable-no f v g n = rw (ne-eqb v 1 n) (from-none f g)
 
-pub op-star : (v : ℕ) → v ≡ 0 → 42 ≡ opBy v
-unfolding opBy pick
-op-star v e = cc
+module _ (f : Form) (c k : ℕ) where
+  pub separated-none : SomeForm f → k ≡ 0 → From f (betweenBy c k) f
+  unfolding betweenBy pick
+  separated-none g e = rw e (from-none f g)
 
-pub op-plus : (v : ℕ) → v ≡ 1 → 43 ≡ opBy v
-unfolding opBy pick
-op-plus v e = cc
+  pub separated-comma : (x r : Form) → (k ≡ 0 → ⊥) → c ≡ 37 → From f (44 ∷ []) x → From x (32 ∷ []) r → From f (betweenBy c k) r
+  unfolding betweenBy pick
+  separated-comma x r n e a b = rw (ne-eqb k 0 n, e) (from-then a b)
 
-pub op-question : (v : ℕ) → (v ≡ 0 → ⊥) → (v ≡ 1 → ⊥) → 63 ≡ opBy v
-unfolding opBy pick
-op-question v n m = cc (ne-eqb v 0 n, ne-eqb v 1 m)
+  pub separated-space : (r : Form) → (k ≡ 0 → ⊥) → (c ≡ 37 → ⊥) → From f (32 ∷ []) r → From f (betweenBy c k) r
+  unfolding betweenBy pick
+  separated-space r n m a = rw (ne-eqb k 0 n, ne-eqb c 37 m) a
 
-pub separator-macro : (c : ℕ) → c ≡ 37 → 2 ≡ sepBy c
-unfolding sepBy pick
-separator-macro c e = cc
-
-pub separator-other : (c : ℕ) → (c ≡ 37 → ⊥) → 1 ≡ sepBy c
-unfolding sepBy pick
-separator-other c n = cc (ne-eqb c 37 n)
-
-pub separated-none : (f : Form) (d : ℕ) → IsForm f → d ≡ 0 → From f (sepText d) f
-unfolding sepText pick
-separated-none f d g e = rw e (from-none f g)
-
-pub separated-space : (f r : Form) (d : ℕ) → d ≡ 1 → From f (32 ∷ []) r → From f (sepText d) r
-unfolding sepText pick
-separated-space f r d e a = rw e a
-
-pub separated-comma : (f x r : Form) (d : ℕ) → (d ≡ 0 → ⊥) → (d ≡ 1 → ⊥) → From f (44 ∷ []) x → From x (32 ∷ []) r → From f (sepText d) r
-unfolding sepText pick
-separated-comma f x r d n m a b = rw (ne-eqb d 0 n, ne-eqb d 1 m) (from-then a b)
-
-pub ruleset separating = (needs, label-none, label-mut, op-star, op-plus, op-question, separator-macro, separator-other, separated-none, separated-space, separated-comma)
+pub ruleset separating = (needs, mutable-yes, mutable-no, separated-none, separated-comma, separated-space)
 
 -- ---- behind
-module _ (w : List ℕ) (at c : ℕ) (i : c ≡ getD w at 0) (f : Form) where
-  pub behind-macro : (r : Form) → c ≡ 37 → From f (62 ∷ []) r → From f (behindAt w at) r
-  unfolding behindAt behindBy pick
-  behind-macro r e a = rw (← i, e) a
+module _ (w : List ℕ) (at c : ℕ) (f : Form) where
+  pub behind-macro : (r : Form) → c ≡ 37 → From f (62 ∷ []) r → From f (behindBy w at c) r
+  unfolding behindBy pick
+  behind-macro r e a = rw e a
 
-  pub behind-repeat : (r : Form) (o v : ℕ) → c ≡ 38 → v ≡ getD w (at + 9) 0 → o ≡ opBy v → From f (o ∷ []) r → From f (behindAt w at) r
-  unfolding behindAt behindBy pick
-  behind-repeat r o v e j k a = rw (← i, e, ← j, ← k) a
+  pub behind-repeat : (r : Form) (o v : ℕ) → c ≡ 38 → v ≡ getD w (at + 9) 0 → o ≡ opByte v → From f (o ∷ []) r → From f (behindBy w at c) r
+  unfolding behindBy pick
+  behind-repeat r o v e j k a = rw (e, ← j, ← k) a
 
-  pub behind-choose : (r : Form) → c ≡ 39 → From f (62 ∷ []) r → From f (behindAt w at) r
-  unfolding behindAt behindBy pick
-  behind-choose r e a = rw (← i, e) a
+  pub behind-choose : (r : Form) → c ≡ 39 → From f (62 ∷ []) r → From f (behindBy w at c) r
+  unfolding behindBy pick
+  behind-choose r e a = rw e a
 
-  pub behind-group : (r : Form) → c ≡ 41 → From f (41 ∷ []) r → From f (behindAt w at) r
-  unfolding behindAt behindBy pick
-  behind-group r e a = rw (← i, e) a
+  pub behind-group : (r : Form) → c ≡ 41 → From f (41 ∷ []) r → From f (behindBy w at c) r
+  unfolding behindBy pick
+  behind-group r e a = rw e a
 
-pub behind-none : (w : List ℕ) (at c : ℕ) (f : Form) → (c ≡ 37 → ⊥) → (c ≡ 38 → ⊥) → (c ≡ 39 → ⊥) → (c ≡ 41 → ⊥) → c ≡ getD w at 0 → IsForm f → From f (behindAt w at) f
-unfolding behindAt behindBy pick
-behind-none w at c f a b d e i g = rw (← i, ne-eqb c 37 a, ne-eqb c 38 b, ne-eqb c 39 d, ne-eqb c 41 e) (from-none f g)
+  pub behind-none : (c ≡ 37 → ⊥) → (c ≡ 38 → ⊥) → (c ≡ 39 → ⊥) → (c ≡ 41 → ⊥) → SomeForm f → From f (behindBy w at c) f
+  unfolding behindBy pick
+  behind-none a b d e g = rw (ne-eqb c 37 a, ne-eqb c 38 b, ne-eqb c 39 d, ne-eqb c 41 e) (from-none f g)
 
-pub ruleset behinding = (needs, behind-macro, behind-repeat, behind-choose, behind-group, behind-none)
+pub ruleset closing = (needs, repeat-room, behind-macro, behind-repeat, behind-choose, behind-group, behind-none)
 
--- ---- leaf
-module _ (wd : ℕ) (ts : List Text) (w : List ℕ) (at c : ℕ) (f : Form) where
-  pub leaf-lookahead : (x r : Form) → c ≡ 42 → From f (64 ∷ []) x → From x (76 ∷ []) r → From f (leafBy wd ts w at c) r
-  unfolding leafBy pick
-  leaf-lookahead x r e a b = rw e (from-then a b)
-
-  pub leaf-lookbehind : (x r : Form) → c ≡ 43 → From f (64 ∷ []) x → From x (82 ∷ []) r → From f (leafBy wd ts w at c) r
-  unfolding leafBy pick
-  leaf-lookbehind x r e a b = rw e (from-then a b)
-
-  pub leaf-error : (x y z v r : Form) → c ≡ 44 → From f (101 ∷ []) x → From x (114 ∷ []) y → From y (114 ∷ []) z → From z (111 ∷ []) v → From v (114 ∷ []) r → From f (leafBy wd ts w at c) r
-  unfolding leafBy pick
-  leaf-error x y z v r e a b d g h = rw e (from-then a (from-then b (from-then d (from-then g h))))
-
-  module _ (t : Text) (j : t ≡ getD ts (leAt wd w (at + 9)) []) where
-    pub leaf-quoted : (r : Form) → c ≡ 34 → From f (34 ∷ escaped t (34 ∷ [])) r → From f (leafBy wd ts w at c) r
-    unfolding leafBy wordAt pick
+-- ---- leaf, marked
+module _ (f : Form) (c : ℕ) where
+  module _ (t x : Text) (j : t ≡ x) where
+    pub leaf-quoted : (r : Form) → c ≡ 34 → From f (quotedText t) r → From f (leafText c x) r
+    unfolding leafText pick
     leaf-quoted r e a = rw (e, ← j) a
 
-    pub leaf-regex : (x y z r : Form) → c ≡ 35 → From f (114 ∷ []) x → From x (35 ∷ []) y → From y (34 ∷ escaped t (34 ∷ [])) z → From z (35 ∷ []) r → From f (leafBy wd ts w at c) r
-    unfolding leafBy wordAt pick
-    leaf-regex x y z r e a b d g =
-        let q = from-as (ap {B = Text} (λ l. 114 ∷ 35 ∷ 34 ∷ l) (escaped-then t (34 ∷ []) (35 ∷ []))) (from-then a (from-then b (from-then d g))) in
-        rw (e, ← j) q
+    pub leaf-regex : (y z u r : Form) → c ≡ 35 → From f (114 ∷ []) y → From y (35 ∷ []) z → From z (quotedText t) u → From u (35 ∷ []) r → From f (leafText c x) r
+    unfolding leafText pick
+    leaf-regex y z u r e a b d g = rw (e, ← j) (from-then a (from-then b (from-then d g)))
 
-  pub leaf-name : (r : Form) → (c ≡ 42 → ⊥) → (c ≡ 43 → ⊥) → (c ≡ 44 → ⊥) → (c ≡ 34 → ⊥) → (c ≡ 35 → ⊥) → From f (getD ts (leAt wd w (at + 9)) []) r → From f (leafBy wd ts w at c) r
-  unfolding leafBy wordAt pick
-  leaf-name r n42 n43 n44 n34 n35 a = rw (ne-eqb c 42 n42, ne-eqb c 43 n43, ne-eqb c 44 n44, ne-eqb c 34 n34, ne-eqb c 35 n35) a
+  pub leaf-name : (x : Text) (r : Form) → (c ≡ 34 → ⊥) → (c ≡ 35 → ⊥) → From f x r → From f (leafText c x) r
+  unfolding leafText pick
+  leaf-name x r n34 n35 a = rw (ne-eqb c 34 n34, ne-eqb c 35 n35) a
 
-pub ruleset leafing = (needs, leaf-lookahead, leaf-lookbehind, leaf-error, leaf-quoted, leaf-regex, leaf-name)
+  pub marked-left : (x r : Form) → c ≡ 42 → From f (64 ∷ []) x → From x (76 ∷ []) r → From f (markText c) r
+  unfolding markText pick
+  marked-left x r e a b = rw e (from-then a b)
+
+  pub marked-right : (x r : Form) → c ≡ 43 → From f (64 ∷ []) x → From x (82 ∷ []) r → From f (markText c) r
+  unfolding markText pick
+  marked-right x r e a b = rw e (from-then a b)
+
+  pub marked-error : (x y z v r : Form) → (c ≡ 42 → ⊥) → (c ≡ 43 → ⊥) → From f (101 ∷ []) x → From x (114 ∷ []) y → From y (114 ∷ []) z → From z (111 ∷ []) v → From v (114 ∷ []) r → From f (markText c) r
+  unfolding markText pick
+  marked-error x y z v r n m a b d g h = rw (ne-eqb c 42 n, ne-eqb c 43 m) (from-then a (from-then b (from-then d (from-then g h))))
+
+pub ruleset leafing = (needs, leaf-quoted, leaf-regex, leaf-name)
+
+pub ruleset marking = (needs, marked-left, marked-right, marked-error)
 
 -- ---- before
-module _ (wd : ℕ) (ts : List Text) (w : List ℕ) (at c : ℕ) (i : c ≡ getD w at 0) (f : Form) where
-  pub before-macro : (x r : Form) → c ≡ 37 → From f (getD ts (leAt wd w (at + 9)) []) x → From x (60 ∷ []) r → From f (beforeAt wd ts w at) r
-  unfolding beforeAt beforeBy wordAt pick
-  before-macro x r e a b = rw (← i, e) (from-then a b)
+module _ (wd : ℕ) (ts : List Text) (w : List ℕ) (at c : ℕ) (f : Form) where
+  pub before-leaf : (r : Form) → c < 37 → From f (leafText c (wordAt wd ts w (at + 9))) r → From f (beforeBy wd ts w at c) r
+  unfolding beforeBy pick
+  before-leaf r l a = rw (lt-ltb c 37 l) a
 
-  pub before-repeat : IsForm f → c ≡ 38 → From f (beforeAt wd ts w at) f
-  unfolding beforeAt beforeBy pick
-  before-repeat g e = rw (← i, e) (from-none f g)
+  pub before-macro : (x r : Form) → c ≡ 37 → From f (wordAt wd ts w (at + 9)) x → From x (60 ∷ []) r → From f (beforeBy wd ts w at c) r
+  unfolding beforeBy pick
+  before-macro x r e a b = rw e (from-then a b)
 
-  pub before-choose : (r : Form) → c ≡ 39 → From f (60 ∷ []) r → From f (beforeAt wd ts w at) r
-  unfolding beforeAt beforeBy pick
-  before-choose r e a = rw (← i, e) a
+  pub before-repeat : SomeForm f → c ≡ 38 → From f (beforeBy wd ts w at c) f
+  unfolding beforeBy pick
+  before-repeat g e = rw e (from-none f g)
 
-  pub before-name : (x y r : Form) → c ≡ 40 → From f (labelBy (getD w (at + 9) 0)) x → From x (getD ts (leAt wd w (at + 10)) []) y → From y (58 ∷ []) r → From f (beforeAt wd ts w at) r
-  unfolding beforeAt beforeBy wordAt pick
-  before-name x y r e a b d = rw (← i, e) (from-then a (from-then b d))
+  pub before-choose : (r : Form) → c ≡ 39 → From f (60 ∷ []) r → From f (beforeBy wd ts w at c) r
+  unfolding beforeBy pick
+  before-choose r e a = rw e a
 
-  pub before-group : (r : Form) → c ≡ 41 → From f (40 ∷ []) r → From f (beforeAt wd ts w at) r
-  unfolding beforeAt beforeBy pick
-  before-group r e a = rw (← i, e) a
+  pub before-name : (x y r : Form) (v : ℕ) → c ≡ 40 → v ≡ getD w (at + 9) 0 → From f (mutText v) x → From x (wordAt wd ts w (at + 10)) y → From y (58 ∷ []) r → From f (beforeBy wd ts w at c) r
+  unfolding beforeBy nameText pick
+  before-name x y r v e j a b d = rw (e, ← j) (from-then a (from-then b d))
 
-  pub before-leaf : (r : Form) → (c ≡ 37 → ⊥) → (c ≡ 38 → ⊥) → (c ≡ 39 → ⊥) → (c ≡ 40 → ⊥) → (c ≡ 41 → ⊥) → From f (leafBy wd ts w at c) r → From f (beforeAt wd ts w at) r
-  unfolding beforeAt beforeBy pick
-  before-leaf r n37 n38 n39 n40 n41 a = rw (← i, ne-eqb c 37 n37, ne-eqb c 38 n38, ne-eqb c 39 n39, ne-eqb c 40 n40, ne-eqb c 41 n41) a
+  pub before-group : (r : Form) → c ≡ 41 → From f (40 ∷ []) r → From f (beforeBy wd ts w at c) r
+  unfolding beforeBy pick
+  before-group r e a = rw e a
 
-pub ruleset opening = (needs, before-macro, before-repeat, before-choose, before-name, before-group, before-leaf)
+  pub before-mark : (r : Form) → 37 ≤ c → (c ≡ 37 → ⊥) → (c ≡ 38 → ⊥) → (c ≡ 39 → ⊥) → (c ≡ 40 → ⊥) → (c ≡ 41 → ⊥) → From f (markText c) r → From f (beforeBy wd ts w at c) r
+  unfolding beforeBy pick
+  before-mark r l n37 n38 n39 n40 n41 a = rw (le-ltb c 37 l, ne-eqb c 37 n37, ne-eqb c 38 n38, ne-eqb c 39 n39, ne-eqb c 40 n40, ne-eqb c 41 n41) a
+
+pub ruleset opening = (needs, named-room, macro-room, name-room, name-read, before-leaf, before-macro, before-repeat, before-choose, before-name, before-group, before-mark)

@@ -1,6 +1,8 @@
 -- Laws of printed forms of symbols that stand in work. Assumes nothing.
+pub mod MetLaws
+pub mod StandsLaws
+mod MeetCode
+mod FollowCode
 pub mod FormLaws
 mod FormCode
-pub mod StandsLaws
-pub mod FormMean
 mod FormListCode

@@ -1,7 +1,9 @@
 // Hash, power and length of printed forms. They compose, so no printed form is ever made whole: one is handed on, and each piece makes it longer.
+use crate::follow::inside;
+use crate::follow::op_byte;
+use crate::follow::word;
 use octets::numbers::atom_at;
 use octets::wide::from32;
-use precedence::skip::inside;
 use resolve::commands::long;
 use texts::Map;
 use texts::fields::hash;
@@ -17,9 +19,11 @@ ghost use Rattle.parse_tree.specs.plain.Display.{escaped};
 ghost use Rattle.texts.specs.Hash.{power};
 ghost use Rattle.texts.specs.Forms.{stop};
 ghost use Rattle.texts.specs.Table.{texts};
+ghost use Rattle.resolve.specs.Commands.{longOf};
 ghost use Rattle.precedence.specs.Grading.{Worded};
-ghost use Rattle.display.specs.Standing.{Readable};
-ghost use Rattle.display.specs.Form.{IsForm, From, formOf, oddTimes, wholeOf, joinOf, Hashed, labelBy, opBy, sepText, sepBy, leafBy, beforeAt, behindAt, SpareSym, SpareSyms, Prints, PrintsAll};
+ghost use Rattle.display.specs.Standing.{Readable, SomeSym, SomeSyms};
+ghost use Rattle.display.specs.Follow.{quotedText, wordAt, leafText, markText, mutText, beforeBy, behindBy, betweenBy};
+ghost use Rattle.display.specs.Form.{SomeForm, From, textForm, oddTimes, wholeOf, joinOf, Hashed, Prints, PrintsAll};
 
 // Hash of a text, the power of the multiplier by its length, and the length, which stops at 65,536.
 pub struct Form {
@@ -36,7 +40,7 @@ pub struct Formed {
 
 // The form of no bytes.
 pub fn none() -> Form
-    ensures { λ r. ⌜ (r ≡ formOf []) × IsForm r ⌝ }
+    ensures { λ r. ⌜ (r ≡ textForm []) × SomeForm r ⌝ }
 {
     Form {
         hash: 0,
@@ -47,7 +51,7 @@ pub fn none() -> Form
 
 // A byte more.
 pub fn snoc(f: Form, b: u8) -> Form
-    requires { ⌜ IsForm f ⌝ }
+    requires { ⌜ SomeForm f ⌝ }
     ensures { λ r. ⌜ From f (b ∷ []) r ⌝ }
 {
     let h = next(f.hash, b);
@@ -68,7 +72,7 @@ pub fn snoc(f: Form, b: u8) -> Form
 
 // The form of one byte.
 pub fn one(b: u8) -> Form
-    ensures { λ r. ⌜ (r ≡ formOf (b ∷ [])) × IsForm r ⌝ }
+    ensures { λ r. ⌜ (r ≡ textForm (b ∷ [])) × SomeForm r ⌝ }
 {
     snoc(none(), b)
 }
@@ -130,7 +134,7 @@ fn whole(h: usize, n: usize) -> Form
 
 // One form behind another.
 pub fn join(x: Form, y: Form) -> Form
-    requires { ⌜ IsForm x × IsForm y ⌝ }
+    requires { ⌜ SomeForm x × SomeForm y ⌝ }
     ensures { λ r. ⌜ r ≡ joinOf x y ⌝ }
 {
     Form {
@@ -142,7 +146,7 @@ pub fn join(x: Form, y: Form) -> Form
 
 // A byte of a quoted text more.
 fn escape(f: Form, b: u8) -> Form
-    requires { ⌜ IsForm f ⌝ }
+    requires { ⌜ SomeForm f ⌝ }
     ensures { λ r. ⌜ From f (escaped (b ∷ []) []) r ⌝ }
 {
     if b == 34 {
@@ -156,7 +160,7 @@ fn escape(f: Form, b: u8) -> Form
 
 // The bytes of a quoted text more.
 fn escapes(f: Form, t: &[u8]) -> Form
-    requires { ⌜ IsForm f ⌝ }
+    requires { ⌜ SomeForm f ⌝ }
     ensures { λ r. ⌜ From f (escaped (now (t .entry)) []) r ⌝ }
 {
     let mut g = f;
@@ -170,30 +174,16 @@ fn escapes(f: Form, t: &[u8]) -> Form
 
 // A text between quotes more.
 pub fn quoted_form(f: Form, t: &[u8]) -> Form
-    requires { ⌜ IsForm f ⌝ }
-    ensures { λ r. ⌜ From f (34 ∷ escaped (now (t .entry)) (34 ∷ [])) r ⌝ }
+    requires { ⌜ SomeForm f ⌝ }
+    ensures { λ r. ⌜ From f (quotedText (now (t .entry))) r ⌝ }
 {
     snoc(escapes(snoc(f, 34), t), 34)
 }
 
-// The text whose number stands at a place; empty where there is none.
-fn word<'a>(tape: &'a [u8], work: &'a [u8], m: Map, width: usize, at: usize) -> &'a [u8]
-    requires { ⌜ Worded (now tape) (now work) m × (2 ≤ width) × (width ≤ 3) × (at + width ≤ length (now work)) ⌝ }
-    ensures { λ r. ⌜ now r ≡ getD (texts (now (tape .entry)) (now (work .entry)) m) (leAt width (now (work .entry)) at) [] ⌝ }
-{
-    let k = from32(atom_at(work, at, width));
-    if m.count <= k {
-        &tape[0..0]
-    } else {
-        let x = mark(work, m.base, k);
-        text_at(tape, work, x)
-    }
-}
-
 // The text whose number stands at a place, more: its hash is read, not made.
 fn named<'a>(tape: &'a [u8], work: &'a [u8], m: Map, width: usize, at: usize, f: Form) -> Form
-    requires { ⌜ Worded (now tape) (now work) m × Hashed (now tape) (now work) m × (2 ≤ width) × (width ≤ 3) × (at + width ≤ length (now work)) × IsForm f ⌝ }
-    ensures { λ r. ⌜ From f (getD (texts (now (tape .entry)) (now (work .entry)) m) (leAt width (now (work .entry)) at) []) r ⌝ }
+    requires { ⌜ Worded (now tape) (now work) m × Hashed (now tape) (now work) m × (2 ≤ width) × (width ≤ 3) × (at + width ≤ length (now work)) × SomeForm f ⌝ }
+    ensures { λ r. ⌜ From f (wordAt width (texts (now (tape .entry)) (now (work .entry)) m) (now (work .entry)) at) r ⌝ }
 {
     let k = from32(atom_at(work, at, width));
     if m.count <= k {
@@ -205,21 +195,36 @@ fn named<'a>(tape: &'a [u8], work: &'a [u8], m: Map, width: usize, at: usize, f:
     join(f, whole(h, t.len()))
 }
 
-// `mut `, if the name at a place has it.
-fn label(work: &[u8], at: usize, f: Form) -> Form
-    requires { ⌜ (at + 16 ≤ length (now work)) × IsForm f ⌝ }
-    ensures { λ r. ⌜ From f (labelBy (getD (now (work .entry)) (at + 9) 0)) r ⌝ }
+// `mut `, if the byte of a name says so.
+fn mutable(f: Form, b: u8) -> Form
+    requires { ⌜ SomeForm f ⌝ }
+    ensures { λ r. ⌜ From f (mutText b) r ⌝ }
 {
-    if work[at + 9] == 0 {
-        return f;
+    if b == 1 {
+        return snoc(snoc(snoc(snoc(f, 109), 117), 116), 32);
     }
-    snoc(snoc(snoc(snoc(f, 109), 117), 116), 32)
+    f
 }
 
-// A symbol of code c with none inside, more.
+// A leaf of the code c, the number of whose text stands at a place, more.
 fn leaf<'a>(tape: &'a [u8], work: &'a [u8], m: Map, width: usize, at: usize, c: u8, f: Form) -> Form
-    requires { ⌜ Worded (now tape) (now work) m × Hashed (now tape) (now work) m × (2 ≤ width) × (width ≤ 3) × (at + 16 ≤ length (now work)) × IsForm f ⌝ }
-    ensures { λ r. ⌜ From f (leafBy width (texts (now (tape .entry)) (now (work .entry)) m) (now (work .entry)) at c) r ⌝ }
+    requires { ⌜ Worded (now tape) (now work) m × Hashed (now tape) (now work) m × (2 ≤ width) × (width ≤ 3) × (at + width ≤ length (now work)) × SomeForm f ⌝ }
+    ensures { λ r. ⌜ From f (leafText c (wordAt width (texts (now (tape .entry)) (now (work .entry)) m) (now (work .entry)) at)) r ⌝ }
+{
+    if c == 34 {
+        return quoted_form(f, word(tape, work, m, width, at));
+    }
+    if c == 35 {
+        let t = word(tape, work, m, width, at);
+        return snoc(quoted_form(snoc(snoc(f, 114), 35), t), 35);
+    }
+    named(tape, work, m, width, at, f)
+}
+
+// A leaf that has no text, more.
+fn marked(f: Form, c: u8) -> Form
+    requires { ⌜ SomeForm f ⌝ }
+    ensures { λ r. ⌜ From f (markText c) r ⌝ }
 {
     if c == 42 {
         return snoc(snoc(f, 64), 76);
@@ -227,25 +232,25 @@ fn leaf<'a>(tape: &'a [u8], work: &'a [u8], m: Map, width: usize, at: usize, c: 
     if c == 43 {
         return snoc(snoc(f, 64), 82);
     }
-    if c == 44 {
-        return snoc(snoc(snoc(snoc(snoc(f, 101), 114), 114), 111), 114);
-    }
-    if c == 34 {
-        return quoted_form(f, word(tape, work, m, width, at + 9));
-    }
-    if c == 35 {
-        let t = word(tape, work, m, width, at + 9);
-        return snoc(quoted_form(snoc(snoc(f, 114), 35), t), 35);
-    }
-    named(tape, work, m, width, at + 9, f)
+    snoc(snoc(snoc(snoc(snoc(f, 101), 114), 114), 111), 114)
 }
 
-// What stands before the symbols inside the one at a place, more.
-fn before<'a>(tape: &'a [u8], work: &'a [u8], m: Map, width: usize, at: usize, f: Form) -> Form
-    requires { ⌜ Worded (now tape) (now work) m × Hashed (now tape) (now work) m × (2 ≤ width) × (width ≤ 3) × (at + 16 ≤ length (now work)) × IsForm f ⌝ }
-    ensures { λ r. ⌜ From f (beforeAt width (texts (now (tape .entry)) (now (work .entry)) m) (now (work .entry)) at) r ⌝ }
+// What stands before the symbols straight inside that of the code c at a place, more.
+fn before<'a>(
+    tape: &'a [u8],
+    work: &'a [u8],
+    m: Map,
+    width: usize,
+    at: usize,
+    c: u8,
+    f: Form,
+) -> Form
+    requires { ⌜ Worded (now tape) (now work) m × Hashed (now tape) (now work) m × (2 ≤ width) × (width ≤ 3) × (32 ≤ c) × (at + longOf width c ≤ length (now work)) × SomeForm f ⌝ }
+    ensures { λ r. ⌜ From f (beforeBy width (texts (now (tape .entry)) (now (work .entry)) m) (now (work .entry)) at c) r ⌝ }
 {
-    let c = work[at];
+    if c < 37 {
+        return leaf(tape, work, m, width, at + 9, c, f);
+    }
     if c == 37 {
         return snoc(named(tape, work, m, width, at + 9, f), 60);
     }
@@ -256,38 +261,24 @@ fn before<'a>(tape: &'a [u8], work: &'a [u8], m: Map, width: usize, at: usize, f
         return snoc(f, 60);
     }
     if c == 40 {
-        return snoc(named(tape, work, m, width, at + 10, label(work, at, f)), 58);
+        return snoc(named(tape, work, m, width, at + 10, mutable(f, work[at + 9])), 58);
     }
     if c == 41 {
         return snoc(f, 40);
     }
-    leaf(tape, work, m, width, at, c, f)
+    marked(f, c)
 }
 
-// The byte of a repeat.
-fn op(v: u8) -> u8
-    ensures { λ r. ⌜ r ≡ opBy v ⌝ }
+// What stands behind them, more.
+fn behind(work: &[u8], width: usize, at: usize, c: u8, f: Form) -> Form
+    requires { ⌜ (at + longOf width c ≤ length (now work)) × SomeForm f ⌝ }
+    ensures { λ r. ⌜ From f (behindBy (now (work .entry)) at c) r ⌝ }
 {
-    if v == 0 {
-        return 42;
-    }
-    if v == 1 {
-        return 43;
-    }
-    63
-}
-
-// What stands behind the symbols inside the one at a place, more.
-fn behind(work: &[u8], at: usize, f: Form) -> Form
-    requires { ⌜ (at + 16 ≤ length (now work)) × IsForm f ⌝ }
-    ensures { λ r. ⌜ From f (behindAt (now (work .entry)) at) r ⌝ }
-{
-    let c = work[at];
     if c == 37 {
         return snoc(f, 62);
     }
     if c == 38 {
-        return snoc(f, op(work[at + 9]));
+        return snoc(f, op_byte(work[at + 9]));
     }
     if c == 39 {
         return snoc(f, 62);
@@ -298,31 +289,21 @@ fn behind(work: &[u8], at: usize, f: Form) -> Form
     f
 }
 
-// Which separator stands between the symbols inside one of code c.
-fn separator(c: u8) -> usize
-    ensures { λ r. ⌜ r ≡ sepBy c ⌝ }
+// What stands before the k-th of them, more.
+fn separated(f: Form, c: u8, k: usize) -> Form
+    requires { ⌜ SomeForm f ⌝ }
+    ensures { λ r. ⌜ From f (betweenBy c k) r ⌝ }
 {
-    if c == 37 {
-        return 2;
-    }
-    1
-}
-
-// A separator more: 0 is none.
-fn separated(f: Form, d: usize) -> Form
-    requires { ⌜ IsForm f ⌝ }
-    ensures { λ r. ⌜ From f (sepText d) r ⌝ }
-{
-    if d == 0 {
+    if k == 0 {
         return f;
     }
-    if d == 1 {
-        return snoc(f, 32);
+    if c == 37 {
+        return snoc(snoc(f, 44), 32);
     }
-    snoc(snoc(f, 44), 32)
+    snoc(f, 32)
 }
 
-// The printed forms of n symbols with a separator between them, more. `left` levels of nesting are left.
+// The printed forms of n symbols, with between them what stands between those straight inside a command of the code c, more. `left` levels of nesting are left.
 pub fn form_list<'a>(
     tape: &'a [u8],
     work: &'a [u8],
@@ -331,31 +312,31 @@ pub fn form_list<'a>(
     left: usize,
     at: usize,
     n: usize,
-    sep: usize,
+    c: u8,
     f: Form,
 ) -> Formed
-    requires { ⌜ Readable (now tape) (now work) m width × Hashed (now tape) (now work) m × SpareSyms (now tape) (now work) m width n left at × IsForm f ⌝ }
-    ensures { λ r. ⌜ PrintsAll (now (tape .entry)) (now (work .entry)) m width n left at sep f r ⌝ }
+    requires { ⌜ Readable (now tape) (now work) m width × Hashed (now tape) (now work) m × SomeSyms (now tape) (now work) m width n left at × SomeForm f ⌝ }
+    ensures { λ r. ⌜ PrintsAll (now (tape .entry)) (now (work .entry)) m width n left at c f r ⌝ }
 {
     let mut p = at;
     let mut k = n;
     let mut d = 0;
     let mut g = f;
     while 0 < k {
-        let c = work[p];
-        let b = before(tape, work, m, width, p, separated(g, d));
-        let e = p + long(c, width);
-        let i = inside(work, p, width);
-        let q = form_list(tape, work, m, width, left - 1, e, i, separator(c), b);
-        g = behind(work, p, q.form);
+        let o = work[p];
+        let b = before(tape, work, m, width, p, o, separated(g, c, d));
+        let e = p + long(o, width);
+        let i = inside(work, width, p, o);
+        let q = form_list(tape, work, m, width, left - 1, e, i, o, b);
+        g = behind(work, width, p, o, q.form);
         p = q.at;
-        d = sep;
+        d = 1;
         k -= 1;
     }
     Formed { at: p, form: g }
 }
 
-// The form of the printed form of the symbol at a place.
+// The form of the printed form of the symbol at a place: a list of one, so that no code matters.
 pub fn form_symbol<'a>(
     tape: &'a [u8],
     work: &'a [u8],
@@ -364,7 +345,7 @@ pub fn form_symbol<'a>(
     left: usize,
     at: usize,
 ) -> Formed
-    requires { ⌜ Readable (now tape) (now work) m width × Hashed (now tape) (now work) m × SpareSym (now tape) (now work) m width left at ⌝ }
+    requires { ⌜ Readable (now tape) (now work) m width × Hashed (now tape) (now work) m × SomeSym (now tape) (now work) m width left at ⌝ }
     ensures { λ r. ⌜ Prints (now (tape .entry)) (now (work .entry)) m width left at r ⌝ }
 {
     form_list(tape, work, m, width, left, at, 1, 0, none())

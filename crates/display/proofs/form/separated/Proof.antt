@@ -12,11 +12,11 @@ returns c = search separating
 snoc-requires : tie.Need-snoc-requires
 snoc-requires c κs = search needs
 
-returns-2 : tie.Need-returns-2
-returns-2 c = search separating
-
 snoc-requires-2 : tie.Need-snoc-requires-2
 snoc-requires-2 c κs = search needs
+
+returns-2 : tie.Need-returns-2
+returns-2 c = search separating
 
 snoc-requires-3 : tie.Need-snoc-requires-3
 snoc-requires-3 c κs = search needs
@@ -26,4 +26,4 @@ returns-3 c = search separating
 
 pub separated-spec : {M : Type 1} → statement M
 separated-spec =
-    tie.close (tie.spec returns snoc-requires returns-2 snoc-requires-2 snoc-requires-3 returns-3)
+    tie.close (tie.spec returns snoc-requires snoc-requires-2 returns-2 snoc-requires-3 returns-3)

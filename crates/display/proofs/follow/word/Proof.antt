@@ -1,9 +1,9 @@
-use Rattle.display.proofs.FormCode.{wording}
+use Rattle.display.proofs.MeetCode.{wording}
 use borrow.Author.Needs.{needs}
-use Rattle.display.proofs.form.word.Statement.{statement}
-use Rattle.display.proofs.form.word.Tie as tie
-use Rattle.display.proofs.form.word.Reads as reads
-use Rattle.display.proofs.form.word.Lts as lts
+use Rattle.display.proofs.follow.word.Statement.{statement}
+use Rattle.display.proofs.follow.word.Tie as tie
+use Rattle.display.proofs.follow.word.Reads as reads
+use Rattle.display.proofs.follow.word.Lts as lts
 use Rattle.octets.proofs.numbers.atom_at.Reads as atom-at-reads
 use Rattle.octets.proofs.wide.from32.Reads as from32-reads
 use Rattle.texts.proofs.fields.mark.Reads as mark-reads
