@@ -1,1 +1,5 @@
 -- Laws of printed forms of symbols that stand in work. Assumes nothing.
+pub mod MetLaws
+pub mod StandsLaws
+mod MeetCode
+mod FollowCode
