@@ -30,16 +30,16 @@ use Rattle.display.proofs.StandsLaws.{beforeText, betweenText, behindTe
 unfoldable pub shownFrom : ℕ → Syms → Text → Text → Text
 shownFrom k xs sep r = pick (eqb k 0) (shownAll xs sep r) (shownMore xs sep r)
 
-shown-none : (k : ℕ) (sep r : Text) → shownFrom k nil sep r ≡ r
+pub shown-none : (k : ℕ) (sep r : Text) → shownFrom k nil sep r ≡ r
 unfolding shownFrom pick shownAll shownMore
 shown-none zero sep r = refl
 shown-none (suc k) sep r = cc (ne-eqb (suc k) 0 (λ q. absurd (omega (arith, q))))
 
-shown-later : (k : ℕ) (xs : Syms) (sep r : Text) → shownFrom (k + 1) xs sep r ≡ shownMore xs sep r
+pub shown-later : (k : ℕ) (xs : Syms) (sep r : Text) → shownFrom (k + 1) xs sep r ≡ shownMore xs sep r
 unfolding shownFrom pick
 shown-later k xs sep r = cc (ne-eqb (k + 1) 0 (λ q. absurd (omega (arith, q))))
 
-shown-first : (c k : ℕ) (x : Sym) (xs : Syms) (sep r : Text) → ((j : ℕ) → betweenBy c (suc j) ≡ sep) → betweenBy c k ++ shown x (shownMore xs sep r) ≡ shownFrom k (cons x xs) sep r
+pub shown-first : (c k : ℕ) (x : Sym) (xs : Syms) (sep r : Text) → ((j : ℕ) → betweenBy c (suc j) ≡ sep) → betweenBy c k ++ shown x (shownMore xs sep r) ≡ shownFrom k (cons x xs) sep r
 unfolding shownFrom pick shownAll shownMore betweenBy
 shown-first c zero x xs sep r h = refl
 shown-first c (suc k) x xs sep r h =

@@ -3,3 +3,10 @@ pub mod MetLaws
 pub mod StandsLaws
 mod MeetCode
 mod FollowCode
+pub mod SinkLaws
+pub mod WindowLaws
+mod WindowCode
+mod WindowShow
+mod WindowSeen
+mod WindowBound
+mod WindowSame

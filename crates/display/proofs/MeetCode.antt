@@ -79,7 +79,7 @@ module _ (t : Text) (i b r : ℕ) where
 pub ruleset quoting = (needs, inside-quote, inside-slash, inside-plain)
 
 -- ---- meet_escaped
-escaped-one : (b : ℕ) (bs : Text) → escaped (b ∷ bs) [] ≡ escaped (b ∷ []) [] ++ escaped bs []
+pub escaped-one : (b : ℕ) (bs : Text) → escaped (b ∷ bs) [] ≡ escaped (b ∷ []) [] ++ escaped bs []
 unfolding escaped
 escaped-one b bs = go (eqb b 34 || eqb b 92)
   where

@@ -170,7 +170,7 @@ fn before<'a>(
     meet_mark(t, i, c)
 }
 
-fn op_byte(op: u8) -> u8
+pub fn op_byte(op: u8) -> u8
     ensures { λ r. ⌜ r ≡ opByte op ⌝ }
 {
     if op == 0 {
@@ -216,7 +216,7 @@ fn between(t: &[u8], i: usize, c: u8, k: usize) -> usize
 }
 
 // How many they are.
-fn inside(work: &[u8], width: usize, at: usize, c: u8) -> usize
+pub fn inside(work: &[u8], width: usize, at: usize, c: u8) -> usize
     requires { ⌜ (2 ≤ width) × (width ≤ 3) × (at + longOf width c ≤ length (now work)) ⌝ }
     ensures { λ r. ⌜ r ≡ insideBy width (now (work .entry)) at c ⌝ }
 {
