@@ -6,3 +6,10 @@ mod FollowCode
 pub mod FormLaws
 mod FormCode
 mod FormListCode
+pub mod SinkLaws
+pub mod WindowLaws
+mod WindowCode
+mod WindowShow
+mod WindowSeen
+mod WindowBound
+mod WindowSame

@@ -2,3 +2,4 @@
 pub mod Standing
 pub mod Follow
 pub mod Form
+pub mod Window

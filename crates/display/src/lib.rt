@@ -2,6 +2,7 @@
 // Touches nothing but the slices that it is handed.
 pub mod follow;
 pub mod form;
+pub mod window;
 
 // Where to read on, and how many bytes of a text were met: its length + 1 after a difference.
 pub struct Met {

@@ -28,7 +28,7 @@ use Rattle.precedence.proofs.WordedLaws.{naming-worded}
 use Rattle.levels.specs.declared.Room.{Room}
 use Rattle.levels.specs.declared.Written.{Written}
 use Rattle.levels.specs.declared.Levelled.{Levelled}
-use Rattle.levels.specs.Expand.{Standing, ExpandedBy, alternativesAt}
+use Rattle.levels.specs.Expand.{Expandable, ExpandedBy, alternativesAt}
 
 -- an answer is not a refusal
 pub is-not : {b : Bool} {q a : ℕ} → Graded.Is b ≡ Graded.Refused q a → ⊥
@@ -38,7 +38,7 @@ is-not {b} {q} {a} e = let z : _≡_ {A = ℕ} 0 1 = cc in omega arith
 abbrev pub keysPlace : Room → ℕ → ℕ
 keysPlace room n = room .arrays + 8 * n + 8
 
-module _ (s : List ℕ) (m : Map) (room : Room) (wd : ℕ) (ids : Ids) (p e : ℕ) (v : Written) (w : List ℕ) (four : Bool) (d : Nonterminal) (S : Standing s m room wd ids p e v w four d) where
+module _ (s : List ℕ) (m : Map) (room : Room) (wd : ℕ) (ids : Ids) (p e : ℕ) (v : Written) (w : List ℕ) (four : Bool) (d : Nonterminal) (S : Expandable s m room wd ids p e v w four d) where
   -- theorem: the nonterminal's first bytes are what they should be
   pub stands-headed : Headed w wd (texts s w m) p d e
   stands-headed = headed four w wd (texts s w m) p d e (S .stood .within) (S .stood .lies)

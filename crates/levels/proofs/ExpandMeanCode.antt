@@ -29,13 +29,13 @@ use Rattle.precedence.proofs.AlternativesWholeMean.{Keyed, GradeMeans}
 use Rattle.levels.specs.declared.Room.{Room}
 use Rattle.levels.specs.declared.Written.{Written}
 use Rattle.levels.specs.declared.Levelled.{Levelled}
-use Rattle.levels.specs.Expand.{SortsKeys, SomeLeft, Finishes, Standing, SomeStanding, ExpandedBy, Expands, alternativesAt}
+use Rattle.levels.specs.Expand.{SortsKeys, SomeLeft, Finishes, Expandable, SomeExpandable, ExpandedBy, ExpandsOne, alternativesAt}
 use Rattle.levels.proofs.ExpandMean.{keysPlace, is-not, stands-before, stands-many, stands-roomy, stands-gradable, stands-graded, refused-inside, refused-means}
 use Rattle.levels.proofs.ExpandMeanSorted.{Ordered, keys-ordered, lowest-says, low-inside, low-means, low-none}
 use Rattle.levels.proofs.ExpandMeanLeft.{all-left, all-written}
 
 -- ---- of one nonterminal that `grade` has not refused
-module _ (s : List ℕ) (m : Map) (room : Room) (wd : ℕ) (ids : Ids) (p e : ℕ) (v : Written) (w : List ℕ) (four : Bool) (d : Nonterminal) (S : Standing s m room wd ids p e v w four d)
+module _ (s : List ℕ) (m : Map) (room : Room) (wd : ℕ) (ids : Ids) (p e : ℕ) (v : Written) (w : List ℕ) (four : Bool) (d : Nonterminal) (S : Expandable s m room wd ids p e v w four d)
     (n : ℕ) (many : n ≡ leAt 2 w (p + 11 + wd)) (wide : wd ≤ 3) (at : ℕ) (first : at ≡ firstAlternative wd w p) (b : Bool) (w1 : List ℕ)
     (x : Grades (gradeFrom wd ids s m e (room .arrays) (keysPlace room n) n 0 at 0 Assoc.FullyAssoc true w) (Graded.Is b) w1) where
   abbrev Said : Outcome (Unit {0}) → Type 0
@@ -67,7 +67,7 @@ module _ (s : List ℕ) (m : Map) (room : Room) (wd : ℕ) (ids : Ids) (p e : �
       go (no q sp) k = absurd (is-not (k .answer))
 
 -- ---- the code: there is such a nonterminal, and so it is of each
-module _ {s : List ℕ} {m : Map} {room : Room} {wd : ℕ} {ids : Ids} {p e : ℕ} {v : Written} {w : List ℕ} (pre : (2 ≤ wd) × (wd ≤ 3) × SomeStanding s m room wd ids p e v w) where
+module _ {s : List ℕ} {m : Map} {room : Room} {wd : ℕ} {ids : Ids} {p e : ℕ} {v : Written} {w : List ℕ} (pre : (2 ≤ wd) × (wd ≤ 3) × SomeExpandable s m room wd ids p e v w) where
   wide : wd ≤ 3
   wide = pre .1
 
@@ -77,7 +77,7 @@ module _ {s : List ℕ} {m : Map} {room : Room} {wd : ℕ} {ids : Ids} {p e : �
   abbrev d : Nonterminal
   d = pre .2 .nonterminal
 
-  abbrev S : Standing s m room wd ids p e v w four d
+  abbrev S : Expandable s m room wd ids p e v w four d
   S = pre .2 .standing
 
   -- theorem: what is read of its head lies in work
@@ -97,7 +97,7 @@ module _ {s : List ℕ} {m : Map} {room : Room} {wd : ℕ} {ids : Ids} {p e : �
         (x : Grades (gradeFrom wd ids s m e (room .arrays) (room .arrays + 8 * n + 8) n 0 at 0 Assoc.FullyAssoc true w) g w1) where
       -- ---- `grade` refuses
       module _ {q a : ℕ} (z : g ≡ Graded.Refused q a) where
-        says : (four′ : Bool) (d′ : Nonterminal) → Standing s m room wd ids p e v w four′ d′
+        says : (four′ : Bool) (d′ : Nonterminal) → Expandable s m room wd ids p e v w four′ d′
             → GradeMeans four′ wd (texts s w m) s m (room .arrays) (keysPlace room n) n e w (alternativesAt wd (texts s w m) p d′) (d′ .alternatives) (Graded.Refused q a) w1 (checkAttributes (d′ .alternatives))
         says four′ d′ S′ = stands-graded s m room wd ids p e v w four′ d′ S′ n many wide at first (Graded.Refused q a) w1 (rw z at x)
 
@@ -106,8 +106,8 @@ module _ {s : List ℕ} {m : Map} {room : Room} {wd : ℕ} {ids : Ids} {p e : �
         expand-refused-inside = refused-inside s m room wd ids p e v w four d S n _ w1 q a (checkAttributes (d .alternatives)) (says four d S)
 
         -- theorem: each nonterminal that stands there is refused so
-        pub expand-refused : {i : ℕ} → i ≡ q → {why : Refusal} → why ≡ refusalOver i (spanIn w1 (a + 1)) → Expands s m room wd ids p e v w (Levelled.Refused why) w1
-        unfolding Expands
+        pub expand-refused : {i : ℕ} → i ≡ q → {why : Refusal} → why ≡ refusalOver i (spanIn w1 (a + 1)) → ExpandsOne s m room wd ids p e v w (Levelled.Refused why) w1
+        unfolding ExpandsOne
         expand-refused {i} h {why} y four′ d′ S′ =
             refused-means s m room wd ids p e v w four′ d′ S′ n _ w1 q a (checkAttributes (d′ .alternatives)) (λ u. checkLowest (grouped (d′ .name) (graded d′))) (says four′ d′ S′) why
             (y ∙ ap (λ (j : ℕ). refusalOver j (spanIn w1 (a + 1))) h)
@@ -125,7 +125,7 @@ module _ {s : List ℕ} {m : Map} {room : Room} {wd : ℕ} {ids : Ids} {p e : �
         expand-arrays = record { one = omega (arith, long, expand-room); two = omega (arith, long, expand-room); apart = inl (omega arith) }
 
         module _ (k : ℕ) (w2 : List ℕ) (y : SortsKeys w1 (room .arrays + 8 * n + 8) (room .arrays + 8 * n + 8 + 8 * n) n b k w2) where
-          ordered : (four′ : Bool) (d′ : Nonterminal) → Standing s m room wd ids p e v w four′ d′ → Ordered s m room wd p e w four′ d′ n k w2
+          ordered : (four′ : Bool) (d′ : Nonterminal) → Expandable s m room wd ids p e v w four′ d′ → Ordered s m room wd p e w four′ d′ n k w2
           ordered four′ d′ S′ = ordered-of s m room wd ids p e v w four′ d′ S′ n many wide at first b w1 answered k w2 y
 
           mine : Ordered s m room wd p e w four d n k w2
@@ -152,8 +152,8 @@ module _ {s : List ℕ} {m : Map} {room : Room} {wd : ℕ} {ids : Ids} {p e : �
                   low-inside s m room wd ids p e v w four d S n c k w2 mine (pre .0) a (lowest-says s m room wd ids p e v w four d S n c k w2 mine (Lowest.At a) found)
 
               -- theorem: each nonterminal that stands there is refused so
-              pub expand-low : {why : Refusal} → why ≡ refusalOver 16 (spanIn w2 (a + 1)) → Expands s m room wd ids p e v w (Levelled.Refused why) w2
-              unfolding Expands
+              pub expand-low : {why : Refusal} → why ≡ refusalOver 16 (spanIn w2 (a + 1)) → ExpandsOne s m room wd ids p e v w (Levelled.Refused why) w2
+              unfolding ExpandsOne
               expand-low {why} u four′ d′ S′ =
                   let c = stands-many s m room wd ids p e v w four′ d′ S′ n many in
                   let o = ordered four′ d′ S′ in
@@ -176,8 +176,8 @@ module _ {s : List ℕ} {m : Map} {room : Room} {wd : ℕ} {ids : Ids} {p e : �
               }
 
               -- theorem: the levels of each nonterminal that stands there are written
-              pub expand-written : (u : Written) (w3 : List ℕ) → Finishes s m room wd ids p e (room .arrays) k n 0 0 v w2 u w3 → Expands s m room wd ids p e v w (Levelled.Is u) w3
-              unfolding Expands ExpandedBy
+              pub expand-written : (u : Written) (w3 : List ℕ) → Finishes s m room wd ids p e (room .arrays) k n 0 0 v w2 u w3 → ExpandsOne s m room wd ids p e v w (Levelled.Is u) w3
+              unfolding ExpandsOne ExpandedBy
               expand-written u w3 f four′ d′ S′ =
                   let c = stands-many s m room wd ids p e v w four′ d′ S′ n many in
                   let o = ordered four′ d′ S′ in

@@ -31,7 +31,7 @@ use Rattle.precedence.proofs.NamesStays.{names-same, naming-stays}
 use Rattle.precedence.proofs.WordedLaws.{naming-worded, worded-stays}
 use Rattle.levels.specs.declared.Room.{Room}
 use Rattle.levels.specs.declared.Written.{Written}
-use Rattle.levels.specs.Expand.{Laid, NamesAt, Kept, Wrote, Stood, placesOf, alternativesAt, itemsLeft, Left, Finishes, Standing}
+use Rattle.levels.specs.Expand.{LevelsFit, NamesAt, Kept, Wrote, Stood, placesOf, alternativesAt, itemsLeft, Left, Finishes, Expandable}
 use Rattle.levels.proofs.Few.{graded-length, levels-few}
 use Rattle.levels.proofs.ExpandMean.{keysPlace, stands-before}
 use Rattle.levels.proofs.ExpandMeanSorted.{Ordered}
@@ -42,7 +42,7 @@ unfolding placesFrom placesOf
 places-same four wd ts s m places keys n e p [] = refl
 places-same four wd ts s m places keys n e p (a ∷ rest) = ap (λ (xs : List ℕ). p ∷ xs) (places-same four wd ts s m places keys n e (p + length (alternativeBytes wd ts a)) rest)
 
-module _ (s : List ℕ) (m : Map) (room : Room) (wd : ℕ) (ids : Ids) (p e : ℕ) (v : Written) (w : List ℕ) (four : Bool) (d : Nonterminal) (S : Standing s m room wd ids p e v w four d) (n : ℕ) (many : n ≡ length (d .alternatives))
+module _ (s : List ℕ) (m : Map) (room : Room) (wd : ℕ) (ids : Ids) (p e : ℕ) (v : Written) (w : List ℕ) (four : Bool) (d : Nonterminal) (S : Expandable s m room wd ids p e v w four d) (n : ℕ) (many : n ≡ length (d .alternatives))
     (k : ℕ) (w2 : List ℕ) (O : Ordered s m room wd p e w four d n k w2) where
   fewer : length (levelsOf (graded d)) ≤ length (d .alternatives)
   fewer = omega (arith, levels-few (graded d), graded-length d)
@@ -91,7 +91,7 @@ module _ (s : List ℕ) (m : Map) (room : Room) (wd : ℕ) (ids : Ids) (p e : �
         before = x .before;
       }
 
-  laid : Laid m room (v .count + length (levelsOf (graded d))) n (length w2)
+  laid : LevelsFit m room (v .count + length (levelsOf (graded d))) n (length w2)
   laid =
       let x = S .laid in
       record {

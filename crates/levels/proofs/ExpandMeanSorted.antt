@@ -36,7 +36,7 @@ use Rattle.precedence.proofs.LeadMean.{span-noted}
 use Rattle.levels.specs.declared.Room.{Room}
 use Rattle.levels.specs.declared.Written.{Written}
 use Rattle.levels.specs.declared.Levelled.{Levelled}
-use Rattle.levels.specs.Expand.{SortsKeys, Standing, ExpandedBy, alternativesAt}
+use Rattle.levels.specs.Expand.{SortsKeys, Expandable, ExpandedBy, alternativesAt}
 use Rattle.levels.proofs.Few.{graded-length}
 use Rattle.levels.proofs.ExpandMean.{keysPlace, stands-headed, stands-before}
 
@@ -122,7 +122,7 @@ module _ (s : List ℕ) (m : Map) (room : Room) (wd p e : ℕ) (w : List ℕ) (f
         go false z x = merged k w2 x
 
 -- ---- the lowest level
-module _ (s : List ℕ) (m : Map) (room : Room) (wd : ℕ) (ids : Ids) (p e : ℕ) (v : Written) (w : List ℕ) (four : Bool) (d : Nonterminal) (S : Standing s m room wd ids p e v w four d) (n : ℕ) (many : n ≡ length (d .alternatives))
+module _ (s : List ℕ) (m : Map) (room : Room) (wd : ℕ) (ids : Ids) (p e : ℕ) (v : Written) (w : List ℕ) (four : Bool) (d : Nonterminal) (S : Expandable s m room wd ids p e v w four d) (n : ℕ) (many : n ≡ length (d .alternatives))
     (k : ℕ) (w2 : List ℕ) (O : Ordered s m room wd p e w four d n k w2) where
   abbrev at : ℕ
   at = alternativesAt wd (texts s w m) p d

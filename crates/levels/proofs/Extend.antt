@@ -89,10 +89,6 @@ module _ (four : Bool) (wd : ℕ) (ts us : List Text) (p : Extends ts us) where
       ) refl
   bytes-extend (Item.terminal s o x) h = rw (extends-number ts us x p (h .1 .0)) refl
 
-  -- theorem: and so are those of several
-  pub all-bytes-extend : (xs : List Item) → Each (ItemWithin four wd ts) xs → bytesOfEach (itemBytes wd us) xs ≡ bytesOfEach (itemBytes wd ts) xs
-  all-bytes-extend xs h = bytes-each (ItemWithin four wd ts) (itemBytes wd us) (itemBytes wd ts) bytes-extend xs h
-
   -- ---- limits
   uses-extend : (class : Text → Bool) (x : Text) → Uses four wd ts class x → Uses four wd us class x
   uses-extend class x u = (extends-has ts us x p (u .0), rw (extends-number ts us x p (u .0)) (u .1), u .2)

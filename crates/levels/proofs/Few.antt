@@ -7,7 +7,7 @@ use Prim.Native.Nat.{ℕ, suc, _+_, _≤_}
 use native.Mathlib.Omega.{arith}
 use borrow.Author.Tests.{eq-eqb, ne-eqb, eqb-true, eqb-false}
 use lib.Dec.{eqb, ltb}
-use lib.ListN.{length, length-map}
+use lib.ListN.{length}
 use Rattle.octets.specs.working.Choice.{pick}
 use Rattle.parse_tree.specs.plain.Tree.{Text, Alternative, Nonterminal}
 use Rattle.parse_tree.specs.working.Within.{Each}
@@ -46,18 +46,6 @@ pub levels-few : (gs : List Graded) → length (levelsOf gs) ≤ length gs
 unfolding levelsOf
 levels-few [] = omega arith
 levels-few (g ∷ gs) = omega (arith, insert-few (g .level) (levelsOf gs), levels-few gs)
-
-groups-length : (E : Text) (gs : List Graded) (lower : Option Text) (vs : List ℕ) → length (groupsOf E gs lower vs) ≡ length vs
-unfolding groupsOf
-groups-length E gs lower [] = refl
-groups-length E gs lower (v ∷ vs) = ap suc (groups-length E gs (some (levelName E v vs)) vs)
-
--- theorem: a nonterminal has at most as many levels as alternatives
-pub names-few : (d : Nonterminal) → length (groupNames d) ≤ length (d .alternatives)
-unfolding groupNames
-names-few d =
-    let gs = graded d in
-    omega (arith, length-map (groupsOf (d .name) gs none (levelsOf gs)) (λ (g : Group Graded). g .name), groups-length (d .name) gs none (levelsOf gs), levels-few gs, graded-length d)
 
 -- ---- the highest keeps the name
 -- texts of E and a level

@@ -6,7 +6,6 @@ pub mod Texts
 pub mod Digits
 pub mod Few
 pub mod Fits
-pub mod Ids
 mod FreshCode
 pub mod ExpandMean
 pub mod ExpandMeanSorted

@@ -22,7 +22,7 @@ use Rattle.precedence.specs.Annotations.{HeadInside, hasPrecAttr}
 use Rattle.precedence.proofs.AlternativesMean.{has-means, head-inside, terminal-means}
 use Rattle.levels.specs.declared.Room.{Room}
 use Rattle.levels.specs.declared.Written.{Written}
-use Rattle.levels.specs.Expand.{Laid, Standing, SomeStanding}
+use Rattle.levels.specs.Expand.{LevelsFit, Expandable, SomeExpandable}
 use Rattle.levels.specs.Whole.{alternativesIn, ItemsLeft, SomeItems}
 
 -- whether an item is written level by level
@@ -55,7 +55,7 @@ alternatives-split (item d) rest = omega arith
 alternatives-split (Item.terminal sp o x) rest = omega arith
 
 -- theorem: there is room for fewer names and alternatives where there is for more
-pub laid-fewer : (m : Map) (room : Room) (most n long most′ n′ : ℕ) → most′ ≤ most → n′ ≤ n → Laid m room most n long → Laid m room most′ n′ long
+pub laid-fewer : (m : Map) (room : Room) (most n long most′ n′ : ℕ) → most′ ≤ most → n′ ≤ n → LevelsFit m room most n long → LevelsFit m room most′ n′ long
 laid-fewer m room most n long most′ n′ h k l = record {
   heads = l .heads;
   names = omega (arith, l .names);
@@ -96,7 +96,7 @@ module _ (s : List ℕ) (m : Map) (t : Grammar) (room : Room) (ids : Ids) (i : �
 
 -- theorem: a nonterminal that stands first among the items stands as `expand_nonterm` asks
 pub first-stands : (s : List ℕ) (m : Map) (t : Grammar) (room : Room) (ids : Ids) (i : ℕ) (v : Written) (w : List ℕ) (four : Bool) (d : Nonterminal) (rest : List Item)
-    → ItemsLeft s m t room ids i v w four (item d ∷ rest) → Standing s m room (t .width) ids (itemPlaceIn t w i) (itemPlaceIn t w (i + 1)) v w four d
+    → ItemsLeft s m t room ids i v w four (item d ∷ rest) → Expandable s m room (t .width) ids (itemPlaceIn t w i) (itemPlaceIn t w (i + 1)) v w four d
 unfolding alternativesIn
 first-stands s m t room ids i v w four d rest L = record {
   laid = laid-fewer m room (v .count + alternativesIn (item d ∷ rest)) (alternativesIn (item d ∷ rest)) (length w) (v .count + length (d .alternatives)) (length (d .alternatives)) (omega arith) (omega arith) (L .laid);
@@ -148,12 +148,12 @@ module _ (s : List ℕ) (m : Map) (t : Grammar) (room : Room) (ids : Ids) (i : �
 
 -- theorem: of `expand_nonterm`. b is what `has_prec_attr` answered; it stands first, so that a search can be given it
 pub items-standing : (b : Bool) (s : List ℕ) (m : Map) (t : Grammar) (room : Room) (ids : Ids) (i : ℕ) (v : Written) (w : List ℕ) → SomeItems s m t room ids i v w → i < t .count → (p : ℕ) → p ≡ itemPlaceIn t w i
-    → (e : ℕ) → e ≡ itemPlaceIn t w (i + 1) → t .width ≤ 3 → b ≡ hasPrecAttr (t .width) ids w p → b ≡ true → SomeStanding s m room (t .width) ids p e v w
+    → (e : ℕ) → e ≡ itemPlaceIn t w (i + 1) → t .width ≤ 3 → b ≡ hasPrecAttr (t .width) ids w p → b ≡ true → SomeExpandable s m room (t .width) ids p e v w
 items-standing b s m t room ids i v w g h p pp e pe n z y =
     let f = first-of s m t room ids i v w (g .four) (g .items) h (g .left) in
     let a : hasLevels (f .item) ≡ true = sym (first-annotated s m t room ids i v w (f .four) (f .item) (f .rest) (f .left) n) ∙ ap (hasPrecAttr (t .width) ids w) (sym pp) ∙ sym z ∙ y in
     rw (pp, pe) (go (f .four) (f .item) (f .rest) (f .left) a)
   where
-    go : (four : Bool) (x : Item) (rest : List Item) → ItemsLeft s m t room ids i v w four (x ∷ rest) → hasLevels x ≡ true → SomeStanding s m room (t .width) ids (itemPlaceIn t w i) (itemPlaceIn t w (i + 1)) v w
+    go : (four : Bool) (x : Item) (rest : List Item) → ItemsLeft s m t room ids i v w four (x ∷ rest) → hasLevels x ≡ true → SomeExpandable s m room (t .width) ids (itemPlaceIn t w i) (itemPlaceIn t w (i + 1)) v w
     go four (item d) rest L a = record { four = four; nonterminal = d; standing = first-stands s m t room ids i v w four d rest L }
     go four (Item.terminal sp o x) rest L a = absurd (false≢true a)

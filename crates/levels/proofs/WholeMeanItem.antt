@@ -37,7 +37,7 @@ use Rattle.precedence.proofs.NamesMean.{named-split}
 use Rattle.levels.specs.declared.Room.{Room}
 use Rattle.levels.specs.declared.Written.{Written}
 use Rattle.levels.specs.declared.Levelled.{Levelled}
-use Rattle.levels.specs.Expand.{Laid, NamesAt, Kept, Wrote, ExpandedBy, Expands}
+use Rattle.levels.specs.Expand.{LevelsFit, NamesAt, Kept, Wrote, ExpandedBy, ExpandsOne}
 use Rattle.levels.specs.Whole.{alternativesIn, ItemsLeft, SteppedBy, ItemSteps}
 use Rattle.levels.proofs.Extend.{bytes-extend}
 use Rattle.levels.proofs.Texts.{plain-texts}
@@ -45,7 +45,7 @@ use Rattle.levels.proofs.WroteLaws.{wrote-on, wrote-upto, wrote-more}
 use Rattle.levels.proofs.WholeMean.{hasLevels, alternatives-split, laid-fewer, base-before, next-place, first-lies, first-annotated, first-stands, items-head, items-forward, items-behind}
 
 -- ---- bytes put to the room for the items
-module _ (s : List ℕ) (m : Map) (room : Room) (wd : ℕ) (ids : Ids) (w : List ℕ) (v : Written) (most n : ℕ) (laid : Laid m room most n (length w)) (many : v .count ≤ most)
+module _ (s : List ℕ) (m : Map) (room : Room) (wd : ℕ) (ids : Ids) (w : List ℕ) (v : Written) (most n : ℕ) (laid : LevelsFit m room most n (length w)) (many : v .count ≤ most)
     (names : NamesAt s w m room ids (v .count)) (from : room .at ≤ v .to) (xs : List ℕ) (r : ℕ) (w1 : List ℕ) (p : Puts w (room .lim) (v .to) xs r w1) where
   beside : (i : ℕ) → (i < v .to) ⊎ (room .lim ≤ i) → getD w1 i 0 ≡ getD w i 0
   beside = puts-beside w w1 (room .lim) (v .to) xs r p
@@ -206,8 +206,8 @@ module _ (s : List ℕ) (m : Map) (t : Grammar) (room : Room) (ids : Ids) (i : �
     item-copied y r w1 put four x rest L = stepped-copy four x rest L p e r w1 pp pe put (tells four x rest L ∙ y)
 
     -- theorem: an annotated one is written level by level
-    pub item-levelled : b ≡ true → (r : Levelled) (w1 : List ℕ) → Expands s m room (t .width) ids p e v w r w1 → ItemSteps s m t room ids i v w r w1
-    unfolding ItemSteps Expands
+    pub item-levelled : b ≡ true → (r : Levelled) (w1 : List ℕ) → ExpandsOne s m room (t .width) ids p e v w r w1 → ItemSteps s m t room ids i v w r w1
+    unfolding ItemSteps ExpandsOne
     item-levelled y r w1 g four (item d) rest L =
         let a : annotated d ≡ true = tells four (item d) rest L ∙ y in
         rw (annotated-check d a)

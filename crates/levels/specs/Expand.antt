@@ -3,9 +3,9 @@
 use mathlib.Core.Path.{_≡_}
 use mathlib.Core.Bool.{Bool, true, false}
 use mathlib.Core.Logic.{_⊎_}
-use mathlib.Core.List.{List, [], _∷_, _++_, map}
+use mathlib.Core.List.{List, [], _∷_, map}
 use mathlib.Core.Option.{Option, none, some}
-use Prim.Native.Nat.{ℕ, zero, suc, _+_, _-_, _*_, _^_, _≤_, _<_}
+use Prim.Native.Nat.{ℕ, suc, _+_, _-_, _*_, _^_, _≤_, _<_}
 use lib.Dec.{eqb}
 use lib.ListN.{length, getD}
 use Rattle.octets.specs.plain.Runs.{Lies}
@@ -21,7 +21,7 @@ use Rattle.texts.specs.declared.Map.{Map}
 use Rattle.texts.specs.Table.{Above, texts}
 use Rattle.passes.specs.Outcome.{Outcome, yes, no, after}
 use Rattle.passes.specs.Grades.{graded}
-use Rattle.passes.specs.Levels.{Group, grouped, groupsOf, levelName, ofLevel, substituted, withFallThrough, levelItems, checkAttributes, checkLowest}
+use Rattle.passes.specs.Levels.{grouped, groupsOf, levelName, ofLevel, substituted, withFallThrough, levelItems, checkAttributes, checkLowest}
 use Rattle.laws.specs.Sort.{Ascends, byLevels}
 use Rattle.precedence.specs.declared.Ids.{Ids}
 use Rattle.precedence.specs.declared.level.Level.{Level}
@@ -54,7 +54,7 @@ SortsKeys w keys other n false r w′ = Sorted w keys other n r w′
 -- ---- where the pass writes
 
 -- in work of so many bytes: records up to `most`, then the arrays of n alternatives, then the items
-pub record Laid (m : Map) (room : Room) (most n long : ℕ) : Type 0 where
+pub record LevelsFit (m : Map) (room : Room) (most n long : ℕ) : Type 0 where
   pub heads : m .base + 24 * m .buckets ≤ room .arrays
   pub names : m .base + 24 * most ≤ room .arrays
   pub few : most ≤ 4294967296
@@ -122,7 +122,7 @@ module _ (s : List ℕ) (m : Map) (room : Room) (wd : ℕ) (ids : Ids) (p e : �
   module _ (places keys n : ℕ) where
     -- d stands there, its n keys are sorted, and the levels vs are left: their keys begin at the i-th
     pub record Left (i below : ℕ) (v : Written) (w : List ℕ) (four : Bool) (d : Nonterminal) (o : Option Text) (vs : List ℕ) : Type 0 where
-      pub laid : Laid m room (v .count + length vs) n (length w)
+      pub laid : LevelsFit m room (v .count + length vs) n (length w)
       pub stood : Stood s w m wd p e four d
       pub names : NamesAt s w m room ids (v .count)
       pub from : room .at ≤ v .to
@@ -163,17 +163,17 @@ module _ (s : List ℕ) (m : Map) (room : Room) (wd : ℕ) (ids : Ids) (p e : �
     Finishes i below v w r w′ = (four : Bool) (d : Nonterminal) (o : Option Text) (vs : List ℕ) → Left i below v w four d o vs → Wrote s m room wd ids w v (length vs) (itemsLeft d o vs) r w′
 
   -- d stands there, and there is room for its names and arrays
-  pub record Standing (v : Written) (w : List ℕ) (four : Bool) (d : Nonterminal) : Type 0 where
-    pub laid : Laid m room (v .count + length (d .alternatives)) (length (d .alternatives)) (length w)
+  pub record Expandable (v : Written) (w : List ℕ) (four : Bool) (d : Nonterminal) : Type 0 where
+    pub laid : LevelsFit m room (v .count + length (d .alternatives)) (length (d .alternatives)) (length w)
     pub stood : Stood s w m wd p e four d
     pub names : NamesAt s w m room ids (v .count)
     pub from : room .at ≤ v .to
     pub upto : v .to ≤ room .lim + 1
 
-  pub record SomeStanding (v : Written) (w : List ℕ) : Type 0 where
+  pub record SomeExpandable (v : Written) (w : List ℕ) : Type 0 where
     pub four : Bool
     pub nonterminal : Nonterminal
-    pub standing : Standing v w four nonterminal
+    pub standing : Expandable v w four nonterminal
 
   -- its levels are written, or it is refused
   unfoldable pub ExpandedBy : Outcome (Unit {0}) → Nonterminal → Written → List ℕ → Levelled → List ℕ → Type 0
@@ -181,6 +181,6 @@ module _ (s : List ℕ) (m : Map) (room : Room) (wd : ℕ) (ids : Ids) (p e : �
   ExpandedBy (no q sp) d v w r w′ = r ≡ Levelled.Refused (refusalOver q sp)
 
   -- "level readable? 14. Side one of left, right, none, all? 15. Then: lowest level only `all`? 16"
-  unfoldable pub Expands : Written → List ℕ → Levelled → List ℕ → Type 0
-  Expands v w r w′ = (four : Bool) (d : Nonterminal) → Standing v w four d
+  unfoldable pub ExpandsOne : Written → List ℕ → Levelled → List ℕ → Type 0
+  ExpandsOne v w r w′ = (four : Bool) (d : Nonterminal) → Expandable v w four d
       → ExpandedBy (after (checkAttributes (d .alternatives)) (λ u. checkLowest (grouped (d .name) (graded d)))) d v w r w′

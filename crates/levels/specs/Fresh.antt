@@ -1,17 +1,16 @@
 -- The names of levels, which have no bytes yet: how many bytes they will have, and those written. Assumes nothing: these are definitions.
 use mathlib.Core.Path.{_≡_}
-use mathlib.Core.Bool.{Bool, true, false, _||_}
+use mathlib.Core.Bool.{Bool, false, _||_}
 use mathlib.Core.List.{List, [], _∷_}
-use Prim.Native.Nat.{ℕ, _+_, _-_, _≤_, _<_}
+use Prim.Native.Nat.{ℕ, _+_, _-_, _<_}
 use lib.Dec.{ltb}
 use lib.ListN.{length}
 use Rattle.octets.specs.working.Stores.{store}
 use Rattle.parse_tree.specs.plain.Tree.{Text}
 use Rattle.parse_tree.specs.plain.WriteTape.{bytesOfEach}
 use Rattle.parse_tree.specs.working.Encode.{atomBytes}
-use Rattle.parse_tree.specs.working.Within.{Each}
 use Rattle.texts.specs.declared.Map.{Map}
-use Rattle.precedence.specs.Names.{Naming, namedText, describedTexts}
+use Rattle.precedence.specs.Names.{namedText, describedTexts}
 use Rattle.levels.specs.declared.fresh.Fresh.{Fresh}
 
 -- whether one of the texts is longer than a text can be

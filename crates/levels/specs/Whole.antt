@@ -1,10 +1,10 @@
 -- The pass over a grammar that stands in work: what it says of its tree, and what it writes. Assumes nothing: these are definitions.
 use mathlib.Core.Path.{_≡_}
 use mathlib.Core.Bool.{Bool, true}
-use mathlib.Core.List.{List, [], _∷_, _++_}
+use mathlib.Core.List.{List, [], _∷_}
 use Prim.Native.Nat.{ℕ, _+_, _*_, _≤_, _<_}
 use lib.ListN.{length}
-use Rattle.parse_tree.specs.plain.Tree.{Text, Item, item}
+use Rattle.parse_tree.specs.plain.Tree.{Item, item}
 use Rattle.parse_tree.specs.plain.Texts.{distinct}
 use Rattle.parse_tree.specs.working.Refusals.{refusalOver}
 use Rattle.parse_tree.specs.working.Within.{Each, ItemWithin}
@@ -20,7 +20,7 @@ use Rattle.precedence.specs.Ids.{idsIn}
 use Rattle.levels.specs.declared.Room.{Room}
 use Rattle.levels.specs.declared.Written.{Written}
 use Rattle.levels.specs.declared.Levelled.{Levelled}
-use Rattle.levels.specs.Expand.{Laid, NamesAt, Wrote}
+use Rattle.levels.specs.Expand.{LevelsFit, NamesAt, Wrote}
 
 -- how many alternatives the items have
 unfoldable pub alternativesIn : List Item → ℕ
@@ -38,7 +38,7 @@ module _ (s : List ℕ) (m : Map) (t : Grammar) (room : Room) where
   module _ (ids : Ids) where
     -- the items `is` are left, the first of which is the i-th
     pub record ItemsLeft (i : ℕ) (v : Written) (w : List ℕ) (four : Bool) (is : List Item) : Type 0 where
-      pub laid : Laid m room (v .count + alternativesIn is) (alternativesIn is) (length w)
+      pub laid : LevelsFit m room (v .count + alternativesIn is) (alternativesIn is) (length w)
       pub before : Before m t
       pub row : Row t (texts s w m) w i (itemPlaceIn t w i) is
       pub within : Each (ItemWithin four (t .width) (texts s w m)) is
@@ -63,7 +63,7 @@ module _ (s : List ℕ) (m : Map) (t : Grammar) (room : Room) where
 
   -- the table's texts are different, and the items R stand there
   pub record GrammarStands (w : List ℕ) (four : Bool) (R : List Item) : Type 0 where
-    pub laid : Laid m room (m .count + alternativesIn R) (alternativesIn R) (length w)
+    pub laid : LevelsFit m room (m .count + alternativesIn R) (alternativesIn R) (length w)
     pub before : Before m t
     pub table : Table s w m
     pub above : Above s w m (room .lim + 16)

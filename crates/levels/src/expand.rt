@@ -33,7 +33,7 @@ ghost use Rattle.parse_tree.specs.working.Nodes.{spanIn};
 ghost use Rattle.parse_tree.specs.working.Refusals.{refusalOver};
 ghost use Rattle.precedence.specs.Names.{Describing};
 ghost use Rattle.precedence.specs.Sort.{Arrays};
-ghost use Rattle.levels.specs.Expand.{NamesLevel, levelFrom, SortsKeys, SomeLeft, Steps, Finishes, SomeStanding, Expands};
+ghost use Rattle.levels.specs.Expand.{NamesLevel, levelFrom, SortsKeys, SomeLeft, Steps, Finishes, SomeExpandable, ExpandsOne};
 
 // The level whose keys were written: where they end, its name, how many texts there are then, and the place behind its item.
 pub struct Next {
@@ -206,8 +206,8 @@ pub fn expand_nonterm(
     e: usize,
     v: Written,
 ) -> Levelled
-    requires { ⌜ (2 ≤ width) × (width ≤ 3) × SomeStanding (now tape) m room width ids p e v (now work) ⌝ }
-    ensures { λ r. ⌜ Expands (now (tape .entry)) m room width ids p e v (now (work .entry)) r (now (work .exit)) ⌝ }
+    requires { ⌜ (2 ≤ width) × (width ≤ 3) × SomeExpandable (now tape) m room width ids p e v (now work) ⌝ }
+    ensures { λ r. ⌜ ExpandsOne (now (tape .entry)) m room width ids p e v (now (work .entry)) r (now (work .exit)) ⌝ }
 {
     let n = from16(u16_at(work, p + 11 + width));
     let places = room.arrays;

@@ -7,7 +7,6 @@ use native.Mathlib.Omega.{arith}
 use borrow.Author.Needs.{needs}
 use lib.Dec.{leb}
 use lib.ListN.{length, replicate}
-use Rattle.parse_tree.specs.plain.Tree.{Stage}
 use Rattle.parse_tree.specs.working.Decode.{decode}
 use Rattle.parse_tree.specs.working.Refusals.{refusalAt}
 use Rattle.parse_tree.specs.declared.refusal.Refusal.{Refusal}
@@ -16,12 +15,10 @@ use Rattle.texts.specs.declared.Map.{Map}
 use Rattle.passes.specs.Stages.{levelStage}
 use Rattle.passes.specs.Calls.{sizes, validateCall, resolveCall, levelsCall, written, workAfter}
 use Rattle.resolve.specs.declared.Grammar.{Grammar}
-use Rattle.levels.specs.declared.Room.{Room}
-use Rattle.levels.specs.Whole.{SomeGrammar}
 use Rattle.normalize.specs.plain.Answers.{answerOf, Called}
 use Rattle.normalize.specs.working.Stages.{TapeResolves, sized, resolved, Staged}
 use Rattle.normalize.specs.working.Handing.{handed}
-use Rattle.normalize.specs.working.Levelling.{roomOf, levelledOf, SomeAdmitted}
+use Rattle.normalize.specs.working.Levelling.{levelledOf, SomeAdmitted}
 use Rattle.normalize.specs.declared.Answer.{Answer}
 use Rattle.normalize.specs.declared.Resolved.{Resolved}
 use Rattle.normalize.proofs.CallsCode.{Stood, stood, stage-refused, stage-stands, stage-no, judged, call-room}

@@ -2,10 +2,10 @@
 use mathlib.Core.Path.{_≡_, refl, sym, ap, _∙_}
 use mathlib.Core.Bool.{Bool, true, false, not, _&&_}
 use mathlib.Core.Logic.{_⊎_, inl, inr}
-use mathlib.Core.List.{List, [], _∷_, _++_, append-assoc}
+use mathlib.Core.List.{List, _++_, append-assoc}
 use Prim.Native.Nat.{ℕ, _+_, _-_, _*_, _/_, _^_, _≤_, _<_}
 use native.Mathlib.Omega.{arith}
-use borrow.Author.Tests.{lt-ltb, le-ltb, ltb-true, ltb-false, leb-true, leb-false, le-leb, lt-leb}
+use borrow.Author.Tests.{lt-ltb, ltb-true, ltb-false, leb-true, leb-false, le-leb, lt-leb}
 use lib.Dec.{leb, ltb}
 use lib.ListN.{length, drop, length-append}
 use Rattle.octets.specs.plain.Runs.{part, Lies}
@@ -23,11 +23,11 @@ use Rattle.parse_tree.specs.declared.refusal.Refusal.{Refusal}
 use Rattle.parse_tree.proofs.WriteTapeIs.{tape-is}
 use Rattle.texts.specs.declared.Map.{Map}
 use Rattle.texts.specs.Table.{texts}
-use Rattle.passes.specs.Outcome.{Tree, Outcome, yes, no, after}
+use Rattle.passes.specs.Outcome.{Tree}
 use Rattle.passes.specs.Levels.{levelled, levels}
-use Rattle.passes.specs.Sizes.{each, itemFits, stageFits}
+use Rattle.passes.specs.Sizes.{each, stageFits}
 use Rattle.passes.specs.Stages.{levelStage}
-use Rattle.passes.specs.Calls.{nowhere, sizes, written}
+use Rattle.passes.specs.Calls.{sizes, written}
 use Rattle.precedence.specs.Names.{Naming, namedTexts}
 use Rattle.precedence.proofs.NamesMean.{named-texts, named-split}
 use Rattle.levels.specs.declared.Room.{Room}

@@ -1,13 +1,11 @@
 -- The levelled stage of an admitted tape: where it is the resolved one, and where it is refused. Assumes nothing.
-use mathlib.Core.Path.{_≡_, refl, sym, ap, subst, _∙_}
-use mathlib.Core.Bool.{Bool, true, false}
+use mathlib.Core.Path.{_≡_, refl, sym, ap, _∙_}
+use mathlib.Core.Bool.{true}
 use mathlib.Core.List.{List, [], _∷_, _++_}
-use Prim.Native.Nat.{ℕ, suc, _+_, _-_, _*_, _/_, _^_, _≤_, _<_}
+use Prim.Native.Nat.{ℕ, _+_, _-_, _*_, _/_, _^_, _≤_, _<_}
 use native.Mathlib.Omega.{arith}
 use lib.ListN.{length, length-append}
-use Rattle.octets.specs.plain.Runs.{part}
 use Rattle.octets.proofs.PartLaws.{part-length}
-use Rattle.octets.proofs.NumbersLaws.{length-le}
 use Rattle.parse_tree.specs.plain.Tree.{Text, Item, item, terminal, Stage}
 use Rattle.parse_tree.specs.plain.Texts.{distinct, withNew}
 use Rattle.parse_tree.specs.plain.References.{textsOfEach, stageOf}
@@ -17,30 +15,27 @@ use Rattle.parse_tree.specs.working.Encode.{atomBytes, itemBytes}
 use Rattle.parse_tree.specs.working.Within.{Each, ItemWithin}
 use Rattle.parse_tree.specs.working.Refusals.{refusalOver}
 use Rattle.parse_tree.specs.declared.refusal.Refusal.{Refusal}
-use Rattle.parse_tree.specs.declared.syntax.Span.{Span}
 use Rattle.parse_tree.specs.declared.syntax.Node.{Node}
 use Rattle.parse_tree.proofs.SizeLaws.{text-size}
 use Rattle.parse_tree.proofs.TextLaws.{number-below}
 use Rattle.texts.specs.declared.Map.{Map}
-use Rattle.texts.specs.Table.{texts}
 use Rattle.passes.specs.Outcome.{Tree, Outcome, yes, no, after}
 use Rattle.passes.specs.Levels.{levelled, checkLevels, levels}
 use Rattle.passes.specs.Stages.{levelStage}
 use Rattle.passes.specs.Calls.{sizes, written}
 use Rattle.resolve.specs.declared.Grammar.{Grammar}
-use Rattle.resolve.proofs.GrammarLaws.{Row}
 use Rattle.precedence.specs.Ids.{idsIn}
 use Rattle.levels.specs.declared.Room.{Room}
 use Rattle.levels.specs.declared.Written.{Written}
 use Rattle.levels.specs.declared.Levelled.{Levelled}
-use Rattle.levels.specs.Expand.{Laid, Wrote}
+use Rattle.levels.specs.Expand.{LevelsFit, Wrote}
 use Rattle.levels.specs.Whole.{alternativesIn, GrammarStands, SomeGrammar, LevelledBy, Levels}
 use Rattle.normalize.specs.plain.Answers.{answerOf}
 use Rattle.normalize.specs.working.Stages.{resolved, Staged}
 use Rattle.normalize.specs.working.Handing.{handed}
 use Rattle.normalize.specs.working.Levelling.{roomOf, levelledOf, SomeAdmitted, SomeLevels}
 use Rattle.normalize.specs.declared.Answer.{Answer}
-use Rattle.normalize.proofs.CallsCode.{Stood, treeOf, said, said-yes, stood-yes}
+use Rattle.normalize.proofs.CallsCode.{Stood, said, said-yes, stood-yes}
 use Rattle.normalize.proofs.LevellingMeanFew.{alternatives-few, names-most}
 
 -- ---- a refusal of the resolved stage is the answer
@@ -136,7 +131,7 @@ module _ (s : List ℕ) (cap : ℕ) (m : Map) (t : Grammar) (at : ℕ) (w : List
     lim-is = ap (λ (u : Room). u .lim) r
 
     -- theorem: names, arrays and items have room
-    pub laid : Laid m room (m .count + A) A (length w)
+    pub laid : LevelsFit m room (m .count + A) A (length w)
     laid =
         let b = few-bytes in
         let c = some-atoms in

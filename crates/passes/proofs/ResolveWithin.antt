@@ -1,5 +1,5 @@
 -- Name resolution keeps each item within a tape's limits, and as long as it was. Assumes nothing.
-use mathlib.Core.Path.{_≡_, refl, ap, _∙_}
+use mathlib.Core.Path.{_≡_, refl, ap}
 use mathlib.Core.Bool.{Bool}
 use mathlib.Core.List.{List, [], _∷_, _++_}
 use mathlib.Core.Option.{Option, none, some}
@@ -11,7 +11,7 @@ use Rattle.parse_tree.specs.plain.Texts.{number}
 use Rattle.parse_tree.specs.plain.WriteTape.{bytesOfEach, bit}
 use Rattle.parse_tree.specs.working.Nodes.{leafCode, leafOperand, symbolBytes, nodeBytes}
 use Rattle.parse_tree.specs.working.Encode.{leafNode, aroundNode, overNode, actionCode, actionText, alternativeNode, nonterminalNode, symBytes, symsBytes, argumentBytes, attributeBytes, conditionBytes, alternativeBytes, itemBytes}
-use Rattle.parse_tree.specs.working.Within.{Each, LeafWithin, OverWithin, SymWithin, SymsWithin, AlternativeWithin, NonterminalWithin, ItemWithin}
+use Rattle.parse_tree.specs.working.Within.{Each, LeafWithin, SymWithin, SymsWithin, AlternativeWithin, NonterminalWithin, ItemWithin}
 use Rattle.parse_tree.specs.declared.syntax.Span.{Span}
 use Rattle.parse_tree.specs.declared.syntax.SymbolKind.{SymbolKind}
 use Rattle.parse_tree.specs.declared.syntax.Node.{Node}

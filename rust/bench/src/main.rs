@@ -89,7 +89,7 @@ fn functions(call: Call, name: &str, word: &str) {
 /// Large tapes: whether a byte takes as long in those of 4 MiB.
 fn sizes() -> bool {
     println!("\nNanoseconds for each byte of the tape, the least of several runs.\n");
-    println!("| tape | bytes | validating | of it clearing | resolving | of it clearing |\n|---|---|---|---|---|---|");
+    println!("| tape | bytes | validating | of it clearing | resolving | of it clearing | copying and clearing |\n|---|---|---|---|---|---|---|");
     let all = [4usize << 10, 64 << 10, 1 << 20, 4 << 20].map(|size| line("symbols", &tapes::symbols(size)));
     line("65,536 atoms", &tapes::atoms(65_536));
     line("60,000 items", &tapes::items(60_000, 0));
@@ -102,6 +102,9 @@ fn sizes() -> bool {
     let [validating, resolving] =
         [growth(|it| it.validating - it.clearing_of_validating), growth(|it| it.resolving - it.clearing_of_resolving)];
     println!("Without the clearing: validating {validating:.2}, resolving {resolving:.2}; the clearing alone {clearing:.2}.");
+    let copying = all[3].copying - all[1].copying;
+    let bound = (all[1].resolving + copying) / all[1].resolving;
+    println!("Copying and clearing take {copying:.2} ns more for each byte at 4 MiB; a call that is else as fast there as at 64 KiB has {bound:.2}.");
     is_linear
 }
 
@@ -109,7 +112,7 @@ fn sizes() -> bool {
 fn line(name: &str, tape: &[u8]) -> Figures {
     let it = measure::least(tape).over(tape.len());
     let all =
-        [it.validating, it.clearing_of_validating, it.resolving, it.clearing_of_resolving].map(|figure| format!("{figure:.2}")).join(" | ");
+        [it.validating, it.clearing_of_validating, it.resolving, it.clearing_of_resolving, it.copying].map(|figure| format!("{figure:.2}")).join(" | ");
     println!("| {name} | {} | {all} |", tape.len());
     it
 }

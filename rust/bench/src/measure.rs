@@ -114,12 +114,14 @@ fn clearing<'a>(mut work: Vec<u8>) -> Run<'a> {
     Box::new(move |times| timed(times, || black_box(&mut work).fill(0)))
 }
 
-/// The least nanoseconds of several runs of both calls, each with buffers just long enough, and of the clearing in them.
+/// The least nanoseconds of several runs of both calls, each with buffers just long enough, of the clearing in them, and of copying the tape twice with
+/// resolving's clearing.
 pub struct Least {
     pub validating: f64,
     pub resolving: f64,
     pub clearing_of_validating: f64,
     pub clearing_of_resolving: f64,
+    pub copying: f64,
 }
 
 impl Least {
@@ -131,6 +133,7 @@ impl Least {
             resolving: of(self.resolving),
             clearing_of_validating: of(self.clearing_of_validating),
             clearing_of_resolving: of(self.clearing_of_resolving),
+            copying: of(self.copying),
         }
     }
 }
@@ -149,5 +152,6 @@ pub fn least(tape: &[u8]) -> Least {
         resolving: of(resolving(&subject)),
         clearing_of_validating: of(clearing(subject.work_of_validating())),
         clearing_of_resolving: of(clearing(subject.work_of_resolving())),
+        copying: of(copying(&subject, &subject.tape)),
     }
 }
