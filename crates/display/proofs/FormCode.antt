@@ -10,7 +10,7 @@ use borrow.Author.Tests.{lt-ltb, le-ltb, ltb-false, ne-eqb, eqb-true, eqb-false}
 use mir.Val.{Fits}
 use mir.Syntax.{w64}
 use lib.Dec.{eqb, ltb}
-use lib.ListN.{length, getD, List·getD-eq-default}
+use lib.ListN.{length, getD}
 use lib.Seq.{take-all}
 use Rattle.octets.specs.working.Choice.{pick}
 use Rattle.octets.specs.plain.Numbers.{leAt}
@@ -22,13 +22,11 @@ use Rattle.texts.specs.declared.Map.{Map}
 use Rattle.texts.specs.Hash.{hashBy, powerBy, hashStep, hashFrom, hashOf, power}
 use Rattle.texts.specs.Forms.{stop}
 use Rattle.texts.specs.Fields.{markAt, hashAt}
-use Rattle.texts.specs.Texts.{markedText, Whole}
+use Rattle.texts.specs.Texts.{markedText}
 use Rattle.texts.specs.Table.{texts}
 use Rattle.texts.proofs.FormLaws.{power-small, power-times, mod-factor, mod-factor-right}
-use Rattle.texts.proofs.TextCode.{length-texts, texts-at}
-use Rattle.precedence.specs.Grading.{Worded}
 use Rattle.display.specs.declared.form.Form.{Form}
-use Rattle.display.specs.Follow.{quotedText, wordAt, leafText, markText, mutText, nameText, beforeBy, opByte, behindBy, betweenBy}
+use Rattle.display.specs.Follow.{quotedText, wordAt, leafText, markText, labelText, nameText, beforeBy, opByte, behindBy, betweenBy}
 use Rattle.display.specs.Form.{textForm, SomeForm, oddTimes, wholeOf, joinOf, Hashed, moreOf, formFrom, From}
 use Rattle.display.proofs.FormLaws.{from-is, from-form, from-join, from-none, from-then, from-as, from-append, hash-fits, power-fits, len-fits}
 use Rattle.display.proofs.StandsLaws.{escaped-one}
@@ -249,12 +247,12 @@ named-beyond s w m wd at x k f j u l g = from-as (word-beyond wd s w m at x k j 
 pub ruleset naming = (needs, word-whole, whole-form, named-some, named-beyond)
 
 -- ---- mutable, separated
-pub mutable-yes : (f a b c r : Form) (v : ℕ) → v ≡ 1 → From f (109 ∷ []) a → From a (117 ∷ []) b → From b (116 ∷ []) c → From c (32 ∷ []) r → From f (mutText v) r
-unfolding mutText pick
+pub mutable-yes : (f a b c r : Form) (v : ℕ) → v ≡ 1 → From f (109 ∷ []) a → From a (117 ∷ []) b → From b (116 ∷ []) c → From c (32 ∷ []) r → From f (labelText v) r
+unfolding labelText pick
 mutable-yes f a b c r v e h i j k = rw e (from-then h (from-then i (from-then j k)))
 
-pub mutable-no : (f : Form) (v : ℕ) → SomeForm f → (v ≡ 1 → ⊥) → From f (mutText v) f
-unfolding mutText pick
+pub mutable-no : (f : Form) (v : ℕ) → SomeForm f → (v ≡ 1 → ⊥) → From f (labelText v) f
+unfolding labelText pick
 mutable-no f v g n = rw (ne-eqb v 1 n) (from-none f g)
 
 module _ (f : Form) (c k : ℕ) where
@@ -345,7 +343,7 @@ module _ (wd : ℕ) (ts : List Text) (w : List ℕ) (at c : ℕ) (f : Form) wher
   unfolding beforeBy pick
   before-choose r e a = rw e a
 
-  pub before-name : (x y r : Form) (v : ℕ) → c ≡ 40 → v ≡ getD w (at + 9) 0 → From f (mutText v) x → From x (wordAt wd ts w (at + 10)) y → From y (58 ∷ []) r → From f (beforeBy wd ts w at c) r
+  pub before-name : (x y r : Form) (v : ℕ) → c ≡ 40 → v ≡ getD w (at + 9) 0 → From f (labelText v) x → From x (wordAt wd ts w (at + 10)) y → From y (58 ∷ []) r → From f (beforeBy wd ts w at c) r
   unfolding beforeBy nameText pick
   before-name x y r v e j a b d = rw (e, ← j) (from-then a (from-then b d))
 

@@ -1,13 +1,10 @@
 -- Forms of texts: a form goes on byte by byte, and is small enough to go on. Assumes nothing.
 use mathlib.Core.Path.{_≡_, refl, sym, ap, _∙_}
-use mathlib.Core.Bool.{Bool, true, false, _||_, cond}
 use mathlib.Core.List.{List, [], _∷_, _++_, append-assoc, append-nil}
 use Prim.Native.Nat.{ℕ, suc, _+_, _*_, _%_, _<_, _≤_}
 use native.Mathlib.Omega.{arith}
-use lib.Dec.{eqb}
 use lib.ListN.{length, length-append}
 use Rattle.parse_tree.specs.plain.Tree.{Text}
-use Rattle.parse_tree.specs.plain.Display.{escaped}
 use Rattle.texts.specs.declared.Map.{Map}
 use Rattle.texts.specs.Table.{Table}
 use Rattle.texts.specs.Hash.{powerBy, power}

@@ -1,8 +1,8 @@
 -- Parts of printed forms held against a text: the ways out of the code. Assumes nothing.
 use mathlib.Core.Path.{_≡_, refl, sym, ap, _∙_}
-use mathlib.Core.Bool.{Bool, true, false, cond, _||_}
+use mathlib.Core.Bool.{Bool, true, false}
 use mathlib.Core.Logic.{_⊎_, inl, inr}
-use mathlib.Core.List.{List, [], _∷_, _++_}
+use mathlib.Core.List.{List, [], _∷_}
 use Prim.Native.Nat.{ℕ, suc, _+_, _≤_, _<_}
 use native.Mathlib.Omega.{arith}
 use native.Mathlib.Numerals.{add-one}
@@ -23,7 +23,7 @@ use Rattle.texts.proofs.TextCode.{length-texts, texts-at}
 use Rattle.precedence.specs.Grading.{Worded}
 use Rattle.precedence.specs.Skip.{insideBy}
 use Rattle.resolve.specs.Commands.{longOf}
-use Rattle.display.specs.Follow.{metOne, metBy, quotedText, wordAt, leafText, markText, mutText, nameText, beforeBy, opByte, behindBy, betweenBy}
+use Rattle.display.specs.Follow.{metOne, metBy, quotedText, wordAt, leafText, markText, labelText, nameText, beforeBy, opByte, behindBy, betweenBy}
 use Rattle.display.proofs.MetLaws.{met-append}
 use Rattle.display.proofs.StandsLaws.{escaped-one}
 
@@ -163,11 +163,11 @@ pub ruleset marking = (needs, mark-left, mark-right, mark-error)
 -- ---- meet_name
 module _ (t x : Text) (i b r : ℕ) where
   pub name-mut : (p q u v z : ℕ) → b ≡ 1 → p ≡ metOne t i 109 → q ≡ metOne t p 117 → u ≡ metOne t q 116 → v ≡ metOne t u 32 → z ≡ metBy t v x → r ≡ metOne t z 58 → r ≡ metBy t i (nameText b x)
-  unfolding nameText mutText pick metBy
+  unfolding nameText labelText pick metBy
   name-mut p q u v z h a d e f g k = cc (met-append t v x (58 ∷ []))
 
   pub name-plain : (z : ℕ) → (b ≡ 1 → ⊥) → z ≡ metBy t i x → r ≡ metOne t z 58 → r ≡ metBy t i (nameText b x)
-  unfolding nameText mutText pick metBy
+  unfolding nameText labelText pick metBy
   name-plain z h g k = cc (ne-eqb b 1 h, met-append t i x (58 ∷ []))
 
 pub ruleset prefixing = (needs, name-mut, name-plain)

@@ -30,7 +30,7 @@ use Rattle.texts.specs.Table.{texts}
 use Rattle.resolve.specs.Commands.{longOf}
 use Rattle.precedence.specs.Skip.{insideBy}
 use Rattle.display.specs.Standing.{SymStands, SymsStand}
-use Rattle.display.specs.Follow.{quotedText, wordAt, leafText, markText, mutText, nameText, beforeBy, opByte, behindBy, betweenBy}
+use Rattle.display.specs.Follow.{quotedText, wordAt, leafText, markText, labelText, nameText, beforeBy, opByte, behindBy, betweenBy}
 
 -- ---- a printed form by parts
 
@@ -113,7 +113,7 @@ op-shown plus = refl
 op-shown question = refl
 
 name-shown : (m : Bool) (x : Text) → nameText (bit m) x ≡ shownBefore (name m x) []
-unfolding nameText mutText pick shownBefore
+unfolding nameText labelText pick shownBefore
 name-shown true x = refl
 name-shown false x = refl
 

@@ -14,7 +14,7 @@ use Rattle.parse_tree.specs.plain.Tree.{Text}
 use Rattle.parse_tree.specs.plain.Display.{escaped}
 use Rattle.display.specs.declared.window.Spot.{Spot}
 use Rattle.display.specs.declared.window.Count.{Count}
-use Rattle.display.specs.Follow.{quotedText, wordAt, leafText, markText, mutText, nameText, beforeBy, opByte, behindBy, betweenBy}
+use Rattle.display.specs.Follow.{quotedText, wordAt, leafText, markText, labelText, nameText, beforeBy, opByte, behindBy, betweenBy}
 use Rattle.display.specs.Window.{skipOf, Emitted}
 use Rattle.display.proofs.StandsLaws.{escaped-one}
 use Rattle.display.proofs.MeetCode.{named-room, macro-room, repeat-room, name-room, name-read}
@@ -154,11 +154,11 @@ pub ruleset marking = (needs, error-done, mut-done, mark-left, mark-right, mark-
 module _ (x o : List ℕ) (p r : Spot) (o3 : List ℕ) (b : ℕ) where
   pub name-mut : (o1 o2 : List ℕ) (y q : Spot) → b ≡ 1 → Emitted (109 ∷ 117 ∷ 116 ∷ 32 ∷ []) (p .at) o p y o1 → Emitted x (y .at) o1 y q o2 → Emitted (58 ∷ []) (q .at) o2 q r o3
       → Emitted (nameText b x) (p .at) o p r o3
-  unfolding nameText mutText pick
+  unfolding nameText labelText pick
   name-mut o1 o2 y q e a c d = rw e (then a (then c d))
 
   pub name-plain : (o1 : List ℕ) (q : Spot) → (b ≡ 1 → ⊥) → Emitted x (p .at) o p q o1 → Emitted (58 ∷ []) (q .at) o1 q r o3 → Emitted (nameText b x) (p .at) o p r o3
-  unfolding nameText mutText pick
+  unfolding nameText labelText pick
   name-plain o1 q n a c = rw (ne-eqb b 1 n) (then a c)
 
 pub ruleset prefixing = (needs, name-mut, name-plain)

@@ -41,12 +41,12 @@ unfoldable pub markText : ℕ → Text
 markText c = pick (eqb c 42) (0x40 ∷ 0x4c ∷ []) (pick (eqb c 43) (0x40 ∷ 0x52 ∷ []) (0x65 ∷ 0x72 ∷ 0x72 ∷ 0x6f ∷ 0x72 ∷ []))
 
 -- `mut ` by the byte b
-unfoldable pub mutText : ℕ → Text
-mutText b = pick (eqb b 1) (0x6d ∷ 0x75 ∷ 0x74 ∷ 0x20 ∷ []) []
+unfoldable pub labelText : ℕ → Text
+labelText b = pick (eqb b 1) (0x6d ∷ 0x75 ∷ 0x74 ∷ 0x20 ∷ []) []
 
 -- a name x of a symbol
 unfoldable pub nameText : ℕ → Text → Text
-nameText b x = mutText b ++ (x ++ (0x3a ∷ []))
+nameText b x = labelText b ++ (x ++ (0x3a ∷ []))
 
 -- what stands before the symbols straight inside: all of a leaf
 unfoldable pub beforeBy : ℕ → List Text → List ℕ → ℕ → ℕ → Text

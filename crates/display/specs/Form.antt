@@ -2,14 +2,13 @@
 -- s is the tape, w is work, wd the width of an atom's number in bytes. Assumes nothing: these are definitions.
 use mathlib.Core.Path.{_≡_}
 use mathlib.Core.Bool.{Bool}
-use mathlib.Core.List.{List, [], _∷_, _++_}
-use Prim.Native.Nat.{ℕ, _+_, _*_, _%_, _≤_, _<_}
+use mathlib.Core.List.{List, [], _∷_}
+use Prim.Native.Nat.{ℕ, _+_, _*_, _%_, _<_}
 use lib.Dec.{eqb}
-use lib.ListN.{length, getD}
+use lib.ListN.{length}
 use Rattle.octets.specs.working.Choice.{pick}
-use Rattle.octets.specs.plain.Numbers.{leAt}
 use Rattle.parse_tree.specs.plain.Tree.{Text, Sym, Syms, count}
-use Rattle.parse_tree.specs.plain.Display.{escaped, shownAll, print}
+use Rattle.parse_tree.specs.plain.Display.{shownAll, print}
 use Rattle.texts.specs.declared.Map.{Map}
 use Rattle.texts.specs.Hash.{hashStep, hashOf, power}
 use Rattle.texts.specs.Forms.{stop}

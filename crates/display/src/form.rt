@@ -13,8 +13,7 @@ use texts::text::text_at;
 ghost use mathlib.Core.Path.{_≡_};
 ghost use mathlib.Core.List.{[], _∷_};
 ghost use Prim.Native.Nat.{_+_, _*_, _%_, _≤_, _<_};
-ghost use lib.ListN.{length, getD};
-ghost use Rattle.octets.specs.plain.Numbers.{leAt};
+ghost use lib.ListN.{length};
 ghost use Rattle.parse_tree.specs.plain.Display.{escaped};
 ghost use Rattle.texts.specs.Hash.{power};
 ghost use Rattle.texts.specs.Forms.{stop};
@@ -22,7 +21,7 @@ ghost use Rattle.texts.specs.Table.{texts};
 ghost use Rattle.resolve.specs.Commands.{longOf};
 ghost use Rattle.precedence.specs.Grading.{Worded};
 ghost use Rattle.display.specs.Standing.{Readable, SomeSym, SomeSyms};
-ghost use Rattle.display.specs.Follow.{quotedText, wordAt, leafText, markText, mutText, beforeBy, behindBy, betweenBy};
+ghost use Rattle.display.specs.Follow.{quotedText, wordAt, leafText, markText, labelText, beforeBy, behindBy, betweenBy};
 ghost use Rattle.display.specs.Form.{SomeForm, From, textForm, oddTimes, wholeOf, joinOf, Hashed, Prints, PrintsAll};
 
 // Hash of a text, the power of the multiplier by its length, and the length, which stops at 65,536.
@@ -198,7 +197,7 @@ fn named<'a>(tape: &'a [u8], work: &'a [u8], m: Map, width: usize, at: usize, f:
 // `mut `, if the byte of a name says so.
 fn mutable(f: Form, b: u8) -> Form
     requires { ⌜ SomeForm f ⌝ }
-    ensures { λ r. ⌜ From f (mutText b) r ⌝ }
+    ensures { λ r. ⌜ From f (labelText b) r ⌝ }
 {
     if b == 1 {
         return snoc(snoc(snoc(snoc(f, 109), 117), 116), 32);
@@ -261,7 +260,10 @@ fn before<'a>(
         return snoc(f, 60);
     }
     if c == 40 {
-        return snoc(named(tape, work, m, width, at + 10, mutable(f, work[at + 9])), 58);
+        return snoc(
+            named(tape, work, m, width, at + 10, mutable(f, work[at + 9])),
+            58,
+        );
     }
     if c == 41 {
         return snoc(f, 40);
