@@ -5,7 +5,6 @@ use mathlib.Core.List.{List, [], _++_, append-assoc}
 use Prim.Native.Nat.{ℕ, suc, _+_, _-_, _*_, _^_, _<_, _≤_}
 use native.Mathlib.Omega.{arith}
 use borrow.Author.Needs.{needs}
-use borrow.Author.Tests.{ne-eqb}
 use mir.Val.{Fits}
 use mir.Syntax.{w64}
 use lib.ListN.{length, getD}
@@ -26,12 +25,11 @@ use Rattle.display.specs.Follow.{beforeBy, behindBy, betweenBy}
 use Rattle.display.specs.Form.{textForm, SomeForm, formFrom, From, PrintsAll, Prints}
 use Rattle.display.proofs.FormLaws.{from-form, from-append, from-then, from-as}
 use Rattle.display.proofs.FollowCode.{shownFrom, shown-none, shown-later, shown-first, some-room, some-within, some-high, some-deep, some-fits}
-use Rattle.display.proofs.StandsLaws.{beforeText, betweenText, behindText, print-parts, standing, first-stands, none-stand, one-stands}
+use Rattle.display.proofs.StandsLaws.{beforeText, betweenText, behindText, print-parts, standing, first-stands, none-stand, one-stands, more}
 
 -- between any two symbols stands the same
 later : (c j : ℕ) → betweenBy c (suc j) ≡ betweenBy c 1
-unfolding betweenBy pick
-later c j = cc (ne-eqb (suc j) 0 (λ q. absurd (omega (arith, q))))
+later c j = more c j ∙ sym (more c 0)
 
 -- ---- one symbol: a separator, what stands before, inside and behind
 print-whole : (x : Sym) → print x ≡ beforeText x ++ (shownAll (children x) (betweenText x) [] ++ behindText x)

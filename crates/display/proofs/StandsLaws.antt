@@ -102,7 +102,8 @@ pub record Reads (wd : ℕ) (ts : List Text) (w : List ℕ) (at : ℕ) (x : Sym)
   pub between : (k : ℕ) → betweenBy (getD w at 0) (suc k) ≡ betweenText x
   pub behind : behindBy w at (getD w at 0) ≡ behindText x
 
-more : (c k : ℕ) → betweenBy c (suc k) ≡ pick (eqb c 37) (0x2c ∷ 0x20 ∷ []) (0x20 ∷ [])
+-- what stands before any but the first
+pub more : (c k : ℕ) → betweenBy c (suc k) ≡ pick (eqb c 37) (0x2c ∷ 0x20 ∷ []) (0x20 ∷ [])
 unfolding betweenBy pick
 more c k = cc (ne-eqb (suc k) 0 (λ q. absurd (omega (arith, q))))
 
