@@ -30,7 +30,7 @@ mod SortWholeCode
 mod SortGroupCode
 mod SkipCode
 mod SubstituteCode
-mod CodesMean
+pub mod CodesMean
 mod SkipMean
 mod SubstituteRuns
 mod SubstituteMean

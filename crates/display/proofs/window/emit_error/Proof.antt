@@ -1,0 +1,40 @@
+use Rattle.display.proofs.WindowCode.{marking}
+use borrow.Author.Needs.{needs}
+use Rattle.display.proofs.window.emit_error.Statement.{statement}
+use Rattle.display.proofs.window.emit_error.Tie as tie
+use Rattle.display.proofs.window.emit_error.Reads as reads
+use Rattle.display.proofs.window.emit_error.Lts as lts
+use Rattle.display.proofs.window.emit.Reads as emit-reads
+
+emit-requires : tie.Need-emit-requires
+emit-requires c κs = search needs
+
+emit-requires-2 : tie.Need-emit-requires-2
+emit-requires-2 c κs = search needs
+
+emit-requires-3 : tie.Need-emit-requires-3
+emit-requires-3 c κs = search needs
+
+emit-requires-4 : tie.Need-emit-requires-4
+emit-requires-4 c κs = search needs
+
+emit-requires-5 : tie.Need-emit-requires-5
+emit-requires-5 c κs = search needs
+
+same-length : tie.Need-same-length
+same-length c = search needs
+
+returns : tie.Need-returns
+returns c = search marking
+
+pub emit-error-spec : {M : Type 1} → statement M
+emit-error-spec =
+    tie.close
+    (tie.spec
+    emit-requires
+    emit-requires-2
+    emit-requires-3
+    emit-requires-4
+    emit-requires-5
+    same-length
+    returns)
