@@ -30,7 +30,7 @@ mod SortWholeCode
 mod SortGroupCode
 mod SkipCode
 mod SubstituteCode
-pub mod CodesMean
+mod CodesMean
 mod SkipMean
 mod SubstituteRuns
 mod SubstituteMean
