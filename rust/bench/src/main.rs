@@ -22,10 +22,15 @@ fn main() -> ExitCode {
         callgrind::once(&arguments[1..]);
         return ExitCode::SUCCESS;
     }
+    if arguments.first().is_some_and(|word| word == "--sizes") {
+        sizes();
+        return ExitCode::SUCCESS;
+    }
     compare();
     count();
     levels::tell();
     let is_linear = sizes();
+    sizes_on_huge_pages();
     names();
     if is_linear {
         ExitCode::SUCCESS
@@ -106,6 +111,16 @@ fn sizes() -> bool {
     let bound = (all[1].resolving + copying) / all[1].resolving;
     println!("Copying and clearing take {copying:.2} ns more for each byte at 4 MiB; a call that is else as fast there as at 64 KiB has {bound:.2}.");
     is_linear
+}
+
+/// The same once more with the buffers on huge pages, which the C library asks for by itself where it is told so.
+fn sizes_on_huge_pages() {
+    println!("\nOn huge pages:");
+    let bench = std::env::current_exe().expect("the path of this program");
+    let told = std::process::Command::new(bench).arg("--sizes").env("GLIBC_TUNABLES", "glibc.malloc.hugetlb=1").status();
+    if !told.is_ok_and(|status| status.success()) {
+        println!("\nnot measured.");
+    }
 }
 
 /// One line: nanoseconds for each byte.
