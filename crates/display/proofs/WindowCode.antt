@@ -12,7 +12,7 @@ use Rattle.octets.specs.working.Choice.{pick}
 use Rattle.octets.specs.working.Sink.{Laid}
 use Rattle.parse_tree.specs.plain.Tree.{Text}
 use Rattle.parse_tree.specs.plain.Display.{escaped}
-use Rattle.display.specs.declared.window.Spot.{Spot}
+use Rattle.display.specs.declared.emit.Spot.{Spot}
 use Rattle.display.specs.declared.window.Count.{Count}
 use Rattle.display.specs.Follow.{quotedText, wordAt, leafText, markText, labelText, nameText, beforeBy, opByte, behindBy, betweenBy}
 use Rattle.display.specs.Window.{skipOf, Emitted}

@@ -6,7 +6,7 @@ use native.Mathlib.Omega.{arith}
 use lib.ListN.{length, drop, length-append, length-drop, drop-of-length-le}
 use lib.Seq.{drop-nil}
 use Rattle.octets.specs.working.Sink.{lay, adv}
-use Rattle.display.specs.declared.window.Spot.{Spot}
+use Rattle.display.specs.declared.emit.Spot.{Spot}
 use Rattle.display.specs.Window.{skipOf, Emitted}
 use Rattle.display.proofs.SinkLaws.{lay-append, adv-append, length-lay}
 

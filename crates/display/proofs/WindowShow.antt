@@ -16,7 +16,7 @@ use Rattle.texts.specs.declared.Map.{Map}
 use Rattle.texts.specs.Table.{texts}
 use Rattle.resolve.specs.Commands.{longOf}
 use Rattle.precedence.specs.Skip.{insideBy}
-use Rattle.display.specs.declared.window.Spot.{Spot}
+use Rattle.display.specs.declared.emit.Spot.{Spot}
 use Rattle.display.specs.Standing.{Readable, SymStands, SymsStand, SomeSym}
 use Rattle.display.specs.Follow.{beforeBy, behindBy, betweenBy}
 use Rattle.display.specs.Window.{skipOf, Emitted, Shows, Fills}

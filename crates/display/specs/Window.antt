@@ -11,7 +11,7 @@ use Rattle.octets.specs.plain.Runs.{part, sameAs}
 use Rattle.parse_tree.specs.plain.Tree.{Sym}
 use Rattle.parse_tree.specs.plain.Display.{print}
 use Rattle.texts.specs.declared.Map.{Map}
-use Rattle.display.specs.declared.window.Spot.{Spot}
+use Rattle.display.specs.declared.emit.Spot.{Spot}
 use Rattle.display.specs.declared.window.Verdict.{Verdict}
 use Rattle.display.specs.declared.window.Verdict.the-variants.{Same, Differ, More}
 use Rattle.display.specs.Standing.{SymStands}

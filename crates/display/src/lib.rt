@@ -1,5 +1,6 @@
 // Printed forms of symbols that stand in work, as the Rust's `Display` has them: never made whole, but held against a text, against each other, or hashed.
 // Touches nothing but the slices that it is handed.
+pub mod emit;
 pub mod follow;
 pub mod form;
 pub mod window;

@@ -6,11 +6,11 @@ use Rattle.display.proofs.window.before.Tie as tie
 use Rattle.display.proofs.window.before.Reads as reads
 use Rattle.display.proofs.window.before.Lts as lts
 use Rattle.display.proofs.follow.word.Reads as word-reads
-use Rattle.display.proofs.window.emit.Reads as emit-reads
-use Rattle.display.proofs.window.emit_mark.Reads as emit-mark-reads
-use Rattle.display.proofs.window.emit_name.Reads as emit-name-reads
-use Rattle.display.proofs.window.emit_named.Reads as emit-named-reads
-use Rattle.display.proofs.window.emit_run.Reads as emit-run-reads
+use Rattle.display.proofs.emit.emit.Reads as emit-reads
+use Rattle.display.proofs.emit.emit_mark.Reads as emit-mark-reads
+use Rattle.display.proofs.emit.emit_name.Reads as emit-name-reads
+use Rattle.display.proofs.emit.emit_named.Reads as emit-named-reads
+use Rattle.display.proofs.emit.emit_run.Reads as emit-run-reads
 
 add-word : tie.Need-add-word
 add-word c = search needs

@@ -5,7 +5,7 @@ use Rattle.display.proofs.window.behind.Tie as tie
 use Rattle.display.proofs.window.behind.Reads as reads
 use Rattle.display.proofs.window.behind.Lts as lts
 use Rattle.display.proofs.follow.op_byte.Reads as op-byte-reads
-use Rattle.display.proofs.window.emit.Reads as emit-reads
+use Rattle.display.proofs.emit.emit.Reads as emit-reads
 
 emit-requires : tie.Need-emit-requires
 emit-requires c κs = search needs

@@ -4,7 +4,7 @@ use Rattle.display.proofs.window.between.Statement.{statement}
 use Rattle.display.proofs.window.between.Tie as tie
 use Rattle.display.proofs.window.between.Reads as reads
 use Rattle.display.proofs.window.between.Lts as lts
-use Rattle.display.proofs.window.emit.Reads as emit-reads
+use Rattle.display.proofs.emit.emit.Reads as emit-reads
 
 returns : tie.Need-returns
 returns c = search spacing

@@ -1,10 +1,10 @@
 use Prim.Native.Nat.{_-_}
 use Rattle.display.proofs.WindowCode.{Running, running}
-use Rattle.display.proofs.window.emit_run.Statement.{statement}
-use Rattle.display.proofs.window.emit_run.Tie as tie
-use Rattle.display.proofs.window.emit_run.Reads as reads
-use Rattle.display.proofs.window.emit_run.Lts as lts
-use Rattle.display.proofs.window.emit.Reads as emit-reads
+use Rattle.display.proofs.emit.emit_run.Statement.{statement}
+use Rattle.display.proofs.emit.emit_run.Tie as tie
+use Rattle.display.proofs.emit.emit_run.Reads as reads
+use Rattle.display.proofs.emit.emit_run.Lts as lts
+use Rattle.display.proofs.emit.emit.Reads as emit-reads
 
 abbrev Inv-loop : tie.InvT-loop
 Inv-loop out₀ x n i₀ q₀ out i q = Running x out₀ q₀ out i q

@@ -1,10 +1,10 @@
 use Rattle.display.proofs.WindowCode.{marking}
 use borrow.Author.Needs.{needs}
-use Rattle.display.proofs.window.emit_error.Statement.{statement}
-use Rattle.display.proofs.window.emit_error.Tie as tie
-use Rattle.display.proofs.window.emit_error.Reads as reads
-use Rattle.display.proofs.window.emit_error.Lts as lts
-use Rattle.display.proofs.window.emit.Reads as emit-reads
+use Rattle.display.proofs.emit.emit_error.Statement.{statement}
+use Rattle.display.proofs.emit.emit_error.Tie as tie
+use Rattle.display.proofs.emit.emit_error.Reads as reads
+use Rattle.display.proofs.emit.emit_error.Lts as lts
+use Rattle.display.proofs.emit.emit.Reads as emit-reads
 
 emit-requires : tie.Need-emit-requires
 emit-requires c κs = search needs

@@ -1,11 +1,11 @@
 use Rattle.display.proofs.WindowCode.{enclosing}
 use borrow.Author.Needs.{needs}
-use Rattle.display.proofs.window.emit_quoted.Statement.{statement}
-use Rattle.display.proofs.window.emit_quoted.Tie as tie
-use Rattle.display.proofs.window.emit_quoted.Reads as reads
-use Rattle.display.proofs.window.emit_quoted.Lts as lts
-use Rattle.display.proofs.window.emit.Reads as emit-reads
-use Rattle.display.proofs.window.emit_escaped.Reads as emit-escaped-reads
+use Rattle.display.proofs.emit.emit_quoted.Statement.{statement}
+use Rattle.display.proofs.emit.emit_quoted.Tie as tie
+use Rattle.display.proofs.emit.emit_quoted.Reads as reads
+use Rattle.display.proofs.emit.emit_quoted.Lts as lts
+use Rattle.display.proofs.emit.emit.Reads as emit-reads
+use Rattle.display.proofs.emit.emit_escaped.Reads as emit-escaped-reads
 
 emit-requires : tie.Need-emit-requires
 emit-requires c κs = search needs

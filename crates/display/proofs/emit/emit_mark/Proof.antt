@@ -1,11 +1,11 @@
 use Rattle.display.proofs.WindowCode.{marking}
 use borrow.Author.Needs.{needs}
-use Rattle.display.proofs.window.emit_mark.Statement.{statement}
-use Rattle.display.proofs.window.emit_mark.Tie as tie
-use Rattle.display.proofs.window.emit_mark.Reads as reads
-use Rattle.display.proofs.window.emit_mark.Lts as lts
-use Rattle.display.proofs.window.emit.Reads as emit-reads
-use Rattle.display.proofs.window.emit_error.Reads as emit-error-reads
+use Rattle.display.proofs.emit.emit_mark.Statement.{statement}
+use Rattle.display.proofs.emit.emit_mark.Tie as tie
+use Rattle.display.proofs.emit.emit_mark.Reads as reads
+use Rattle.display.proofs.emit.emit_mark.Lts as lts
+use Rattle.display.proofs.emit.emit.Reads as emit-reads
+use Rattle.display.proofs.emit.emit_error.Reads as emit-error-reads
 
 emit-requires : tie.Need-emit-requires
 emit-requires c κs = search needs

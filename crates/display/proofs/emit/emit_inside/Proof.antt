@@ -1,10 +1,10 @@
 use Rattle.display.proofs.WindowCode.{quoting}
 use borrow.Author.Needs.{needs}
-use Rattle.display.proofs.window.emit_inside.Statement.{statement}
-use Rattle.display.proofs.window.emit_inside.Tie as tie
-use Rattle.display.proofs.window.emit_inside.Reads as reads
-use Rattle.display.proofs.window.emit_inside.Lts as lts
-use Rattle.display.proofs.window.emit.Reads as emit-reads
+use Rattle.display.proofs.emit.emit_inside.Statement.{statement}
+use Rattle.display.proofs.emit.emit_inside.Tie as tie
+use Rattle.display.proofs.emit.emit_inside.Reads as reads
+use Rattle.display.proofs.emit.emit_inside.Lts as lts
+use Rattle.display.proofs.emit.emit.Reads as emit-reads
 
 emit-requires : tie.Need-emit-requires
 emit-requires c κs = search needs

@@ -1,9 +1,9 @@
 use Rattle.display.proofs.WindowCode.{emitting}
 use borrow.Author.Needs.{needs}
-use Rattle.display.proofs.window.emit.Statement.{statement}
-use Rattle.display.proofs.window.emit.Tie as tie
-use Rattle.display.proofs.window.emit.Reads as reads
-use Rattle.display.proofs.window.emit.Lts as lts
+use Rattle.display.proofs.emit.emit.Statement.{statement}
+use Rattle.display.proofs.emit.emit.Tie as tie
+use Rattle.display.proofs.emit.emit.Reads as reads
+use Rattle.display.proofs.emit.emit.Lts as lts
 use Rattle.octets.proofs.sink.put8.Reads as put8-reads
 
 sub-t7 : tie.Need-sub-t7

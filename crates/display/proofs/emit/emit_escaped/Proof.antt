@@ -1,11 +1,11 @@
 use lib.ListN.{length}
 use Prim.Native.Nat.{_-_}
 use Rattle.display.proofs.WindowCode.{Escaping, escaping}
-use Rattle.display.proofs.window.emit_escaped.Statement.{statement}
-use Rattle.display.proofs.window.emit_escaped.Tie as tie
-use Rattle.display.proofs.window.emit_escaped.Reads as reads
-use Rattle.display.proofs.window.emit_escaped.Lts as lts
-use Rattle.display.proofs.window.emit_inside.Reads as emit-inside-reads
+use Rattle.display.proofs.emit.emit_escaped.Statement.{statement}
+use Rattle.display.proofs.emit.emit_escaped.Tie as tie
+use Rattle.display.proofs.emit.emit_escaped.Reads as reads
+use Rattle.display.proofs.emit.emit_escaped.Lts as lts
+use Rattle.display.proofs.emit.emit_inside.Reads as emit-inside-reads
 
 abbrev Inv-loop : tie.InvT-loop
 Inv-loop out₀ x i₀ q₀ out i q = Escaping x out₀ q₀ out i q

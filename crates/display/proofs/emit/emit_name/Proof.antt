@@ -1,12 +1,12 @@
 use Rattle.display.proofs.WindowCode.{prefixing}
 use borrow.Author.Needs.{needs}
-use Rattle.display.proofs.window.emit_name.Statement.{statement}
-use Rattle.display.proofs.window.emit_name.Tie as tie
-use Rattle.display.proofs.window.emit_name.Reads as reads
-use Rattle.display.proofs.window.emit_name.Lts as lts
-use Rattle.display.proofs.window.emit.Reads as emit-reads
-use Rattle.display.proofs.window.emit_mut.Reads as emit-mut-reads
-use Rattle.display.proofs.window.emit_run.Reads as emit-run-reads
+use Rattle.display.proofs.emit.emit_name.Statement.{statement}
+use Rattle.display.proofs.emit.emit_name.Tie as tie
+use Rattle.display.proofs.emit.emit_name.Reads as reads
+use Rattle.display.proofs.emit.emit_name.Lts as lts
+use Rattle.display.proofs.emit.emit.Reads as emit-reads
+use Rattle.display.proofs.emit.emit_mut.Reads as emit-mut-reads
+use Rattle.display.proofs.emit.emit_run.Reads as emit-run-reads
 
 emit-mut-requires : tie.Need-emit-mut-requires
 emit-mut-requires c κs = search needs

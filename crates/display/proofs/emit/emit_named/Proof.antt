@@ -1,12 +1,12 @@
 use Rattle.display.proofs.WindowCode.{naming}
 use borrow.Author.Needs.{needs}
-use Rattle.display.proofs.window.emit_named.Statement.{statement}
-use Rattle.display.proofs.window.emit_named.Tie as tie
-use Rattle.display.proofs.window.emit_named.Reads as reads
-use Rattle.display.proofs.window.emit_named.Lts as lts
-use Rattle.display.proofs.window.emit.Reads as emit-reads
-use Rattle.display.proofs.window.emit_quoted.Reads as emit-quoted-reads
-use Rattle.display.proofs.window.emit_run.Reads as emit-run-reads
+use Rattle.display.proofs.emit.emit_named.Statement.{statement}
+use Rattle.display.proofs.emit.emit_named.Tie as tie
+use Rattle.display.proofs.emit.emit_named.Reads as reads
+use Rattle.display.proofs.emit.emit_named.Lts as lts
+use Rattle.display.proofs.emit.emit.Reads as emit-reads
+use Rattle.display.proofs.emit.emit_quoted.Reads as emit-quoted-reads
+use Rattle.display.proofs.emit.emit_run.Reads as emit-run-reads
 
 emit-quoted-requires : tie.Need-emit-quoted-requires
 emit-quoted-requires c κs = search needs
