@@ -12,7 +12,6 @@ use octets::runs::same;
 use resolve::commands::long;
 use texts::Map;
 ghost use mathlib.Core.Path.{_≡_};
-ghost use mathlib.Core.List.{[], _∷_};
 ghost use Prim.Native.Nat.{_+_, _≤_, _<_, _^_};
 ghost use lib.ListN.{length};
 ghost use Rattle.texts.specs.Table.{texts};
