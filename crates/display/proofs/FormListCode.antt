@@ -17,7 +17,7 @@ use Rattle.texts.specs.declared.Map.{Map}
 use Rattle.texts.specs.Table.{texts}
 use Rattle.laws.specs.Flat.{children}
 use Rattle.resolve.specs.Commands.{longOf}
-use Rattle.precedence.specs.Skip.{insideBy}
+use Rattle.grades.specs.Skip.{insideBy}
 use Rattle.display.specs.declared.form.Form.{Form}
 use Rattle.display.specs.declared.form.Formed.{Formed}
 use Rattle.display.specs.Standing.{SymStands, SymsStand, SomeSym, SomeSyms}

@@ -20,8 +20,8 @@ use Rattle.texts.specs.Fields.{markAt}
 use Rattle.texts.specs.Texts.{markedText, Whole}
 use Rattle.texts.specs.Table.{texts}
 use Rattle.texts.proofs.TextCode.{length-texts, texts-at}
-use Rattle.precedence.specs.Grading.{Worded}
-use Rattle.precedence.specs.Skip.{insideBy}
+use Rattle.grades.specs.Grading.{Worded}
+use Rattle.grades.specs.Skip.{insideBy}
 use Rattle.resolve.specs.Commands.{longOf}
 use Rattle.display.specs.Follow.{metOne, metBy, quotedText, wordAt, leafText, markText, labelText, nameText, beforeBy, opByte, behindBy, betweenBy}
 use Rattle.display.proofs.MetLaws.{met-append}

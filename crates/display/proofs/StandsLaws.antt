@@ -28,7 +28,7 @@ use Rattle.laws.proofs.Flat.{sym-bytes, node-size}
 use Rattle.texts.specs.declared.Map.{Map}
 use Rattle.texts.specs.Table.{texts}
 use Rattle.resolve.specs.Commands.{longOf}
-use Rattle.precedence.specs.Skip.{insideBy}
+use Rattle.grades.specs.Skip.{insideBy}
 use Rattle.display.specs.Standing.{SymStands, SymsStand}
 use Rattle.display.specs.Follow.{quotedText, wordAt, leafText, markText, labelText, nameText, beforeBy, opByte, behindBy, betweenBy}
 

@@ -15,7 +15,7 @@ use Rattle.laws.specs.Flat.{children}
 use Rattle.texts.specs.declared.Map.{Map}
 use Rattle.texts.specs.Table.{texts}
 use Rattle.resolve.specs.Commands.{longOf}
-use Rattle.precedence.specs.Skip.{insideBy}
+use Rattle.grades.specs.Skip.{insideBy}
 use Rattle.display.specs.declared.emit.Spot.{Spot}
 use Rattle.display.specs.Standing.{Readable, SymStands, SymsStand, SomeSym}
 use Rattle.display.specs.Follow.{beforeBy, behindBy, betweenBy}

@@ -10,7 +10,7 @@ use Rattle.parse_tree.specs.working.Encode.{symBytes, symsBytes}
 use Rattle.parse_tree.specs.working.Within.{SymWithin, SymsWithin}
 use Rattle.texts.specs.declared.Map.{Map}
 use Rattle.texts.specs.Table.{texts}
-use Rattle.precedence.specs.Grading.{Worded}
+use Rattle.grades.specs.Grading.{Worded}
 
 -- texts can be read, and numbers have two or three bytes
 pub record Readable (s w : List ℕ) (m : Map) (wd : ℕ) : Type 0 where

@@ -16,8 +16,8 @@ ghost use lib.ListN.{length};
 ghost use Rattle.parse_tree.specs.plain.Display.{escaped};
 ghost use Rattle.texts.specs.Table.{texts};
 ghost use Rattle.resolve.specs.Commands.{longOf};
-ghost use Rattle.precedence.specs.Grading.{Worded};
-ghost use Rattle.precedence.specs.Skip.{insideBy};
+ghost use Rattle.grades.specs.Grading.{Worded};
+ghost use Rattle.grades.specs.Skip.{insideBy};
 ghost use Rattle.display.specs.Standing.{Readable, SomeSym};
 ghost use Rattle.display.specs.Follow.{metOne, metBy, quotedText, wordAt, leafText, markText, nameText, beforeBy, opByte, behindBy, betweenBy, Follows, IsForm};
 

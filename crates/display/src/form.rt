@@ -19,7 +19,7 @@ ghost use Rattle.texts.specs.Hash.{power};
 ghost use Rattle.texts.specs.Forms.{stop};
 ghost use Rattle.texts.specs.Table.{texts};
 ghost use Rattle.resolve.specs.Commands.{longOf};
-ghost use Rattle.precedence.specs.Grading.{Worded};
+ghost use Rattle.grades.specs.Grading.{Worded};
 ghost use Rattle.display.specs.Standing.{Readable, SomeSym, SomeSyms};
 ghost use Rattle.display.specs.Follow.{quotedText, wordAt, leafText, markText, labelText, beforeBy, behindBy, betweenBy};
 ghost use Rattle.display.specs.Form.{SomeForm, From, textForm, oddTimes, wholeOf, joinOf, Hashed, Prints, PrintsAll};

@@ -16,7 +16,7 @@ ghost use Prim.Native.Nat.{_+_, _≤_, _<_, _^_};
 ghost use lib.ListN.{length};
 ghost use Rattle.texts.specs.Table.{texts};
 ghost use Rattle.resolve.specs.Commands.{longOf};
-ghost use Rattle.precedence.specs.Grading.{Worded};
+ghost use Rattle.grades.specs.Grading.{Worded};
 ghost use Rattle.display.specs.Standing.{Readable, SomeSym};
 ghost use Rattle.display.specs.Follow.{beforeBy, behindBy, betweenBy};
 ghost use Rattle.display.specs.Window.{skipOf, Emitted, Shows, Fills, judged, Looks, SamePrints};

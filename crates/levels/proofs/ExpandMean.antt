@@ -16,15 +16,15 @@ use Rattle.texts.specs.Table.{texts}
 use Rattle.passes.specs.Outcome.{Outcome, yes, no, after}
 use Rattle.passes.specs.Levels.{checkAttributes}
 use Rattle.resolve.proofs.GrammarLaws.{Headed, headed}
-use Rattle.precedence.specs.declared.Assoc.{Assoc}
-use Rattle.precedence.specs.declared.Graded.{Graded}
-use Rattle.precedence.specs.declared.Ids.{Ids}
-use Rattle.precedence.specs.Annotations.{firstAlternative}
-use Rattle.precedence.specs.Ids.{idsIn}
-use Rattle.precedence.specs.Alternatives.{OffTable, Gradable, gradeFrom, Grades}
-use Rattle.precedence.proofs.AlternativesMean.{first-means}
-use Rattle.precedence.proofs.AlternativesWholeMean.{Ready, GradeMeans, grade-means}
-use Rattle.precedence.proofs.WordedLaws.{naming-worded}
+use Rattle.grades.specs.declared.Assoc.{Assoc}
+use Rattle.grades.specs.declared.Graded.{Graded}
+use Rattle.grades.specs.declared.Ids.{Ids}
+use Rattle.grades.specs.Annotations.{firstAlternative}
+use Rattle.grades.specs.Ids.{idsIn}
+use Rattle.grades.specs.Alternatives.{OffTable, Gradable, gradeFrom, Grades}
+use Rattle.grades.proofs.AlternativesMean.{first-means}
+use Rattle.grades.proofs.AlternativesWholeMean.{Ready, GradeMeans, grade-means}
+use Rattle.precedence.proofs.NamesMean.{naming-worded}
 use Rattle.levels.specs.declared.Room.{Room}
 use Rattle.levels.specs.declared.Written.{Written}
 use Rattle.levels.specs.declared.Levelled.{Levelled}

@@ -18,14 +18,14 @@ use Rattle.texts.specs.Table.{texts}
 use Rattle.passes.specs.Outcome.{Outcome, yes, no, after}
 use Rattle.passes.specs.Grades.{graded}
 use Rattle.passes.specs.Levels.{levelsOf, grouped, checkAttributes, checkLowest}
-use Rattle.precedence.specs.declared.Assoc.{Assoc}
-use Rattle.precedence.specs.declared.Graded.{Graded}
-use Rattle.precedence.specs.declared.Ids.{Ids}
-use Rattle.precedence.specs.declared.Lowest.{Lowest}
-use Rattle.precedence.specs.Annotations.{firstAlternative}
-use Rattle.precedence.specs.Sort.{Arrays}
-use Rattle.precedence.specs.Alternatives.{Gradable, gradeFrom, Grades, lowestFrom}
-use Rattle.precedence.proofs.AlternativesWholeMean.{Keyed, GradeMeans}
+use Rattle.grades.specs.declared.Assoc.{Assoc}
+use Rattle.grades.specs.declared.Graded.{Graded}
+use Rattle.grades.specs.declared.Ids.{Ids}
+use Rattle.grades.specs.declared.Lowest.{Lowest}
+use Rattle.grades.specs.Annotations.{firstAlternative}
+use Rattle.grades.specs.Sort.{Arrays}
+use Rattle.grades.specs.Alternatives.{Gradable, gradeFrom, Grades, lowestFrom}
+use Rattle.grades.proofs.AlternativesWholeMean.{Keyed, GradeMeans}
 use Rattle.levels.specs.declared.Room.{Room}
 use Rattle.levels.specs.declared.Written.{Written}
 use Rattle.levels.specs.declared.Levelled.{Levelled}

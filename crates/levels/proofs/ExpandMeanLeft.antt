@@ -18,17 +18,18 @@ use Rattle.passes.specs.Levels.{levelsOf, levelItems}
 use Rattle.laws.specs.Sort.{byLevels}
 use Rattle.laws.proofs.Levels.{levels-ascend}
 use Rattle.resolve.proofs.CellsLaws.{lies-agree}
-use Rattle.precedence.specs.declared.Ids.{Ids}
-use Rattle.precedence.specs.Grading.{Worded}
-use Rattle.precedence.specs.Ids.{idsIn}
+use Rattle.grades.specs.declared.Ids.{Ids}
+use Rattle.grades.specs.Grading.{Worded}
+use Rattle.grades.specs.Ids.{idsIn}
+use Rattle.grades.specs.Sort.{keysAt}
+use Rattle.grades.proofs.AscendsMean.{codeOf}
+use Rattle.grades.proofs.AlternativesWholeMean.{placesFrom}
+use Rattle.grades.proofs.WordedLaws.{worded-stays}
 use Rattle.precedence.specs.Names.{namedTexts}
-use Rattle.precedence.specs.Sort.{keysAt}
-use Rattle.precedence.proofs.AscendsMean.{codeOf}
-use Rattle.precedence.proofs.AlternativesWholeMean.{placesFrom}
 use Rattle.precedence.proofs.GroupMean.{levels-some}
 use Rattle.precedence.proofs.LeadMean.{levels-of-small}
 use Rattle.precedence.proofs.NamesStays.{names-same, naming-stays}
-use Rattle.precedence.proofs.WordedLaws.{naming-worded, worded-stays}
+use Rattle.precedence.proofs.NamesMean.{naming-worded}
 use Rattle.levels.specs.declared.Room.{Room}
 use Rattle.levels.specs.declared.Written.{Written}
 use Rattle.levels.specs.Expand.{LevelsFit, NamesAt, Kept, Wrote, Stood, placesOf, alternativesAt, itemsLeft, Left, Finishes, Expandable}

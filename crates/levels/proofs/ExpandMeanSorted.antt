@@ -23,15 +23,15 @@ use Rattle.passes.specs.Grades.{all, withLevels, graded}
 use Rattle.passes.specs.Levels.{levelsOf, grouped, checkLowest}
 use Rattle.laws.specs.Sort.{byLevels}
 use Rattle.resolve.proofs.CellsLaws.{lies-agree}
-use Rattle.precedence.specs.declared.Graded.{Graded}
-use Rattle.precedence.specs.declared.Ids.{Ids}
-use Rattle.precedence.specs.declared.Lowest.{Lowest}
-use Rattle.precedence.specs.Sort.{keysAt, Sorted}
-use Rattle.precedence.specs.Alternatives.{lowestFrom}
-use Rattle.precedence.proofs.AscendsMean.{codeOf, ascendsFrom}
-use Rattle.precedence.proofs.AlternativesWholeMean.{placesFrom, Keyed}
-use Rattle.precedence.proofs.KeysMean.{ascending-keys, sorted-keys}
-use Rattle.precedence.proofs.LowestMean.{LowestMeans, lowest-means}
+use Rattle.grades.specs.declared.Graded.{Graded}
+use Rattle.grades.specs.declared.Ids.{Ids}
+use Rattle.grades.specs.declared.Lowest.{Lowest}
+use Rattle.grades.specs.Sort.{keysAt, Sorted}
+use Rattle.grades.specs.Alternatives.{lowestFrom}
+use Rattle.grades.proofs.AscendsMean.{codeOf, ascendsFrom}
+use Rattle.grades.proofs.AlternativesWholeMean.{placesFrom, Keyed}
+use Rattle.grades.proofs.KeysMean.{ascending-keys, sorted-keys}
+use Rattle.grades.proofs.LowestMean.{LowestMeans, lowest-means}
 use Rattle.precedence.proofs.LeadMean.{span-noted}
 use Rattle.levels.specs.declared.Room.{Room}
 use Rattle.levels.specs.declared.Written.{Written}

@@ -24,7 +24,7 @@ use Rattle.parse_tree.proofs.ReadingLaws.{bytes-more}
 use Rattle.parse_tree.proofs.ReadBack.{atom-size}
 use Rattle.texts.specs.declared.Map.{Map}
 use Rattle.texts.specs.Fields.{markAt}
-use Rattle.precedence.specs.Grade.{levelDigits, PutsDecimal}
+use Rattle.grades.specs.Grade.{levelDigits, PutsDecimal}
 use Rattle.precedence.specs.Names.{Naming, Based, BaseText, levelText, describedText, describedTexts, namedText}
 use Rattle.precedence.proofs.NamesHashCode.{named-described}
 use Rattle.precedence.proofs.NamesFindCode.{naming-based}

@@ -13,9 +13,9 @@ use Rattle.passes.specs.Grades.{Graded, graded}
 use Rattle.passes.specs.Levels.{levelName, ofLevel, groupsOf}
 use Rattle.parse_tree.specs.working.Within.{Each}
 use Rattle.laws.specs.Sort.{levelKeys, byLevels}
-use Rattle.precedence.specs.declared.Ids.{Ids}
-use Rattle.precedence.specs.Sort.{keysAt}
-use Rattle.precedence.proofs.AscendsMean.{codeOf}
+use Rattle.grades.specs.declared.Ids.{Ids}
+use Rattle.grades.specs.Sort.{keysAt}
+use Rattle.grades.proofs.AscendsMean.{codeOf}
 use Rattle.precedence.proofs.GroupMean.{level-keys-many}
 use Rattle.levels.specs.declared.Room.{Room}
 use Rattle.levels.specs.declared.Written.{Written}

@@ -15,9 +15,9 @@ use Rattle.parse_tree.specs.declared.refusal.Refusal.{Refusal}
 use Rattle.parse_tree.specs.working.Nodes.{spanIn}
 use Rattle.parse_tree.specs.working.Refusals.{refusalOver}
 use Rattle.texts.specs.declared.Map.{Map}
+use Rattle.grades.specs.Sort.{Sorted}
 use Rattle.precedence.specs.declared.names.LevelName.{LevelName}
 use Rattle.precedence.specs.Names.{Describing, LevelNamed}
-use Rattle.precedence.specs.Sort.{Sorted}
 use Rattle.levels.specs.Expand.{NamesLevel, levelFrom, SortsKeys}
 
 -- ---- name_level

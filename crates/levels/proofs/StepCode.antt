@@ -14,11 +14,11 @@ use Rattle.octets.specs.plain.Numbers.{leAt}
 use Rattle.parse_tree.specs.plain.Tree.{Text, Nonterminal}
 use Rattle.texts.specs.declared.Map.{Map}
 use Rattle.passes.specs.Levels.{levelName}
-use Rattle.precedence.specs.declared.Ids.{Ids}
+use Rattle.grades.specs.declared.Ids.{Ids}
+use Rattle.grades.specs.Sort.{GroupEnd}
 use Rattle.precedence.specs.declared.level.Level.{Level}
 use Rattle.precedence.specs.declared.names.LevelName.{LevelName}
 use Rattle.precedence.specs.Names.{Describing}
-use Rattle.precedence.specs.Sort.{GroupEnd}
 use Rattle.precedence.specs.Level.{LevelInside, PutsLevel}
 use Rattle.levels.specs.declared.Room.{Room}
 use Rattle.levels.specs.declared.Written.{Written}

@@ -28,15 +28,15 @@ use Rattle.laws.specs.Sort.{levelKeys, byLevels}
 use Rattle.replacing.proofs.Going.{Extends, extends-trans, extends-number, new-extends}
 use Rattle.resolve.proofs.CellsLaws.{lies-agree}
 use Rattle.resolve.proofs.GrammarLaws.{Headed, headed}
-use Rattle.precedence.specs.declared.Ids.{Ids}
+use Rattle.grades.specs.declared.Ids.{Ids}
+use Rattle.grades.specs.Sort.{keysAt, levelAt, GroupEnd}
+use Rattle.grades.proofs.AscendsMean.{codeOf}
+use Rattle.grades.proofs.AlternativesWholeMean.{placesFrom}
 use Rattle.precedence.specs.declared.level.Level.{Level}
 use Rattle.precedence.specs.declared.names.LevelName.{LevelName}
 use Rattle.precedence.specs.Names.{Describing, namedTexts}
-use Rattle.precedence.specs.Sort.{keysAt, levelAt, GroupEnd}
 use Rattle.precedence.specs.Write.{Puts}
 use Rattle.precedence.specs.Level.{LevelInside, PutsLevel}
-use Rattle.precedence.proofs.AscendsMean.{codeOf}
-use Rattle.precedence.proofs.AlternativesWholeMean.{placesFrom}
 use Rattle.precedence.proofs.GroupMean.{GroupSplit, group-split}
 use Rattle.precedence.proofs.LeadMean.{graded-many, keys-lead, keys-noted}
 use Rattle.precedence.proofs.LevelKeysMean.{KeysMean}

@@ -17,11 +17,11 @@ use Rattle.passes.specs.Grades.{precedence, assoc}
 use Rattle.passes.specs.Levels.{levelName}
 use Rattle.replacing.proofs.NumbersMean.{new-known, new-unknown}
 use Rattle.replacing.proofs.Going.{Extends, extends-has, extends-number}
-use Rattle.precedence.specs.declared.Ids.{Ids}
+use Rattle.grades.specs.declared.Ids.{Ids}
+use Rattle.grades.specs.Ids.{idsIn}
+use Rattle.grades.proofs.IdsMean.{ids-stay}
 use Rattle.precedence.specs.declared.names.LevelName.{LevelName}
-use Rattle.precedence.specs.Ids.{idsIn}
 use Rattle.precedence.specs.Names.{LevelNamed, levelText, describedTexts, namedTexts}
-use Rattle.precedence.proofs.IdsMean.{ids-stay}
 use Rattle.precedence.proofs.NamesFindCode.{length-named}
 use Rattle.precedence.proofs.NamesMean.{level-text-is, named-split}
 use Rattle.precedence.proofs.NamesStays.{names-above}

@@ -20,15 +20,16 @@ use Rattle.texts.specs.Table.{Above, Agree, texts}
 use Rattle.passes.specs.Grades.{Graded, graded}
 use Rattle.passes.specs.Levels.{Group, levelName, ofLevel}
 use Rattle.resolve.proofs.CellsLaws.{lies-agree}
-use Rattle.precedence.specs.declared.Ids.{Ids}
+use Rattle.grades.specs.declared.Ids.{Ids}
+use Rattle.grades.specs.Ids.{idsIn}
+use Rattle.grades.specs.Grading.{Worded}
+use Rattle.grades.specs.Sort.{keysAt, GroupEnd}
+use Rattle.grades.proofs.WordedLaws.{worded-stays}
 use Rattle.precedence.specs.declared.names.LevelName.{LevelName}
-use Rattle.precedence.specs.Ids.{idsIn}
-use Rattle.precedence.specs.Grading.{Worded}
 use Rattle.precedence.specs.Names.{namedTexts}
-use Rattle.precedence.specs.Sort.{keysAt, GroupEnd}
 use Rattle.precedence.specs.Write.{Puts}
 use Rattle.precedence.proofs.NamesStays.{naming-stays, names-same}
-use Rattle.precedence.proofs.WordedLaws.{naming-worded, worded-stays}
+use Rattle.precedence.proofs.NamesMean.{naming-worded}
 use Rattle.precedence.proofs.WriteLaws.{puts-beside, puts-on, puts-upto}
 use Rattle.levels.specs.declared.Room.{Room}
 use Rattle.levels.specs.declared.Written.{Written}

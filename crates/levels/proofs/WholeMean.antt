@@ -16,10 +16,10 @@ use Rattle.passes.specs.Grades.{annotated}
 use Rattle.resolve.specs.declared.Grammar.{Grammar}
 use Rattle.resolve.specs.Items.{itemPlaceIn}
 use Rattle.resolve.proofs.GrammarLaws.{row-place, row-below, terminal-headed}
-use Rattle.precedence.specs.declared.Ids.{Ids}
-use Rattle.precedence.specs.Ids.{idsIn}
-use Rattle.precedence.specs.Annotations.{HeadInside, hasPrecAttr}
-use Rattle.precedence.proofs.AlternativesMean.{has-means, head-inside, terminal-means}
+use Rattle.grades.specs.declared.Ids.{Ids}
+use Rattle.grades.specs.Ids.{idsIn}
+use Rattle.grades.specs.Annotations.{HeadInside, hasPrecAttr}
+use Rattle.grades.proofs.AlternativesMean.{has-means, head-inside, terminal-means}
 use Rattle.levels.specs.declared.Room.{Room}
 use Rattle.levels.specs.declared.Written.{Written}
 use Rattle.levels.specs.Expand.{LevelsFit, Expandable, SomeExpandable}

@@ -24,16 +24,16 @@ use Rattle.resolve.specs.declared.Grammar.{Grammar}
 use Rattle.resolve.specs.Items.{itemPlaceIn}
 use Rattle.resolve.proofs.GrammarLaws.{Row, row-place, row-same}
 use Rattle.replacing.proofs.Going.{Extends}
-use Rattle.precedence.specs.declared.Ids.{Ids}
-use Rattle.precedence.specs.Ids.{idsIn}
-use Rattle.precedence.specs.Annotations.{hasPrecAttr}
-use Rattle.precedence.specs.Grading.{Worded}
+use Rattle.grades.specs.declared.Ids.{Ids}
+use Rattle.grades.specs.Ids.{idsIn}
+use Rattle.grades.specs.Annotations.{hasPrecAttr}
+use Rattle.grades.specs.Grading.{Worded}
+use Rattle.grades.proofs.WordedLaws.{worded-stays}
 use Rattle.precedence.specs.Names.{Naming, describedTexts, namedTexts}
 use Rattle.precedence.specs.Write.{Puts}
 use Rattle.precedence.proofs.WriteLaws.{puts-beside}
-use Rattle.precedence.proofs.WordedLaws.{naming-worded, worded-stays}
 use Rattle.precedence.proofs.NamesStays.{names-same, naming-stays}
-use Rattle.precedence.proofs.NamesMean.{named-split}
+use Rattle.precedence.proofs.NamesMean.{named-split, naming-worded}
 use Rattle.levels.specs.declared.Room.{Room}
 use Rattle.levels.specs.declared.Written.{Written}
 use Rattle.levels.specs.declared.Levelled.{Levelled}

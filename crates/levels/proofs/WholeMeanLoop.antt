@@ -17,9 +17,9 @@ use Rattle.passes.specs.Grades.{annotated}
 use Rattle.passes.specs.Levels.{levelItems, levelled, checkNonterminal, checkLevels}
 use Rattle.resolve.specs.declared.Grammar.{Grammar}
 use Rattle.resolve.proofs.GrammarLaws.{row-place}
-use Rattle.precedence.specs.declared.Ids.{Ids}
-use Rattle.precedence.specs.Ids.{idsIn, Identified}
-use Rattle.precedence.proofs.IdsMean.{ids-are}
+use Rattle.grades.specs.declared.Ids.{Ids}
+use Rattle.grades.specs.Ids.{idsIn, Identified}
+use Rattle.grades.proofs.IdsMean.{ids-are}
 use Rattle.precedence.proofs.NamesMean.{named-texts, naming-start}
 use Rattle.levels.specs.declared.Room.{Room}
 use Rattle.levels.specs.declared.Written.{Written}

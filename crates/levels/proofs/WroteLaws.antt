@@ -13,10 +13,10 @@ use Rattle.parse_tree.specs.plain.References.{textsOfEach, itemTexts}
 use Rattle.parse_tree.specs.plain.WriteTape.{bytesOfEach}
 use Rattle.parse_tree.specs.working.Encode.{itemBytes}
 use Rattle.texts.specs.declared.Map.{Map}
+use Rattle.grades.specs.declared.Ids.{Ids}
 use Rattle.precedence.proofs.WriteLaws.{fits-or-not}
 use Rattle.resolve.proofs.CellsLaws.{lies-agree}
 use Rattle.replacing.proofs.Going.{Extends, new-append, new-extends, There}
-use Rattle.precedence.specs.declared.Ids.{Ids}
 use Rattle.precedence.specs.Names.{namedTexts}
 use Rattle.levels.specs.declared.Room.{Room}
 use Rattle.levels.specs.declared.Written.{Written}

@@ -23,13 +23,13 @@ use Rattle.passes.specs.Outcome.{Outcome, yes, no, after}
 use Rattle.passes.specs.Grades.{graded}
 use Rattle.passes.specs.Levels.{grouped, groupsOf, levelName, ofLevel, substituted, withFallThrough, levelItems, checkAttributes, checkLowest}
 use Rattle.laws.specs.Sort.{Ascends, byLevels}
-use Rattle.precedence.specs.declared.Ids.{Ids}
+use Rattle.grades.specs.declared.Ids.{Ids}
+use Rattle.grades.specs.Ids.{idsIn}
+use Rattle.grades.specs.Sort.{keysAt, Sorted}
+use Rattle.grades.proofs.AscendsMean.{codeOf}
 use Rattle.precedence.specs.declared.level.Level.{Level}
 use Rattle.precedence.specs.declared.names.LevelName.{LevelName}
-use Rattle.precedence.specs.Ids.{idsIn}
 use Rattle.precedence.specs.Names.{Naming, LevelNamed, namedTexts}
-use Rattle.precedence.specs.Sort.{keysAt, Sorted}
-use Rattle.precedence.proofs.AscendsMean.{codeOf}
 use Rattle.levels.specs.declared.Room.{Room}
 use Rattle.levels.specs.declared.Written.{Written}
 use Rattle.levels.specs.declared.Levelled.{Levelled}

@@ -15,8 +15,8 @@ use Rattle.passes.specs.Levels.{levelled, checkLevels}
 use Rattle.resolve.specs.declared.Grammar.{Grammar}
 use Rattle.resolve.specs.Items.{itemPlaceIn}
 use Rattle.resolve.proofs.GrammarLaws.{Row}
-use Rattle.precedence.specs.declared.Ids.{Ids}
-use Rattle.precedence.specs.Ids.{idsIn}
+use Rattle.grades.specs.declared.Ids.{Ids}
+use Rattle.grades.specs.Ids.{idsIn}
 use Rattle.levels.specs.declared.Room.{Room}
 use Rattle.levels.specs.declared.Written.{Written}
 use Rattle.levels.specs.declared.Levelled.{Levelled}

@@ -1,8 +1,8 @@
 // The names of levels, which have no bytes yet: their bytes counted, and written to the output.
+use grades::grade::decimal_size;
+use grades::grade::put_decimal;
 use octets::numbers::store16;
 use octets::runs::copy;
-use precedence::grade::decimal_size;
-use precedence::grade::put_decimal;
 use precedence::names::base_text;
 use texts::Map;
 use texts::fields::mark;

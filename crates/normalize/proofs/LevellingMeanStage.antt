@@ -24,7 +24,7 @@ use Rattle.passes.specs.Levels.{levelled, checkLevels, levels}
 use Rattle.passes.specs.Stages.{levelStage}
 use Rattle.passes.specs.Calls.{sizes, written}
 use Rattle.resolve.specs.declared.Grammar.{Grammar}
-use Rattle.precedence.specs.Ids.{idsIn}
+use Rattle.grades.specs.Ids.{idsIn}
 use Rattle.levels.specs.declared.Room.{Room}
 use Rattle.levels.specs.declared.Written.{Written}
 use Rattle.levels.specs.declared.Levelled.{Levelled}

@@ -22,7 +22,7 @@ use Rattle.texts.specs.Table.{texts}
 use Rattle.passes.specs.Grades.{Graded, startsAnnotated, annotated, graded}
 use Rattle.passes.specs.Levels.{decimalFrom, Group, groupsOf, levelsOf, substituted, withFallThrough, levelItems, levelled}
 use Rattle.passes.specs.Sizes.{each}
-use Rattle.precedence.specs.Grade.{levelDigits}
+use Rattle.grades.specs.Grade.{levelDigits}
 use Rattle.precedence.specs.Names.{levelText, describedText, describedTexts}
 use Rattle.levels.specs.Fresh.{tooLong}
 use Rattle.levels.specs.Names.{groupNames}

@@ -17,10 +17,10 @@ use Rattle.passes.specs.Grades.{Graded}
 use Rattle.passes.specs.Levels.{insert, levelsOf, ofLevel}
 use Rattle.laws.specs.Sort.{Ascends, often, keyOf, levelKeys, byLevels}
 use Rattle.laws.proofs.Levels.{levels-hold}
-use Rattle.precedence.specs.Grade.{assocOf}
-use Rattle.precedence.specs.Sort.{keysAt, levelAt, GroupEnd}
-use Rattle.precedence.proofs.AscendsMean.{codeOf, side-few}
-use Rattle.precedence.proofs.SortLaws.{length-keys, keys-take, keys-drop}
+use Rattle.grades.specs.Grade.{assocOf}
+use Rattle.grades.specs.Sort.{keysAt, levelAt, GroupEnd}
+use Rattle.grades.proofs.AscendsMean.{codeOf, side-few}
+use Rattle.grades.proofs.SortLaws.{length-keys, keys-take, keys-drop}
 use Rattle.precedence.proofs.WriteLaws.{fits-or-not}
 
 -- ---- how many keys there are

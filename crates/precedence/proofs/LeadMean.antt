@@ -24,15 +24,15 @@ use Rattle.passes.specs.Outcome.{withAttributes}
 use Rattle.passes.specs.Grades.{Side, all, non, left, right, precedence, assoc, valueOf, isGiven, levelOf, sideOf, withoutFirst, withLevels, Graded, withSides}
 use Rattle.passes.specs.Levels.{levelsOf, ofLevel}
 use Rattle.laws.specs.Sort.{keyOf, levelKeys}
-use Rattle.precedence.specs.declared.Assoc.{Assoc}
-use Rattle.precedence.specs.Grade.{assocOf}
-use Rattle.precedence.specs.Sort.{keysAt}
-use Rattle.precedence.specs.Alternatives.{sideNumber}
+use Rattle.grades.specs.declared.Assoc.{Assoc}
+use Rattle.grades.specs.Grade.{assocOf}
+use Rattle.grades.specs.Sort.{keysAt}
+use Rattle.grades.specs.Alternatives.{sideNumber}
+use Rattle.grades.proofs.AscendsMean.{codeOf, side-few}
+use Rattle.grades.proofs.AlternativesLaws.{level-of-small}
+use Rattle.grades.proofs.AlternativesWholeMean.{placesFrom}
+use Rattle.grades.proofs.LowestMean.{SpanAt}
 use Rattle.precedence.specs.Level.{keySide, keyPlace, keyEnd}
-use Rattle.precedence.proofs.AscendsMean.{codeOf, side-few}
-use Rattle.precedence.proofs.AlternativesLaws.{level-of-small}
-use Rattle.precedence.proofs.AlternativesWholeMean.{placesFrom}
-use Rattle.precedence.proofs.LowestMean.{SpanAt}
 use Rattle.precedence.proofs.SubstituteMean.{sideMeant}
 use Rattle.precedence.proofs.WriteLaws.{fits-or-not}
 use Rattle.precedence.proofs.LevelKeysMean.{sideCode, key-reads, KeyMeans, KeysMean}

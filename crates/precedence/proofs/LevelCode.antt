@@ -13,7 +13,7 @@ use Rattle.octets.specs.plain.Runs.{part}
 use Rattle.octets.specs.working.Stores.{store}
 use Rattle.octets.proofs.NumbersLaws.{length-le}
 use Rattle.texts.proofs.TableStays.{part-agree}
-use Rattle.precedence.specs.Annotations.{firstAlternative}
+use Rattle.grades.specs.Annotations.{firstAlternative}
 use Rattle.precedence.specs.Write.{Puts}
 use Rattle.precedence.specs.Level.{namedOut, nonterminalOut}
 use Rattle.precedence.proofs.WriteLaws.{puts-beside, puts-on, puts-append, puts-whole, puts-not}

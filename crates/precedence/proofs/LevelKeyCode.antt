@@ -11,10 +11,10 @@ use borrow.Author.Tests.{eq-eqb, ne-eqb}
 use lib.ListN.{length, getD}
 use Rattle.octets.specs.working.Choice.{pick}
 use Rattle.octets.specs.plain.Numbers.{leAt}
-use Rattle.precedence.specs.declared.Assoc.{Assoc}
-use Rattle.precedence.specs.declared.Ids.{Ids}
+use Rattle.grades.specs.declared.Assoc.{Assoc}
+use Rattle.grades.specs.declared.Ids.{Ids}
+use Rattle.grades.specs.Annotations.{attributesLong, Annotates, conditionsFrom, symbolsFrom}
 use Rattle.precedence.specs.declared.level.Level.{Level}
-use Rattle.precedence.specs.Annotations.{attributesLong, Annotates, conditionsFrom, symbolsFrom}
 use Rattle.precedence.specs.Write.{PutsRenamed}
 use Rattle.precedence.specs.Level.{keySide, keyEntry, keyPlace, keyEnd, KeyInside, PutsKey}
 

@@ -11,9 +11,9 @@ use lib.ListN.{length, getD}
 use Rattle.octets.specs.plain.Numbers.{leAt}
 use Rattle.texts.proofs.TableStays.{leAt-agree}
 use Rattle.resolve.specs.Whole.{Apart}
-use Rattle.precedence.specs.declared.Ids.{Ids}
+use Rattle.grades.specs.declared.Ids.{Ids}
+use Rattle.grades.specs.Annotations.{conditionsFrom, symbolsFrom}
 use Rattle.precedence.specs.declared.level.Level.{Level}
-use Rattle.precedence.specs.Annotations.{conditionsFrom, symbolsFrom}
 use Rattle.precedence.specs.Write.{Puts}
 use Rattle.precedence.specs.Level.{keyEntry, keyPlace, keyEnd, KeyInside, PutsKey, PutsKeys, PutsAlternatives, KeysInside}
 use Rattle.precedence.proofs.WriteLaws.{puts-beside, puts-on, puts-upto}

@@ -20,13 +20,13 @@ use Rattle.laws.proofs.Flat.{syms-fit}
 use Rattle.resolve.specs.Whole.{Apart}
 use Rattle.resolve.proofs.CellsLaws.{lies-agree}
 use Rattle.octets.specs.working.Choice.{pick}
-use Rattle.precedence.specs.declared.Assoc.{Assoc}
+use Rattle.grades.specs.declared.Assoc.{Assoc}
+use Rattle.grades.specs.Annotations.{firstWith, firstIndex}
+use Rattle.grades.specs.Ids.{idOf, idsIn}
+use Rattle.grades.proofs.AlternativesMean.{alternative-means as read-means}
 use Rattle.precedence.specs.declared.level.Level.{Level}
-use Rattle.precedence.specs.Annotations.{firstWith}
-use Rattle.precedence.specs.Ids.{idOf, idsIn}
-use Rattle.precedence.specs.Write.{Puts, firstIndex}
+use Rattle.precedence.specs.Write.{Puts}
 use Rattle.precedence.specs.Level.{keySide, keyEntry, keyPlace, keyEnd, KeyInside, PutsKey, PutsKeys, KeysInside}
-use Rattle.precedence.proofs.AlternativesMean.{alternative-means as read-means}
 use Rattle.precedence.proofs.SubstituteMean.{sideMeant}
 use Rattle.precedence.proofs.WriteLaws.{fits-or-not, puts-beside, puts-on, puts-upto, puts-append, puts-none}
 use Rattle.precedence.proofs.WriteWholeMean.{symbols-upto, alternative-means}

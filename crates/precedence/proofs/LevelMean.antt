@@ -16,10 +16,10 @@ use Rattle.parse_tree.specs.working.Nodes.{nodeBytes, spanBytes}
 use Rattle.parse_tree.specs.working.Encode.{nonterminalNode, argumentBytes}
 use Rattle.passes.specs.Outcome.{withAlternatives, withName}
 use Rattle.resolve.proofs.GrammarLaws.{Headed}
-use Rattle.precedence.specs.Annotations.{firstAlternative}
+use Rattle.grades.specs.Annotations.{firstAlternative}
+use Rattle.grades.proofs.AlternativesMean.{first-means}
 use Rattle.precedence.specs.Level.{namedOut, nonterminalOut}
 use Rattle.precedence.proofs.WriteMean.{span-long}
-use Rattle.precedence.proofs.AlternativesMean.{first-means}
 
 five-parts : (X N F M A : List ℕ) → (X ++ (N ++ F)) ++ (M ++ A) ≡ (X ++ (N ++ (F ++ M))) ++ A
 five-parts X N F M A =

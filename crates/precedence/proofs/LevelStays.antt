@@ -16,10 +16,11 @@ use Rattle.octets.proofs.NumbersLaws.{length-le}
 use Rattle.octets.proofs.PartLaws.{part-length}
 use Rattle.octets.proofs.StoreLaws.{length-store, getD-store-before, getD-store-after}
 use Rattle.resolve.specs.Commands.{longOf}
-use Rattle.precedence.specs.declared.Assoc.{Assoc}
+use Rattle.grades.specs.declared.Assoc.{Assoc}
+use Rattle.grades.specs.Skip.{namesAt}
+use Rattle.grades.specs.Annotations.{conditionsFrom, symbolsFrom}
 use Rattle.precedence.specs.declared.substitute.Marks.{Marks}
-use Rattle.precedence.specs.Substitute.{namesAt, markedAt, replaceOut, replaceAll, nameOut, substituteOut}
-use Rattle.precedence.specs.Annotations.{conditionsFrom, symbolsFrom}
+use Rattle.precedence.specs.Substitute.{markedAt, replaceOut, replaceAll, nameOut, substituteOut}
 use Rattle.precedence.specs.Write.{keptBytes, headOut, fewerBy, strippedOut, PutsRenamed}
 use Rattle.precedence.proofs.WriteLaws.{fits-or-not, puts-beside}
 

@@ -10,9 +10,9 @@ use lib.ListN.{length}
 use Rattle.octets.specs.working.Choice.{pick}
 use Rattle.octets.specs.plain.Numbers.{leAt}
 use Rattle.texts.proofs.TableStays.{leAt-agree}
-use Rattle.precedence.specs.declared.Ids.{Ids}
+use Rattle.grades.specs.declared.Ids.{Ids}
+use Rattle.grades.specs.Annotations.{firstAlternative}
 use Rattle.precedence.specs.declared.level.Level.{Level}
-use Rattle.precedence.specs.Annotations.{firstAlternative}
 use Rattle.precedence.specs.Write.{Puts, fallBytes}
 use Rattle.precedence.specs.Level.{nonterminalOut, PutsAlternatives, KeysInside, levelCount, LevelInside, PutsLevel}
 use Rattle.precedence.proofs.WriteLaws.{puts-beside, puts-on, puts-upto, puts-none}

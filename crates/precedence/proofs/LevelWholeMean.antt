@@ -21,11 +21,11 @@ use Rattle.passes.specs.Grades.{Graded}
 use Rattle.passes.specs.Levels.{Group, lowerName, substitute, substituted, fallThrough, withFallThrough}
 use Rattle.resolve.specs.Whole.{Apart}
 use Rattle.resolve.proofs.GrammarLaws.{Headed}
+use Rattle.grades.specs.Ids.{idsIn}
+use Rattle.grades.proofs.AlternativesMean.{first-means}
 use Rattle.precedence.specs.declared.level.Level.{Level}
-use Rattle.precedence.specs.Ids.{idsIn}
 use Rattle.precedence.specs.Write.{Puts, fallBytes}
 use Rattle.precedence.specs.Level.{nonterminalOut, keyEnd, PutsKeys, levelCount, LevelInside, PutsLevel}
-use Rattle.precedence.proofs.AlternativesMean.{first-means}
 use Rattle.precedence.proofs.WriteLaws.{puts-beside, puts-on, puts-upto, puts-append}
 use Rattle.precedence.proofs.WriteMean.{fall-means}
 use Rattle.precedence.proofs.LevelMean.{head-means}

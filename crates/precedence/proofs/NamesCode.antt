@@ -11,8 +11,8 @@ use lib.ListN.{length, getD, length-append, List·getD-append}
 use lib.Seq.{ext-getD, getD-append-add}
 use Rattle.octets.specs.plain.Runs.{sameAs}
 use Rattle.octets.proofs.SameLaws.{sameAs-eq, eq-sameAs}
-use Rattle.precedence.specs.Grade.{levelDigits}
-use Rattle.precedence.proofs.DecimalLaws.{last, sizeBy, front, digits-front, size-is}
+use Rattle.grades.specs.Grade.{levelDigits}
+use Rattle.grades.proofs.DecimalLaws.{last, sizeBy, front, digits-front, size-is}
 
 -- ---- digit_at: the first i + k digits are those of q
 pub record Digiting (v i k q : ℕ) : Type 0 where

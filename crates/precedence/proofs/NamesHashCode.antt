@@ -26,7 +26,7 @@ use Rattle.texts.specs.Texts.{holder, placeAt, markedText, Whole}
 use Rattle.texts.specs.Table.{texts}
 use Rattle.texts.proofs.HashLaws.{from-none, from-more, step-small}
 use Rattle.texts.proofs.TextCode.{texts-at}
-use Rattle.precedence.specs.Grade.{levelDigits}
+use Rattle.grades.specs.Grade.{levelDigits}
 use Rattle.precedence.specs.Names.{Based, Spelled, BaseText, levelText, describedText, namedText}
 use Rattle.precedence.proofs.NamesCode.{unlike}
 

@@ -14,7 +14,8 @@ use Rattle.texts.specs.Fields.{markAt}
 use Rattle.texts.specs.Texts.{textsOf}
 use Rattle.texts.specs.Table.{Table, texts, linked}
 use Rattle.texts.proofs.TableFindCode.{linked-few, linked-many}
-use Rattle.precedence.specs.Grade.{levelDigits}
+use Rattle.grades.specs.Grade.{levelDigits}
+use Rattle.grades.specs.Grading.{Worded}
 use Rattle.precedence.specs.Names.{Naming, levelText, describedText, describedTexts, namedTexts}
 use Rattle.precedence.proofs.NamesHashCode.{named-table, named-described}
 
@@ -61,3 +62,7 @@ named-split s w m (suc d) =
     let x = describedText s w m (markAt w (m .base) k) in
     ap (namedTexts s w m) z ∙ ap (λ y. namedTexts s w m k ++ (y ∷ [])) (named-described s w m k (omega arith)) ∙ ap (λ ts. ts ++ (x ∷ [])) (named-split s w m d)
     ∙ append-assoc (texts s w m) (describedTexts s w m d) (x ∷ [])
+
+-- theorem: the texts of the table can be read while names are described
+pub naming-worded : (s w : List ℕ) (m : Map) (n : ℕ) → Naming s w m n → Worded s w m
+naming-worded s w m n g = record { room = omega (arith, g .upto, g .room); whole = g .whole }

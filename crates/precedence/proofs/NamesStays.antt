@@ -16,7 +16,7 @@ use Rattle.texts.specs.Table.{texts, Above, Agree}
 use Rattle.texts.proofs.ChainCode.{chained-same}
 use Rattle.texts.proofs.TextCode.{texts-at}
 use Rattle.texts.proofs.TableStays.{leAt-agree, whole-stays, texts-stay}
-use Rattle.precedence.specs.Grade.{levelDigits}
+use Rattle.grades.specs.Grade.{levelDigits}
 use Rattle.precedence.specs.Names.{Naming, NamesKept, levelText, describedText, namedText, namedTexts}
 use Rattle.precedence.proofs.NamesHashCode.{named-table, named-described}
 

@@ -14,9 +14,10 @@ use Rattle.octets.specs.working.Stores.{store}
 use Rattle.octets.proofs.StoreLaws.{length-store, store-append}
 use Rattle.octets.proofs.NumbersLaws.{length-le}
 use Rattle.resolve.specs.Commands.{longOf}
-use Rattle.precedence.specs.declared.Assoc.{Assoc}
+use Rattle.grades.specs.declared.Assoc.{Assoc}
+use Rattle.grades.specs.Skip.{namesAt}
 use Rattle.precedence.specs.declared.substitute.Marks.{Marks}
-use Rattle.precedence.specs.Substitute.{namesAt, markedAt, replaceOut, Replaces, nameOut, replaceAll, substituteOut}
+use Rattle.precedence.specs.Substitute.{markedAt, replaceOut, Replaces, nameOut, replaceAll, substituteOut}
 
 -- ---- names
 module _ (wd target : ℕ) (w : List ℕ) (at : ℕ) where

@@ -25,7 +25,7 @@ use Rattle.laws.proofs.Flat.{SymsFits}
 use Rattle.laws.proofs.Patch.{store-same}
 use Rattle.laws.proofs.Rename.{number-tells, renamed-syms}
 use Rattle.resolve.proofs.CellsLaws.{store-past, store-over}
-use Rattle.precedence.specs.declared.Assoc.{Assoc}
+use Rattle.grades.specs.declared.Assoc.{Assoc}
 use Rattle.precedence.specs.declared.substitute.Marks.{Marks}
 use Rattle.precedence.specs.Substitute.{markedAt, nameOut, replaceAll, substituteOut}
 use Rattle.precedence.proofs.SubstituteRuns.{related-all, mark, run-fold, Moves, Meets, kept-by}

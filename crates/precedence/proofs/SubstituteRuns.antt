@@ -25,10 +25,11 @@ use Rattle.laws.specs.Rename.{renameLeaf, rename}
 use Rattle.laws.proofs.Flat.{SymsFits, step, lies-kept, fold-step}
 use Rattle.octets.proofs.StoreLaws.{store-drop}
 use Rattle.resolve.specs.Commands.{longOf}
+use Rattle.grades.specs.Skip.{namesAt}
+use Rattle.grades.proofs.CodesMean.{nodeNames, first-codes}
 use Rattle.precedence.specs.declared.substitute.Marks.{Marks}
-use Rattle.precedence.specs.Substitute.{namesAt, markedAt, replaceOut}
+use Rattle.precedence.specs.Substitute.{markedAt, replaceOut}
 use Rattle.precedence.proofs.SubstituteCode.{replace-end}
-use Rattle.precedence.proofs.CodesMean.{nodeNames, first-codes}
 
 -- ---- two folds
 module _ (wd : ℕ) (ts : List Text) {A B : Type 0} (f : A → ℕ → Node → A) (g : B → ℕ → Node → B) (R : ℕ → A → B → Type 0) (e : ℕ) where

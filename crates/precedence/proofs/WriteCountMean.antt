@@ -14,7 +14,8 @@ use Rattle.octets.proofs.SameLaws.{sameAs-eq}
 use Rattle.parse_tree.specs.plain.Tree.{Text, Attribute}
 use Rattle.parse_tree.specs.plain.WriteTape.{bytesOfEach}
 use Rattle.passes.specs.Grades.{precedence, assoc, withoutFirst}
-use Rattle.precedence.specs.Write.{firstIndex, fewerBy}
+use Rattle.grades.specs.Annotations.{firstIndex}
+use Rattle.precedence.specs.Write.{fewerBy}
 use Rattle.precedence.proofs.WriteMean.{first-here, first-later}
 
 -- items of one length

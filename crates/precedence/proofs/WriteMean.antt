@@ -23,7 +23,8 @@ use Rattle.parse_tree.specs.declared.syntax.Span.{Span}
 use Rattle.parse_tree.specs.declared.syntax.Node.{Node}
 use Rattle.passes.specs.Grades.{precedence, assoc, withoutFirst}
 use Rattle.passes.specs.Levels.{fallThrough}
-use Rattle.precedence.specs.Write.{keptOne, keptBytes, singleHead, fallBytes, firstIndex, butTwo}
+use Rattle.grades.specs.Annotations.{firstIndex}
+use Rattle.precedence.specs.Write.{keptOne, keptBytes, singleHead, fallBytes, butTwo}
 
 -- ---- attributes
 pub attribute-long : (wd : ℕ) (ts : List Text) (a : Attribute) → length (attributeBytes wd ts a) ≡ 2 + 3 * wd

@@ -14,11 +14,11 @@ use Rattle.octets.specs.working.Choice.{pick}
 use Rattle.octets.specs.plain.Runs.{part}
 use Rattle.octets.specs.working.Stores.{store}
 use Rattle.texts.proofs.TableStays.{part-agree}
-use Rattle.precedence.specs.declared.Assoc.{Assoc}
+use Rattle.grades.specs.declared.Assoc.{Assoc}
+use Rattle.grades.specs.Annotations.{conditionsFrom, symbolsFrom}
+use Rattle.grades.proofs.AnnotationsCode.{times-attributes}
 use Rattle.precedence.specs.Substitute.{substituteOut}
-use Rattle.precedence.specs.Annotations.{conditionsFrom, symbolsFrom}
 use Rattle.precedence.specs.Write.{Puts, keptBytes, headOut, fewerBy, strippedOut, PutsRenamed}
-use Rattle.precedence.proofs.AnnotationsCode.{times-attributes}
 use Rattle.precedence.proofs.WriteLaws.{puts-beside, puts-on, puts-upto, puts-append, puts-whole, puts-not}
 use Rattle.precedence.proofs.WriteCode.{kept-agree}
 

@@ -8,10 +8,10 @@ use lib.ListN.{length, getD}
 use Rattle.octets.specs.working.Choice.{pick}
 use Rattle.octets.specs.plain.Numbers.{leAt, le}
 use Rattle.octets.specs.plain.Runs.{part}
-use Rattle.precedence.specs.declared.Assoc.{Assoc}
-use Rattle.precedence.specs.declared.Ids.{Ids}
+use Rattle.grades.specs.declared.Assoc.{Assoc}
+use Rattle.grades.specs.declared.Ids.{Ids}
+use Rattle.grades.specs.Annotations.{firstWith, firstAlternative, symbolsFrom}
 use Rattle.precedence.specs.declared.level.Level.{Level}
-use Rattle.precedence.specs.Annotations.{firstWith, firstAlternative, symbolsFrom}
 use Rattle.resolve.specs.Whole.{Apart}
 use Rattle.precedence.specs.Write.{Puts, fallBytes, PutsRenamed}
 

@@ -1,12 +1,5 @@
 -- What the contracts of precedence cite. They follow the code on the list of bytes that work is; what they mean on trees is proved in proofs/*Mean.antt.
-pub mod Alternatives
-pub mod Annotations
-pub mod Grade
-pub mod Grading
-pub mod Ids
 pub mod Level
 pub mod Names
-pub mod Skip
-pub mod Sort
 pub mod Substitute
 pub mod Write

@@ -13,8 +13,8 @@ use Rattle.texts.specs.Hash.{hashOf}
 use Rattle.texts.specs.Fields.{markAt, hashAt, cellAt, Chained}
 use Rattle.texts.specs.Texts.{markedText, Whole}
 use Rattle.texts.specs.Table.{texts, Above, Is}
+use Rattle.grades.specs.Grade.{levelDigits}
 use Rattle.precedence.specs.declared.names.LevelName.{LevelName}
-use Rattle.precedence.specs.Grade.{levelDigits}
 
 -- the name of a level: the text of number b, then the level's digits
 unfoldable pub levelText : List ℕ → List ℕ → Map → ℕ → ℕ → Text

@@ -1,21 +1,17 @@
 -- Occurrences of a nonterminal renamed where they stand in work, as `substitute` goes. wd is the width of an atom's number in bytes. Assumes nothing:
 -- these are definitions.
 use mathlib.Core.Path.{_≡_}
-use mathlib.Core.Bool.{Bool, false}
 use mathlib.Core.List.{List}
 use Prim.Native.Nat.{ℕ, zero, suc, _+_}
 use lib.Dec.{leb, ltb, eqb}
 use lib.ListN.{getD}
 use Rattle.octets.specs.working.Choice.{pick}
-use Rattle.octets.specs.plain.Numbers.{leAt, le}
+use Rattle.octets.specs.plain.Numbers.{le}
 use Rattle.octets.specs.working.Stores.{store}
 use Rattle.resolve.specs.Commands.{longOf}
-use Rattle.precedence.specs.declared.Assoc.{Assoc}
+use Rattle.grades.specs.declared.Assoc.{Assoc}
+use Rattle.grades.specs.Skip.{namesAt}
 use Rattle.precedence.specs.declared.substitute.Marks.{Marks}
-
--- whether the command at a place is an occurrence of the nonterminal `target`
-unfoldable pub namesAt : ℕ → ℕ → List ℕ → ℕ → Bool
-namesAt wd target w at = pick (eqb (getD w at 0) 36) (eqb (leAt wd w (at + 9)) target) false
 
 -- one more occurrence, at p; e is no occurrence's place
 unfoldable pub markedAt : ℕ → ℕ → Marks → Marks

@@ -1,6 +1,5 @@
 -- What is written behind what is written so far, before a limit. wd is the width of an atom's number in bytes. Assumes nothing: these are definitions.
 use mathlib.Core.Path.{_≡_}
-use mathlib.Core.Bool.{cond}
 use mathlib.Core.Logic.{_⊎_}
 use mathlib.Core.List.{List, [], _∷_, _++_}
 use Prim.Native.Nat.{ℕ, zero, suc, _+_, _-_, _*_, _≤_, _<_}
@@ -8,11 +7,11 @@ use lib.Dec.{leb, eqb}
 use lib.ListN.{length, getD}
 use Rattle.octets.specs.working.Choice.{pick}
 use Rattle.octets.specs.plain.Numbers.{le}
-use Rattle.octets.specs.plain.Runs.{part, sameAs}
+use Rattle.octets.specs.plain.Runs.{part}
 use Rattle.octets.specs.working.Stores.{store}
-use Rattle.parse_tree.specs.plain.Tree.{Text, Attribute}
-use Rattle.precedence.specs.declared.Assoc.{Assoc}
-use Rattle.precedence.specs.Annotations.{conditionsFrom, symbolsFrom}
+use Rattle.parse_tree.specs.plain.Tree.{Attribute}
+use Rattle.grades.specs.declared.Assoc.{Assoc}
+use Rattle.grades.specs.Annotations.{conditionsFrom, symbolsFrom}
 use Rattle.precedence.specs.Substitute.{substituteOut}
 
 -- xs, put to w from `to` on, leaves w′ and the cursor r: all of it, or some bytes from `to` up to lim
@@ -61,11 +60,6 @@ pub record PutsRenamed (wd : ℕ) (w : List ℕ) (p e i j target here below : �
   pub renamed : w′ ≡ pick (leb r lim) (substituteOut wd work (r - (e - symbolsFrom wd w p)) r target here below side) work
 
 -- ---- what they mean
-
--- the index of the first attribute of an id; how many there are where none has it
-unfoldable pub firstIndex : Text → List Attribute → ℕ
-firstIndex id [] = 0
-firstIndex id (a ∷ rest) = cond (sameAs id (a .id)) 0 (suc (firstIndex id rest))
 
 -- attributes, of which the first has the index k, but those of two indices
 unfoldable pub butTwo : ℕ → ℕ → ℕ → List Attribute → List Attribute

@@ -1,12 +1,12 @@
 // The nonterminal of one level, written behind what is written so far, as module write does it.
-use crate::Assoc;
-use crate::Ids;
-use crate::annotations::annotations;
-use crate::annotations::first_alternative;
 use crate::substitute::put_atom;
 use crate::write::fall_through;
 use crate::write::put_alternative;
 use crate::write::put_run;
+use grades::Assoc;
+use grades::Ids;
+use grades::annotations::annotations;
+use grades::annotations::first_alternative;
 use octets::numbers::atom_at;
 use octets::numbers::u64_at;
 use octets::wide::from8;
@@ -14,7 +14,7 @@ ghost use mathlib.Core.Path.{_≡_};
 ghost use Prim.Native.Nat.{_+_, _-_, _*_, _≤_, _<_};
 ghost use lib.ListN.{length};
 ghost use Rattle.octets.specs.plain.Numbers.{leAt, le};
-ghost use Rattle.precedence.specs.Annotations.{firstAlternative};
+ghost use Rattle.grades.specs.Annotations.{firstAlternative};
 ghost use Rattle.precedence.specs.Write.{Puts};
 ghost use Rattle.precedence.specs.Level.{namedOut, nonterminalOut, keySide, KeyInside, PutsKey, KeysInside, PutsAlternatives, levelCount, LevelInside, PutsLevel};
 

@@ -1,6 +1,6 @@
 // The name of a level: the nonterminal's name, then the level in decimal. It has no bytes yet: its record's mark is the number of the nonterminal's name, times 2^32, and the level.
-use crate::grade::decimal_size;
-use crate::grade::digit;
+use grades::grade::decimal_size;
+use grades::grade::digit;
 use octets::wide::from32;
 use texts::Found;
 use texts::Map;
@@ -20,7 +20,7 @@ ghost use lib.ListN.{length, getD};
 ghost use Rattle.octets.specs.plain.Runs.{sameAs};
 ghost use Rattle.texts.specs.Hash.{hashFrom, hashOf};
 ghost use Rattle.texts.specs.Table.{Finds};
-ghost use Rattle.precedence.specs.Grade.{levelDigits};
+ghost use Rattle.grades.specs.Grade.{levelDigits};
 ghost use Rattle.precedence.specs.Names.{Naming, Based, Spelled, BaseText, Describing, Described, LevelNamed, levelText, namedText, namedTexts};
 
 // The number of a text, and how many there are then.

@@ -1,5 +1,5 @@
 // Occurrences of a nonterminal among symbols that stand in work, renamed where they stand: all to one name, then the first or the last to another.
-use crate::Assoc;
+use grades::Assoc;
 use octets::numbers::atom_at;
 use octets::numbers::store16;
 use resolve::commands::long;
@@ -8,7 +8,8 @@ ghost use Prim.Native.Nat.{_+_, _≤_};
 ghost use lib.ListN.{length};
 ghost use Rattle.octets.specs.plain.Numbers.{le};
 ghost use Rattle.octets.specs.working.Stores.{store};
-ghost use Rattle.precedence.specs.Substitute.{namesAt, markedAt, Replaces, replaceAll, nameOut, substituteOut};
+ghost use Rattle.grades.specs.Skip.{namesAt};
+ghost use Rattle.precedence.specs.Substitute.{markedAt, Replaces, replaceAll, nameOut, substituteOut};
 
 // Where the first and the last occurrence stood; the place behind the symbols where there was none.
 pub struct Marks {

@@ -1,8 +1,8 @@
 // An alternative of one level, written behind what is written so far. What does not fit before lim is not written, and the cursor stops at lim + 1.
-use crate::Assoc;
-use crate::annotations::symbols;
 use crate::substitute::put_atom;
 use crate::substitute::substitute;
+use grades::Assoc;
+use grades::annotations::symbols;
 use octets::numbers::store16;
 use octets::numbers::store64;
 use octets::numbers::u64_at;
@@ -14,7 +14,7 @@ ghost use lib.ListN.{length};
 ghost use Rattle.octets.specs.plain.Numbers.{leAt, le};
 ghost use Rattle.octets.specs.plain.Runs.{part};
 ghost use Rattle.octets.specs.working.Stores.{store};
-ghost use Rattle.precedence.specs.Annotations.{conditionsFrom, symbolsFrom};
+ghost use Rattle.grades.specs.Annotations.{conditionsFrom, symbolsFrom};
 ghost use Rattle.precedence.specs.Write.{Puts, keptOne, keptBytes, singleHead, fallBytes, headOut, fewerBy, strippedOut, PutsRenamed};
 
 // The bytes from a up to e, to a place behind them.

@@ -22,7 +22,7 @@ use Rattle.passes.specs.Levels.{levelled, checkLevels}
 use Rattle.passes.specs.Stages.{levelStage}
 use Rattle.passes.specs.Calls.{sizes}
 use Rattle.resolve.specs.declared.Grammar.{Grammar}
-use Rattle.precedence.specs.Ids.{idsIn}
+use Rattle.grades.specs.Ids.{idsIn}
 use Rattle.precedence.specs.Names.{Naming}
 use Rattle.levels.specs.declared.Room.{Room}
 use Rattle.levels.specs.declared.Written.{Written}

@@ -10,9 +10,9 @@ use Rattle.levels.proofs.expand.write_levels.Reads as write-levels-read
 use Rattle.octets.proofs.numbers.u16_at.Reads as u16-at-reads
 use Rattle.octets.proofs.wide.from16.Reads as from16-reads
 use Rattle.octets.proofs.wide.from32.Reads as from32-reads
-use Rattle.precedence.proofs.alternatives.grade.Reads as grade-reads
-use Rattle.precedence.proofs.alternatives.lowest.Reads as lowest-reads
-use Rattle.precedence.proofs.annotations.first_alternative.Reads as first-alternative-reads
+use Rattle.grades.proofs.alternatives.grade.Reads as grade-reads
+use Rattle.grades.proofs.alternatives.lowest.Reads as lowest-reads
+use Rattle.grades.proofs.annotations.first_alternative.Reads as first-alternative-reads
 
 add-u16-at : tie.Need-add-u16-at
 add-u16-at c = search heading

@@ -10,7 +10,7 @@ use Rattle.octets.proofs.numbers.atom_at.Reads as atom-at-reads
 use Rattle.octets.proofs.numbers.u64_at.Reads as u64-at-reads
 use Rattle.octets.proofs.wide.from32.Reads as from32-reads
 use Rattle.precedence.proofs.level.write_level.Reads as write-level-reads
-use Rattle.precedence.proofs.sort.group_end.Reads as group-end-reads
+use Rattle.grades.proofs.sort.group_end.Reads as group-end-reads
 
 group-end-requires : tie.Need-group-end-requires
 group-end-requires c κs = search needs

@@ -4,7 +4,7 @@ use Rattle.levels.proofs.expand.sorted.Statement.{statement}
 use Rattle.levels.proofs.expand.sorted.Tie as tie
 use Rattle.levels.proofs.expand.sorted.Reads as reads
 use Rattle.levels.proofs.expand.sorted.Lts as lts
-use Rattle.precedence.proofs.sort.sort.Reads as sort-reads
+use Rattle.grades.proofs.sort.sort.Reads as sort-reads
 
 returns : tie.Need-returns
 returns c = search sorting-keys

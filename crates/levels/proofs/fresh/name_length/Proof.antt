@@ -4,7 +4,7 @@ use Rattle.levels.proofs.fresh.name_length.Statement.{statement}
 use Rattle.levels.proofs.fresh.name_length.Tie as tie
 use Rattle.levels.proofs.fresh.name_length.Reads as reads
 use Rattle.levels.proofs.fresh.name_length.Lts as lts
-use Rattle.precedence.proofs.grade.decimal_size.Reads as decimal-size-reads
+use Rattle.grades.proofs.grade.decimal_size.Reads as decimal-size-reads
 use Rattle.precedence.proofs.names.base_text.Reads as base-text-reads
 use Rattle.texts.proofs.fields.mark.Reads as mark-reads
 

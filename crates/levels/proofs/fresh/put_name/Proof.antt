@@ -6,8 +6,8 @@ use Rattle.levels.proofs.fresh.put_name.Reads as reads
 use Rattle.levels.proofs.fresh.put_name.Lts as lts
 use Rattle.octets.proofs.numbers.store16.Reads as store16-reads
 use Rattle.octets.proofs.runs.copy.Reads as copy-reads
-use Rattle.precedence.proofs.grade.decimal_size.Reads as decimal-size-reads
-use Rattle.precedence.proofs.grade.put_decimal.Reads as put-decimal-reads
+use Rattle.grades.proofs.grade.decimal_size.Reads as decimal-size-reads
+use Rattle.grades.proofs.grade.put_decimal.Reads as put-decimal-reads
 use Rattle.precedence.proofs.names.base_text.Reads as base-text-reads
 use Rattle.texts.proofs.fields.mark.Reads as mark-reads
 

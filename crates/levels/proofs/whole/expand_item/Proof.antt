@@ -6,7 +6,7 @@ use Rattle.levels.proofs.whole.expand_item.Tie as tie
 use Rattle.levels.proofs.whole.expand_item.Reads as reads
 use Rattle.levels.proofs.whole.expand_item.Lts as lts
 use Rattle.levels.proofs.expand.expand_nonterm.Reads as expand-nonterm-reads
-use Rattle.precedence.proofs.annotations.has_prec_attr.Reads as has-prec-attr-reads
+use Rattle.grades.proofs.annotations.has_prec_attr.Reads as has-prec-attr-reads
 use Rattle.precedence.proofs.write.put_run.Reads as put-run-reads
 use Rattle.resolve.proofs.items.place.Reads as place-reads
 

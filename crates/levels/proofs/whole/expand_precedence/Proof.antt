@@ -5,7 +5,7 @@ use Rattle.levels.proofs.whole.expand_precedence.Tie as tie
 use Rattle.levels.proofs.whole.expand_precedence.Reads as reads
 use Rattle.levels.proofs.whole.expand_precedence.Lts as lts
 use Rattle.levels.proofs.whole.expand_item.Reads as expand-item-reads
-use Rattle.precedence.proofs.identify.ids.Reads as ids-reads
+use Rattle.grades.proofs.identify.ids.Reads as ids-reads
 
 abbrev Inv-loop : tie.InvT-loop
 Inv-loop tape work₀ m t room ids i₀ to₀ count₀ work i to count = Looping tape m t room work₀ ids i to count work

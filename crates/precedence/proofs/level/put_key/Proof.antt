@@ -6,7 +6,7 @@ use Rattle.precedence.proofs.level.put_key.Reads as reads
 use Rattle.precedence.proofs.level.put_key.Lts as lts
 use Rattle.octets.proofs.numbers.u64_at.Reads as u64-at-reads
 use Rattle.octets.proofs.wide.from8.Reads as from8-reads
-use Rattle.precedence.proofs.annotations.annotations.Reads as annotations-reads
+use Rattle.grades.proofs.annotations.annotations.Reads as annotations-reads
 use Rattle.precedence.proofs.level.side_of.Reads as side-of-reads
 use Rattle.precedence.proofs.write.put_alternative.Reads as put-alternative-reads
 

@@ -5,7 +5,7 @@ use Rattle.precedence.proofs.level.put_nonterminal_head.Statement.{stat
 use Rattle.precedence.proofs.level.put_nonterminal_head.Tie as tie
 use Rattle.precedence.proofs.level.put_nonterminal_head.Reads as reads
 use Rattle.precedence.proofs.level.put_nonterminal_head.Lts as lts
-use Rattle.precedence.proofs.annotations.first_alternative.Reads as first-alternative-reads
+use Rattle.grades.proofs.annotations.first_alternative.Reads as first-alternative-reads
 use Rattle.precedence.proofs.level.put_named.Reads as put-named-reads
 use Rattle.precedence.proofs.level.put_number.Reads as put-number-reads
 use Rattle.precedence.proofs.write.put_run.Reads as put-run-reads

@@ -4,7 +4,7 @@ use Rattle.precedence.proofs.names.add_digits.Statement.{statement}
 use Rattle.precedence.proofs.names.add_digits.Tie as tie
 use Rattle.precedence.proofs.names.add_digits.Reads as reads
 use Rattle.precedence.proofs.names.add_digits.Lts as lts
-use Rattle.precedence.proofs.grade.decimal_size.Reads as decimal-size-reads
+use Rattle.grades.proofs.grade.decimal_size.Reads as decimal-size-reads
 use Rattle.precedence.proofs.names.digit_at.Reads as digit-at-reads
 use Rattle.texts.proofs.hash.next.Reads as next-reads
 

@@ -3,8 +3,8 @@ use Rattle.precedence.proofs.names.digit_at.Statement.{statement}
 use Rattle.precedence.proofs.names.digit_at.Tie as tie
 use Rattle.precedence.proofs.names.digit_at.Reads as reads
 use Rattle.precedence.proofs.names.digit_at.Lts as lts
-use Rattle.precedence.proofs.grade.decimal_size.Reads as decimal-size-reads
-use Rattle.precedence.proofs.grade.digit.Reads as digit-reads
+use Rattle.grades.proofs.grade.decimal_size.Reads as decimal-size-reads
+use Rattle.grades.proofs.grade.digit.Reads as digit-reads
 
 abbrev Inv-loop : tie.InvT-loop
 Inv-loop v i k₀ q₀ k q = Digiting v i k q

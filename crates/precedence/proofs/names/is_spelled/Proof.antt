@@ -1,12 +1,12 @@
 use Prim.Native.Nat.{_-_}
 use mathlib.Core.List.{_++_}
-use Rattle.precedence.specs.Grade.{levelDigits}
+use Rattle.grades.specs.Grade.{levelDigits}
 use Rattle.precedence.proofs.NamesCode.{Alike, spelling}
 use Rattle.precedence.proofs.names.is_spelled.Statement.{statement}
 use Rattle.precedence.proofs.names.is_spelled.Tie as tie
 use Rattle.precedence.proofs.names.is_spelled.Reads as reads
 use Rattle.precedence.proofs.names.is_spelled.Lts as lts
-use Rattle.precedence.proofs.grade.decimal_size.Reads as decimal-size-reads
+use Rattle.grades.proofs.grade.decimal_size.Reads as decimal-size-reads
 use Rattle.precedence.proofs.names.is_byte.Reads as is-byte-reads
 
 abbrev Inv-loop : tie.InvT-loop

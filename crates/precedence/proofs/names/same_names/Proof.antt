@@ -1,12 +1,12 @@
 use Prim.Native.Nat.{_-_}
 use mathlib.Core.List.{_++_}
-use Rattle.precedence.specs.Grade.{levelDigits}
+use Rattle.grades.specs.Grade.{levelDigits}
 use Rattle.precedence.proofs.NamesCode.{Alike, comparing}
 use Rattle.precedence.proofs.names.same_names.Statement.{statement}
 use Rattle.precedence.proofs.names.same_names.Tie as tie
 use Rattle.precedence.proofs.names.same_names.Reads as reads
 use Rattle.precedence.proofs.names.same_names.Lts as lts
-use Rattle.precedence.proofs.grade.decimal_size.Reads as decimal-size-reads
+use Rattle.grades.proofs.grade.decimal_size.Reads as decimal-size-reads
 use Rattle.precedence.proofs.names.same_byte.Reads as same-byte-reads
 
 abbrev Inv-loop : tie.InvT-loop

@@ -6,7 +6,7 @@ use Rattle.precedence.proofs.write.put_alternative.Reads as reads
 use Rattle.precedence.proofs.write.put_alternative.Lts as lts
 use Rattle.precedence.proofs.substitute.substitute.Reads as substitute-reads
 use Rattle.precedence.proofs.write.put_parts.Reads as put-parts-reads
-use Rattle.precedence.proofs.annotations.symbols.Reads as symbols-reads
+use Rattle.grades.proofs.annotations.symbols.Reads as symbols-reads
 
 symbols-requires : tie.Need-symbols-requires
 symbols-requires c κs = search renaming-put
