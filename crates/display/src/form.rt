@@ -235,7 +235,7 @@ fn marked(f: Form, c: u8) -> Form
 }
 
 // What stands before the symbols straight inside that of the code c at a place, more.
-fn before<'a>(
+pub fn before<'a>(
     tape: &'a [u8],
     work: &'a [u8],
     m: Map,
@@ -272,7 +272,7 @@ fn before<'a>(
 }
 
 // What stands behind them, more.
-fn behind(work: &[u8], width: usize, at: usize, c: u8, f: Form) -> Form
+pub fn behind(work: &[u8], width: usize, at: usize, c: u8, f: Form) -> Form
     requires { ⌜ (at + longOf width c ≤ length (now work)) × SomeForm f ⌝ }
     ensures { λ r. ⌜ From f (behindBy (now (work .entry)) at c) r ⌝ }
 {
@@ -292,7 +292,7 @@ fn behind(work: &[u8], width: usize, at: usize, c: u8, f: Form) -> Form
 }
 
 // What stands before the k-th of them, more.
-fn separated(f: Form, c: u8, k: usize) -> Form
+pub fn separated(f: Form, c: u8, k: usize) -> Form
     requires { ⌜ SomeForm f ⌝ }
     ensures { λ r. ⌜ From f (betweenBy c k) r ⌝ }
 {

@@ -4,7 +4,7 @@ pub mod annotations;
 pub mod grade;
 mod grading;
 pub mod identify;
-mod skip;
+pub mod skip;
 pub mod sort;
 
 // Which occurrences of the nonterminal itself keep an alternative's level: the first, the last, none, all.

@@ -18,7 +18,7 @@ ghost use Rattle.grades.specs.Annotations.{conditionsFrom, symbolsFrom};
 ghost use Rattle.precedence.specs.Write.{Puts, keptOne, keptBytes, singleHead, fallBytes, headOut, fewerBy, strippedOut, PutsRenamed};
 
 // The bytes from a up to e, to a place behind them.
-fn copy_within(work: &mut [u8], a: usize, e: usize, to: usize)
+pub fn copy_within(work: &mut [u8], a: usize, e: usize, to: usize)
     requires { ⌜ (a ≤ e) × (e ≤ to) × (to + (e - a) ≤ length (now work)) ⌝ }
     ensures { λ _. ⌜ now (work .exit) ≡ store (now (work .entry)) to (part a e (now (work .entry))) ⌝ }
 {
@@ -96,7 +96,7 @@ pub fn put_attributes(
 }
 
 // A code and a span.
-fn put_command(work: &mut [u8], code: u8, span: u64, to: usize)
+pub fn put_command(work: &mut [u8], code: u8, span: u64, to: usize)
     requires { ⌜ to + 9 ≤ length (now work) ⌝ }
     ensures { λ _. ⌜ now (work .exit) ≡ store (now (work .entry)) to (code ∷ le 8 span) ⌝ }
 {
@@ -116,7 +116,7 @@ fn put_single(work: &mut [u8], span: u64, width: usize, to: usize)
 }
 
 // The nonterminal `below` as a symbol.
-fn put_nonterminal(work: &mut [u8], span: u64, below: u32, width: usize, to: usize)
+pub fn put_nonterminal(work: &mut [u8], span: u64, below: u32, width: usize, to: usize)
     requires { ⌜ (2 ≤ width) × (width ≤ 3) × (to + (9 + width) ≤ length (now work)) ⌝ }
     ensures { λ _. ⌜ now (work .exit) ≡ store (now (work .entry)) to (36 ∷ (le 8 span ++ le width below)) ⌝ }
 {

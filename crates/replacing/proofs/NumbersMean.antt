@@ -78,7 +78,7 @@ module _ (at : ℕ → Sym) (Here : ℕ → Type 0) (ts : List Text) (d : distin
   pr p = print (at p)
 
   -- firsts that print alike are one
-  firsts-one : (p q : ℕ) (qs : List ℕ) → distinct (map pr qs) ≡ true → among p qs ≡ true → among q qs ≡ true → pr p ≡ pr q → p ≡ q
+  pub firsts-one : (p q : ℕ) (qs : List ℕ) → distinct (map pr qs) ≡ true → among p qs ≡ true → among q qs ≡ true → pr p ≡ pr q → p ≡ q
   unfolding among distinct
   firsts-one p q [] u i j e = absurd (false≢true i)
   firsts-one p q (r ∷ qs) u i j e = go (eqb r p) refl i (eqb r q) refl j (firsts-one p q qs (c .1))
@@ -138,7 +138,8 @@ module _ (at : ℕ → Sym) (Here : ℕ → Type 0) (ts : List Text) (d : distin
   abbrev pub Noted : ℕ → Slots → Type 0
   Noted p x = among p (map (λ (r : ℕ × Ref). r .0) (x .refs)) ≡ true
 
-  ref-good : (qs : List ℕ) (p : ℕ) (rs : List (ℕ × Ref)) → Each (λ (r : ℕ × Ref). Good at Here ts d qs (r .0) (r .1)) rs → among p (map (λ (r : ℕ × Ref). r .0) rs) ≡ true → Good at Here ts d qs p (refAt p rs)
+  -- its reference is good
+  pub ref-good : (qs : List ℕ) (p : ℕ) (rs : List (ℕ × Ref)) → Each (λ (r : ℕ × Ref). Good at Here ts d qs (r .0) (r .1)) rs → among p (map (λ (r : ℕ × Ref). r .0) rs) ≡ true → Good at Here ts d qs p (refAt p rs)
   unfolding among refAt
   ref-good qs p [] h i = absurd (false≢true i)
   ref-good qs p (r ∷ rs) h i = go (eqb (r .0) p) refl i (ref-good qs p rs (h .1))
