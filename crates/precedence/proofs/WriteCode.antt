@@ -68,7 +68,7 @@ module _ (w : List ℕ) (a e to : ℕ) (out : List ℕ) (i q : ℕ) (g : Moving 
 pub ruleset moving = (needs, moving-start, moving-room, moving-inside, moving-next, moving-done, moving-same)
 
 -- ---- put_run
-module _ (w : List ℕ) (a e lim to : ℕ) (h : a ≤ e) (k : e ≤ to) (l : lim + 16 ≤ length w) where
+module _ (w : List ℕ) (a e lim to : ℕ) (h : a ≤ e) (k : e ≤ to) (l : lim ≤ length w) where
   pub run-behind : lim < to → Puts w lim to (part a e w) (lim + 1) w
   run-behind z = puts-not w lim to (part a e w) (omega arith)
 

@@ -33,7 +33,7 @@ pub fn copy_within(work: &mut [u8], a: usize, e: usize, to: usize)
 
 // The bytes from a up to e, if they end at lim or before.
 pub fn put_run(work: &mut [u8], a: usize, e: usize, lim: usize, to: usize) -> usize
-    requires { ⌜ (a ≤ e) × (e ≤ to) × (lim + 16 ≤ length (now work)) ⌝ }
+    requires { ⌜ (a ≤ e) × (e ≤ to) × (lim ≤ length (now work)) ⌝ }
     ensures { λ r. ⌜ Puts (now (work .entry)) lim to (part a e (now (work .entry))) r (now (work .exit)) ⌝ }
 {
     if lim < to {
