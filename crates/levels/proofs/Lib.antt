@@ -15,7 +15,6 @@ pub mod StepMeanNames
 pub mod StepMean
 pub mod StepMeanWrote
 mod SmallCode
-pub mod ThereBytes
 pub mod WroteLaws
 mod LevelsCode
 mod WholeMean

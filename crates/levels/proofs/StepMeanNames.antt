@@ -27,7 +27,7 @@ use Rattle.precedence.proofs.NamesMean.{level-text-is, named-split}
 use Rattle.precedence.proofs.NamesStays.{names-above}
 use Rattle.levels.specs.declared.Room.{Room}
 use Rattle.levels.specs.Expand.{NamesLevel, NamesAt}
-use Rattle.levels.proofs.Texts.{new-has}
+use Rattle.replacing.proofs.ThereBytes.{new-has}
 use Rattle.levels.proofs.Digits.{precedence-not-new, assoc-not-new}
 
 -- theorem: the texts with names described begin with the table's

@@ -8,22 +8,13 @@ use Rattle.parse_tree.specs.plain.Tree.{Text, Nonterminal, Item, item}
 use Rattle.parse_tree.specs.plain.Texts.{has, withNew}
 use Rattle.parse_tree.specs.plain.References.{textsOfEach, alternativeTexts, itemTexts}
 use Rattle.parse_tree.specs.working.Within.{Each, NonterminalWithin, ItemWithin}
-use Rattle.parse_tree.proofs.AmongLaws.{has-here, has-behind}
 use Rattle.passes.specs.Grades.{Graded, annotated, graded}
 use Rattle.passes.specs.Levels.{levelsOf, ofLevel, Group, levelName, groupsOf, substitute, substituted, fallThrough, withFallThrough, levelItems, levelled}
 use Rattle.replacing.proofs.Going.{Extends, extends-refl, extends-trans, extends-has, new-extends, new-append, new-there}
+use Rattle.replacing.proofs.ThereBytes.{new-has}
 use Rattle.levels.specs.Names.{groupNames, levelNames}
 use Rattle.levels.proofs.Graded.{GradedWithin, of-level-each, graded-within}
 use Rattle.levels.proofs.There.{texts-append, LowerIn, item-there, level-there}
-
--- theorem: a text that was entered is known
-pub new-has : (us : List Text) (x : Text) → has x (withNew us (x ∷ [])) ≡ true
-unfolding withNew
-new-has us x = go (has x us) refl
-  where
-    go : (b : Bool) → has x us ≡ b → has x (elim b [ true ↦ us | false ↦ us ++ (x ∷ []) ]) ≡ true
-    go true e = e
-    go false e = has-behind x us (x ∷ []) (has-here x [])
 
 lower-later : (us vs : List Text) (o : Option Text) → Extends us vs → LowerIn us o → LowerIn vs o
 lower-later us vs none p h = tt

@@ -22,7 +22,7 @@ use Rattle.levels.specs.declared.Room.{Room}
 use Rattle.levels.specs.declared.Written.{Written}
 use Rattle.levels.specs.Expand.{NamesAt, Kept, Wrote}
 use Rattle.levels.proofs.There.{texts-append}
-use Rattle.levels.proofs.ThereBytes.{bytes-both, new-all, there-bytes-each}
+use Rattle.replacing.proofs.ThereBytes.{bytes-both, new-all, there-bytes-each}
 
 -- a run stays where its bytes do; an empty one lies anywhere
 lies-stay : (w w′ : List ℕ) (a e : ℕ) (xs : List ℕ) → length w′ ≡ length w → ((i : ℕ) → a ≤ i → i < e → getD w′ i 0 ≡ getD w i 0) → Lies w a xs e → Lies w′ a xs e

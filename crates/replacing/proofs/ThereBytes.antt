@@ -1,6 +1,6 @@
--- Items whose texts are all known have the same bytes by more texts. Assumes nothing.
+-- Symbols and items whose texts are all known have the same bytes by more texts. Assumes nothing.
 use mathlib.Core.Path.{_≡_, refl, sym, ap, _∙_, subst}
-use mathlib.Core.Bool.{true}
+use mathlib.Core.Bool.{Bool, true, false}
 use mathlib.Core.List.{List, [], _∷_, _++_, append-assoc}
 use mathlib.Core.Option.{Option, none, some}
 use Prim.Native.Nat.{ℕ}
@@ -11,15 +11,15 @@ use Rattle.parse_tree.specs.plain.WriteTape.{bytesOfEach}
 use Rattle.parse_tree.specs.working.Nodes.{nodeBytes}
 use Rattle.parse_tree.specs.working.Encode.{leafNode, aroundNode, overNode, actionText, alternativeNode, attributeNode, conditionNode, nonterminalNode, symBytes, symsBytes, argumentBytes, attributeBytes, conditionBytes, alternativeBytes, itemBytes}
 use Rattle.parse_tree.specs.working.Within.{Each}
+use Rattle.parse_tree.proofs.AmongLaws.{has-here, has-behind}
 use Rattle.replacing.proofs.Going.{Extends, extends-has, extends-number, new-append, new-extends, There}
-use Rattle.levels.proofs.Texts.{new-has}
 
 -- ---- lists
 each-parts : {A : Type 0} (P : A → Type 0) (xs ys : List A) → Each P (xs ++ ys) → Each P xs × Each P ys
 each-parts P [] ys h = (tt, h)
 each-parts P (x ∷ xs) ys h = let (a, b) = each-parts P xs ys (h .1) in ((h .0, a), b)
 
-there-parts : (us xs ys : List Text) → There us (xs ++ ys) → There us xs × There us ys
+pub there-parts : (us xs ys : List Text) → There us (xs ++ ys) → There us xs × There us ys
 there-parts us xs ys h = each-parts (λ (x : Text). has x us ≡ true) xs ys h
 
 -- the bytes of two lists
@@ -36,7 +36,16 @@ bytes-known us t f g h (x ∷ xs) e =
     let (a, b) = there-parts us (t x) (textsOfEach t xs) e in
     rw (h x a, bytes-known us t f g h xs b) refl
 
--- theorem: texts that were entered are known
+-- theorem: a text that was entered is known
+pub new-has : (us : List Text) (x : Text) → has x (withNew us (x ∷ [])) ≡ true
+unfolding withNew
+new-has us x = go (has x us) refl
+  where
+    go : (b : Bool) → has x us ≡ b → has x (elim b [ true ↦ us | false ↦ us ++ (x ∷ []) ]) ≡ true
+    go true e = e
+    go false e = has-behind x us (x ∷ []) (has-here x [])
+
+-- theorem: and so are several
 pub new-all : (us xs : List Text) → There (withNew us xs) xs
 new-all us [] = tt
 new-all us (x ∷ xs) =
@@ -70,7 +79,7 @@ module _ (wd : ℕ) (us vs : List Text) (p : Extends us vs) where
   mutual
     unfolding symBytes symsBytes symTexts symsTexts
 
-    sym-known : (x : Sym) → There us (symTexts x) → symBytes wd vs x ≡ symBytes wd us x
+    pub sym-known : (x : Sym) → There us (symTexts x) → symBytes wd vs x ≡ symBytes wd us x
     sym-known (leaf s l) h = rw (leaf-known l h) refl
     sym-known (around s a x) h =
         let (i, j) = there-parts us (aroundTexts a) (symTexts x) h in
@@ -79,7 +88,7 @@ module _ (wd : ℕ) (us vs : List Text) (p : Extends us vs) where
         let (i, j) = there-parts us (overTexts o) (symsTexts xs) h in
         rw (over-known o (count xs) i, syms-known xs j) refl
 
-    syms-known : (xs : Syms) → There us (symsTexts xs) → symsBytes wd vs xs ≡ symsBytes wd us xs
+    pub syms-known : (xs : Syms) → There us (symsTexts xs) → symsBytes wd vs xs ≡ symsBytes wd us xs
     syms-known nil h = refl
     syms-known (cons x xs) h =
         let (i, j) = there-parts us (symTexts x) (symsTexts xs) h in
