@@ -1,0 +1,4 @@
+-- What the contracts of appending cite: the numbers of built-in texts, pieces of items that are appended, and symbols among them.
+pub mod Built
+pub mod Pieces
+pub mod Commands
