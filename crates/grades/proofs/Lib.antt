@@ -24,4 +24,4 @@ mod SortWholeCode
 mod SortGroupCode
 mod SkipCode
 pub mod CodesMean
-mod SkipMean
+pub mod SkipMean

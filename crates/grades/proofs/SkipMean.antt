@@ -26,7 +26,7 @@ module _ (wd : ℕ) (ts : List Text) where
   nodes-some (Sym.around s a x) = omega arith
   nodes-some (Sym.over s o xs) = omega arith
 
-  count-few : (xs : Syms) → count xs ≤ length (symsBytes wd ts xs)
+  pub count-few : (xs : Syms) → count xs ≤ length (symsBytes wd ts xs)
   unfolding count symsBytes
   count-few nil = omega arith
   count-few (cons x xs) = omega (arith, nodes-some x, nodes-few wd ts x, count-few xs, length-append (symBytes wd ts x) (symsBytes wd ts xs))
