@@ -11,7 +11,7 @@ use Rattle.octets.proofs.NumbersLaws.{length-le}
 use Rattle.octets.proofs.StoreLaws.{store-append, length-store}
 use Rattle.precedence.specs.Write.{Puts}
 use Rattle.precedence.proofs.WriteLaws.{puts-whole, puts-not}
-use Rattle.appending.specs.Commands.{itemHead, alternativeHead, nameHead, plusHead, nonterminalBytes}
+use Rattle.appending.specs.Commands.{itemHead, alternativeHead, nameHead, plusHead}
 
 set-store : (s : List ℕ) (at v : ℕ) → set s at v ≡ store s at (v ∷ [])
 unfolding store
@@ -35,8 +35,7 @@ pub plus-long : (span : ℕ) → length (plusHead span) ≡ 10
 unfolding plusHead
 plus-long span = omega (arith, length-append (le 8 span) (1 ∷ []), length-le 8 span)
 
-pub nonterminal-long : (wd span k : ℕ) → length (nonterminalBytes wd span k) ≡ 9 + wd
-unfolding nonterminalBytes
+pub nonterminal-long : (wd span k : ℕ) → length (36 ∷ (le 8 span ++ le wd k)) ≡ 9 + wd
 nonterminal-long wd span k = omega (arith, length-append (le 8 span) (le wd k), length-le 8 span, length-le wd k)
 
 -- ---- put
@@ -159,7 +158,7 @@ module _ (w w1 : List ℕ) (to wd span k : ℕ) (a : w1 ≡ store w to (40 ∷ l
         ∙ ap (λ (x : List ℕ). store x (to + 9) (0 ∷ le wd k)) a
         ∙ store-append w to (to + 9) (40 ∷ le 8 span) (0 ∷ le wd k) (omega (arith, length-le 8 span))
 
--- ---- put_plus and put_reference
+-- ---- put_plus
 module _ (w w1 : List ℕ) (to span : ℕ) (a : w1 ≡ store w to (38 ∷ le 8 span)) where
   plus-stored : set w1 (to + 9) 1 ≡ store w to (plusHead span)
   unfolding plusHead
@@ -170,11 +169,7 @@ module _ (w w1 : List ℕ) (to span : ℕ) (a : w1 ≡ store w to (38 ∷ le 8 s
   pub plus-done : (lim : ℕ) → to ≤ lim → 10 ≤ lim - to → Puts w lim to (plusHead span) (to + 10) (set w1 (to + 9) 1)
   plus-done lim h k = put-done w (plusHead span) 10 lim to (plus-long span) h k (set w1 (to + 9) 1) plus-stored
 
-pub reference-done : (w w1 : List ℕ) (lim to wd span k : ℕ) → to ≤ lim → 9 + wd ≤ lim - to → w1 ≡ store w to (36 ∷ (le 8 span ++ le wd k)) → Puts w lim to (nonterminalBytes wd span k) (to + (9 + wd)) w1
-unfolding nonterminalBytes
-reference-done w w1 lim to wd span k h l e = put-done w (nonterminalBytes wd span k) (9 + wd) lim to (nonterminal-long wd span k) h l w1 e
-
-pub ruleset putting = (needs, item-long, alternative-long, name-long, plus-long, nonterminal-long, put-behind, put-over, put-done, plus-done, reference-done)
+pub ruleset putting = (needs, item-long, alternative-long, name-long, plus-long, nonterminal-long, put-behind, put-over, put-done, plus-done)
 
 pub ruleset storing-item = (needs, named-stored, item-first, item-second, item-third, item-kept, item-stored)
 

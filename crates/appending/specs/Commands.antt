@@ -18,7 +18,3 @@ nameHead wd span k = 40 ∷ (le 8 span ++ (0 ∷ le wd k))
 -- a repeat of one or more
 unfoldable pub plusHead : ℕ → List ℕ
 plusHead span = 38 ∷ (le 8 span ++ (1 ∷ []))
-
--- a nonterminal as a symbol
-unfoldable pub nonterminalBytes : ℕ → ℕ → ℕ → List ℕ
-nonterminalBytes wd span k = 36 ∷ (le 8 span ++ le wd k)

@@ -9,7 +9,7 @@ ghost use lib.ListN.{length};
 ghost use Rattle.octets.specs.plain.Numbers.{le};
 ghost use Rattle.octets.specs.working.Stores.{store};
 ghost use Rattle.precedence.specs.Write.{Puts};
-ghost use Rattle.appending.specs.Commands.{itemHead, alternativeHead, nameHead, plusHead, nonterminalBytes};
+ghost use Rattle.appending.specs.Commands.{itemHead, alternativeHead, nameHead, plusHead};
 
 // A code, a span and the number of a text.
 fn store_named(work: &mut [u8], code: u8, span: u64, k: u32, width: usize, to: usize)
@@ -155,7 +155,7 @@ pub fn put_plus(work: &mut [u8], span: u64, lim: usize, to: usize) -> usize
 }
 
 // A nonterminal as a symbol.
-pub fn put_reference(
+pub fn put_nonterminal(
     work: &mut [u8],
     span: u64,
     k: u32,
@@ -164,7 +164,7 @@ pub fn put_reference(
     to: usize,
 ) -> usize
     requires { ⌜ (2 ≤ width) × (width ≤ 3) × (lim ≤ length (now work)) ⌝ }
-    ensures { λ r. ⌜ Puts (now (work .entry)) lim to (nonterminalBytes width span k) r (now (work .exit)) ⌝ }
+    ensures { λ r. ⌜ Puts (now (work .entry)) lim to (36 ∷ (le 8 span ++ le width k)) r (now (work .exit)) ⌝ }
 {
     if lim < to {
         return lim + 1;

@@ -1,9 +1,9 @@
 use Rattle.appending.proofs.CommandsCode.{putting}
 use borrow.Author.Needs.{needs}
-use Rattle.appending.proofs.commands.put_reference.Statement.{statement}
-use Rattle.appending.proofs.commands.put_reference.Tie as tie
-use Rattle.appending.proofs.commands.put_reference.Reads as reads
-use Rattle.appending.proofs.commands.put_reference.Lts as lts
+use Rattle.appending.proofs.commands.put_nonterminal.Statement.{statement}
+use Rattle.appending.proofs.commands.put_nonterminal.Tie as tie
+use Rattle.appending.proofs.commands.put_nonterminal.Reads as reads
+use Rattle.appending.proofs.commands.put_nonterminal.Lts as lts
 use Rattle.appending.proofs.commands.store_named.Reads as store-named-reads
 
 add-result : tie.Need-add-result
@@ -36,8 +36,8 @@ same-length c = search needs
 returns-3 : tie.Need-returns-3
 returns-3 c = search putting
 
-pub put-reference-spec : {M : Type 1} → statement M
-put-reference-spec =
+pub put-nonterminal-spec : {M : Type 1} → statement M
+put-nonterminal-spec =
     tie.close
     (tie.spec
     add-result

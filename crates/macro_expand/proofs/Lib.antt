@@ -1,0 +1,1 @@
+-- Laws of the items of pushed symbols. Assumes nothing.

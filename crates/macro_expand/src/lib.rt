@@ -1,0 +1,12 @@
+// Macro expansion, the appending stage: the items of the symbols that were pushed, in the order they leave the pile. Touches nothing but the slices that it is handed: of work the list of
+// new texts, the slots, the numbers of built-in texts, and the room for appended items.
+use appending::Appended;
+use parse_tree::refusal::Refusal;
+
+pub mod begin;
+
+// What is appended, or why a symbol is refused.
+pub enum Expanded {
+    Is(Appended),
+    Refused(Refusal),
+}
