@@ -19,6 +19,11 @@ use Rattle.expander.specs.Names.{newTexts, namedIn}
 use Rattle.expander.proofs.GroundLaws.{list-keys, keys-slots, slots-top}
 use Rattle.appending.specs.Built.{builtText, builtPlace, builtAt, BuiltIs, BuiltNot, Built}
 
+-- theorem: the places of pushed symbols
+pub key-agree : (s w w′ : List ℕ) (g : Ground) → Grounded s w g → Agree w w′ (listPlace g 0) (topOf g) → (n c : ℕ) → Built s w g n c → (j : ℕ) → j < n → keyAt w′ g j ≡ keyAt w g j
+unfolding keyAt markAt
+key-agree s w w′ g r k n c b j h = leAt-agree 8 w w′ (g .keys + 24 * j) (λ a x y. k .agree a (omega (arith, list-keys s w g r)) (omega (arith, slots-top s w g r, r .fits, b .room)))
+
 module _ (s w w′ : List ℕ) (g : Ground) (r : Grounded s w g) (k : Agree w w′ (listPlace g 0) (topOf g)) (items : stageIn w′ g ≡ stageIn w g) (found : texts s w′ (g .m) ≡ texts s w (g .m))
     (n c : ℕ) (named : namedIn s w′ g c ≡ namedIn s w g c) (b : Built s w g n c) where
   word-same : (i : ℕ) → i < 9 → builtAt w′ g i ≡ builtAt w g i
@@ -26,10 +31,6 @@ module _ (s w w′ : List ℕ) (g : Ground) (r : Grounded s w g) (k : Agree w w�
   word-same i h =
       leAt-agree 8 w w′ (g .slots - 72 + 8 * i)
       (λ a x y. k .agree a (omega (arith, list-keys s w g r, r .fits, b .room)) (omega (arith, slots-top s w g r, r .fits, b .room)))
-
-  key-same : (j : ℕ) → j < n → keyAt w′ g j ≡ keyAt w g j
-  unfolding keyAt markAt
-  key-same j h = leAt-agree 8 w w′ (g .keys + 24 * j) (λ a x y. k .agree a (omega (arith, list-keys s w g r)) (omega (arith, slots-top s w g r, r .fits, b .room)))
 
   new-same : newTexts s w′ g c ≡ newTexts s w g c
   unfolding namedIn
@@ -49,7 +50,7 @@ module _ (s w w′ : List ℕ) (g : Ground) (r : Grounded s w g) (k : Agree w w�
   }
     where
       print-same : (j : ℕ) → j < n → printedAt s w′ g (keyAt w′ g j) ≡ printedAt s w g (keyAt w g j)
-      print-same j h = rw (items, found, key-same j h) refl
+      print-same j h = rw (items, found, key-agree s w w′ g r k n c b j h) refl
 
       go : (i : ℕ) → i < 9 → BuiltNot s w g c i ⊎ ((m : ℕ) × BuiltIs s w g c i m) → BuiltNot s w′ g c i ⊎ ((m : ℕ) × BuiltIs s w′ g c i m)
       go i h (inl x) = inl (record { word = word-same i h ∙ x .word; new = ap (has (builtText i)) new-same ∙ x .new })

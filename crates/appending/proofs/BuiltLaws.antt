@@ -86,4 +86,4 @@ module _ (s w : List ℕ) (g : Ground) (n c p : ℕ) (ps : List ℕ) (r : Number
 
   -- theorem: what `number` of expander gives
   pub number-gives : Gives s w g n c ps (printedAt s w g p) r w′
-  number-gives = record { is = k .is; texts-are = k .texts-are; names = k .names; built = new-built; around = around }
+  number-gives = record { is = k .is; texts-are = k .texts-are; names = k .names; built = new-built; pile = key-same; around = around }

@@ -29,7 +29,7 @@ use Rattle.appending.specs.Built.{builtText, builtPlace, builtAt, BuiltI
 use Rattle.appending.proofs.BuiltStays.{is-stays, not-stays}
 use Rattle.appending.proofs.BuiltLaws.{built-has, built-one}
 use Rattle.appending.proofs.BuiltRoom.{described-built, built-absent, built-room}
-use Rattle.appending.proofs.BuiltNames.{Worded, around, key-print, list-same, named-kept, names-then}
+use Rattle.appending.proofs.BuiltNames.{Worded, around, key-same, key-print, list-same, named-kept, names-then}
 
 pub length-found : (s w : List ℕ) (g : Ground) → length (texts s w (g .m)) ≡ g .m .count
 unfolding texts
@@ -51,6 +51,7 @@ module _ (s w : List ℕ) (g : Ground) (n c : ℕ) (ps : List ℕ) (e : Grounded
     texts-are = sym (new-known (namedIn s w g c) (builtText i) (rw (← x .is) (has-text (namedIn s w g c) k (x .below))));
     names = h;
     built = b;
+    pile = λ _ _. refl;
     around = record { long = refl; others = λ _ _. refl };
   }
 
@@ -83,6 +84,7 @@ module _ (s w : List ℕ) (g : Ground) (n c : ℕ) (ps : List ℕ) (e : Grounded
         other = λ j m. ap (λ (t : Text). has t builtIns) (key-print s w w′ g n c ps e h b d j m) ∙ b .other j m;
         words = words-then;
       };
+      pile = key-same s w w′ g n c ps e h b d;
       around = nearby;
     }
 

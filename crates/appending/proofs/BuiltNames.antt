@@ -42,7 +42,7 @@ module _ (s w w′ : List ℕ) (g : Ground) (n c : ℕ) (ps : List ℕ) (e : Gro
   kept : (i : ℕ) → g .keys ≤ i → i < g .slots - 72 → getD w′ i 0 ≡ getD w i 0
   kept i x y = k .others i (inr (inl (x, y)))
 
-  key-same : (j : ℕ) → j < n → keyAt w′ g j ≡ keyAt w g j
+  pub key-same : (j : ℕ) → j < n → keyAt w′ g j ≡ keyAt w g j
   key-same = key-kept w w′ g n (e .fits) (b .room) kept
 
   pub key-print : (j : ℕ) → j < n → printedAt s w′ g (keyAt w′ g j) ≡ printedAt s w g (keyAt w g j)

@@ -29,7 +29,7 @@ use Rattle.expander.specs.Stage.{Wrote}
 use Rattle.expander.proofs.NamesLaws.{ground-around, named-around, names-around}
 use Rattle.appending.specs.declared.Appended.{Appended}
 use Rattle.appending.specs.Built.{Built, Gives}
-use Rattle.appending.proofs.BuiltAround.{built-agree}
+use Rattle.appending.proofs.BuiltAround.{key-agree, built-agree}
 use Rattle.appending.specs.Pieces.{Piece, naming, plainly, nested, thenPiece, symbolsPiece, itemPiece, Steady, Appending, Appends}
 
 -- ---- pieces whose bytes stay when texts come to the texts
@@ -73,6 +73,7 @@ module _ (s : List ℕ) (g : Ground) (n lim : ℕ) (ps : List ℕ) where
     whole = λ z. lies-none w (v .to);
     over = λ z. omega (arith, h .upto);
     deep = or-false (v .deep);
+    pile = λ j l. refl;
     kept = λ i z. refl;
   }
 
@@ -94,6 +95,7 @@ module _ (s : List ℕ) (g : Ground) (n lim : ℕ) (ps : List ℕ) where
     whole = both;
     over = outside;
     deep = b .deep ∙ ap (λ (d : Bool). d || not (y .fits)) (a .deep) ∙ or-and (v .deep) (x .fits) (y .fits);
+    pile = λ j l. b .pile j l ∙ a .pile j l;
     kept = λ i z. b .kept i (later i z) ∙ a .kept i z;
   }
     where
@@ -147,6 +149,7 @@ module _ (s : List ℕ) (g : Ground) (n lim : ℕ) (ps : List ℕ) where
     whole = λ z. subst (λ (xs : List ℕ). Lies w′ (v .to) xs (v′ .to)) (sym b) (a .whole (omega (arith, ap length b)));
     over = λ z. a .over (omega (arith, ap length b));
     deep = a .deep ∙ ap (λ (d : Bool). v .deep || not d) (sym f);
+    pile = a .pile;
     kept = a .kept;
   }
 
@@ -191,6 +194,7 @@ module _ (s : List ℕ) (g : Ground) (n lim : ℕ) (ps : List ℕ) where
       whole = λ z. subst (λ (e : ℕ). Lies w′ (v .to) xs e) (sym (p .after z)) (subst (λ (o : List ℕ). Lies o (v .to) xs (v .to + length xs)) (sym (p .whole z)) (lies-store w (v .to) xs (omega (arith, h .inside))));
       over = p .over;
       deep = or-false (v .deep);
+      pile = λ j l. key-agree s w w′ g (h .ground) agree n (v .count) (h .built) j l;
       kept = λ i z. between .others i (go i z);
     }
       where
@@ -220,6 +224,7 @@ module _ (s : List ℕ) (g : Ground) (n lim : ℕ) (ps : List ℕ) where
     whole = λ z. lies-none w′ (v .to);
     over = λ z. omega (arith, h .upto);
     deep = or-false (v .deep);
+    pile = a .pile;
     kept = λ i z. a .around .others i (go i z);
   }
     where
@@ -249,5 +254,6 @@ module _ (s : List ℕ) (g : Ground) (n lim : ℕ) (ps : List ℕ) where
     whole = λ z. lies-none w (v .to);
     over = λ z. omega (arith, h .upto);
     deep = refl;
+    pile = λ j l. refl;
     kept = λ i z. refl;
   }

@@ -49,6 +49,7 @@ pub record Gives (s w : List ℕ) (g : Ground) (n c : ℕ) (ps : List ℕ) (t : 
   pub texts-are : namedIn s w′ g (r .count) ≡ withNew (namedIn s w g c) (t ∷ [])
   pub names : Names s w′ g n (r .count) ps
   pub built : Built s w′ g n (r .count)
+  pub pile : (j : ℕ) → j < n → keyAt w′ g j ≡ keyAt w g j
   pub around : Around g w w′
 
 -- there are such places

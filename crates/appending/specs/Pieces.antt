@@ -16,7 +16,7 @@ use Rattle.texts.specs.Table.{Above}
 use Rattle.passes.specs.Sizes.{itemFits}
 use Rattle.replacing.specs.Trees.{renamedAll}
 use Rattle.expander.specs.declared.Ground.{Ground}
-use Rattle.expander.specs.Ground.{topOf, listPlace, Grounded}
+use Rattle.expander.specs.Ground.{topOf, keyAt, listPlace, Grounded}
 use Rattle.expander.specs.Names.{namedIn, Names}
 use Rattle.appending.specs.declared.Appended.{Appended}
 use Rattle.appending.specs.Built.{Built}
@@ -77,6 +77,7 @@ module _ (s : List ℕ) (g : Ground) (n lim : ℕ) (ps : List ℕ) where
     pub whole : v .to + length (x .bytes (namedIn s w′ g (v′ .count))) ≤ lim → Lies w′ (v .to) (x .bytes (namedIn s w′ g (v′ .count))) (v′ .to)
     pub over : lim < v .to + length (x .bytes (namedIn s w′ g (v′ .count))) → v′ .to ≡ lim + 1
     pub deep : v′ .deep ≡ v .deep || not (x .fits)
+    pub pile : (j : ℕ) → j < n → keyAt w′ g j ≡ keyAt w g j
     pub kept : (i : ℕ) → (i < listPlace g 0) ⊎ ((topOf g ≤ i) × (i < v .to)) ⊎ (lim ≤ i) → getD w′ i 0 ≡ getD w i 0
 
 -- there are such places

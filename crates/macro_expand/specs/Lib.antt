@@ -1,3 +1,4 @@
 -- What the contracts of macro_expand cite: the item of a symbol that was taken off the pile.
 pub mod Expand
 pub mod Call
+pub mod Drain
