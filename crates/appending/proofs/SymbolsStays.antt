@@ -24,7 +24,7 @@ use Rattle.appending.specs.Pieces.{Piece, Appending, Appends}
 use Rattle.appending.specs.Symbols.{Referring}
 
 module _ (s : List ℕ) (g : Ground) (n lim : ℕ) (ps : List ℕ) (w : List ℕ) (v : Appended) (h : Appending s g n lim ps w v) (x : Piece) (v′ : Appended) (w′ : List ℕ) (a : Appends s g n lim ps w v x v′ w′) where
-  table-stays : Stays s w (g .m) w′ (g .m)
+  pub table-stays : Stays s w (g .m) w′ (g .m)
   table-stays =
       let b = h .ground .narrower in
       stays s w w′ (g .m) lim (h .ground .table) (h .above) (a .long)
@@ -36,14 +36,14 @@ module _ (s : List ℕ) (g : Ground) (n lim : ℕ) (ps : List ℕ) (w : List ℕ
   pub texts-stay : texts s w′ (g .m) ≡ texts s w (g .m)
   texts-stay = table-stays .same
 
-  item-stays : (i : ℕ) → g .from ≤ i → i < g .end → getD w′ i 0 ≡ getD w i 0
+  pub item-stays : (i : ℕ) → g .from ≤ i → i < g .end → getD w′ i 0 ≡ getD w i 0
   item-stays i j k = go (h .ground .off)
     where
       go : Apart (g .from) (g .end) (g .m .base) (topOf g) → getD w′ i 0 ≡ getD w i 0
       go (inl z) = a .kept i (inl (omega (arith, list-start g)))
       go (inr z) = a .kept i (inr (inl (omega arith, omega (arith, h .items))))
 
-  lies-stays : (xs : List ℕ) (p e : ℕ) → e ≤ sizeIn g → Lies w (g .from + p) xs (g .from + e) → Lies w′ (g .from + p) xs (g .from + e)
+  pub lies-stays : (xs : List ℕ) (p e : ℕ) → e ≤ sizeIn g → Lies w (g .from + p) xs (g .from + e) → Lies w′ (g .from + p) xs (g .from + e)
   unfolding sizeIn
   lies-stays xs p e i l =
       let o = h .ground .ordered in

@@ -6,6 +6,7 @@ use mathlib.Core.List.{List, [], _∷_, map}
 use mathlib.Core.Option.{Option, none, some}
 use Prim.Native.Nat.{ℕ, zero, suc, _+_, _*_, _%_, _≤_, _<_}
 use lib.ListN.{length}
+use Rattle.octets.specs.plain.Numbers.{leAt}
 use Rattle.parse_tree.specs.plain.Tree.{Text, Around, Over, Sym, Syms, count, macro, group, leaf, around, over, Nonterminal, Item, item}
 use Rattle.parse_tree.specs.plain.Texts.{number}
 use Rattle.parse_tree.specs.plain.References.{textsOfEach, itemTexts}
@@ -20,6 +21,7 @@ use Rattle.passes.specs.Macros.{macroIn, expandSymbol, drain}
 use Rattle.passes.specs.Sizes.{each, itemFits}
 use Rattle.laws.specs.Keys.{Expands}
 use Rattle.resolve.specs.declared.Grammar.{Grammar}
+use Rattle.resolve.specs.Items.{itemPlaceIn}
 use Rattle.resolve.proofs.GrammarLaws.{Row}
 use Rattle.replacing.specs.Trees.{inner}
 use Rattle.replacing.specs.Slots.{among}
@@ -50,7 +52,7 @@ pub record Declares (s w : List ℕ) (g : Ground) (t : Grammar) (v : Appended) (
   pub before : t .end ≤ v .to
   pub behind : t .end + 16 ≤ length w
   pub list : t .list + 8 * t .count ≤ g .m .base
-  pub found : (m : Text) (D : Nonterminal) → macroIn G m ≡ some D → (i : ℕ) × (itemOf G i ≡ some (item D)) × (cellAt w (g .m .base) (number (texts s w (g .m)) m) % 2147483648 ≡ i + 1)
+  pub found : (m : Text) (D : Nonterminal) → macroIn G m ≡ some D → (i : ℕ) × (itemOf G i ≡ some (item D)) × (number (texts s w (g .m)) m < g .m .count) × (cellAt w (g .m .base) (number (texts s w (g .m)) m) % 2147483648 ≡ i + 1)
 
 -- ---- what is on the pile
 
@@ -101,3 +103,22 @@ DrainedBy s w g n lim v ps (no k sp) r w′ = r ≡ Expanded.Refused (refusalOve
 unfoldable pub Drains : List ℕ → List ℕ → Ground → ℕ → ℕ → Grammar → Appended → Expanded → List ℕ → Type 0
 Drains s w g n lim t v r w′ = (ps : List ℕ) (four : Bool) (G : Tree) → Pile s w g n lim t v ps four G
     → DrainedBy s w g n lim v ps (drain G (map (λ p. inner (symbolAt s w g p)) (down (keyAt w g) n))) r w′
+
+-- ---- the definition of a macro that is called
+
+-- a call of m stands at q, whose number and cell are such that its definition is the i-th item
+pub record Definition (s w : List ℕ) (g : Ground) (t : Grammar) (q : ℕ) (i : ℕ) : Type 0 where
+  pub narrow : 2 ≤ g .width
+  pub wide : g .width ≤ 3
+  pub call : g .from + q + 9 + g .width ≤ length w
+  pub name : g .m .base + 24 * leAt (g .width) w (g .from + q + 9) + 24 ≤ length w
+  pub cell : cellAt w (g .m .base) (leAt (g .width) w (g .from + q + 9)) % 2147483648 ≡ i + 1
+  pub list : t .list + 8 * t .count ≤ length w
+  pub ordered : t .at ≤ t .end
+
+pub record SomeDefinition (s w : List ℕ) (g : Ground) (t : Grammar) (q : ℕ) : Type 0 where
+  pub index : ℕ
+  pub definition : Definition s w g t q index
+
+unfoldable pub IsDefinition : List ℕ → List ℕ → Ground → Grammar → ℕ → ℕ → Type 0
+IsDefinition s w g t q r = (i : ℕ) → Definition s w g t q i → r ≡ itemPlaceIn t w i

@@ -1,0 +1,91 @@
+-- What stands on the pile and what its item is; the definition of a macro that is called. Assumes nothing.
+use mathlib.Core.Path.{_≡_, refl, sym, ap, _∙_, subst}
+use mathlib.Core.Bool.{Bool, true, false}
+use mathlib.Core.Logic.{_⊎_, inl, inr}
+use mathlib.Core.List.{List, [], _∷_, _++_}
+use mathlib.Core.Option.{Option, none, some}
+use Prim.Native.Nat.{ℕ, zero, suc, _+_, _*_, _/_, _%_, _-_, _^_, _<_, _≤_}
+use native.Mathlib.Omega.{arith}
+use native.Mathlib.Numerals.{add-one}
+use lib.ListN.{length, getD}
+use Rattle.octets.specs.plain.Numbers.{leAt, le}
+use Rattle.octets.specs.plain.Runs.{Lies}
+use Rattle.octets.proofs.LiesLaws.{lies-split}
+use Rattle.parse_tree.specs.plain.Tree.{Text, Op, Sym, Syms, Item, Nonterminal, item, count, repeat, macro, group, leaf, around, over}
+use Rattle.parse_tree.specs.plain.Texts.{number}
+use Rattle.parse_tree.specs.plain.Display.{print}
+use Rattle.parse_tree.specs.working.Encode.{symBytes, symsBytes, itemBytes, overNode}
+use Rattle.parse_tree.specs.working.Nodes.{nodeBytes, symbolBytes, spanBytes}
+use Rattle.parse_tree.specs.working.Within.{Each, ItemWithin, SpanWithin}
+use Rattle.parse_tree.specs.declared.syntax.Span.{Span}
+use Rattle.texts.specs.Fields.{cellAt}
+use Rattle.texts.specs.Table.{texts}
+use Rattle.passes.specs.Outcome.{Tree, Outcome, yes}
+use Rattle.passes.specs.Views.{Look, ahead, behind}
+use Rattle.passes.specs.Macros.{looking, symbolOf, macroIn, expandSymbol, expandRepeatSymbol, expandLookaroundSymbol, expandExprSymbol, expandMacroSymbol}
+use Rattle.resolve.specs.declared.Grammar.{Grammar}
+use Rattle.resolve.specs.Items.{itemPlaceIn}
+use Rattle.resolve.proofs.GrammarLaws.{Row, row-below, Named, named}
+use Rattle.replacing.specs.Trees.{renamed, renamedAll, inner}
+use Rattle.replacing.proofs.TreesMean.{print-inner}
+use Rattle.expander.specs.declared.Ground.{Ground}
+use Rattle.expander.specs.Ground.{sizeIn, topOf, keyAt, listPlace, symbolAt}
+use Rattle.appending.specs.declared.Appended.{Appended}
+use Rattle.macro_expand.specs.Expand.{Popped}
+use Rattle.macro_expand.specs.Drain.{itemOf, Declares, OnPile, Pile, Definition}
+use Rattle.macro_expand.proofs.KeyCodes.{keyCode, key-is, key-code}
+
+-- ---- the item of a symbol, by what it is
+pub look-item : (G : Tree) (sp : Span) (k : Look) → expandSymbol G (inner (symbolOf (looking sp k))) ≡ yes (expandLookaroundSymbol sp (print (symbolOf (looking sp k))) k)
+unfolding expandSymbol inner
+look-item G sp ahead = refl
+look-item G sp behind = refl
+
+pub repeat-item : (G : Tree) (sp : Span) (o : Op) (x : Sym) → expandSymbol G (inner (around sp (repeat o) x)) ≡ yes (expandRepeatSymbol sp (print (around sp (repeat o) x)) o (renamed x))
+unfolding expandSymbol
+repeat-item G sp o x = let z = print-inner (around sp (repeat o) x) refl in go z
+  where
+    go : print (symbolOf (inner (around sp (repeat o) x))) ≡ print (around sp (repeat o) x) → expandSymbol G (inner (around sp (repeat o) x)) ≡ yes (expandRepeatSymbol sp (print (around sp (repeat o) x)) o (renamed x))
+    unfolding expandSymbol inner
+    go z = ap (λ (key : Text). yes (expandRepeatSymbol sp key o (renamed x))) z
+
+pub group-item : (G : Tree) (sp : Span) (xs : Syms) → expandSymbol G (inner (over sp group xs)) ≡ expandExprSymbol sp (print (over sp group xs)) (renamedAll xs)
+group-item G sp xs = go (print-inner (over sp group xs) refl)
+  where
+    go : print (symbolOf (inner (over sp group xs))) ≡ print (over sp group xs) → expandSymbol G (inner (over sp group xs)) ≡ expandExprSymbol sp (print (over sp group xs)) (renamedAll xs)
+    unfolding expandSymbol inner
+    go z = ap (λ (key : Text). expandExprSymbol sp key (renamedAll xs)) z
+
+pub macro-item : (G : Tree) (sp : Span) (m : Text) (xs : Syms) (D : Nonterminal) → macroIn G m ≡ some D
+    → expandSymbol G (inner (over sp (macro m) xs)) ≡ expandMacroSymbol sp (print (over sp (macro m) xs)) (renamedAll xs) (some D)
+macro-item G sp m xs D e = go (print-inner (over sp (macro m) xs) refl)
+  where
+    go : print (symbolOf (inner (over sp (macro m) xs))) ≡ print (over sp (macro m) xs) → expandSymbol G (inner (over sp (macro m) xs)) ≡ expandMacroSymbol sp (print (over sp (macro m) xs)) (renamedAll xs) (some D)
+    unfolding expandSymbol inner
+    go z = ap (λ (key : Text). expandMacroSymbol sp key (renamedAll xs) (macroIn G m)) z ∙ ap (expandMacroSymbol sp (print (over sp (macro m) xs)) (renamedAll xs)) e
+
+-- ---- the i-th item of a row
+module _ (t : Grammar) (ts : List Text) (w : List ℕ) where
+  pub record RowAt (i p : ℕ) (x : Item) : Type 0 where
+    pub end : ℕ
+    pub lies : Lies w (itemPlaceIn t w i) (itemBytes (t .width) ts x) end
+    pub from : p ≤ itemPlaceIn t w i
+    pub upto : end ≤ t .end
+
+  pub row-at : (G : Tree) (k p i : ℕ) (x : Item) → Row t ts w k p G → itemOf G i ≡ some x → RowAt (k + i) p x
+  unfolding itemOf
+  row-at (y ∷ ys) k p zero x r refl = record {
+    end = p + length (itemBytes (t .width) ts y);
+    lies = rw (r .0) (r .1);
+    from = rw (r .0) (omega arith);
+    upto = row-below t ts w (k + 1) (p + length (itemBytes (t .width) ts y)) ys (r .2);
+  }
+  row-at (y ∷ ys) k p (suc i) x r e =
+      let z : k + 1 + i ≡ k + suc i = omega arith in
+      let a = row-at ys (k + 1) (p + length (itemBytes (t .width) ts y)) i x (r .2) e in
+      subst (λ (n : ℕ). RowAt n p x) z (record { end = a .end; lies = a .lies; from = omega (arith, a .from); upto = a .upto })
+
+  pub within-at : (four : Bool) (wd : ℕ) (us : List Text) (G : Tree) (i : ℕ) (x : Item) → Each (ItemWithin four wd us) G → itemOf G i ≡ some x → ItemWithin four wd us x
+  unfolding itemOf
+  within-at four wd us (y ∷ ys) zero x h refl = h .0
+  within-at four wd us (y ∷ ys) (suc i) x h e = within-at four wd us ys i x (h .1) e
