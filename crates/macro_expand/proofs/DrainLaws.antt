@@ -42,29 +42,27 @@ look-item G sp ahead = refl
 look-item G sp behind = refl
 
 pub repeat-item : (G : Tree) (sp : Span) (o : Op) (x : Sym) → expandSymbol G (inner (around sp (repeat o) x)) ≡ yes (expandRepeatSymbol sp (print (around sp (repeat o) x)) o (renamed x))
-unfolding expandSymbol
-repeat-item G sp o x = let z = print-inner (around sp (repeat o) x) refl in go z
-  where
-    go : print (symbolOf (inner (around sp (repeat o) x))) ≡ print (around sp (repeat o) x) → expandSymbol G (inner (around sp (repeat o) x)) ≡ yes (expandRepeatSymbol sp (print (around sp (repeat o) x)) o (renamed x))
-    unfolding expandSymbol inner
-    go z = ap (λ (key : Text). yes (expandRepeatSymbol sp key o (renamed x))) z
+unfolding expandSymbol inner
+repeat-item G sp o x = ap (λ (key : Text). yes (expandRepeatSymbol sp key o (renamed x))) (print-inner (around sp (repeat o) x) refl)
 
 pub group-item : (G : Tree) (sp : Span) (xs : Syms) → expandSymbol G (inner (over sp group xs)) ≡ expandExprSymbol sp (print (over sp group xs)) (renamedAll xs)
-group-item G sp xs = go (print-inner (over sp group xs) refl)
-  where
-    go : print (symbolOf (inner (over sp group xs))) ≡ print (over sp group xs) → expandSymbol G (inner (over sp group xs)) ≡ expandExprSymbol sp (print (over sp group xs)) (renamedAll xs)
-    unfolding expandSymbol inner
-    go z = ap (λ (key : Text). expandExprSymbol sp key (renamedAll xs)) z
+unfolding expandSymbol inner
+group-item G sp xs = ap (λ (key : Text). expandExprSymbol sp key (renamedAll xs)) (print-inner (over sp group xs) refl)
 
 pub macro-item : (G : Tree) (sp : Span) (m : Text) (xs : Syms) (D : Nonterminal) → macroIn G m ≡ some D
     → expandSymbol G (inner (over sp (macro m) xs)) ≡ expandMacroSymbol sp (print (over sp (macro m) xs)) (renamedAll xs) (some D)
-macro-item G sp m xs D e = go (print-inner (over sp (macro m) xs) refl)
-  where
-    go : print (symbolOf (inner (over sp (macro m) xs))) ≡ print (over sp (macro m) xs) → expandSymbol G (inner (over sp (macro m) xs)) ≡ expandMacroSymbol sp (print (over sp (macro m) xs)) (renamedAll xs) (some D)
-    unfolding expandSymbol inner
-    go z = ap (λ (key : Text). expandMacroSymbol sp key (renamedAll xs) (macroIn G m)) z ∙ ap (expandMacroSymbol sp (print (over sp (macro m) xs)) (renamedAll xs)) e
+unfolding expandSymbol inner
+macro-item G sp m xs D e =
+    ap (λ (key : Text). expandMacroSymbol sp key (renamedAll xs) (macroIn G m)) (print-inner (over sp (macro m) xs) refl)
+    ∙ ap (expandMacroSymbol sp (print (over sp (macro m) xs)) (renamedAll xs)) e
 
 -- ---- the i-th item of a row
+some-is : {A : Type 0} (a b : A) → _≡_ {A = Option A} (some a) (some b) → a ≡ b
+some-is a b e = cc
+
+none≢some : {A : Type 0} (a : A) → _≡_ {A = Option A} none (some a) → ⊥
+none≢some a e = let z : _≡_ {A = ℕ} 0 1 = cc in omega arith
+
 module _ (t : Grammar) (ts : List Text) (w : List ℕ) where
   pub record RowAt (i p : ℕ) (x : Item) : Type 0 where
     pub end : ℕ
@@ -74,12 +72,19 @@ module _ (t : Grammar) (ts : List Text) (w : List ℕ) where
 
   pub row-at : (G : Tree) (k p i : ℕ) (x : Item) → Row t ts w k p G → itemOf G i ≡ some x → RowAt (k + i) p x
   unfolding itemOf
-  row-at (y ∷ ys) k p zero x r refl = record {
-    end = p + length (itemBytes (t .width) ts y);
-    lies = rw (r .0) (r .1);
-    from = rw (r .0) (omega arith);
-    upto = row-below t ts w (k + 1) (p + length (itemBytes (t .width) ts y)) ys (r .2);
-  }
+  row-at [] k p i x r e = absurd (none≢some x e)
+  row-at (y ∷ ys) k p zero x r e = subst (λ (n : ℕ). RowAt n p x) (sym z) (subst (RowAt k p) (some-is y x e) here)
+    where
+      z : k + 0 ≡ k
+      z = omega arith
+
+      here : RowAt k p y
+      here = record {
+        end = p + length (itemBytes (t .width) ts y);
+        lies = subst (λ (q : ℕ). Lies w q (itemBytes (t .width) ts y) (p + length (itemBytes (t .width) ts y))) (sym (r .0)) (r .1);
+        from = omega (arith, r .0);
+        upto = row-below t ts w (k + 1) (p + length (itemBytes (t .width) ts y)) ys (r .2);
+      }
   row-at (y ∷ ys) k p (suc i) x r e =
       let z : k + 1 + i ≡ k + suc i = omega arith in
       let a = row-at ys (k + 1) (p + length (itemBytes (t .width) ts y)) i x (r .2) e in
@@ -87,5 +92,6 @@ module _ (t : Grammar) (ts : List Text) (w : List ℕ) where
 
   pub within-at : (four : Bool) (wd : ℕ) (us : List Text) (G : Tree) (i : ℕ) (x : Item) → Each (ItemWithin four wd us) G → itemOf G i ≡ some x → ItemWithin four wd us x
   unfolding itemOf
-  within-at four wd us (y ∷ ys) zero x h refl = h .0
+  within-at four wd us [] i x h e = absurd (none≢some x e)
+  within-at four wd us (y ∷ ys) zero x h e = subst (ItemWithin four wd us) (some-is y x e) (h .0)
   within-at four wd us (y ∷ ys) (suc i) x h e = within-at four wd us ys i x (h .1) e

@@ -5,7 +5,7 @@ use mathlib.Core.Logic.{_⊎_}
 use mathlib.Core.List.{List, [], _∷_, map}
 use mathlib.Core.Option.{Option, none, some}
 use Prim.Native.Nat.{ℕ, zero, suc, _+_, _*_, _%_, _≤_, _<_}
-use lib.ListN.{length}
+use lib.ListN.{length, getD}
 use Rattle.octets.specs.plain.Numbers.{leAt}
 use Rattle.parse_tree.specs.plain.Tree.{Text, Around, Over, Sym, Syms, count, macro, group, leaf, around, over, Nonterminal, Item, item}
 use Rattle.parse_tree.specs.plain.Texts.{number}
@@ -88,6 +88,15 @@ pub record SomePile (s w : List ℕ) (g : Ground) (n lim : ℕ) (t : Grammar) (v
   pub pile : Pile s w g n lim t v places four tree
 
 -- ---- one of them
+
+-- the j-th, which stands at q with the code c, is no macro call
+pub record SomeOther (s w : List ℕ) (g : Ground) (n lim : ℕ) (t : Grammar) (v : Appended) (j q c : ℕ) : Type 0 where
+  pub pile : SomePile s w g n lim t v
+  pub less : j < n
+  pub place : q ≡ keyAt w g j
+  pub code : c ≡ getD w (g .from + q) 0
+  pub other : c ≡ 37 → ⊥
+
 unfoldable pub ExpandsOne : List ℕ → List ℕ → Ground → ℕ → ℕ → Grammar → ℕ → Appended → Expanded → List ℕ → Type 0
 ExpandsOne s w g n lim t j v r w′ = (ps : List ℕ) (four : Bool) (G : Tree) → Pile s w g n lim t v ps four G → ExpandedBy s w g n lim (keyAt w g j) v ps (expandSymbol G (inner (symbolAt s w g (keyAt w g j)))) r w′
 

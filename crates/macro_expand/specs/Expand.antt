@@ -3,17 +3,21 @@ use mathlib.Core.Path.{_≡_}
 use mathlib.Core.Bool.{Bool, true}
 use mathlib.Core.List.{List, [], _∷_, _++_}
 use Prim.Native.Nat.{ℕ, _≤_}
+use lib.Dec.{eqb}
+use lib.ListN.{length, getD}
+use Rattle.octets.specs.working.Choice.{pick}
+use Rattle.octets.specs.plain.Numbers.{le}
 use Rattle.parse_tree.specs.plain.Tree.{Text, Op, Sym, Syms, repeat, macro, group, leaf, around, over, Nonterminal, item}
 use Rattle.parse_tree.specs.plain.Texts.{number}
 use Rattle.parse_tree.specs.plain.Display.{print}
-use Rattle.parse_tree.specs.working.Nodes.{nodeBytes}
+use Rattle.parse_tree.specs.working.Nodes.{spanBytes, nodeBytes}
 use Rattle.parse_tree.specs.working.Within.{Each}
 use Rattle.parse_tree.specs.working.Refusals.{refusalOver}
 use Rattle.parse_tree.specs.declared.syntax.Span.{Span}
 use Rattle.parse_tree.specs.declared.syntax.Node.{Node}
 use Rattle.texts.specs.Table.{texts}
 use Rattle.passes.specs.Outcome.{Outcome, yes, no}
-use Rattle.passes.specs.Views.{Look}
+use Rattle.passes.specs.Views.{Look, ahead, behind}
 use Rattle.passes.specs.Macros.{looking, symbolOf, expandRepeatSymbol, expandLookaroundSymbol, expandExprSymbol}
 use Rattle.laws.specs.Keys.{Expands}
 use Rattle.replacing.specs.Trees.{renamed, renamedAll}
@@ -27,6 +31,8 @@ use Rattle.appending.specs.Built.{builtText}
 use Rattle.appending.specs.Pieces.{Piece, itemPiece, Appending, Appends}
 use Rattle.macro_expand.specs.declared.Expanded.{Expanded}
 use Rattle.macro_expand.specs.declared.begin.Begun.{Begun}
+use Rattle.macro_expand.specs.declared.begin.Named.{Named}
+use Rattle.macro_expand.specs.declared.look.Called.{Called}
 
 abbrev pub symSpan : Sym → Span
 symSpan (leaf s l) = s
@@ -105,3 +111,50 @@ IsGroup y = (sp : Span) × (xs : Syms) × (y ≡ over sp group xs)
 
 abbrev pub IsMacro : Sym → Type 0
 IsMacro y = (sp : Span) × (m : Text) × (xs : Syms) × (y ≡ over sp (macro m) xs)
+
+abbrev pub IsAny : Sym → Type 0
+IsAny y = Unit {0}
+
+-- ---- texts that were named, before anything is put
+
+-- nothing is written
+abbrev pub allNamed : List Text → Piece
+allNamed us = record { texts = us; bytes = λ ts. []; fits = true }
+
+-- the print of a symbol at sp and the i-th built-in text have numbers
+pub record NamedBoth (s w : List ℕ) (g : Ground) (n lim : ℕ) (ps : List ℕ) (v : Appended) (sp : Span) (key t : Text) (r : Named) (w′ : List ℕ) : Type 0 where
+  pub span : le 8 (r .span) ≡ spanBytes sp
+  pub name : r .name ≡ number (namedIn s w′ g (r .count)) key
+  pub text : r .text ≡ number (namedIn s w′ g (r .count)) t
+  pub appended : Appends s g n lim ps w v (allNamed (key ∷ t ∷ [])) (record { to = v .to; count = r .count; deep = v .deep }) w′
+
+-- of every symbol that was taken off the pile
+pub record NamesBoth (s w : List ℕ) (g : Ground) (n lim q : ℕ) (v : Appended) (i : ℕ) (r : Named) (w′ : List ℕ) : Type 0 where
+  pub narrow : 2 ≤ g .width
+  pub wide : g .width ≤ 3
+  pub inside : lim ≤ length w′
+  pub each : (ps : List ℕ) (four : Bool) (left e : ℕ) (y : Sym) → Popped s w g n lim ps four left q e y v → NamedBoth s w g n lim ps v (symSpan y) (print y) (builtText i) r w′
+
+-- ---- `@L` and `@R`
+
+-- the action of what stands at a place
+unfoldable pub lookAct : List ℕ → ℕ → ℕ
+lookAct w at = pick (eqb (getD w at 0) 42) 3 4
+
+abbrev pub actOf : Look → ℕ
+actOf ahead = 3
+actOf behind = 4
+
+-- one of them at sp has a number
+pub record CalledLook (s w : List ℕ) (g : Ground) (n lim : ℕ) (ps : List ℕ) (v : Appended) (sp : Span) (k : Look) (r : Called) (w′ : List ℕ) : Type 0 where
+  pub span : le 8 (r .span) ≡ spanBytes sp
+  pub act : r .act ≡ actOf k
+  pub name : r .name ≡ number (namedIn s w′ g (r .count)) (print (symbolOf (looking sp k)))
+  pub appended : Appends s g n lim ps w v (allNamed (print (symbolOf (looking sp k)) ∷ [])) (record { to = v .to; count = r .count; deep = v .deep }) w′
+
+-- of every one that was taken off the pile
+pub record CallsLook (s w : List ℕ) (g : Ground) (n lim q : ℕ) (v : Appended) (r : Called) (w′ : List ℕ) : Type 0 where
+  pub narrow : 2 ≤ g .width
+  pub wide : g .width ≤ 3
+  pub inside : lim ≤ length w′
+  pub each : (ps : List ℕ) (four : Bool) (left e : ℕ) (sp : Span) (k : Look) → Popped s w g n lim ps four left q e (symbolOf (looking sp k)) v → CalledLook s w g n lim ps v sp k r w′

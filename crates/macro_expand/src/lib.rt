@@ -4,6 +4,9 @@ use appending::Appended;
 use parse_tree::refusal::Refusal;
 
 pub mod begin;
+pub mod group;
+pub mod look;
+pub mod norm_util;
 
 // What is appended, or why a symbol is refused.
 pub enum Expanded {
