@@ -1,0 +1,1 @@
+// The rounds of macro expansion: symbols replaced, the pile drained, new texts settled. Touches nothing but the slices that it is handed.
