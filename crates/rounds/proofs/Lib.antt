@@ -1,1 +1,2 @@
 -- Laws of rounds. Assumes nothing.
+mod GroundCode
