@@ -1,5 +1,5 @@
 -- Laws of pieces, of the numbers of built-in texts, and of symbols and commands that are appended. Assumes nothing.
-mod BuiltGround
+pub mod BuiltGround
 mod BuiltStays
 pub mod BuiltLaws
 pub mod BuiltRoom

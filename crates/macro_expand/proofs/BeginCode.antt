@@ -1,8 +1,8 @@
 -- Laws of `begin`: an item's name and its first alternative's action are numbered, and both commands are put. Assumes nothing.
 use mathlib.Core.Path.{_≡_, refl, sym, ap, _∙_, subst}
-use mathlib.Core.Bool.{Bool, true}
+use mathlib.Core.Bool.{Bool}
 use mathlib.Core.List.{List, [], _∷_, _++_}
-use Prim.Native.Nat.{ℕ, _+_, _%_, _≤_, _<_}
+use Prim.Native.Nat.{ℕ, _+_, _%_, _≤_}
 use native.Mathlib.Omega.{arith}
 use mir.Syntax.{w8}
 use mir.Val as Bound
@@ -12,12 +12,11 @@ use Rattle.octets.specs.plain.Numbers.{leAt, le, Bytes}
 use Rattle.parse_tree.specs.plain.Tree.{Text, Sym}
 use Rattle.parse_tree.specs.plain.Texts.{has, number}
 use Rattle.parse_tree.specs.plain.Display.{print}
-use Rattle.parse_tree.specs.working.Nodes.{spanBytes}
 use Rattle.precedence.specs.Write.{Puts}
 use Rattle.precedence.proofs.WriteLaws.{puts-append}
 use Rattle.expander.specs.declared.Ground.{Ground}
 use Rattle.expander.specs.declared.slots.Numbered.{Numbered}
-use Rattle.expander.specs.Ground.{printedAt, Grounded}
+use Rattle.expander.specs.Ground.{Grounded}
 use Rattle.expander.specs.Names.{namedIn, NamedBy, SomeNamed, NameRoom, NamesOne}
 use Rattle.appending.specs.declared.Appended.{Appended}
 use Rattle.appending.specs.Built.{builtText, Gives, SomeBuilt, GivesBuilt}
@@ -25,7 +24,6 @@ use Rattle.appending.specs.Commands.{itemHead, alternativeHead}
 use Rattle.appending.specs.Pieces.{naming, Appends}
 use Rattle.appending.proofs.BuiltLaws.{number-gives}
 use Rattle.appending.proofs.PiecesLaws.{steady-naming, appends-then, appends-gives}
-use Rattle.macro_expand.specs.declared.begin.Begun.{Begun}
 use Rattle.macro_expand.specs.declared.begin.Named.{Named}
 use Rattle.macro_expand.specs.Expand.{symSpan, headBytes, headPiece, Popped, SomePopped, IsAny, NamedBoth, NamesBoth, Begins}
 use Rattle.macro_expand.proofs.PoppedLaws.{popped-here, popped-print, popped-room, popped-named, popped-names-room, popped-span}

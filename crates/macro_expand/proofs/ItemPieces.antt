@@ -1,27 +1,25 @@
 -- Pieces of items that are appended: bytes by the numbers of texts that were named before. Assumes nothing.
-use mathlib.Core.Path.{_≡_, refl, sym, ap, _∙_, subst}
-use mathlib.Core.Bool.{Bool, true, _||_, not}
-use mathlib.Core.List.{List, [], _∷_, _++_, append-nil}
-use Prim.Native.Nat.{ℕ, zero, suc, _+_, _*_, _/_, _%_, _≤_, _<_}
+use mathlib.Core.Path.{_≡_, refl, sym, ap, subst}
+use mathlib.Core.Bool.{true}
+use mathlib.Core.List.{List, [], _++_, append-nil}
+use Prim.Native.Nat.{ℕ, zero, suc, _+_, _*_, _/_, _%_, _≤_}
 use native.Mathlib.Omega.{arith}
-use lib.ListN.{length}
 use Rattle.octets.specs.plain.Numbers.{le}
 use Rattle.parse_tree.specs.plain.Tree.{Text}
 use Rattle.parse_tree.specs.plain.Texts.{has, number, withNew}
 use Rattle.parse_tree.specs.working.Nodes.{spanBytes, nodeBytes}
-use Rattle.parse_tree.specs.working.Within.{Each}
 use Rattle.parse_tree.specs.declared.syntax.Span.{Span}
 use Rattle.parse_tree.specs.declared.syntax.Node.{Node}
 use Rattle.precedence.specs.Write.{Puts}
-use Rattle.replacing.proofs.Going.{Extends, extends-has, extends-number, new-append, new-extends, There}
+use Rattle.replacing.proofs.Going.{Extends, extends-number, new-extends, There}
 use Rattle.replacing.proofs.ThereBytes.{new-all}
 use Rattle.expander.specs.declared.Ground.{Ground}
 use Rattle.expander.specs.Names.{namedIn}
 use Rattle.appending.specs.declared.Appended.{Appended}
 use Rattle.appending.specs.Commands.{itemHead, alternativeHead}
-use Rattle.appending.specs.Pieces.{Piece, plainly, thenPiece, Steady, Appending, Appends}
+use Rattle.appending.specs.Pieces.{Piece, plainly, Steady, Appending, Appends}
 use Rattle.appending.proofs.PiecesLaws.{appends-then, appends-is, appends-puts}
-use Rattle.macro_expand.specs.Expand.{headBytes, headPiece}
+use Rattle.macro_expand.specs.Expand.{headPiece}
 
 -- ---- a number in two or three bytes is that of its lowest four
 rest-most : (k m h : ℕ) → k ≡ 256 * h + m → k / 256 ≤ h + m / 256

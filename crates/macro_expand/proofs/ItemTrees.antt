@@ -2,13 +2,11 @@
 use mathlib.Core.Path.{_≡_, refl, sym, ap, _∙_}
 use mathlib.Core.Bool.{Bool, true, false, _&&_}
 use mathlib.Core.List.{List, [], _∷_, _++_, append-nil, append-assoc}
-use Prim.Native.Nat.{ℕ, zero, suc, _+_, _≤_}
-use native.Mathlib.Omega.{arith}
-use lib.Dec.{leb, ltb}
-use lib.ListN.{length}
-use Rattle.parse_tree.specs.plain.Tree.{Text, Sym, Syms, Action, item, count}
+use Prim.Native.Nat.{ℕ, _+_}
+use lib.Dec.{ltb}
+use Rattle.parse_tree.specs.plain.Tree.{Text, Syms, Action, item, count}
 use Rattle.parse_tree.specs.plain.Texts.{number}
-use Rattle.parse_tree.specs.plain.References.{textsOfEach, symsTexts, actionTexts, attributeTexts, conditionTexts, alternativeTexts, itemTexts}
+use Rattle.parse_tree.specs.plain.References.{textsOfEach, symsTexts, actionTexts, alternativeTexts, itemTexts}
 use Rattle.parse_tree.specs.plain.WriteTape.{bytesOfEach, bit}
 use Rattle.parse_tree.specs.working.Nodes.{nodeBytes}
 use Rattle.parse_tree.specs.working.Encode.{actionCode, actionText, alternativeNode, nonterminalNode, symsBytes, alternativeBytes, itemBytes}
@@ -86,7 +84,7 @@ module _ (sp : Span) (key : Text) where
   and-true : (a b : Bool) → a ≡ true → a && b ≡ b
   and-true a b e = cc e
 
-  right-true : (a : Bool) → a && true ≡ a
+  pub right-true : (a : Bool) → a && true ≡ a
   right-true true = refl
   right-true false = refl
 

@@ -4,12 +4,18 @@ pub mod ItemPieces
 pub mod BeginCode
 pub mod ItemTrees
 pub mod LookCode
+pub mod RepeatTrees
+pub mod RepeatCode
+pub mod PushTrees
+pub mod PushCode
+pub mod StarTrees
+pub mod StarCode
+pub mod ChoiceCode
+mod AnalyzeCode
+pub mod GroupTrees
+mod GroupCode
 pub mod PileStays
 pub mod KeyCodes
 pub mod DrainLaws
 mod ExpandCode
 mod DrainCode
-pub mod RepeatTrees
-mod AnalyzeCode
-pub mod GroupTrees
-mod GroupCode

@@ -1,6 +1,6 @@
 -- Laws of `expand_lookaround_symbol`: the items of `@L` and `@R`. Assumes nothing.
 use mathlib.Core.Path.{_≡_, refl, sym, ap, _∙_, subst}
-use mathlib.Core.Bool.{Bool, true, false}
+use mathlib.Core.Bool.{Bool, true}
 use mathlib.Core.List.{List, [], _∷_, _++_, append-nil}
 use Prim.Native.Nat.{ℕ, _+_, _%_, _≤_, _<_}
 use native.Mathlib.Omega.{arith}
@@ -12,9 +12,8 @@ use lib.Dec.{eqb}
 use lib.ListN.{length, getD}
 use Rattle.octets.specs.working.Choice.{pick}
 use Rattle.octets.specs.plain.Numbers.{leAt, le, Bytes}
-use Rattle.octets.specs.plain.Runs.{Lies}
 use Rattle.octets.proofs.LiesLaws.{lies-first}
-use Rattle.parse_tree.specs.plain.Tree.{Text, Sym, Action, lookahead, lookbehind, leaf, nil, count, item, lookaheadAction, lookbehindAction}
+use Rattle.parse_tree.specs.plain.Tree.{Text, lookahead, lookbehind, leaf, nil, count, item, lookaheadAction, lookbehindAction}
 use Rattle.parse_tree.specs.plain.Texts.{number, withNew}
 use Rattle.parse_tree.specs.plain.References.{actionTexts, symsTexts}
 use Rattle.parse_tree.specs.plain.Display.{print}
@@ -31,13 +30,13 @@ use Rattle.expander.specs.Ground.{Grounded}
 use Rattle.expander.specs.Names.{namedIn, SomeNamed, NameRoom, NamesOne}
 use Rattle.appending.specs.declared.Appended.{Appended}
 use Rattle.appending.specs.Commands.{itemHead, alternativeHead}
-use Rattle.appending.specs.Pieces.{naming, itemPiece, Appends}
+use Rattle.appending.specs.Pieces.{itemPiece}
 use Rattle.appending.proofs.PiecesLaws.{appends-is}
 use Rattle.macro_expand.specs.declared.look.Called.{Called}
 use Rattle.macro_expand.specs.Expand.{headBytes, Popped, SomePopped, IsLook, lookAct, actOf, CalledLook, CallsLook, ExpandsLook}
 use Rattle.macro_expand.proofs.PoppedLaws.{popped-room, popped-named, popped-names-room, popped-span}
 use Rattle.macro_expand.proofs.ItemPieces.{low-bytes, item-head, alternative-head, told, appends-told}
-use Rattle.macro_expand.proofs.ItemTrees.{one-bytes, one-texts, one-fits}
+use Rattle.macro_expand.proofs.ItemTrees.{one-bytes, one-texts}
 use Rattle.macro_expand.proofs.BeginCode.{name-appended, name-number}
 
 -- ---- act
@@ -107,10 +106,6 @@ module _ (s w : List ℕ) (g : Ground) (n lim q : ℕ) (v : Appended) (K : SomeP
 pub ruleset calling = (needs, call-ground, call-span, call-here, call-named, call-room, call-done)
 
 -- ---- the item
-lookAction : Look → Action
-lookAction ahead = lookaheadAction
-lookAction behind = lookbehindAction
-
 module _ (wd : ℕ) (ts : List Text) (sp : Span) (key : Text) where
   look-bytes : (k : Look) → itemBytes wd ts (item (expandLookaroundSymbol sp key k)) ≡ headBytes wd sp (number ts key) 1 1 (actOf k) 0 0
   unfolding actionText symsBytes count

@@ -1,21 +1,18 @@
 -- Laws of repeats: the symbol inside one, as it stands and as it is written again; built-in texts. Assumes nothing.
-use mathlib.Core.Path.{_≡_, refl, sym, ap, _∙_, subst}
-use mathlib.Core.Bool.{Bool, true, false}
+use mathlib.Core.Path.{_≡_, refl, ap, _∙_, subst}
+use mathlib.Core.Bool.{Bool, true}
 use mathlib.Core.List.{List, [], _∷_, _++_, append-nil}
 use Prim.Native.Nat.{ℕ, zero, suc, _+_, _-_, _≤_, _<_}
 use native.Mathlib.Omega.{arith}
 use lib.ListN.{length, getD, length-append}
 use Rattle.octets.specs.plain.Runs.{Lies}
 use Rattle.octets.proofs.LiesLaws.{lies-first, lies-split}
-use Rattle.parse_tree.specs.plain.Tree.{Text, Op, Leaf, Around, Sym, ambiguous, bare, quoted, regex, nonterminal, lookahead, lookbehind, error, repeat, choose, name, leaf, around, over, nil, cons, count}
-use Rattle.parse_tree.specs.plain.Texts.{number, withNew}
+use Rattle.parse_tree.specs.plain.Tree.{Text, Op, Leaf, Sym, ambiguous, bare, quoted, regex, nonterminal, lookahead, lookbehind, error, repeat, choose, name, leaf, around, over, nil, cons}
 use Rattle.parse_tree.specs.plain.WriteTape.{opCode}
 use Rattle.parse_tree.specs.working.Nodes.{spanBytes, symbolBytes, nodeBytes}
 use Rattle.parse_tree.specs.working.Encode.{aroundNode, symBytes}
-use Rattle.parse_tree.specs.working.Within.{Each, SymWithin}
+use Rattle.parse_tree.specs.working.Within.{SymWithin}
 use Rattle.parse_tree.specs.declared.syntax.Span.{Span}
-use Rattle.parse_tree.specs.declared.syntax.SymbolKind.{SymbolKind}
-use Rattle.parse_tree.specs.declared.syntax.Node.{Node}
 use Rattle.texts.specs.Table.{texts}
 use Rattle.passes.specs.Macros.{vecNone, vecOne, pushed, someText, noneText, vName, eName}
 use Rattle.passes.specs.Sizes.{symFits}

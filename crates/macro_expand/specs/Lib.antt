@@ -1,5 +1,6 @@
--- What the contracts of macro_expand cite: the item of a symbol that was taken off the pile.
+-- What the contracts of macro_expand cite: the item of a symbol that was taken off the pile, by what the symbol is, and the whole pile.
 pub mod Expand
+pub mod Repeat
 pub mod NormUtil
 pub mod Group
 pub mod Call

@@ -3,6 +3,7 @@ use appending::Appended;
 use appending::built::built;
 use appending::commands::put_alternative;
 use appending::commands::put_item;
+use appending::symbols::put_symbols;
 use expander::Ground;
 use expander::slots::number;
 use octets::numbers::u64_at;
@@ -11,7 +12,8 @@ ghost use Prim.Native.Nat.{_≤_, _<_};
 ghost use lib.ListN.{length};
 ghost use Rattle.precedence.specs.Write.{Puts};
 ghost use Rattle.appending.specs.Commands.{itemHead, alternativeHead};
-ghost use Rattle.macro_expand.specs.Expand.{IsAny, SomePopped, NamesBoth, Begins};
+ghost use Rattle.macro_expand.specs.Expand.{IsAny, IsRepeat, SomePopped, NamesBoth, Begins};
+ghost use Rattle.macro_expand.specs.Repeat.{BeginsWith};
 
 // The number of the item's name, and what is appended.
 pub struct Begun {
@@ -110,5 +112,30 @@ pub fn begin(
             count: x.count,
             deep: v.deep,
         },
+    }
+}
+
+// The beginning of an item of two alternatives, the first of which has the symbol inside and the i-th built-in text for its action.
+pub fn begin_with(
+    tape: &[u8],
+    work: &mut [u8],
+    g: Ground,
+    n: usize,
+    lim: usize,
+    q: usize,
+    flags: u8,
+    i: usize,
+    v: Appended,
+) -> Begun
+    requires { ⌜ SomePopped IsRepeat (now tape) (now work) g n lim q v × (i < 9) ⌝ }
+    ensures { λ r. ⌜ BeginsWith (now (tape .entry)) (now (work .entry)) g n lim q v flags i r (now (work .exit)) ⌝ }
+{
+    let x = begin(tape, work, g, n, lim, q, flags, 2, i, 1, v);
+    let first = x.out;
+    let y = put_symbols(tape, work, g, n, lim, q + 10, 1, first);
+    let out = y.out;
+    Begun {
+        name: x.name,
+        out: out,
     }
 }

@@ -7,6 +7,9 @@ pub mod begin;
 pub mod group;
 pub mod look;
 pub mod norm_util;
+pub mod plus;
+pub mod repeat;
+pub mod star;
 
 // What is appended, or why a symbol is refused.
 pub enum Expanded {

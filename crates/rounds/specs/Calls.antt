@@ -3,6 +3,7 @@ use mathlib.Core.List.{List}
 use Rattle.parse_tree.specs.plain.Tree.{Sym, Syms, leaf, around, over, nil, cons, Alternative, Item, item}
 use Rattle.parse_tree.specs.working.Within.{Each}
 use Rattle.passes.specs.Outcome.{Tree}
+use Rattle.passes.specs.Macros.{Pending, looking, repeating, listing}
 use Rattle.macro_expand.specs.Drain.{OverCalls}
 
 module _ (G : Tree) where
@@ -22,3 +23,9 @@ module _ (G : Tree) where
   abbrev pub ItemCalls : Item → Type 0
   ItemCalls (item d) = Each AlternativeCalls (d .alternatives)
   ItemCalls (Item.terminal s o t) = Unit {0}
+
+  -- what is on the pile: what stands inside
+  abbrev pub PendingCalls : Pending → Type 0
+  PendingCalls (looking s k) = Unit {0}
+  PendingCalls (repeating s o x) = SymCalls x
+  PendingCalls (listing s o xs) = SymsCall xs

@@ -34,6 +34,9 @@ use Rattle.rounds.specs.Calls.{ItemCalls}
 pub record Replacing (s w : List ℕ) (g : Ground) (to : ℕ) (r : Replaced) (w′ : List ℕ) (is : List Item) (K : List Text) (ms : List ℕ) (G : Tree) : Type 0 where
   pub ground : Grounded s w g
   pub stages : Stages s w g to r w′
+  -- behind the slots and the items
+  pub top : topOf g ≤ to
+  pub items : g .end ≤ to
   pub bytes : Bytes (stageIn w g)
   pub many : ℕ
   pub read : readItems false (g .width) (stageIn w g) (texts s w (g .m)) many 0 ≡ got is (length (stageIn w g))

@@ -1,4 +1,4 @@
--- Laws of writing behind what is written so far, and of printed forms of symbols that stand in work: NameCode of code, NameLaws of what stays, NameMean of what was written. Assumes nothing.
+-- Laws of writing behind what is written so far, of printed forms of symbols that stand in work, and of the new texts of a round: NameCode of code, NameLaws of what stays, NameMean of what was written. Assumes nothing.
 pub mod PutLaws
 mod PutCode
 pub mod WordsLaws
@@ -10,3 +10,17 @@ mod PrintListCode
 pub mod PrintMean
 mod AtomCode
 pub mod AtomMean
+mod BuiltCode
+mod OneCode
+mod OnePutCode
+mod OneWriteCode
+pub mod NewLaws
+mod CountCode
+mod SettleStays
+mod SettleLaws
+mod SettleNext
+mod SettleGrow
+mod SettleCode
+mod PushedCode
+pub mod PushedMean
+mod PushedAllCode

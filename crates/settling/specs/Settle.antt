@@ -1,7 +1,7 @@
 -- The new texts of a round, once their stage is admitted: how many bytes they have, their atoms written behind one another up to a place, and their records. s is the tape, w is work; n symbols
 -- were pushed, c texts are new. Assumes nothing: these are definitions.
 use mathlib.Core.Path.{_≡_}
-use mathlib.Core.Bool.{Bool, true, false, _||_}
+use mathlib.Core.Bool.{Bool, false, _||_}
 use mathlib.Core.Logic.{_⊎_}
 use mathlib.Core.List.{List, [], _∷_}
 use Prim.Native.Nat.{ℕ, _+_, _-_, _*_, _%_, _≤_, _<_}
@@ -11,8 +11,7 @@ use Rattle.octets.specs.plain.Runs.{Lies}
 use Rattle.parse_tree.specs.plain.Tree.{Text}
 use Rattle.parse_tree.specs.plain.WriteTape.{bytesOfEach}
 use Rattle.parse_tree.specs.working.Encode.{atomBytes}
-use Rattle.texts.specs.declared.Map.{Map}
-use Rattle.texts.specs.Fields.{cellAt}
+use Rattle.texts.specs.Fields.{markAt, cellAt}
 use Rattle.texts.specs.Table.{Table, Above, texts}
 use Rattle.expander.specs.declared.Ground.{Ground}
 use Rattle.expander.specs.Ground.{topOf, keyAt, pushedText, Grounded}
@@ -75,10 +74,19 @@ pub record Settles (s w : List ℕ) (g : Ground) (c end : ℕ) (r : Settled) (w�
   pub others : (i : ℕ) → (i < g .m .base) ⊎ ((g .keys ≤ i) × (i < r .at)) ⊎ (end ≤ i) → getD w′ i 0 ≡ getD w i 0
 
 -- ---- marked: the texts that pushed symbols have, of those that were there before
+
+-- n symbols were pushed
+pub record SomePushed (s w : List ℕ) (g : Ground) (n : ℕ) : Type 0 where
+  pub count : ℕ
+  pub places : List ℕ
+  pub ground : Grounded s w g
+  pub names : Names s w g n count places
+
 pub record Marked (s w : List ℕ) (g : Ground) (n : ℕ) (w′ : List ℕ) : Type 0 where
   pub long : length w′ ≡ length w
   pub pushed : (k : ℕ) → k < g .m .count → pushedText w′ g k ≡ (pushedText w g k || anyOf (λ q. isText k (refIn w g q)) (down (keyAt w g) n))
   pub rest : (k : ℕ) → k < g .m .count → cellAt w′ (g .m .base) k % 2147483648 ≡ cellAt w (g .m .base) k % 2147483648
   pub table : Table s w′ (g .m)
   pub same : texts s w′ (g .m) ≡ texts s w (g .m)
+  pub marks : (k : ℕ) → k < g .m .count → markAt w′ (g .m .base) k ≡ markAt w (g .m .base) k
   pub others : (i : ℕ) → (i < g .m .base) ⊎ (g .m .base + 24 * g .m .count ≤ i) → getD w′ i 0 ≡ getD w i 0

@@ -1,7 +1,10 @@
-// New texts of a stage of macro expansion that is admitted: printed forms of symbols that stand in work, written to another place of the same work.
+// New texts of a stage of macro expansion that is admitted: printed forms of symbols that stand in work, written to another place of the same work, and built-in texts; their records come to the table.
 // Touches nothing but the slices that it is handed.
 pub mod atom;
+pub mod built;
+pub mod one;
 pub mod print;
+pub mod pushed;
 pub mod put;
 pub mod settle;
 pub mod words;
