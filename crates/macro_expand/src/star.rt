@@ -48,6 +48,7 @@ fn too_deep(work: &[u8], at: usize, e: usize, width: usize) -> bool
     true
 }
 
+// One of both.
 fn either(a: bool, b: bool) -> bool
     ensures { λ r. ⌜ r ≡ a || b ⌝ }
 {
@@ -67,6 +68,7 @@ fn put_star(work: &mut [u8], span: u64, k: u32, width: usize, lim: usize, to: us
     put_plus(work, span, lim, b)
 }
 
+// The same with the number of `v`.
 fn put_v(
     tape: &[u8],
     work: &mut [u8],
