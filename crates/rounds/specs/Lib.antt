@@ -2,3 +2,4 @@
 pub mod Calls
 pub mod Start
 pub mod Grounds
+pub mod Judge

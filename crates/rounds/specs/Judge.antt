@@ -1,0 +1,16 @@
+-- Questions 20 and 21 of a stage by its numbers. Assumes nothing: these are definitions.
+use Prim.Native.Nat.{ℕ}
+use mathlib.Core.Bool.{Bool}
+use lib.Dec.{ltb}
+use Rattle.octets.specs.working.Choice.{pick}
+use Rattle.parse_tree.specs.plain.Tree.{Stage}
+use Rattle.passes.specs.Outcome.{Outcome, yes, no}
+use Rattle.passes.specs.Calls.{nowhere}
+
+-- 20, 21, or 0 where it is admitted: how many atoms it has, whether a text is too long, whether a symbol is nested too deep, how many bytes, and how many are admitted
+unfoldable pub judged : ℕ → Bool → Bool → ℕ → ℕ → ℕ
+judged count long deep bytes cap = pick (ltb 65536 count) 20 (pick long 20 (pick deep 20 (pick (ltb cap bytes) 21 0)))
+
+-- what that says of a stage
+unfoldable pub admitted : ℕ → Stage → Outcome Stage
+admitted q g = pick (ltb 0 q) (no q nowhere) (yes g)
