@@ -1,321 +1,389 @@
--- The ways out of `definition` and `expand`. Assumes nothing.
+-- Laws of `macro_expand_symbol`: a parameter gives way to its argument, any other command is copied. Assumes nothing.
 use mathlib.Core.Path.{_≡_, refl, sym, ap, _∙_, subst}
-use mathlib.Core.Bool.{Bool, true, false}
-use mathlib.Core.Logic.{_⊎_, inl, inr}
+use mathlib.Core.Bool.{Bool, true, false, false≢true}
 use mathlib.Core.List.{List, [], _∷_, _++_}
 use mathlib.Core.Option.{Option, none, some}
-use Prim.Native.Nat.{ℕ, zero, suc, _+_, _*_, _/_, _%_, _-_, _^_, _<_, _≤_}
+use Prim.Native.Nat.{ℕ, zero, suc, _+_, _-_, _*_, _≤_, _<_, _^_}
 use native.Mathlib.Omega.{arith}
-use mir.Syntax.{w64}
-use mir.Val.{Fits}
+use mir.Syntax.{w8}
+use mir.Val as Bound
 use borrow.Author.Needs.{needs}
-use lib.ListN.{length, getD}
+use borrow.Author.Tests.{eq-eqb, ne-eqb}
+use lib.Dec.{eqb}
+use lib.ListN.{length, getD, length-append}
+use Rattle.octets.specs.working.Choice.{pick}
 use Rattle.octets.specs.plain.Numbers.{leAt, le}
-use Rattle.octets.specs.plain.Runs.{Lies}
-use Rattle.octets.proofs.LiesLaws.{lies-split, lies-inside}
-use Rattle.parse_tree.specs.plain.Tree.{Text, Op, Sym, Syms, Item, Nonterminal, item, count, repeat, macro, group, leaf, around, over}
-use Rattle.parse_tree.specs.plain.Texts.{number}
-use Rattle.parse_tree.specs.plain.Display.{print}
-use Rattle.parse_tree.specs.working.Encode.{symBytes, symsBytes, itemBytes, overNode}
-use Rattle.parse_tree.specs.working.Nodes.{nodeBytes, symbolBytes, spanBytes}
-use Rattle.parse_tree.specs.working.Within.{SymWithin}
+use Rattle.octets.specs.plain.Runs.{part, Lies}
+use Rattle.octets.proofs.LiesLaws.{lies-split, lies-part}
+use Rattle.octets.proofs.NumbersLaws.{length-le}
+use Rattle.parse_tree.specs.plain.Tree.{Text, Leaf, Sym, Syms, ambiguous, bare, quoted, regex, nonterminal, lookahead, lookbehind, error, leaf, around, over, nil, cons, count}
+use Rattle.parse_tree.specs.plain.Texts.{has, number, withNew}
+use Rattle.parse_tree.specs.working.Nodes.{spanBytes, nodeBytes, symbolBytes, leafCode, leafOperand, sizeOf}
+use Rattle.parse_tree.specs.working.Encode.{leafNode, symBytes, symsBytes}
+use Rattle.parse_tree.specs.working.Within.{SpanWithin, SymWithin, SymsWithin}
 use Rattle.parse_tree.specs.declared.syntax.Span.{Span}
-use Rattle.parse_tree.specs.declared.syntax.Node.{Node}
-use Rattle.parse_tree.specs.declared.syntax.SymbolKind.{SymbolKind}
-use Rattle.texts.specs.Fields.{markAt, cellAt}
+use Rattle.parse_tree.proofs.SizeLaws.{length-span}
+use Rattle.texts.specs.declared.Found.{Found}
 use Rattle.texts.specs.Table.{texts}
-use Rattle.passes.specs.Outcome.{Tree, Outcome, yes}
-use Rattle.passes.specs.Views.{Look}
-use Rattle.passes.specs.Macros.{looking, symbolOf, macroIn, expandSymbol, expandRepeatSymbol, expandLookaroundSymbol, expandExprSymbol, expandMacroSymbol}
-use Rattle.laws.specs.Keys.{Expands}
-use Rattle.resolve.specs.declared.Grammar.{Grammar}
-use Rattle.resolve.specs.Items.{itemPlaceIn}
-use Rattle.resolve.proofs.GrammarLaws.{Named, named}
-use Rattle.replacing.specs.Trees.{renamed, renamedAll, inner}
+use Rattle.passes.specs.Macros.{at, argumentOf, orName, macroExpandSymbol, macroExpandSymbols}
+use Rattle.laws.specs.Flat.{symNode, children}
+use Rattle.laws.proofs.Flat.{sym-bytes, node-size}
+use Rattle.resolve.specs.Commands.{longOf}
+use Rattle.resolve.proofs.GrammarLaws.{Named, named-last}
+use Rattle.grades.specs.Skip.{insideBy, insideAt}
+use Rattle.precedence.specs.Write.{Puts}
+use Rattle.precedence.proofs.WriteMean.{span-there}
+use Rattle.display.proofs.StandsLaws.{Standing, standing}
+use Rattle.replacing.specs.Trees.{isKey, renamed, renamedAll}
 use Rattle.expander.specs.declared.Ground.{Ground}
-use Rattle.expander.specs.Ground.{sizeIn, topOf, keyAt, listPlace, symbolAt}
-use Rattle.expander.specs.Replace.{StandsAt}
+use Rattle.expander.specs.Names.{namedIn}
 use Rattle.appending.specs.declared.Appended.{Appended}
-use Rattle.appending.specs.Pieces.{Appending}
-use Rattle.macro_expand.specs.declared.Expanded.{Expanded}
-use Rattle.macro_expand.specs.Expand.{Popped, SomePopped, ExpandedBy, ExpandsLook, ExpandsRepeat, ExpandsExpr, IsLook, IsRepeat, IsGroup, IsMacro}
-use Rattle.macro_expand.specs.Call.{Defines, Calls, SomeCall, ExpandsMacro}
-use Rattle.macro_expand.specs.Drain.{itemOf, Declares, CallsMacro, OnPile, Pile, SomePile, SomeOther, Definition, SomeDefinition, IsDefinition, ExpandsOne}
-use Rattle.macro_expand.proofs.KeyCodes.{keyCode, key-code, macro-there, repeat-there, group-there, look-there}
-use Rattle.macro_expand.proofs.DrainLaws.{look-item, repeat-item, group-item, macro-item, RowAt, row-at, within-at}
+use Rattle.appending.specs.declared.symbols.Copied.{Copied}
+use Rattle.appending.specs.Pieces.{plainly, thenPiece, Appends}
+use Rattle.appending.proofs.PiecesLaws.{steady-plainly, appends-then, appends-is, appends-puts}
+use Rattle.appending.proofs.SymbolsStays.{texts-stay}
+use Rattle.macro_expand.specs.declared.arguments.Call.{Call}
+use Rattle.macro_expand.specs.declared.expand.Opened.{Opened}
+use Rattle.macro_expand.specs.Arguments.{Readable, argumentFor}
+use Rattle.macro_expand.specs.PutIn.{symPiece, symsPiece, Placed, Framed, Frame, Argument, AnyArgument, PutsArgument, parameterAt, PutsHere, SomeInside, SomeInsides, PutsIn, PutsInAll, Opens}
+use Rattle.macro_expand.proofs.FrameLaws.{placed-split, placed-stays, frame-stays, Answers, Finds, frame-readable, frame-finds, argument-renamed}
+use Rattle.macro_expand.proofs.PutInPlain.{named-extends}
+use Rattle.macro_expand.proofs.ExpandTrees.{isNames, code-names, Stays, other-stays, copy-bytes, copy-texts, copy-fits}
 
--- ---- definition
-module _ (s w : List ℕ) (g : Ground) (t : Grammar) (q : ℕ) (k₀ k c₀ c : ℕ) (a₀ : k₀ ≡ leAt (g .width) w (g .from + q + 9)) (a : k ≡ k₀) (b₀ : c₀ ≡ cellAt w (g .m .base) k) (b : c ≡ c₀) where
-  cell-is : (i : ℕ) → Definition s w g t q i → c % 2147483648 ≡ i + 1
-  cell-is i d = ap (λ (x : ℕ). x % 2147483648) (b ∙ b₀ ∙ ap (cellAt w (g .m .base)) (a ∙ a₀)) ∙ d .cell
+-- ---- parameter
+module _ (g : Ground) (c : Call) (w : List ℕ) (p : ℕ) where
+  pub parameter-named : getD w p 0 ≡ 36 → (k : ℕ) → k ≡ leAt (g .width) w (p + 9) → (r : Found) → r ≡ argumentFor g c w k → r ≡ parameterAt g c w p
+  unfolding parameterAt pick
+  parameter-named e k i r j = cc (eq-eqb (getD w p 0) 36 e)
 
-  pub definition-some : SomeDefinition s w g t q → 1 ≤ c % 2147483648
-  definition-some h = omega (arith, cell-is (h .index) (h .definition))
+  pub parameter-not : (getD w p 0 ≡ 36 → ⊥) → Found.Nothing ≡ parameterAt g c w p
+  unfolding parameterAt pick
+  parameter-not e = cc (ne-eqb (getD w p 0) 36 e)
 
-  pub definition-is : (r : ℕ) → r ≡ itemPlaceIn t w (c % 2147483648 - 1) → IsDefinition s w g t q r
-  unfolding IsDefinition
-  definition-is r e i d = let z : c % 2147483648 - 1 ≡ i = omega (arith, cell-is i d) in e ∙ ap (itemPlaceIn t w) z
+  by-name : (b : Bool) → eqb (getD w p 0) 36 ≡ b → parameterAt g c w p ≡ pick b (argumentFor g c w (leAt (g .width) w (p + 9))) Found.Nothing
+  unfolding parameterAt
+  by-name b e = cc
 
-pub ruleset defining = (needs, definition-some, definition-is)
+pub ruleset parametric = (needs, parameter-named, parameter-not)
 
--- ---- what stands at the j-th place of the pile
-module _ (s w : List ℕ) (g : Ground) (n lim : ℕ) (t : Grammar) (v : Appended) (j : ℕ) (l : j < n) where
-  module _ (ps : List ℕ) (four : Bool) (G : Tree) (p : Pile s w g n lim t v ps four G) where
-    abbrev at : ℕ
-    at = keyAt w g j
+-- ---- put_here
+pub here-put : (w : List ℕ) (g : Ground) (lim : ℕ) (x : Copied) (k : ℕ) → k ≡ longOf (g .width) (getD w (x .at) 0) → (to : ℕ) (w′ : List ℕ) → Puts w lim (x .out .to) (part (x .at) (x .at + k) w) to w′
+    → PutsHere w g lim x (record { at = x .at + k; out = record { to = to; count = x .out .count; deep = x .out .deep } }) w′
+here-put w g lim x k e to w′ P = record {
+  at = ap (λ (j : ℕ). x .at + j) e;
+  out = refl;
+  puts = subst (λ (j : ℕ). Puts w lim (x .out .to) (part (x .at) (x .at + j) w) to w′) e P;
+}
 
-    abbrev y : Sym
-    y = symbolAt s w g (keyAt w g j)
+pub ruleset putting-here = (needs, here-put)
 
-    abbrev o : OnPile s w g ps G (keyAt w g j)
-    o = p .piled j l
+-- ---- what is found
+abbrev isAt : Found → Bool
+isAt (Found.At p) = true
+isAt Found.Nothing = false
 
-    popped : Popped s w g n lim ps false 64 at (o .end) y v
-    popped = record { going = p .going; stands = o .stands; inside = o .inside; levels = omega arith; referred = o .referred; expands = o .expands }
+not-nothing : {p : ℕ} → Found.Nothing ≡ Found.At p → ⊥
+not-nothing e = false≢true (ap isAt e)
 
-    code-there : getD w (g .from + at) 0 ≡ keyCode y
-    code-there = key-code (g .width) (texts s w (g .m)) w (g .from + at) (g .from + o .end) y (o .expands) (o .stands .lies)
+answered : (s w : List ℕ) (g : Ground) (ps : List ℕ) (four : Bool) (left p : ℕ) (o : Option Sym) → Finds s w g ps four left (Found.At p) o → (x : Sym) × (o ≡ some x) × Answers s w g ps four left p x
+answered s w g ps four left p none h = absurd h
+answered s w g ps four left p (some x) h = (x, refl, h)
 
-    -- ---- a macro call
-    module _ (sp : Span) (m : Text) (xs : Syms) (e : y ≡ over sp (macro m) xs) where
-      abbrev calls : CallsMacro G (over sp (macro m) xs)
-      calls = subst (CallsMacro G) e (o .calls)
+unanswered : (s w : List ℕ) (g : Ground) (ps : List ℕ) (four : Bool) (left : ℕ) (o : Option Sym) → Finds s w g ps four left Found.Nothing o → o ≡ none
+unanswered s w g ps four left none h = refl
+unanswered s w g ps four left (some x) h = absurd h
 
-      abbrev D : Nonterminal
-      D = calls .0
+-- ---- every symbol that stands there
+module _ (s w : List ℕ) (g : Ground) (n lim : ℕ) (c : Call) (left : ℕ) (x : Copied) (ps : List ℕ) (names : List Text) (args : Syms) (four : Bool) (e : ℕ) (y : Sym)
+    (F : Framed s w g n lim c (x .out) ps names args) (W : SymWithin four (g .width) (texts s w (g .m)) y left) (P : Placed w g (x .out) (x .at) e (symBytes (g .width) (texts s w (g .m)) y)) where
+  abbrev ts : List Text
+  ts = texts s w (g .m)
 
-      stands : StandsAt s w g false 64 at (o .end) (over sp (macro m) xs)
-      stands = subst (StandsAt s w g false 64 at (o .end)) e (o .stands)
+  abbrev wd : ℕ
+  wd = g .width
 
-      abbrev nm : ℕ
-      nm = number (texts s w (g .m)) m
+  abbrev p : ℕ
+  p = x .at
 
-      head : Named w (g .width) (g .from + at) 37 sp nm (count xs ∷ []) (g .from + at + length (nodeBytes (g .width) (Node.Symbol sp (SymbolKind.Over (overNode (texts s w (g .m)) (macro m) (count xs))))))
-      unfolding symBytes nodeBytes symbolBytes overNode
-      head =
-          let k = lies-split w (g .from + at) (g .from + o .end) (nodeBytes (g .width) (Node.Symbol sp (SymbolKind.Over (overNode (texts s w (g .m)) (macro m) (count xs))))) (symsBytes (g .width) (texts s w (g .m)) xs) (stands .lies) in
-          let h = stands .within in
-          named w (g .width) (g .from + at) 37 sp nm (count xs ∷ []) _ (h .0) (h .1 .0 .1) (k .0)
+  S : Standing s w (g .m) wd four left p e y
+  S = standing s w (g .m) wd four left p e y (record { within = W; lies = P .lies })
 
-      found : (i : ℕ) × (itemOf G i ≡ some (item D)) × (nm < g .m .count) × (cellAt w (g .m .base) nm % 2147483648 ≡ i + 1)
-      found = p .declares .found m D (calls .1)
+  pub symbol-deep : 0 < left
+  symbol-deep = S .deep
 
-      defined : Definition s w g t at (found .0)
-      defined =
-          let d = p .declares in
-          let z : leAt (g .width) w (g .from + at + 9) ≡ nm = head .name in
-          let r = p .going .ground .table .room in
-          let q = lies-inside w (g .from + at + 9 + g .width) _ (count xs ∷ []) (omega arith) (head .rest) in
-          record {
-            narrow = p .going .ground .narrow;
-            wide = p .going .ground .wide;
-            call = omega (arith, head .rest .end);
-            name = omega (arith, z, found .2);
-            cell = ap (λ (k : ℕ). cellAt w (g .m .base) k % 2147483648) z ∙ found .3;
-            list = omega (arith, d .list);
-            ordered = let a = row-at t (texts s w (g .m)) w G 0 (t .at) (found .0) (item D) (d .row) (found .1) in omega (arith, a .from, a .upto, a .lies .end);
-          }
+  parts : Placed w g (x .out) p (p + length (nodeBytes wd (symNode ts y))) (nodeBytes wd (symNode ts y)) × Placed w g (x .out) (p + length (nodeBytes wd (symNode ts y))) e (symsBytes wd ts (children y))
+  parts = placed-split w g (x .out) p e (nodeBytes wd (symNode ts y)) (symsBytes wd ts (children y)) (subst (Placed w g (x .out) p e) (sym-bytes wd ts y) P)
 
-      abbrev stop : ℕ
-      stop = row-at t (texts s w (g .m)) w G 0 (t .at) (found .0) (item D) (p .declares .row) (found .1) .end
+  size-is : p + longOf wd (getD w p 0) ≡ p + length (nodeBytes wd (symNode ts y))
+  unfolding sizeOf
+  size-is = ap (λ (i : ℕ). p + i) (S .reads .long)
 
-      defines : Defines s w g v four (itemPlaceIn t w (found .0)) stop D
-      defines =
-          let d = p .declares in
-          let a = row-at t (texts s w (g .m)) w G 0 (t .at) (found .0) (item D) (d .row) (found .1) in
-          let z : 0 + found .0 ≡ found .0 = omega arith in
-          record {
-            within = within-at t (texts s w (g .m)) w four (g .width) (texts s w (g .m)) G (found .0) (item D) (d .within) (found .1);
-            lies = subst (λ (k : ℕ). Lies w (itemPlaceIn t w k) (itemBytes (g .width) (texts s w (g .m)) (item D)) (a .end)) z (subst (λ (k : ℕ). Lies w (itemPlaceIn t w (0 + found .0)) (itemBytes k (texts s w (g .m)) (item D)) (a .end)) (d .width) (a .lies));
-            off = beside (d .off) (subst (λ (k : ℕ). t .at ≤ itemPlaceIn t w k) z (a .from)) (a .upto);
-            before = omega (arith, d .before, a .upto);
-            behind = omega (arith, d .behind, a .upto);
-          }
-        where
-          beside : {b e : ℕ} → (t .end ≤ listPlace g 0) ⊎ ((topOf g ≤ t .at) × (t .end ≤ v .to)) → t .at ≤ b → e ≤ t .end → (e ≤ listPlace g 0) ⊎ ((topOf g ≤ b) × (e ≤ v .to))
-          beside (inl k) x z = inl (omega arith)
-          beside (inr k) x z = inr (omega (arith, k .0), omega (arith, k .1))
+  pub symbol-long : p + 9 ≤ e
+  unfolding sizeOf
+  symbol-long = omega (arith, node-size wd ts y, parts .1 .lies .end)
 
-      calling : Calls s w g n lim at (itemPlaceIn t w (found .0)) v ps false 64 (o .end) sp m xs four stop D
-      calling = record {
-        popped = subst (λ (z : Sym). Popped s w g n lim ps false 64 at (o .end) z v) e popped;
-        defines = defines;
-        many = calls .2;
-      }
+  pub symbol-upto : p + longOf wd (getD w p 0) ≤ x .out .to
+  symbol-upto = omega (arith, size-is, parts .0 .before)
 
--- ---- expand
-module _ (s w : List ℕ) (g : Ground) (n lim : ℕ) (t : Grammar) (v : Appended) (j : ℕ) (P : SomePile s w g n lim t v) (l : j < n) where
-  abbrev first : OnPile s w g (P .places) (P .tree) (keyAt w g j)
-  first = P .pile .piled j l
+  names-is : eqb (getD w p 0) 36 ≡ isNames y
+  names-is = code-names wd ts w p _ y (parts .0 .lies)
 
-  pub mark-room : g .keys + 24 * j + 24 ≤ length w
-  unfolding topOf
-  mark-room = let h = P .pile .going in omega (arith, h .built .room, h .ground .fits, h .ground .top)
+  -- ---- a parameter
+  module _ (q : ℕ) (f : parameterAt g c w p ≡ Found.At q) where
+    other : isNames y ≡ false → ⊥
+    unfolding pick
+    other k = not-nothing (sym (by-name g c w p false (names-is ∙ k)) ∙ f)
 
-  module _ (q : ℕ) (e : q ≡ markAt w (g .keys) j) where
-    key-is : q ≡ keyAt w g j
-    unfolding keyAt
-    key-is = e
+    -- it is a name, and this is its argument
+    record Parameter : Type 0 where
+      pub span : Span
+      pub text : Text
+      pub is : y ≡ leaf span (nonterminal text)
+      pub word : leAt wd w (p + 9) ≡ number ts text
+      pub end : e ≡ p + (9 + wd)
 
-    pub key-inside : g .from + q < length w
-    unfolding sizeIn
-    key-inside =
-        let h = P .pile .going in
-        let z = h .names .inside (keyAt w g j) (h .names .pushed j l) in
-        omega (arith, key-is, h .ground .inside, h .ground .ordered)
+    found-by : (z : Sym) → y ≡ z → isNames z ≡ true → SymWithin four wd ts z left → Lies w p (symBytes wd ts z) e → Parameter
+    unfolding symBytes nodeBytes symbolBytes leafNode leafCode leafOperand
+    found-by (leaf sp (ambiguous t)) i k W′ l = absurd (false≢true k)
+    found-by (leaf sp (bare t)) i k W′ l = absurd (false≢true k)
+    found-by (leaf sp (quoted t)) i k W′ l = absurd (false≢true k)
+    found-by (leaf sp (regex t)) i k W′ l = absurd (false≢true k)
+    found-by (leaf sp (nonterminal t)) i k W′ l = go left W′ l
+      where
+        go : (d : ℕ) → SymWithin four wd ts (leaf sp (nonterminal t)) d → Lies w p (36 ∷ (spanBytes sp ++ le wd (number ts t))) e → Parameter
+        go zero h m = absurd h
+        go (suc d) h m =
+            let N = named-last w wd p 36 sp (number ts t) e (h .0) (h .1 .1) m in
+            record { span = sp; text = t; is = i; word = N .name; end = omega (arith, N .rest .end) }
+    found-by (leaf sp lookahead) i k W′ l = absurd (false≢true k)
+    found-by (leaf sp lookbehind) i k W′ l = absurd (false≢true k)
+    found-by (leaf sp error) i k W′ l = absurd (false≢true k)
+    found-by (around sp a z) i k W′ l = absurd (false≢true k)
+    found-by (over sp o zs) i k W′ l = absurd (false≢true k)
 
-    pub key-fits : length w < 2 ^ 64 → Fits w64 (g .from + q)
-    key-fits h = record { fits = omega (arith, key-inside) }
+    is-name : isNames y ≡ true
+    is-name = go (isNames y) refl
+      where
+        go : (b : Bool) → isNames y ≡ b → isNames y ≡ true
+        go true k = k
+        go false k = absurd (other k)
 
-    module _ (c : ℕ) (f : c ≡ getD w (g .from + q) 0) where
-      code-is : (ps : List ℕ) (four : Bool) (G : Tree) → Pile s w g n lim t v ps four G → c ≡ keyCode (symbolAt s w g (keyAt w g j))
-      code-is ps four G p = f ∙ ap (λ (k : ℕ). getD w (g .from + k) 0) key-is ∙ code-there s w g n lim t v j l ps four G p
+    Q : Parameter
+    Q = found-by y refl is-name W (P .lies)
 
-      some-popped : (K : Sym → Type 0) → K (symbolAt s w g (keyAt w g j)) → SomePopped K s w g n lim q v
-      some-popped K k = subst (λ (x : ℕ). SomePopped K s w g n lim x v) (sym key-is) (record {
-        places = P .places;
-        four = false;
-        left = 64;
-        end = first .end;
-        symbol = symbolAt s w g (keyAt w g j);
-        popped = popped s w g n lim t v j l (P .places) (P .four) (P .tree) (P .pile);
-        is = k;
-      })
+    asked : argumentFor g c w (leAt wd w (p + 9)) ≡ Found.At q
+    unfolding pick
+    asked = sym (by-name g c w p true (names-is ∙ is-name)) ∙ f
 
-      here : c ≡ keyCode (symbolAt s w g (keyAt w g j))
-      here = code-is (P .places) (P .four) (P .tree) (P .pile)
+    A : (z : Sym) × (argumentOf names args (Q .text) ≡ some z) × Answers s w g ps (F .four) (F .left) q z
+    A = answered s w g ps (F .four) (F .left) q (argumentOf names args (Q .text))
+        (subst (λ (r : Found). Finds s w g ps (F .four) (F .left) r (argumentOf names args (Q .text))) asked (frame-finds s w g n lim c (x .out) ps names args F (Q .text) (leAt wd w (p + 9)) (Q .word)))
 
-      -- what is told of the place is told of the j-th
-      told : (ps : List ℕ) (G : Tree) (u : Outcome Nonterminal) (r : Expanded) (w′ : List ℕ) → expandSymbol G (inner (symbolAt s w g (keyAt w g j))) ≡ u → ExpandedBy s w g n lim q v ps u r w′
-          → ExpandedBy s w g n lim (keyAt w g j) v ps (expandSymbol G (inner (symbolAt s w g (keyAt w g j)))) r w′
-      told ps G u r w′ e h =
-          subst (λ (a : ℕ). ExpandedBy s w g n lim a v ps (expandSymbol G (inner (symbolAt s w g (keyAt w g j)))) r w′) key-is
-          (subst (λ (x : Outcome Nonterminal). ExpandedBy s w g n lim q v ps x r w′) (sym e) h)
+    span-of : ((j : ℕ) → Bound.Fits w8 (getD w j 0)) → le 8 (leAt 8 w (p + 1)) ≡ spanBytes (Q .span)
+    unfolding symBytes nodeBytes symbolBytes leafNode leafCode leafOperand
+    span-of b = span-there w p e 36 (Q .span) (le wd (number ts (Q .text))) (λ j. b j .fits) (subst (λ (z : Sym). Lies w p (symBytes wd ts z) e) (Q .is) (P .lies))
 
-      -- ---- a macro call
-      module _ (z : c ≡ 37) where
-        is-macro : IsMacro (symbolAt s w g (keyAt w g j))
-        is-macro = macro-there (symbolAt s w g (keyAt w g j)) (first .expands) (sym here ∙ z)
+    span-in : SpanWithin (Q .span)
+    span-in = go left (subst (λ (z : Sym). SymWithin four wd ts z left) (Q .is) W)
+      where
+        go : (d : ℕ) → SymWithin four wd ts (leaf (Q .span) (nonterminal (Q .text))) d → SpanWithin (Q .span)
+        go zero h = absurd h
+        go (suc d) h = h .0
 
-        pub definition-asked : SomeDefinition s w g t q
-        definition-asked = let (sp, m, xs, y) = is-macro in subst (SomeDefinition s w g t) (sym key-is) (record { index = _; definition = defined s w g n lim t v j l (P .places) (P .four) (P .tree) (P .pile) sp m xs y })
+    given : (span : ℕ) → span ≡ leAt 8 w (p + 1) → ((j : ℕ) → Bound.Fits w8 (getD w j 0)) → Argument s w g n lim q span (x .out) ps (F .four) (F .left) (A .2 .from) (A .2 .end) (A .0) (Q .span)
+    given span i b = record {
+      going = F .going;
+      at = A .2 .at;
+      referring = A .2 .referring;
+      span-is = ap (le 8) i ∙ span-of b;
+      span-fits = span-in;
+    }
 
-        module _ (d : ℕ) (i : IsDefinition s w g t q d) where
-          place-is : (ps : List ℕ) (four : Bool) (G : Tree) (p : Pile s w g n lim t v ps four G) (sp : Span) (m : Text) (xs : Syms) (y : symbolAt s w g (keyAt w g j) ≡ over sp (macro m) xs)
-              → d ≡ itemPlaceIn t w (found s w g n lim t v j l ps four G p sp m xs y .0)
-          unfolding IsDefinition
-          place-is ps four G p sp m xs y = i (found s w g n lim t v j l ps four G p sp m xs y .0) (subst (λ (x : ℕ). Definition s w g t x (found s w g n lim t v j l ps four G p sp m xs y .0)) (sym key-is) (defined s w g n lim t v j l ps four G p sp m xs y))
+    pub parameter-any : (span : ℕ) → span ≡ leAt 8 w (p + 1) → ((j : ℕ) → Bound.Fits w8 (getD w j 0)) → AnyArgument s w g n lim q span (x .out)
+    parameter-any span i b = record {
+      kind = isKey (A .0);
+      some = record { places = ps; four = F .four; left = F .left; from = A .2 .from; end = A .2 .end; symbol = A .0; span-of = Q .span; key = refl; is = given span i b };
+    }
 
-          pub macro-asked : SomeCall s w g n lim q d v
-          macro-asked =
-              let (sp, m, xs, y) = is-macro in
-              let k = place-is (P .places) (P .four) (P .tree) (P .pile) sp m xs y in
-              subst (λ (x : ℕ). SomeCall s w g n lim x d v) (sym key-is) (subst (λ (x : ℕ). SomeCall s w g n lim (keyAt w g j) x v) (sym k) (record {
-                places = P .places;
-                four = false;
-                left = 64;
-                end = first .end;
-                span = sp;
-                name = m;
-                arguments = xs;
-                four′ = P .four;
-                behind = _;
-                definition = _;
-                calls = calling s w g n lim t v j l (P .places) (P .four) (P .tree) (P .pile) sp m xs y;
-              }))
+    expanded-is : macroExpandSymbol names (renamedAll args) y ≡ at (Q .span) (renamed (A .0))
+    unfolding macroExpandSymbol
+    expanded-is =
+        ap (macroExpandSymbol names (renamedAll args)) (Q .is)
+        ∙ ap (orName (Q .span) (Q .text)) (argument-renamed names args (Q .text) ∙ ap (λ (o : Option Sym). elim o [ none ↦ none | some z ↦ some (renamed z) ]) (A .1))
 
-          pub macro-told : (r : Expanded) (w′ : List ℕ) → ExpandsMacro s w g n lim q d v r w′ → ExpandsOne s w g n lim t j v r w′
-          unfolding ExpandsMacro ExpandsOne
-          macro-told r w′ h ps four G p =
-              let (sp, m, xs, y) = is-macro in
-              let k = place-is ps four G p sp m xs y in
-              let b = calling s w g n lim t v j l ps four G p sp m xs y in
-              let o = p .piled j l in
-              let e = stop s w g n lim t v j l ps four G p sp m xs y in
-              let F = D s w g n lim t v j l ps four G p sp m xs y in
-              let x = h ps false 64 (o .end) sp m xs four e F (subst (λ (a : ℕ). Calls s w g n lim a d v ps false 64 (o .end) sp m xs four e F) (sym key-is) (subst (λ (a : ℕ). Calls s w g n lim (keyAt w g j) a v ps false 64 (o .end) sp m xs four e F) (sym k) b)) in
-              told ps G (expandMacroSymbol sp (print (over sp (macro m) xs)) (renamedAll xs) (some F)) r w′
-              (ap (λ (a : Sym). expandSymbol G (inner a)) y ∙ macro-item G sp m xs F (calls s w g n lim t v j l ps four G p sp m xs y .1)) x
+    pub parameter-put : (span : ℕ) → span ≡ leAt 8 w (p + 1) → ((j : ℕ) → Bound.Fits w8 (getD w j 0)) → (v : Appended) (w′ : List ℕ) → PutsArgument s w g n lim q span left (x .out) v w′
+        → (p + (9 + wd) ≡ e) × Appends s g n lim ps w (x .out) (symPiece wd (macroExpandSymbol names (renamedAll args) y) left) v w′
+    unfolding PutsArgument
+    parameter-put span i b v w′ U =
+        (sym (Q .end), subst (λ (z : Sym). Appends s g n lim ps w (x .out) (symPiece wd z left) v w′) (sym expanded-is) (U ps (F .four) (F .left) (A .2 .from) (A .2 .end) (A .0) (Q .span) (given span i b)))
 
-      popped-as : (ps : List ℕ) (four : Bool) (G : Tree) (p : Pile s w g n lim t v ps four G) (z : Sym) → symbolAt s w g (keyAt w g j) ≡ z → Popped s w g n lim ps false 64 q (p .piled j l .end) z v
-      popped-as ps four G p z e =
-          subst (λ (a : ℕ). Popped s w g n lim ps false 64 a (p .piled j l .end) z v) (sym key-is)
-          (subst (λ (x : Sym). Popped s w g n lim ps false 64 (keyAt w g j) (p .piled j l .end) x v) e (popped s w g n lim t v j l ps four G p))
+  -- ---- none
+  module _ (f : parameterAt g c w p ≡ Found.Nothing) where
+    name-stays : (z : Sym) → isNames z ≡ true → y ≡ z → SymWithin four wd ts z left → Lies w p (symBytes wd ts z) e → Stays names (renamedAll args) z
+    unfolding macroExpandSymbol symBytes nodeBytes symbolBytes leafNode leafCode leafOperand pick
+    name-stays (leaf sp (ambiguous t)) k i W′ l = absurd (false≢true k)
+    name-stays (leaf sp (bare t)) k i W′ l = absurd (false≢true k)
+    name-stays (leaf sp (quoted t)) k i W′ l = absurd (false≢true k)
+    name-stays (leaf sp (regex t)) k i W′ l = absurd (false≢true k)
+    name-stays (leaf sp (nonterminal t)) k i W′ l = go left W′ l
+      where
+        is-none : leAt wd w (p + 9) ≡ number ts t → argumentOf names args t ≡ none
+        is-none r =
+            let z : argumentFor g c w (leAt wd w (p + 9)) ≡ Found.Nothing = sym (by-name g c w p true (names-is ∙ ap isNames i)) ∙ f in
+            unanswered s w g ps (F .four) (F .left) (argumentOf names args t)
+            (subst (λ (u : Found). Finds s w g ps (F .four) (F .left) u (argumentOf names args t)) z (frame-finds s w g n lim c (x .out) ps names args F t (leAt wd w (p + 9)) r))
 
-      -- ---- a repeat
-      module _ (z : c ≡ 38) where
-        is-repeat : IsRepeat (symbolAt s w g (keyAt w g j))
-        is-repeat = repeat-there (symbolAt s w g (keyAt w g j)) (first .expands) (sym here ∙ z)
+        go : (d : ℕ) → SymWithin four wd ts (leaf sp (nonterminal t)) d → Lies w p (36 ∷ (spanBytes sp ++ le wd (number ts t))) e
+            → orName sp t (argumentOf names (renamedAll args) t) ≡ leaf sp (nonterminal t)
+        go zero h m = absurd h
+        go (suc d) h m =
+            let N = named-last w wd p 36 sp (number ts t) e (h .0) (h .1 .1) m in
+            ap (orName sp t) (argument-renamed names args t ∙ ap (λ (o : Option Sym). elim o [ none ↦ none | some z ↦ some (renamed z) ]) (is-none (N .name)))
+    name-stays (leaf sp lookahead) k i W′ l = absurd (false≢true k)
+    name-stays (leaf sp lookbehind) k i W′ l = absurd (false≢true k)
+    name-stays (leaf sp error) k i W′ l = absurd (false≢true k)
+    name-stays (around sp a z) k i W′ l = absurd (false≢true k)
+    name-stays (over sp o zs) k i W′ l = absurd (false≢true k)
 
-        pub repeat-asked : SomePopped IsRepeat s w g n lim q v
-        repeat-asked = some-popped IsRepeat is-repeat
+    stays : Stays names (renamedAll args) y
+    stays = go (isNames y) refl
+      where
+        go : (b : Bool) → isNames y ≡ b → Stays names (renamedAll args) y
+        go true k = name-stays y k refl W (P .lies)
+        go false k = other-stays names (renamedAll args) y k
 
-        pub repeat-told : (r : Appended) (w′ : List ℕ) → ExpandsRepeat s w g n lim q v r w′ → ExpandsOne s w g n lim t j v (Expanded.Is r) w′
-        unfolding ExpandsRepeat ExpandsOne ExpandedBy
-        repeat-told r w′ h ps four G p =
-            let (sp, o, x, e) = is-repeat in
-            told ps G (yes (expandRepeatSymbol sp (print (around sp (repeat o) x)) o (renamed x))) (Expanded.Is r) w′ (ap (λ (a : Sym). expandSymbol G (inner a)) e ∙ repeat-item G sp o x)
-            (r, refl, h ps false 64 (p .piled j l .end) sp o x (popped-as ps four G p (around sp (repeat o) x) e))
+    module _ (k : ℕ) (i : k ≡ insideAt wd w p) (r : Copied) (w1 : List ℕ) (H : PutsHere w g lim x r w1) where
+      abbrev bytes : List ℕ
+      bytes = part p (p + longOf wd (getD w p 0)) w
 
-      -- ---- a group
-      module _ (z : c ≡ 41) where
-        is-group : IsGroup (symbolAt s w g (keyAt w g j))
-        is-group = group-there (symbolAt s w g (keyAt w g j)) (first .expands) (sym here ∙ z)
+      bytes-are : bytes ≡ nodeBytes wd (symNode ts y)
+      bytes-are = ap (λ (j : ℕ). part p j w) size-is ∙ lies-part w p (p + length (nodeBytes wd (symNode ts y))) (nodeBytes wd (symNode ts y)) (parts .0 .lies)
 
-        pub group-asked : SomePopped IsGroup s w g n lim q v
-        group-asked = some-popped IsGroup is-group
+      head : Appends s g n lim ps w (x .out) (plainly bytes) (r .out) w1
+      head = subst (λ (v : Appended). Appends s g n lim ps w (x .out) (plainly bytes) v w1) (sym (H .out)) (appends-puts s g n lim ps w (x .out) bytes (r .out .to) w1 (F .going) (H .puts))
 
-        pub group-told : (r : Expanded) (w′ : List ℕ) → ExpandsExpr s w g n lim q v r w′ → ExpandsOne s w g n lim t j v r w′
-        unfolding ExpandsExpr ExpandsOne
-        group-told r w′ h ps four G p =
-            let (sp, xs, e) = is-group in
-            told ps G (expandExprSymbol sp (print (over sp group xs)) (renamedAll xs)) r w′ (ap (λ (a : Sym). expandSymbol G (inner a)) e ∙ group-item G sp xs)
-            (h ps false 64 (p .piled j l .end) sp xs (popped-as ps four G p (over sp group xs) e))
+      same : texts s w1 (g .m) ≡ ts
+      same = texts-stay s g n lim ps w (x .out) (F .going) (plainly bytes) (r .out) w1 head
 
-      -- ---- `@L` or `@R`
-      module _ (a : c ≡ 37 → ⊥) (b : c ≡ 38 → ⊥) (d : c ≡ 41 → ⊥) where
-        is-look : IsLook (symbolAt s w g (keyAt w g j))
-        is-look = look-there (symbolAt s w g (keyAt w g j)) (first .expands) (λ z. a (here ∙ z)) (λ z. b (here ∙ z)) (λ z. d (here ∙ z))
+      pub inside-frame : Framed s w1 g n lim c (r .out) ps names args
+      inside-frame = frame-stays s g n lim c w (x .out) ps names args F (plainly bytes) (r .out) w1 head
 
-        pub look-asked : SomePopped IsLook s w g n lim q v
-        look-asked = some-popped IsLook is-look
+      pub inside-many : count (children y) ≡ k
+      unfolding insideAt
+      inside-many = sym (S .reads .held) ∙ sym i
 
-        pub look-told : (r : Appended) (w′ : List ℕ) → ExpandsLook s w g n lim q v r w′ → ExpandsOne s w g n lim t j v (Expanded.Is r) w′
-        unfolding ExpandsLook ExpandsOne ExpandedBy
-        look-told r w′ h ps four G p =
-            let (sp, k, e) = is-look in
-            told ps G (yes (expandLookaroundSymbol sp (print (symbolOf (looking sp k))) k)) (Expanded.Is r) w′ (ap (λ (x : Sym). expandSymbol G (inner x)) e ∙ look-item G sp k)
-            (r, refl, h ps false 64 (p .piled j l .end) sp k (popped-as ps four G p (symbolOf (looking sp k)) e))
+      pub inside-within : SymsWithin four wd (texts s w1 (g .m)) (children y) (left - 1)
+      inside-within = subst (λ (us : List Text). SymsWithin four wd us (children y) (left - 1)) (sym same) (S .inside .within)
 
-pub other-asked : (s w : List ℕ) (g : Ground) (n lim : ℕ) (t : Grammar) (v : Appended) (j : ℕ) → SomePile s w g n lim t v → j < n → (q : ℕ) → q ≡ markAt w (g .keys) j → (c : ℕ) → c ≡ getD w (g .from + q) 0
-    → (c ≡ 37 → ⊥) → SomeOther s w g n lim t v j q c
-unfolding keyAt
-other-asked s w g n lim t v j P l q e c f a = record { pile = P; less = l; place = e; code = f; other = a }
+      pub inside-placed : Placed w1 g (r .out) (r .at) e (symsBytes wd (texts s w1 (g .m)) (children y))
+      inside-placed =
+          let z : p + length (nodeBytes wd (symNode ts y)) ≡ r .at = sym size-is ∙ sym (H .at) in
+          let a = placed-stays s g n lim ps w (x .out) (F .going) (plainly bytes) (r .out) w1 head (p + length (nodeBytes wd (symNode ts y))) e (symsBytes wd ts (children y)) (parts .1) in
+          subst (λ (us : List Text). Placed w1 g (r .out) (r .at) e (symsBytes wd us (children y))) (sym same) (subst (λ (j : ℕ). Placed w1 g (r .out) j e (symsBytes wd ts (children y))) z a)
 
-pub ruleset expanding = (needs, mark-room, key-inside, key-fits, definition-asked, macro-asked, macro-told, other-asked)
+      pub inside-whole : (t : Copied) (w2 : List ℕ) → PutsInAll s w1 g n lim c (left - 1) k r t w2
+          → (t .at ≡ e) × Appends s g n lim ps w (x .out) (symPiece wd (macroExpandSymbol names (renamedAll args) y) left) (t .out) w2
+      unfolding PutsInAll
+      inside-whole t w2 U =
+          let u = U ps names args four e (children y) inside-frame inside-many inside-within inside-placed in
+          let rest = symsPiece wd (macroExpandSymbols names (renamedAll args) (children y)) (left - 1) in
+          let T = namedIn s w2 g (t .out .count) in
+          let both = appends-then s g n lim ps w (x .out) (plainly bytes) (r .out) w1 rest (t .out) w2 (steady-plainly bytes) (F .going) head (u .1) in
+          let kept = texts-stay s g n lim ps w (x .out) (F .going) (thenPiece (plainly bytes) rest) (t .out) w2 both in (
+            u .0,
+            appends-is s g n lim ps w (x .out) (thenPiece (plainly bytes) rest) (t .out) w2 both (symPiece wd (macroExpandSymbol names (renamedAll args) y) left)
+                (copy-texts names (renamedAll args) four wd ts (namedIn s w g (x .out .count)) (named-extends s w w g (x .out .count) refl) y left W stays)
+                (copy-bytes names (renamedAll args) four wd ts T (named-extends s w w2 g (t .out .count) kept) y left W stays ∙ ap (λ (l : List ℕ). l ++ symsBytes wd T (macroExpandSymbols names (renamedAll args) (children y))) (sym bytes-are))
+                (copy-fits names (renamedAll args) four wd ts y left W stays),
+          )
 
--- ---- expand_other
-module _ (s w : List ℕ) (g : Ground) (n lim : ℕ) (t : Grammar) (v : Appended) (j q c : ℕ) (h : SomeOther s w g n lim t v j q c) where
-  marked : q ≡ markAt w (g .keys) j
-  unfolding keyAt
-  marked = h .place
+-- ---- the code
+module _ (s w : List ℕ) (g : Ground) (n lim : ℕ) (c : Call) (left : ℕ) (x : Copied) (K : Frame s w g n lim c (x .out)) (I : SomeInside s w g left x) where
+  pub one-readable : Readable g c w
+  one-readable = frame-readable s w g n lim c (x .out) (K .places) (K .names) (K .args) (K .framed)
 
-  pub other-repeat : c ≡ 38 → SomePopped IsRepeat s w g n lim q v
-  other-repeat z = repeat-asked s w g n lim t v j (h .pile) (h .less) q marked c (h .code) z
+  long : x .at + 9 ≤ I .end
+  long = symbol-long s w g n lim c left x (K .places) (K .names) (K .args) (I .four) (I .end) (I .symbol) (K .framed) (I .within) (I .placed)
 
-  pub other-repeat-told : c ≡ 38 → (r : Appended) (w′ : List ℕ) → ExpandsRepeat s w g n lim q v r w′ → ExpandsOne s w g n lim t j v (Expanded.Is r) w′
-  other-repeat-told z r w′ k = repeat-told s w g n lim t v j (h .pile) (h .less) q marked c (h .code) z r w′ k
+  pub one-behind : x .at + 16 ≤ length w
+  one-behind = omega (arith, long, I .placed .behind)
 
-  pub other-group : c ≡ 41 → SomePopped IsGroup s w g n lim q v
-  other-group z = group-asked s w g n lim t v j (h .pile) (h .less) q marked c (h .code) z
+  pub one-far : x .at + 17 ≤ length w
+  one-far = omega (arith, long, I .placed .behind)
 
-  pub other-group-told : c ≡ 41 → (r : Expanded) (w′ : List ℕ) → ExpandsExpr s w g n lim q v r w′ → ExpandsOne s w g n lim t j v r w′
-  other-group-told z r w′ k = group-told s w g n lim t v j (h .pile) (h .less) q marked c (h .code) z r w′ k
+  pub one-span : x .at + 1 + 8 ≤ length w
+  one-span = omega (arith, long, I .placed .behind)
 
-  pub other-look : (c ≡ 38 → ⊥) → (c ≡ 41 → ⊥) → SomePopped IsLook s w g n lim q v
-  other-look b d = look-asked s w g n lim t v j (h .pile) (h .less) q marked c (h .code) (h .other) b d
+  pub one-narrow : 2 ≤ g .width
+  one-narrow = K .framed .going .ground .narrow
 
-  pub other-look-told : (c ≡ 38 → ⊥) → (c ≡ 41 → ⊥) → (r : Appended) (w′ : List ℕ) → ExpandsLook s w g n lim q v r w′ → ExpandsOne s w g n lim t j v (Expanded.Is r) w′
-  other-look-told b d r w′ k = look-told s w g n lim t v j (h .pile) (h .less) q marked c (h .code) (h .other) b d r w′ k
+  pub one-wide : g .width ≤ 3
+  one-wide = K .framed .going .ground .wide
 
-pub ruleset others = (needs, other-repeat, other-repeat-told, other-group, other-group-told, other-look, other-look-told)
+  pub one-inside : lim ≤ length w
+  one-inside = K .framed .going .inside
+
+  pub one-deep : 1 ≤ left
+  one-deep = symbol-deep s w g n lim c left x (K .places) (K .names) (K .args) (I .four) (I .end) (I .symbol) (K .framed) (I .within) (I .placed)
+
+  pub one-upto : x .at + longOf (g .width) (getD w (x .at) 0) ≤ x .out .to
+  one-upto = symbol-upto s w g n lim c left x (K .places) (K .names) (K .args) (I .four) (I .end) (I .symbol) (K .framed) (I .within) (I .placed)
+
+  module _ (q : ℕ) (h : Found.At q ≡ parameterAt g c w (x .at)) (b : (j : ℕ) → Bound.Fits w8 (getD w j 0)) (span : ℕ) (j : span ≡ leAt 8 w (x .at + 1)) where
+    pub one-argument : AnyArgument s w g n lim q span (x .out)
+    one-argument = parameter-any s w g n lim c left x (K .places) (K .names) (K .args) (I .four) (I .end) (I .symbol) (K .framed) (I .within) (I .placed) q (sym h) span j b
+
+    pub one-parameter : (v : Appended) (w′ : List ℕ) → PutsArgument s w g n lim q span left (x .out) v w′ → PutsIn s w g n lim c left x (record { at = x .at + (9 + g .width); out = v }) w′
+    unfolding PutsIn
+    one-parameter v w′ U ps names args four e y F W P = parameter-put s w g n lim c left x ps names args four e y F W P q (sym h) span j b v w′ U
+
+  pub one-found : (f : Found) → f ≡ parameterAt g c w (x .at) → (q : ℕ) → f ≡ Found.At q → Found.At q ≡ parameterAt g c w (x .at)
+  one-found f i q h = sym h ∙ i
+
+  pub one-none : (f : Found) → f ≡ parameterAt g c w (x .at) → f ≡ Found.Nothing → Found.Nothing ≡ parameterAt g c w (x .at)
+  one-none f i h = sym h ∙ i
+
+  module _ (h : Found.Nothing ≡ parameterAt g c w (x .at)) (k : ℕ) (j : k ≡ insideAt (g .width) w (x .at)) (r : Copied) (w1 : List ℕ) (H : PutsHere w g lim x r w1) where
+    pub one-opens : Opens s w g n lim c left x (record { many = k; run = r }) w1
+    unfolding PutsIn
+    one-opens = record {
+      deep = one-deep;
+      frame = record {
+        places = K .places;
+        names = K .names;
+        args = K .args;
+        framed = inside-frame s w g n lim c left x (K .places) (K .names) (K .args) (I .four) (I .end) (I .symbol) (K .framed) (I .within) (I .placed) (sym h) k j r w1 H;
+      };
+      insides = record {
+        four = I .four;
+        end = I .end;
+        symbols = children (I .symbol);
+        many = inside-many s w g n lim c left x (K .places) (K .names) (K .args) (I .four) (I .end) (I .symbol) (K .framed) (I .within) (I .placed) (sym h) k j r w1 H;
+        within = inside-within s w g n lim c left x (K .places) (K .names) (K .args) (I .four) (I .end) (I .symbol) (K .framed) (I .within) (I .placed) (sym h) k j r w1 H;
+        placed = inside-placed s w g n lim c left x (K .places) (K .names) (K .args) (I .four) (I .end) (I .symbol) (K .framed) (I .within) (I .placed) (sym h) k j r w1 H;
+      };
+      carry = λ t w2 U ps names args four e y F W P. inside-whole s w g n lim c left x ps names args four e y F W P (sym h) k j r w1 H t w2 U;
+    }
+
+-- what was opened
+module _ (s w : List ℕ) (g : Ground) (n lim : ℕ) (c : Call) (left : ℕ) (x : Copied) (r : Opened) (w′ : List ℕ) (O : Opens s w g n lim c left x r w′) where
+  pub opened-deep : 1 ≤ left
+  opened-deep = O .deep
+
+  pub opened-falls : (t : ℕ) → 2 * left ≡ t → 2 * (left - 1) + 1 < t
+  opened-falls t e = omega (arith, O .deep)
+
+  pub opened-frame : Frame s w′ g n lim c (r .run .out)
+  opened-frame = O .frame
+
+  pub opened-insides : SomeInsides s w′ g (left - 1) (r .many) (r .run)
+  opened-insides = O .insides
+
+  pub opened-carry : (t : Copied) (w″ : List ℕ) → PutsInAll s w′ g n lim c (left - 1) (r .many) (r .run) t w″ → PutsIn s w g n lim c left x t w″
+  opened-carry t w″ U = O .carry t w″ U
+
+pub ruleset giving-way = (needs, one-span, one-narrow, one-wide, one-argument, one-parameter)
+
+pub ruleset opening = (needs, one-behind, one-far, one-narrow, one-wide, one-inside, one-upto, one-opens)
+
+pub ruleset expanding-one = (needs, one-readable, one-behind, one-found, one-none, opened-deep, opened-falls, opened-frame, opened-insides, opened-carry)

@@ -14,8 +14,25 @@ pub mod ChoiceCode
 mod AnalyzeCode
 pub mod GroupTrees
 mod GroupCode
+mod ArgumentsCode
+pub mod FrameLaws
+mod PutInCode
+pub mod PutInNamed
+pub mod PutInPlain
+mod PutInArgument
+mod ExpandTrees
+mod ExpandCode
+mod ExpandListCode
+mod AlternativesTrees
+mod AlternativesCode
+mod ConditionsMean
+mod AlternativesSteady
+mod AlternativesListCode
+mod HoldMean
+pub mod CallCode
+mod MacroCode
 pub mod PileStays
 pub mod KeyCodes
 pub mod DrainLaws
-mod ExpandCode
+mod PushedCode
 mod DrainCode

@@ -3,5 +3,9 @@ pub mod Expand
 pub mod Repeat
 pub mod NormUtil
 pub mod Group
+pub mod Arguments
+pub mod PutIn
+pub mod Alternatives
 pub mod Call
+pub mod Macro
 pub mod Drain

@@ -3,11 +3,17 @@
 use appending::Appended;
 use parse_tree::refusal::Refusal;
 
+pub mod alternatives;
+pub mod arguments;
 pub mod begin;
+pub mod call;
+pub mod drain;
+pub mod expand;
 pub mod group;
 pub mod look;
 pub mod norm_util;
 pub mod plus;
+pub mod put_in;
 pub mod repeat;
 pub mod star;
 
