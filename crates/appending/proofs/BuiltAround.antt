@@ -1,9 +1,8 @@
 -- The numbers of built-in texts stay where only bytes behind the slots and the items change. Assumes nothing.
-use mathlib.Core.Path.{_≡_, refl, sym, ap, _∙_, subst}
-use mathlib.Core.Bool.{Bool, false}
+use mathlib.Core.Path.{_≡_, refl, sym, ap, _∙_}
 use mathlib.Core.Logic.{_⊎_, inl, inr}
 use mathlib.Core.List.{List, [], _++_}
-use Prim.Native.Nat.{ℕ, _+_, _-_, _*_, _/_, _≤_, _<_}
+use Prim.Native.Nat.{ℕ, _+_, _-_, _*_, _<_}
 use native.Mathlib.Omega.{arith}
 use lib.ListN.{length, getD, drop}
 use lib.Seq.{drop-append-seam}
@@ -14,9 +13,9 @@ use Rattle.texts.specs.Fields.{markAt}
 use Rattle.texts.specs.Table.{Agree, texts}
 use Rattle.texts.proofs.TableStays.{leAt-agree}
 use Rattle.expander.specs.declared.Ground.{Ground}
-use Rattle.expander.specs.Ground.{sizeIn, stageIn, topOf, keyAt, listPlace, printedAt, Grounded}
-use Rattle.expander.specs.Names.{newTexts, namedIn}
-use Rattle.expander.proofs.GroundLaws.{list-keys, keys-slots, slots-top}
+use Rattle.expander.specs.Ground.{stageIn, topOf, keyAt, listPlace, printedAt, Grounded}
+use Rattle.expander.specs.Names.{listedTexts, namedIn}
+use Rattle.expander.proofs.GroundLaws.{list-keys, slots-top}
 use Rattle.appending.specs.Built.{builtText, builtPlace, builtAt, BuiltIs, BuiltNot, Built}
 
 -- theorem: the places of pushed symbols
@@ -32,13 +31,13 @@ module _ (s w w′ : List ℕ) (g : Ground) (r : Grounded s w g) (k : Agree w w�
       leAt-agree 8 w w′ (g .slots - 72 + 8 * i)
       (λ a x y. k .agree a (omega (arith, list-keys s w g r, r .fits, b .room)) (omega (arith, slots-top s w g r, r .fits, b .room)))
 
-  new-same : newTexts s w′ g c ≡ newTexts s w g c
+  new-same : listedTexts s w′ g c ≡ listedTexts s w g c
   unfolding namedIn
   new-same =
-      sym (drop-append-seam (texts s w′ (g .m)) (newTexts s w′ g c))
+      sym (drop-append-seam (texts s w′ (g .m)) (listedTexts s w′ g c))
       ∙ ap (drop (length (texts s w′ (g .m)))) named
-      ∙ ap (λ (ts : List Text). drop (length ts) (texts s w (g .m) ++ newTexts s w g c)) found
-      ∙ drop-append-seam (texts s w (g .m)) (newTexts s w g c)
+      ∙ ap (λ (ts : List Text). drop (length ts) (texts s w (g .m) ++ listedTexts s w g c)) found
+      ∙ drop-append-seam (texts s w (g .m)) (listedTexts s w g c)
 
   pub built-agree : Built s w′ g n c
   built-agree = record {

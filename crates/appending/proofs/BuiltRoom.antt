@@ -17,7 +17,7 @@ use Rattle.replacing.proofs.NumbersMean.{has-append}
 use Rattle.expander.specs.declared.Ground.{Ground}
 use Rattle.expander.specs.Ground.{slotAt, keyAt, listPlace, listAt, printedAt}
 use Rattle.expander.specs.Held.{followed}
-use Rattle.expander.specs.Names.{describedBy, newTexts, namedIn, Names, NameRoom}
+use Rattle.expander.specs.Names.{describedBy, listedTexts, namedIn, Names, NameRoom}
 use Rattle.expander.proofs.NamedTexts.{length-named, named-new, described-even}
 use Rattle.appending.specs.Built.{builtText, BuiltNot, Built}
 
@@ -209,7 +209,7 @@ described-built s w g i =
 module _ (s w : List ℕ) (g : Ground) (n c i : ℕ) (x : BuiltNot s w g c i) (absent : has (builtText i) (texts s w (g .m)) ≡ false) where
   pub built-absent : has (builtText i) (namedIn s w g c) ≡ false
   unfolding namedIn
-  built-absent = has-append (builtText i) (texts s w (g .m)) (newTexts s w g c) ∙ cc (absent, x .new)
+  built-absent = has-append (builtText i) (texts s w (g .m)) (listedTexts s w g c) ∙ cc (absent, x .new)
 
   -- theorem: there is room for it
   pub built-room : (ps : List ℕ) → Names s w g n c ps → Built s w g n c → i < 9 → listPlace g c + 8 ≤ g .keys

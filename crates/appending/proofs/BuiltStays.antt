@@ -10,7 +10,7 @@ use Rattle.parse_tree.specs.plain.Texts.{has, withNew}
 use Rattle.texts.specs.Table.{texts}
 use Rattle.replacing.proofs.NumbersMean.{new-known, new-unknown}
 use Rattle.expander.specs.declared.Ground.{Ground}
-use Rattle.expander.specs.Names.{newTexts, namedIn}
+use Rattle.expander.specs.Names.{listedTexts, namedIn}
 use Rattle.expander.proofs.NamedTexts.{has-more}
 use Rattle.appending.specs.Built.{builtText, builtAt, BuiltIs, BuiltNot}
 
@@ -33,17 +33,17 @@ module _ (ts : List Text) (x : Text) where
 -- ---- the text t is numbered
 module _ (s w w′ : List ℕ) (g : Ground) (c c′ : ℕ) (t : Text) (found : texts s w′ (g .m) ≡ texts s w (g .m)) (named : namedIn s w′ g c′ ≡ withNew (namedIn s w g c) (t ∷ [])) where
   -- the new texts then
-  news-known : has t (namedIn s w g c) ≡ true → newTexts s w′ g c′ ≡ newTexts s w g c
+  news-known : has t (namedIn s w g c) ≡ true → listedTexts s w′ g c′ ≡ listedTexts s w g c
   unfolding namedIn
   news-known e =
-      append-cancel-left (texts s w (g .m)) (newTexts s w′ g c′) (newTexts s w g c)
-      (ap (λ (ts : List Text). ts ++ newTexts s w′ g c′) (sym found) ∙ named ∙ new-known (namedIn s w g c) t e)
+      append-cancel-left (texts s w (g .m)) (listedTexts s w′ g c′) (listedTexts s w g c)
+      (ap (λ (ts : List Text). ts ++ listedTexts s w′ g c′) (sym found) ∙ named ∙ new-known (namedIn s w g c) t e)
 
-  news-more : has t (namedIn s w g c) ≡ false → newTexts s w′ g c′ ≡ newTexts s w g c ++ (t ∷ [])
+  news-more : has t (namedIn s w g c) ≡ false → listedTexts s w′ g c′ ≡ listedTexts s w g c ++ (t ∷ [])
   unfolding namedIn
   news-more e =
-      append-cancel-left (texts s w (g .m)) (newTexts s w′ g c′) (newTexts s w g c ++ (t ∷ []))
-      (ap (λ (ts : List Text). ts ++ newTexts s w′ g c′) (sym found) ∙ named ∙ new-unknown (namedIn s w g c) t e ∙ append-assoc (texts s w (g .m)) (newTexts s w g c) (t ∷ []))
+      append-cancel-left (texts s w (g .m)) (listedTexts s w′ g c′) (listedTexts s w g c ++ (t ∷ []))
+      (ap (λ (ts : List Text). ts ++ listedTexts s w′ g c′) (sym found) ∙ named ∙ new-unknown (namedIn s w g c) t e ∙ append-assoc (texts s w (g .m)) (listedTexts s w g c) (t ∷ []))
 
   -- theorem: a number that was given
   pub is-stays : (i k : ℕ) → builtAt w′ g i ≡ builtAt w g i → BuiltIs s w g c i k → BuiltIs s w′ g c′ i k
@@ -57,6 +57,6 @@ module _ (s w w′ : List ℕ) (g : Ground) (c c′ : ℕ) (t : Text) (found : t
   pub not-stays : (i : ℕ) → builtAt w′ g i ≡ builtAt w g i → (has t (namedIn s w g c) ≡ false → t ≡ builtText i → ⊥) → BuiltNot s w g c i → BuiltNot s w′ g c′ i
   not-stays i e d b = record { word = e ∙ b .word; new = go (has t (namedIn s w g c)) refl }
     where
-      go : (x : Bool) → has t (namedIn s w g c) ≡ x → has (builtText i) (newTexts s w′ g c′) ≡ false
+      go : (x : Bool) → has t (namedIn s w g c) ≡ x → has (builtText i) (listedTexts s w′ g c′) ≡ false
       go true z = ap (has (builtText i)) (news-known z) ∙ b .new
-      go false z = ap (has (builtText i)) (news-more z) ∙ has-more (builtText i) t (newTexts s w g c) (b .new) (d z)
+      go false z = ap (has (builtText i)) (news-more z) ∙ has-more (builtText i) t (listedTexts s w g c) (b .new) (d z)

@@ -2,17 +2,17 @@
 use mathlib.Core.Path.{_≡_, refl, sym, ap, _∙_, subst}
 use mathlib.Core.Bool.{Bool, true, false, _&&_, _||_, not}
 use mathlib.Core.Logic.{_⊎_, inl, inr}
-use mathlib.Core.List.{List, [], _∷_, _++_}
-use Prim.Native.Nat.{ℕ, _+_, _-_, _≤_, _<_}
+use mathlib.Core.List.{List, [], _++_}
+use Prim.Native.Nat.{ℕ, _+_, _≤_, _<_}
 use native.Mathlib.Omega.{arith}
-use lib.ListN.{length, getD, length-append}
+use lib.ListN.{length, length-append}
 use Rattle.octets.specs.plain.Runs.{Lies}
 use Rattle.octets.proofs.LiesLaws.{lies-none, lies-append}
 use Rattle.octets.proofs.StoreLaws.{lies-store}
 use Rattle.parse_tree.specs.plain.Tree.{Text, Syms, Item}
 use Rattle.parse_tree.specs.plain.Texts.{has, withNew}
 use Rattle.parse_tree.specs.working.Within.{Each}
-use Rattle.texts.specs.Table.{Above, Agree}
+use Rattle.texts.specs.Table.{Agree}
 use Rattle.texts.proofs.TableStays.{above-stays}
 use Rattle.resolve.proofs.CellsLaws.{lies-agree}
 use Rattle.precedence.specs.Write.{Puts}
@@ -21,14 +21,14 @@ use Rattle.replacing.proofs.Going.{Extends, new-append, new-extends}
 use Rattle.replacing.proofs.ThereBytes.{there-parts, new-all, syms-known, there-bytes}
 use Rattle.expander.specs.declared.Ground.{Ground}
 use Rattle.expander.specs.declared.slots.Numbered.{Numbered}
-use Rattle.expander.specs.Ground.{topOf, listPlace, Grounded}
-use Rattle.expander.specs.Names.{namedIn, Names}
-use Rattle.expander.proofs.GroundLaws.{Around, table-around, grounded-around, list-keys, keys-slots, slots-top}
+use Rattle.expander.specs.Ground.{topOf, listPlace}
+use Rattle.expander.specs.Names.{namedIn}
+use Rattle.expander.proofs.GroundLaws.{table-around, grounded-around, list-keys, keys-slots, slots-top}
 use Rattle.expander.proofs.HeldStays.{Between, between-wrote, stage-wrote, texts-wrote, above-wrote}
-use Rattle.expander.specs.Stage.{Wrote}
+use Rattle.expander.specs.Stage.{WroteOnly}
 use Rattle.expander.proofs.NamesLaws.{ground-around, named-around, names-around}
 use Rattle.appending.specs.declared.Appended.{Appended}
-use Rattle.appending.specs.Built.{Built, Gives}
+use Rattle.appending.specs.Built.{Gives}
 use Rattle.appending.proofs.BuiltAround.{key-agree, built-agree}
 use Rattle.appending.specs.Pieces.{Piece, naming, plainly, nested, thenPiece, symbolsPiece, itemPiece, Steady, Appending, Appends}
 
@@ -161,7 +161,7 @@ module _ (s : List ℕ) (g : Ground) (n lim : ℕ) (ps : List ℕ) where
     agree : Agree w w′ (listPlace g 0) (topOf g)
     agree = record { agree = λ i x y. between .others i (inl (omega (arith, h .top))) }
 
-    wrote : Wrote g (v .to) lim w w′
+    wrote : WroteOnly g (v .to) lim w w′
     wrote = between-wrote g (v .to) lim w w′ (h .top) between (omega (arith, list-keys s w g (h .ground), keys-slots s w g (h .ground), slots-top s w g (h .ground)))
 
     named : namedIn s w′ g (v .count) ≡ namedIn s w g (v .count)

@@ -25,7 +25,7 @@ use Rattle.replacing.specs.Trees.{renamed, renamedAll, isKey}
 use Rattle.replacing.proofs.Going.{Extends}
 use Rattle.expander.specs.declared.Ground.{Ground}
 use Rattle.expander.specs.Ground.{sizeIn, Grounded}
-use Rattle.expander.specs.Names.{newTexts, namedIn}
+use Rattle.expander.specs.Names.{listedTexts, namedIn}
 use Rattle.expander.specs.Replace.{expandedCode, keysOfAll, StandsAt, StandAt}
 use Rattle.expander.proofs.KeysLaws.{sym-length, stands-code}
 use Rattle.appending.specs.declared.Appended.{Appended}
@@ -40,7 +40,7 @@ use Rattle.appending.proofs.SymbolsStays.{texts-stay, referring-stays}
 -- the texts by number begin with those of the table
 named-extends : (s w w′ : List ℕ) (g : Ground) (c : ℕ) → texts s w′ (g .m) ≡ texts s w (g .m) → Extends (texts s w (g .m)) (namedIn s w′ g c)
 unfolding namedIn
-named-extends s w w′ g c e = record { more = newTexts s w′ g c; is = ap (λ (ts : List Text). ts ++ newTexts s w′ g c) e }
+named-extends s w w′ g c e = record { more = listedTexts s w′ g c; is = ap (λ (ts : List Text). ts ++ listedTexts s w′ g c) e }
 
 -- x says how many are to come, and where: y, then ys
 module _ (s w : List ℕ) (g : Ground) (n lim : ℕ) (ps : List ℕ) (four : Bool) (left e : ℕ) (y : Sym) (ys : Syms) (x : Coming) (A : Appending s g n lim ps w (x .run .out)) (R : Referring s w g ps four left (x .run .at) e (cons y ys)) where

@@ -1,17 +1,11 @@
 -- The way out of put_command. Assumes nothing.
-use mathlib.Core.Path.{_≡_, refl, sym, ap, subst}
-use mathlib.Core.List.{List, _∷_, _++_}
-use Prim.Native.Nat.{ℕ, _+_, _-_, _<_, _≤_}
-use native.Mathlib.Omega.{arith}
+use mathlib.Core.Path.{_≡_, refl, ap, subst}
+use mathlib.Core.List.{List}
+use Prim.Native.Nat.{ℕ, _+_}
 use borrow.Author.Needs.{needs}
-use lib.ListN.{length, length-append}
-use Rattle.octets.specs.plain.Numbers.{le}
 use Rattle.octets.specs.plain.Runs.{part}
-use Rattle.octets.specs.working.Stores.{store}
-use Rattle.octets.proofs.NumbersLaws.{length-le}
 use Rattle.resolve.specs.Commands.{longOf}
 use Rattle.precedence.specs.Write.{Puts}
-use Rattle.precedence.proofs.WriteLaws.{puts-whole, puts-not}
 use Rattle.expander.specs.declared.Ground.{Ground}
 use Rattle.appending.specs.declared.symbols.Copied.{Copied}
 use Rattle.appending.specs.Symbols.{PutsCommand}

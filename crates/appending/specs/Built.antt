@@ -12,7 +12,7 @@ use Rattle.laws.specs.Keys.{builtIns}
 use Rattle.expander.specs.declared.Ground.{Ground}
 use Rattle.expander.specs.declared.slots.Numbered.{Numbered}
 use Rattle.expander.specs.Ground.{sizeIn, keyAt, listPlace, printedAt}
-use Rattle.expander.specs.Names.{newTexts, namedIn, Names}
+use Rattle.expander.specs.Names.{listedTexts, namedIn, Names}
 use Rattle.expander.proofs.GroundLaws.{Around}
 
 unfoldable pub builtText : ℕ → Text
@@ -33,7 +33,7 @@ pub record BuiltIs (s w : List ℕ) (g : Ground) (c i k : ℕ) : Type 0 where
 -- the i-th was not asked for in this round, so it is none of the new texts
 pub record BuiltNot (s w : List ℕ) (g : Ground) (c i : ℕ) : Type 0 where
   pub word : builtAt w g i ≡ 0
-  pub new : has (builtText i) (newTexts s w g c) ≡ false
+  pub new : has (builtText i) (listedTexts s w g c) ≡ false
 
 -- n symbols were pushed, none of which prints as a built-in text, and there is room for three records more, where no bucket has its head; c texts are new
 pub record Built (s w : List ℕ) (g : Ground) (n c : ℕ) : Type 0 where

@@ -17,7 +17,7 @@ use Rattle.replacing.specs.Prints.{symAt, printAt}
 use Rattle.replacing.specs.Slots.{Slots}
 use Rattle.replacing.specs.Sound.{Firm, Sound}
 use Rattle.expander.specs.declared.Ground.{Ground}
-use Rattle.expander.specs.Ground.{stageIn, topOf, listPlace, pushedText, symbolAt, printedAt, KeyAt, Grounded, Kept}
+use Rattle.expander.specs.Ground.{stageIn, topOf, listPlace, pushedText, symbolIn, printedAt, KeyAt, Grounded, KeptAround}
 use Rattle.expander.specs.Held.{Listed}
 
 -- from w to w′ nothing changed but the list of new texts, records of pushed symbols and slots
@@ -42,7 +42,7 @@ module _ (s w : List ℕ) (g : Ground) (h : Grounded s w g) where
   list-keys = rw (list-start g) (h .records)
 
   -- theorem: noting changes nothing around
-  pub kept-around : (w′ : List ℕ) → Kept g w w′ → Around g w w′
+  pub kept-around : (w′ : List ℕ) → KeptAround g w w′ → Around g w w′
   kept-around w′ k = record { long = k .long; others = λ i d. k .others i (go i d) }
     where
       go : (i : ℕ) → (i < listPlace g 0) ⊎ (topOf g ≤ i) → (i < g .keys) ⊎ (topOf g ≤ i)
@@ -116,8 +116,8 @@ module _ (s w w′ : List ℕ) (g : Ground) (h : Grounded s w g) (a : Around g w
   pub said-around : (P : List ℕ → List Text → Type 0) → P (stageIn w g) (texts s w (g .m)) → P (stageIn w′ g) (texts s w′ (g .m))
   said-around P x = subst (λ (ts : List Text). P (stageIn w′ g) ts) (sym texts-around) (subst (λ (st : List ℕ). P st (texts s w (g .m))) (sym stage-around) x)
 
-  pub symbol-around : (p : ℕ) → symbolAt s w′ g p ≡ symbolAt s w g p
-  symbol-around p = said-around (λ st ts. symAt false (g .width) st ts p ≡ symbolAt s w g p) refl
+  pub symbol-around : (p : ℕ) → symbolIn s w′ g p ≡ symbolIn s w g p
+  symbol-around p = said-around (λ st ts. symAt false (g .width) st ts p ≡ symbolIn s w g p) refl
 
   pub printed-around : (p : ℕ) → printedAt s w′ g p ≡ printedAt s w g p
   printed-around p = said-around (λ st ts. printAt false (g .width) st ts p ≡ printedAt s w g p) refl
@@ -125,5 +125,5 @@ module _ (s w w′ : List ℕ) (g : Ground) (h : Grounded s w g) (a : Around g w
   pub key-around : (p : ℕ) → KeyAt s w g p → KeyAt s w′ g p
   key-around p k = said-around (λ st ts. Firm false (g .width) st ts p) k
 
-  pub sound-around : (x : Slots) (σ : Expander) → Sound (symbolAt s w g) (KeyAt s w g) (texts s w (g .m)) x σ → Sound (symbolAt s w′ g) (KeyAt s w′ g) (texts s w′ (g .m)) x σ
+  pub sound-around : (x : Slots) (σ : Expander) → Sound (symbolIn s w g) (KeyAt s w g) (texts s w (g .m)) x σ → Sound (symbolIn s w′ g) (KeyAt s w′ g) (texts s w′ (g .m)) x σ
   sound-around x σ k = said-around (λ st ts. Sound (λ p. symAt false (g .width) st ts p) (λ p. Firm false (g .width) st ts p) ts x σ) k

@@ -19,7 +19,7 @@ use Rattle.replacing.specs.Sound.{Firm, HasRef, Sound}
 use Rattle.expander.specs.declared.Ground.{Ground}
 use Rattle.expander.specs.Ground.{stageIn, topOf, slotPlace, slotAt, keyAt, listPlace, listAt, newAt, pushedText, Grounded, Records}
 use Rattle.expander.specs.Held.{down, keepIf, anyOf, followed, refBy, refIn, isLike, isText, Refers, Held}
-use Rattle.expander.specs.Stage.{Wrote}
+use Rattle.expander.specs.Stage.{WroteOnly}
 use Rattle.expander.proofs.GroundLaws.{Around, list-start, keys-slots, slots-top, grounded-stays}
 use Rattle.expander.proofs.RecordsLaws.{key-stays, records-stay}
 use Rattle.expander.proofs.HeldLists.{down-same, upto-same, keep-down, any-down}
@@ -32,7 +32,7 @@ pub record Between (a e : ℕ) (w w′ : List ℕ) : Type 0 where
 
 module _ (g : Ground) (a e : ℕ) (w w′ : List ℕ) where
   -- theorem: then nothing but what may be written
-  pub between-wrote : topOf g ≤ a → Between a e w w′ → listPlace g 0 ≤ topOf g → Wrote g a e w w′
+  pub between-wrote : topOf g ≤ a → Between a e w w′ → listPlace g 0 ≤ topOf g → WroteOnly g a e w w′
   between-wrote t k l = record { long = k .long; others = λ i d. k .others i (go i d) }
     where
       go : (i : ℕ) → (i < listPlace g 0) ⊎ ((topOf g ≤ i) × (i < a)) ⊎ (e ≤ i) → (i < a) ⊎ (e ≤ i)
@@ -41,7 +41,7 @@ module _ (g : Ground) (a e : ℕ) (w w′ : List ℕ) where
       go i (inr (inr p)) = inr p
 
   -- theorem: noting and numbering write nothing there
-  pub around-wrote : topOf g ≤ a → a ≤ e → Around g w w′ → Wrote g a e w w′
+  pub around-wrote : topOf g ≤ a → a ≤ e → Around g w w′ → WroteOnly g a e w w′
   around-wrote t h k = record { long = k .long; others = λ i d. k .others i (go i d) }
     where
       go : (i : ℕ) → (i < listPlace g 0) ⊎ ((topOf g ≤ i) × (i < a)) ⊎ (e ≤ i) → (i < listPlace g 0) ⊎ (topOf g ≤ i)
@@ -50,7 +50,7 @@ module _ (g : Ground) (a e : ℕ) (w w′ : List ℕ) where
       go i (inr (inr p)) = inr (omega arith)
 
 -- one after another
-pub wrote-then : (g : Ground) (a m e : ℕ) (w w1 w2 : List ℕ) → a ≤ m → m ≤ e → Wrote g a m w w1 → Wrote g m e w1 w2 → Wrote g a e w w2
+pub wrote-then : (g : Ground) (a m e : ℕ) (w w1 w2 : List ℕ) → a ≤ m → m ≤ e → WroteOnly g a m w w1 → WroteOnly g m e w1 w2 → WroteOnly g a e w w2
 wrote-then g a m e w w1 w2 l h p q = record { long = q .long ∙ p .long; others = λ i d. q .others i (go i d) ∙ p .others i (to i d) }
   where
     go : (i : ℕ) → (i < listPlace g 0) ⊎ ((topOf g ≤ i) × (i < a)) ⊎ (e ≤ i) → (i < listPlace g 0) ⊎ ((topOf g ≤ i) × (i < m)) ⊎ (e ≤ i)
@@ -64,11 +64,11 @@ wrote-then g a m e w w1 w2 l h p q = record { long = q .long ∙ p .long; others
     to i (inr (inr x)) = inr (inr (omega arith))
 
 -- within the same bounds
-pub wrote-same : (g : Ground) (a e : ℕ) (w w1 w2 : List ℕ) → Wrote g a e w w1 → Wrote g a e w1 w2 → Wrote g a e w w2
+pub wrote-same : (g : Ground) (a e : ℕ) (w w1 w2 : List ℕ) → WroteOnly g a e w w1 → WroteOnly g a e w1 w2 → WroteOnly g a e w w2
 wrote-same g a e w w1 w2 p q = record { long = q .long ∙ p .long; others = λ i d. q .others i d ∙ p .others i d }
 
 -- ---- what was written is before lim, where the texts begin
-module _ (s w w′ : List ℕ) (g : Ground) (a e lim : ℕ) (G : Grounded s w g) (top : topOf g ≤ a) (items : g .end ≤ a) (low : e ≤ lim) (above : Above s w (g .m) lim) (k : Wrote g a e w w′) where
+module _ (s w w′ : List ℕ) (g : Ground) (a e lim : ℕ) (G : Grounded s w g) (top : topOf g ≤ a) (items : g .end ≤ a) (low : e ≤ lim) (above : Above s w (g .m) lim) (k : WroteOnly g a e w w′) where
   -- theorem: the items stay
   pub stage-wrote : stageIn w′ g ≡ stageIn w g
   unfolding stageIn
@@ -111,7 +111,7 @@ module _ (s w w′ : List ℕ) (g : Ground) (a e lim : ℕ) (G : Grounded s w g)
   list-below : listPlace g 0 ≤ topOf g
   list-below = omega (arith, list-start g, G .records, keys-slots s w g G, slots-top s w g G)
 
-  wrote : Wrote g a e w w′
+  wrote : WroteOnly g a e w w′
   wrote = between-wrote g a e w w′ top k list-below
 
   field-same : (m b : ℕ) → b + m ≤ a → leAt m w′ b ≡ leAt m w b

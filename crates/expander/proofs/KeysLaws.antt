@@ -37,8 +37,8 @@ use Rattle.replacing.specs.Sound.{HasRef}
 use Rattle.replacing.proofs.Readings.{read-more}
 use Rattle.replacing.proofs.SlotsMean.{each-map}
 use Rattle.expander.specs.declared.Ground.{Ground}
-use Rattle.expander.specs.Ground.{sizeIn, stageIn, symbolAt, printedAt, KeyAt, Grounded}
-use Rattle.expander.specs.Held.{Off, Before}
+use Rattle.expander.specs.Ground.{sizeIn, stageIn, symbolIn, printedAt, KeyAt, Grounded}
+use Rattle.expander.specs.Held.{Off, AllBefore}
 use Rattle.expander.specs.Replace.{expandedCode, leafKeys, aroundKeys, aroundLong, overLong, keysOf, keysOfAll, StandsAt}
 
 -- ---- what is within its limits is so where texts need not suit their use
@@ -256,7 +256,7 @@ module _ (s w : List ℕ) (g : Ground) (G : Grounded s w g) (four : Bool) (left 
     pub stands-whole : readSym false (g .width) (stageIn w g) (texts s w (g .m)) 64 p ≡ got y e
     stands-whole = read-more false (g .width) (stageIn w g) (texts s w (g .m)) left 64 p y e levels stands-read
 
-    pub stands-symbol : symbolAt s w g p ≡ y
+    pub stands-symbol : symbolIn s w g p ≡ y
     unfolding symAt symOf
     stands-symbol = ap symOf stands-whole
 
@@ -273,11 +273,11 @@ module _ (s w : List ℕ) (g : Ground) (G : Grounded s w g) (four : Bool) (left 
     }
 
 -- ---- noting: what has references then
-module _ (same : ℕ → ℕ → Bool) (textAt : ℕ → Option ℕ) where
+module _ (same : ℕ → ℕ → Bool) (textIn : ℕ → Option ℕ) where
   abbrev Adds : ℕ → Slots → Slots → Type 0
   Adds p x y = (r : Ref) × (y .refs ≡ (p, r) ∷ x .refs)
 
-  by-adds : (p : ℕ) (o : Option ℕ) (x : Slots) → Adds p x (noteBy same textAt p o x)
+  by-adds : (p : ℕ) (o : Option ℕ) (x : Slots) → Adds p x (noteBy same textIn p o x)
   unfolding noteBy pushNew pushText refer
   by-adds p none x = (like p, refl)
   by-adds p (some k) x = go (among k (x .marks))
@@ -286,16 +286,16 @@ module _ (same : ℕ → ℕ → Bool) (textAt : ℕ → Option ℕ) where
       go true = (text k, refl)
       go false = (text k, refl)
 
-  as-adds : (p : ℕ) (o : Option ℕ) (x : Slots) → Adds p x (noteAs same textAt p o x)
+  as-adds : (p : ℕ) (o : Option ℕ) (x : Slots) → Adds p x (noteAs same textIn p o x)
   unfolding noteAs refer
-  as-adds p none x = by-adds p (textAt p) x
+  as-adds p none x = by-adds p (textIn p) x
   as-adds p (some q) x = (like q, refl)
 
-  note-adds : (p : ℕ) (x : Slots) → Adds p x (note same textAt p x)
+  note-adds : (p : ℕ) (x : Slots) → Adds p x (note same textIn p x)
   unfolding note
-  note-adds p x = as-adds p (firstLike same textAt p (x .firsts)) x
+  note-adds p x = as-adds p (firstLike same textIn p (x .firsts)) x
 
-  note-from : (p q : ℕ) (x : Slots) → HasRef q (note same textAt p x) → (HasRef q x) ⊎ (q ≡ p)
+  note-from : (p q : ℕ) (x : Slots) → HasRef q (note same textIn p x) → (HasRef q x) ⊎ (q ≡ p)
   unfolding among
   note-from p q x h = let (r, e) = note-adds p x in go r (eqb p q) refl (rw e at h)
     where
@@ -304,24 +304,24 @@ module _ (same : ℕ → ℕ → Bool) (textAt : ℕ → Option ℕ) where
       go r false z i = inl i
 
   -- what holds of all that have references and of all that are noted
-  notes-hold : (P : ℕ → Type 0) (ps : List ℕ) (x : Slots) → Each P ps → ((q : ℕ) → HasRef q x → P q) → (q : ℕ) → HasRef q (noteAll same textAt ps x) → P q
+  notes-hold : (P : ℕ → Type 0) (ps : List ℕ) (x : Slots) → Each P ps → ((q : ℕ) → HasRef q x → P q) → (q : ℕ) → HasRef q (noteAll same textIn ps x) → P q
   unfolding noteAll
   notes-hold P [] x a f q h = f q h
-  notes-hold P (p ∷ ps) x a f q h = notes-hold P ps (note same textAt p x) (a .1) (λ r i. go r (note-from p r x i)) q h
+  notes-hold P (p ∷ ps) x a f q h = notes-hold P ps (note same textIn p x) (a .1) (λ r i. go r (note-from p r x i)) q h
     where
       go : (r : ℕ) → (HasRef r x) ⊎ (r ≡ p) → P r
       go r (inl i) = f r i
       go r (inr e) = subst P (sym e) (a .0)
 
-  pub notes-append : (ps qs : List ℕ) (x : Slots) → noteAll same textAt (ps ++ qs) x ≡ noteAll same textAt qs (noteAll same textAt ps x)
+  pub notes-append : (ps qs : List ℕ) (x : Slots) → noteAll same textIn (ps ++ qs) x ≡ noteAll same textIn qs (noteAll same textIn ps x)
   unfolding noteAll
   notes-append [] qs x = refl
-  notes-append (p ∷ ps) qs x = notes-append ps qs (note same textAt p x)
+  notes-append (p ∷ ps) qs x = notes-append ps qs (note same textIn p x)
 
   -- theorem: all stay before the end of what was noted
-  pub notes-before : (p e : ℕ) (ps : List ℕ) (x : Slots) → p ≤ e → Spread p e ps → Before p x → Before e (noteAll same textAt ps x)
+  pub notes-before : (p e : ℕ) (ps : List ℕ) (x : Slots) → p ≤ e → Spread p e ps → AllBefore p x → AllBefore e (noteAll same textIn ps x)
   notes-before p e ps x l a b = notes-hold (λ q. q + 9 ≤ e) ps x (each-map (λ q z. z .1) ps a) (λ q h. let i = b q h in omega arith)
 
   -- theorem: and off a place before which all were, and behind which what was noted is
-  pub notes-off : (p d e : ℕ) (ps : List ℕ) (x : Slots) → p + 9 ≤ d → Spread d e ps → Before p x → Off p (noteAll same textAt ps x)
+  pub notes-off : (p d e : ℕ) (ps : List ℕ) (x : Slots) → p + 9 ≤ d → Spread d e ps → AllBefore p x → Off p (noteAll same textIn ps x)
   notes-off p d e ps x l a b = notes-hold (λ q. (q + 9 ≤ p) ⊎ (p + 9 ≤ q)) ps x (each-map (λ q z. inr (omega (arith, z .0))) ps a) (λ q h. inl (b q h))

@@ -21,7 +21,7 @@ use Rattle.replacing.proofs.NumbersMean.{has-append}
 use Rattle.expander.specs.declared.Ground.{Ground}
 use Rattle.expander.specs.Ground.{keyAt, listAt, newAt, printedAt}
 use Rattle.expander.specs.Held.{upto}
-use Rattle.expander.specs.Names.{describedBy, newTexts, namedIn}
+use Rattle.expander.specs.Names.{describedBy, listedTexts, namedIn}
 
 -- a text that isn't there isn't behind another one either
 pub has-more : (x t : Text) (ts : List Text) → has x ts ≡ false → (t ≡ x → ⊥) → has x (ts ++ (t ∷ [])) ≡ false
@@ -33,13 +33,13 @@ has-more x t ts h e = has-append x ts (t ∷ []) ∙ ap (λ (b : Bool). b || has
     go false z = refl
 
 module _ (s w : List ℕ) (g : Ground) where
-  length-new : (c : ℕ) → length (newTexts s w g c) ≡ c
-  unfolding newTexts
+  length-new : (c : ℕ) → length (listedTexts s w g c) ≡ c
+  unfolding listedTexts
   length-new zero = refl
-  length-new (suc c) = length-append (newTexts s w g c) (describedBy s w g (listAt w g c) ∷ []) ∙ (omega (arith, length-new c))
+  length-new (suc c) = length-append (listedTexts s w g c) (describedBy s w g (listAt w g c) ∷ []) ∙ (omega (arith, length-new c))
 
-  new-next : (c : ℕ) → newTexts s w g (suc c) ≡ newTexts s w g c ++ (describedBy s w g (listAt w g c) ∷ [])
-  unfolding newTexts
+  new-next : (c : ℕ) → listedTexts s w g (suc c) ≡ listedTexts s w g c ++ (describedBy s w g (listAt w g c) ∷ [])
+  unfolding listedTexts
   new-next c = refl
 
   length-found : length (texts s w (g .m)) ≡ g .m .count
@@ -48,33 +48,33 @@ module _ (s w : List ℕ) (g : Ground) where
 
   pub length-named : (c : ℕ) → length (namedIn s w g c) ≡ g .m .count + c
   unfolding namedIn
-  length-named c = length-append (texts s w (g .m)) (newTexts s w g c) ∙ (omega (arith, length-found, length-new c))
+  length-named c = length-append (texts s w (g .m)) (listedTexts s w g c) ∙ (omega (arith, length-found, length-new c))
 
-  new-at : (c k : ℕ) → k < c → getD (newTexts s w g c) k [] ≡ describedBy s w g (listAt w g k)
-  unfolding newTexts
+  new-at : (c k : ℕ) → k < c → getD (listedTexts s w g c) k [] ≡ describedBy s w g (listAt w g k)
+  unfolding listedTexts
   new-at zero k h = absurd (omega arith)
   new-at (suc c) k h = go (ltb k c) refl (new-at c k)
     where
-      go : (t : Bool) → ltb k c ≡ t → (k < c → getD (newTexts s w g c) k [] ≡ describedBy s w g (listAt w g k))
-          → getD (newTexts s w g c ++ (describedBy s w g (listAt w g c) ∷ [])) k [] ≡ describedBy s w g (listAt w g k)
-      go true e i = let l = ltb-true k c e in List·getD-append (newTexts s w g c) (describedBy s w g (listAt w g c) ∷ []) [] k (omega (arith, length-new c)) ∙ i l
+      go : (t : Bool) → ltb k c ≡ t → (k < c → getD (listedTexts s w g c) k [] ≡ describedBy s w g (listAt w g k))
+          → getD (listedTexts s w g c ++ (describedBy s w g (listAt w g c) ∷ [])) k [] ≡ describedBy s w g (listAt w g k)
+      go true e i = let l = ltb-true k c e in List·getD-append (listedTexts s w g c) (describedBy s w g (listAt w g c) ∷ []) [] k (omega (arith, length-new c)) ∙ i l
       go false e i =
           let l = ltb-false k c e in
           let z : k ≡ c = omega arith in
-          let y : k ≡ length (newTexts s w g c) = z ∙ sym (length-new c) in
-          ap (λ (j : ℕ). getD (newTexts s w g c ++ (describedBy s w g (listAt w g c) ∷ [])) j []) y ∙ getD-append-seam (newTexts s w g c) (describedBy s w g (listAt w g c)) [] []
+          let y : k ≡ length (listedTexts s w g c) = z ∙ sym (length-new c) in
+          ap (λ (j : ℕ). getD (listedTexts s w g c ++ (describedBy s w g (listAt w g c) ∷ [])) j []) y ∙ getD-append-seam (listedTexts s w g c) (describedBy s w g (listAt w g c)) [] []
           ∙ ap (λ (j : ℕ). describedBy s w g (listAt w g j)) (sym z)
 
   -- the text of a number that the round found, and of a new one
   pub named-found : (c k : ℕ) → k < g .m .count → getD (namedIn s w g c) k [] ≡ getD (texts s w (g .m)) k []
   unfolding namedIn
-  named-found c k h = List·getD-append (texts s w (g .m)) (newTexts s w g c) [] k (omega (arith, length-found))
+  named-found c k h = List·getD-append (texts s w (g .m)) (listedTexts s w g c) [] k (omega (arith, length-found))
 
   pub named-new : (c k : ℕ) → g .m .count ≤ k → k < g .m .count + c → getD (namedIn s w g c) k [] ≡ describedBy s w g (listAt w g (k - g .m .count))
   unfolding namedIn
   named-new c k l h =
       let z : k ≡ length (texts s w (g .m)) + (k - g .m .count) = omega (arith, length-found) in
-      ap (λ (j : ℕ). getD (texts s w (g .m) ++ newTexts s w g c) j []) z ∙ getD-append-add (texts s w (g .m)) (newTexts s w g c) (k - g .m .count) []
+      ap (λ (j : ℕ). getD (texts s w (g .m) ++ listedTexts s w g c) j []) z ∙ getD-append-add (texts s w (g .m)) (listedTexts s w g c) (k - g .m .count) []
       ∙ new-at c (k - g .m .count) (omega arith)
 
   pub described-even : (v : ℕ) → v % 2 ≡ 0 → describedBy s w g v ≡ printedAt s w g (keyAt w g (v / 2))
@@ -84,14 +84,14 @@ module _ (s w : List ℕ) (g : Ground) where
   -- one more
   pub named-more : (c : ℕ) → namedIn s w g (c + 1) ≡ namedIn s w g c ++ (describedBy s w g (listAt w g c) ∷ [])
   unfolding namedIn
-  named-more c = ap (λ (e : ℕ). texts s w (g .m) ++ newTexts s w g e) next ∙ ap (λ (us : List Text). texts s w (g .m) ++ us) (new-next c) ∙ sym (append-assoc (texts s w (g .m)) (newTexts s w g c) (describedBy s w g (listAt w g c) ∷ []))
+  named-more c = ap (λ (e : ℕ). texts s w (g .m) ++ listedTexts s w g e) next ∙ ap (λ (us : List Text). texts s w (g .m) ++ us) (new-next c) ∙ sym (append-assoc (texts s w (g .m)) (listedTexts s w g c) (describedBy s w g (listAt w g c) ∷ []))
     where
       next : c + 1 ≡ suc c
       next = omega arith
 
   -- where all entries are of pushed symbols
-  pub new-prints : (c : ℕ) → ((i : ℕ) → i < c → listAt w g i % 2 ≡ 0) → newTexts s w g c ≡ map (λ p. printedAt s w g p) (upto (newAt w g) c)
-  unfolding newTexts upto newAt
+  pub new-prints : (c : ℕ) → ((i : ℕ) → i < c → listAt w g i % 2 ≡ 0) → listedTexts s w g c ≡ map (λ p. printedAt s w g p) (upto (newAt w g) c)
+  unfolding listedTexts upto newAt
   new-prints zero f = refl
   new-prints (suc c) f =
       ap (λ (ts : List Text). ts ++ (describedBy s w g (listAt w g c) ∷ [])) (new-prints c (λ i l. f i (omega arith)))
@@ -108,8 +108,8 @@ module _ (s w w′ : List ℕ) (g : Ground) where
       go true e = cc (f (eqb-true (v % 2) 0 e))
       go false e = cc
 
-  new-same : (c : ℕ) → ((i : ℕ) → i < c → describedBy s w′ g (listAt w′ g i) ≡ describedBy s w g (listAt w g i)) → newTexts s w′ g c ≡ newTexts s w g c
-  unfolding newTexts
+  new-same : (c : ℕ) → ((i : ℕ) → i < c → describedBy s w′ g (listAt w′ g i) ≡ describedBy s w g (listAt w g i)) → listedTexts s w′ g c ≡ listedTexts s w g c
+  unfolding listedTexts
   new-same zero f = refl
   new-same (suc c) f = cc (new-same c (λ i l. f i (omega arith)), f c (omega arith))
 

@@ -19,9 +19,9 @@ use Rattle.replacing.proofs.SlotsMean.{among-here, among-later}
 use Rattle.replacing.proofs.Closing.{among-each}
 use Rattle.replacing.proofs.NumbersMean.{has-append, firsts-one, news-out, ref-good}
 use Rattle.expander.specs.declared.Ground.{Ground}
-use Rattle.expander.specs.Ground.{stageIn, topOf, slotPlace, slotAt, keyAt, listPlace, listAt, newAt, symbolAt, printedAt, KeyAt, Grounded}
+use Rattle.expander.specs.Ground.{stageIn, topOf, slotPlace, slotAt, keyAt, listPlace, listAt, newAt, symbolIn, printedAt, KeyAt, Grounded}
 use Rattle.expander.specs.Held.{down, keepIf, followed, refBy, refIn, Refers, isLike, Held}
-use Rattle.expander.specs.Stage.{Wrote}
+use Rattle.expander.specs.Stage.{WroteOnly}
 use Rattle.expander.specs.Names.{namedIn, NameRef, Names, SomeNamed}
 use Rattle.expander.proofs.GroundLaws.{list-keys, keys-slots, slots-top}
 use Rattle.expander.proofs.HeldLists.{among-none}
@@ -54,11 +54,11 @@ module _ (s w : List ℕ) (g : Ground) (G : Grounded s w g) (n c : ℕ) (x : Slo
   unfolding namedIn
   named-is = ap (λ (us : List Text). ts ++ us) (new-prints s w g c (λ i l. h .entries i l .0) ∙ ap (map pr) (sym (h .news)))
 
-  good : (p : ℕ) → HasRef p x → (v : ℕ) → v ≡ followed w g (slotAt w g p) → Good (symbolAt s w g) (KeyAt s w g) ts (x .firsts) p (refBy w g v)
+  good : (p : ℕ) → HasRef p x → (v : ℕ) → v ≡ followed w g (slotAt w g p) → Good (symbolIn s w g) (KeyAt s w g) ts (x .firsts) p (refBy w g v)
   unfolding refIn
   good p i v e =
-      subst (λ (r : Ref). Good (symbolAt s w g) (KeyAt s w g) ts (x .firsts) p r) (sym (h .refs p i) ∙ ap (refBy w g) (sym e))
-      (ref-good (symbolAt s w g) (KeyAt s w g) ts (G .distinct-texts) (x .firsts) p (x .refs) (h .sound .refs) i)
+      subst (λ (r : Ref). Good (symbolIn s w g) (KeyAt s w g) ts (x .firsts) p r) (sym (h .refs p i) ∙ ap (refBy w g) (sym e))
+      (ref-good (symbolIn s w g) (KeyAt s w g) ts (G .distinct-texts) (x .firsts) p (x .refs) (h .sound .refs) i)
 
   -- a number: of a text that was found, or of a new one
   text-named : (p : ℕ) → HasRef p x → (v : ℕ) → v ≡ followed w g (slotAt w g p) → v % 2 ≡ 0 → (v / 2 < length (namedIn s w g c)) × (getD (namedIn s w g c) (v / 2) [] ≡ pr p)
@@ -68,7 +68,7 @@ module _ (s w : List ℕ) (g : Ground) (G : Grounded s w g) (n c : ℕ) (x : Slo
       below : v / 2 < g .m .count + c
       below = rw (← e) at (followed-refers s w g n c x h p i) .even z
 
-      go : (b : Bool) → ltb (v / 2) (g .m .count) ≡ b → Good (symbolAt s w g) (KeyAt s w g) ts (x .firsts) p (refBy w g v) → getD (namedIn s w g c) (v / 2) [] ≡ pr p
+      go : (b : Bool) → ltb (v / 2) (g .m .count) ≡ b → Good (symbolIn s w g) (KeyAt s w g) ts (x .firsts) p (refBy w g v) → getD (namedIn s w g c) (v / 2) [] ≡ pr p
       go true d f =
           let l = ltb-true (v / 2) (g .m .count) d in
           named-found s w g c (v / 2) l ∙ (rw (ref-text w g v z l) at f .1)
@@ -83,7 +83,7 @@ module _ (s w : List ℕ) (g : Ground) (G : Grounded s w g) (n c : ℕ) (x : Slo
   unfolding printAt
   first-named p i v e o = (half-below w g n (g .m .count + c) p (h .refers p i) (h .own) v e o, f .0, rw (named-is, ← f .0, has-append (pr (keyAt w g (v / 2))) ts (map pr (x .news)), known, unnumbered) refl)
     where
-      f : Good (symbolAt s w g) (KeyAt s w g) ts (x .firsts) p (like (keyAt w g (v / 2)))
+      f : Good (symbolIn s w g) (KeyAt s w g) ts (x .firsts) p (like (keyAt w g (v / 2)))
       f = rw (ref-like w g v o) at (good p i v e)
 
       known : has (pr (keyAt w g (v / 2))) ts ≡ false
@@ -95,7 +95,7 @@ module _ (s w : List ℕ) (g : Ground) (G : Grounded s w g) (n c : ℕ) (x : Slo
           ∙ among-none (keyAt w g (v / 2)) (newAt w g) c (λ k l a. let y = h .entries k l .2 in let t = ap (slotAt w g) a in let u = half-slot w g n (g .m .count + c) p (h .refers p i) (h .own) v e o in omega arith)
 
       unnumbered : has (pr (keyAt w g (v / 2))) (map pr (x .news)) ≡ false
-      unnumbered = news-out (symbolAt s w g) (KeyAt s w g) ts (G .distinct-texts) (keyAt w g (v / 2)) (x .news) (x .firsts) (h .sound .apart) (h .sound .news) (f .1) none-yet
+      unnumbered = news-out (symbolIn s w g) (KeyAt s w g) ts (G .distinct-texts) (keyAt w g (v / 2)) (x .news) (x .firsts) (h .sound .apart) (h .sound .news) (f .1) none-yet
 
   -- a pushed symbol without a number is a first one
   own-first : (j : ℕ) → j < n → slotAt w g (keyAt w g j) % 2 ≡ 1 → among (keyAt w g j) (x .firsts) ≡ true
@@ -110,7 +110,7 @@ module _ (s w : List ℕ) (g : Ground) (G : Grounded s w g) (n c : ℕ) (x : Slo
   own-unlike : (i j : ℕ) → i < n → j < n → slotAt w g (keyAt w g i) % 2 ≡ 1 → slotAt w g (keyAt w g j) % 2 ≡ 1 → pr (keyAt w g i) ≡ pr (keyAt w g j) → i ≡ j
   unfolding printAt
   own-unlike i j k l a b e =
-      let z = firsts-one (symbolAt s w g) (KeyAt s w g) ts (G .distinct-texts) (keyAt w g i) (keyAt w g j) (x .firsts) (h .sound .apart) (own-first i k a) (own-first j l b) e in
+      let z = firsts-one (symbolIn s w g) (KeyAt s w g) ts (G .distinct-texts) (keyAt w g i) (keyAt w g j) (x .firsts) (h .sound .apart) (own-first i k a) (own-first j l b) e in
       let y = ap (slotAt w g) z in
       omega (arith, h .own i k a, h .own j l b)
 
@@ -204,7 +204,7 @@ module _ (s w w′ : List ℕ) (g : Ground) (r : Grounded s w g) (k : Agree w w�
 
 -- ---- bytes from a up to e changed, behind the slots and the items and before the texts, which stand from lim on
 module _ (s w w′ : List ℕ) (g : Ground) (a e lim : ℕ) (r : Grounded s w g) (top : topOf g ≤ a) (items : g .end ≤ a) (low : e ≤ lim) (above : Above s w (g .m) lim) (k : Between a e w w′) where
-  wrote : Wrote g a e w w′
+  wrote : WroteOnly g a e w w′
   wrote = between-wrote g a e w w′ top k (omega (arith, list-keys s w g r, keys-slots s w g r, slots-top s w g r))
 
   -- theorem: the ground stays

@@ -16,7 +16,7 @@ use Rattle.texts.proofs.TextCode.{length-texts}
 use Rattle.parse_tree.specs.plain.Texts.{has}
 use Rattle.replacing.specs.Trees.{enter}
 use Rattle.expander.specs.declared.Ground.{Ground}
-use Rattle.expander.specs.Ground.{sizeIn, slotPlace, topOf, keyAt, pushedText, symbolAt, printedAt, Grounded}
+use Rattle.expander.specs.Ground.{sizeIn, slotPlace, topOf, keyAt, pushedText, symbolIn, printedAt, Grounded}
 use Rattle.expander.specs.Held.{Notable, Notes}
 use Rattle.expander.specs.Find.{NoneBefore, FindsKey}
 use Rattle.expander.specs.Note.{Pushed}
@@ -94,7 +94,7 @@ module _ (s w : List ℕ) (g : Ground) (n p : ℕ) (d : Grounded s w g) (a : Not
     noted-found r j w2 i e o c x h off =
         let (l, f) : (j < n) × (printedAt s w g (keyAt w g j) ≡ printedAt s w g p) = rw e at i in
         by-found s w w w2 g n c n (2 * j + 1) p x d h off (a .inside) refl (λ i l. refl) (λ i l. refl) (h .records) o (odd-small j (omega arith))
-        (enter (symbolAt s w g p) (h .expander)) (noted-sound s w g (λ i. bytes i .fits) d n c x h p (a .key)) refl j refl l (note-found s w g (λ i. bytes i .fits) d n c x h p j l f)
+        (enter (symbolIn s w g p) (h .expander)) (noted-sound s w g (λ i. bytes i .fits) d n c x h p (a .key)) refl j refl l (note-found s w g (λ i. bytes i .fits) d n c x h p j l f)
 
     module _ (no : NoneBefore s w g n p) where
       -- theorem: its text was pushed in an earlier round
@@ -105,7 +105,7 @@ module _ (s w : List ℕ) (g : Ground) (n p : ℕ) (d : Grounded s w g) (a : Not
           let f : Is (texts s w (g .m)) (printedAt s w g p) k = rw e at i in
           let l = text-below k f in
           by-marked s w w w2 g n c n (2 * k) p x d h off (a .inside) refl (λ i l. refl) (λ i l. refl) (h .records) o (even-small k l)
-          (enter (symbolAt s w g p) (h .expander)) (noted-sound s w g (λ i. bytes i .fits) d n c x h p (a .key)) refl k refl l (note-marked s w g (λ i. bytes i .fits) d n c x h p no k f (sym b ∙ y))
+          (enter (symbolIn s w g p) (h .expander)) (noted-sound s w g (λ i. bytes i .fits) d n c x h p (a .key)) refl k refl l (note-marked s w g (λ i. bytes i .fits) d n c x h p no k f (sym b ∙ y))
 
       module _ (w1 : List ℕ) (u : Pushed s w g n p w1) where
         -- theorem: it wasn't
@@ -116,7 +116,7 @@ module _ (s w : List ℕ) (g : Ground) (n p : ℕ) (d : Grounded s w g) (a : Not
             let f : Is (texts s w (g .m)) (printedAt s w g p) k = rw e at i in
             let l = text-below k f in
             by-text s w w1 w2 g n c (n + 1) (2 * k) p x d h off (a .inside) (u .long) (u .before) (u .others) (u .records) o (even-small k l)
-            (enter (symbolAt s w g p) (h .expander)) (noted-sound s w g (λ i. bytes i .fits) d n c x h p (a .key)) refl (a .room) (u .here) k refl l
+            (enter (symbolIn s w g p) (h .expander)) (noted-sound s w g (λ i. bytes i .fits) d n c x h p (a .key)) refl (a .room) (u .here) k refl l
             (note-pushed s w g (λ i. bytes i .fits) d n c x h p no k f (sym b ∙ y))
 
         -- theorem: its print is no text
@@ -125,7 +125,7 @@ module _ (s w : List ℕ) (g : Ground) (n p : ℕ) (d : Grounded s w g) (a : Not
         noted-new r w2 i e o c x h off =
             let f : has (printedAt s w g p) (texts s w (g .m)) ≡ false = rw e at i in
             by-new s w w1 w2 g n c (n + 1) (2 * n + 1) p x d h off (a .inside) (u .long) (u .before) (u .others) (u .records) o (odd-small n (omega arith))
-            (enter (symbolAt s w g p) (h .expander)) (noted-sound s w g (λ i. bytes i .fits) d n c x h p (a .key)) refl (a .room) (u .here) refl
+            (enter (symbolIn s w g p) (h .expander)) (noted-sound s w g (λ i. bytes i .fits) d n c x h p (a .key)) refl (a .room) (u .here) refl
             (note-new s w g (λ i. bytes i .fits) d n c x h p no f)
 
 pub ruleset noting = (needs, note-slot, note-slot-pushed, note-next-fits, note-twice-fits, note-odd-fits, found-below, found-fits, key-twice-fits, key-odd-fits, key-none, noted-found, noted-marked, noted-text, noted-new)

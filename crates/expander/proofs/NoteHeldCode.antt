@@ -18,7 +18,7 @@ use Rattle.replacing.specs.Slots.{Ref, text, like, Slots, refAt, among}
 use Rattle.replacing.specs.Sound.{HasRef, Sound}
 use Rattle.passes.specs.Macros.{Expander}
 use Rattle.expander.specs.declared.Ground.{Ground}
-use Rattle.expander.specs.Ground.{sizeIn, topOf, slotPlace, slotAt, keyAt, listAt, newAt, pushedText, symbolAt, KeyAt, Records}
+use Rattle.expander.specs.Ground.{sizeIn, topOf, slotPlace, slotAt, keyAt, listAt, newAt, pushedText, symbolIn, KeyAt, Records}
 use Rattle.expander.specs.Held.{down, keepIf, anyOf, followed, refBy, refIn, isLike, isText, Refers, Held, Off}
 use Rattle.expander.proofs.HeldLists.{down-same, upto-same, keep-down, any-down}
 use Rattle.expander.proofs.SlotsCode.{followed-even, followed-odd, ref-like, odd-one, key-has, followed-refers}
@@ -151,7 +151,7 @@ module _ (s w w2 : List ℕ) (g : Ground) (n c : ℕ) (x : Slots) (h : Held s w 
 
     pub held-then : Records s w2 g m → y .pile ≡ down (keyAt w2 g) m → y .firsts ≡ keepIf (λ q. isLike (refIn w2 g q)) (down (keyAt w2 g) m)
         → ((k : ℕ) → k < g .m .count → among k (y .marks) ≡ (pushedText w2 g k || anyOf (λ q. isText k (refIn w2 g q)) (down (keyAt w2 g) m)))
-        → (σ : Expander) → Sound (symbolAt s w2 g) (KeyAt s w2 g) (texts s w2 (g .m)) y σ → Held s w2 g m c y
+        → (σ : Expander) → Sound (symbolIn s w2 g) (KeyAt s w2 g) (texts s w2 (g .m)) y σ → Held s w2 g m c y
     held-then records pile firsts marks σ sound = record {
       records = records;
       room = h .room;

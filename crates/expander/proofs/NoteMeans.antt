@@ -25,7 +25,7 @@ use Rattle.replacing.proofs.Keys.{firm-key}
 use Rattle.replacing.proofs.SlotsMean.{has-or, or-true, each-map, note-sound, first-none}
 use Rattle.replacing.proofs.NumbersMean.{first-some, ref-good}
 use Rattle.expander.specs.declared.Ground.{Ground}
-use Rattle.expander.specs.Ground.{stageIn, keyAt, pushedText, symbolAt, printedAt, KeyAt, sameAt, textAt, Grounded}
+use Rattle.expander.specs.Ground.{stageIn, keyAt, pushedText, symbolIn, printedAt, KeyAt, sameAt, textIn, Grounded}
 use Rattle.expander.specs.Held.{down, refIn, isLike, isText, Held}
 use Rattle.expander.specs.Find.{NoneBefore}
 use Rattle.expander.proofs.NoteLaws.{all-down, any-one, any-none, keep-each}
@@ -34,13 +34,13 @@ use Rattle.expander.proofs.StageReads.{bytes-part}
 
 module _ (s w : List ℕ) (g : Ground) (bytes : Bytes w) (d : Grounded s w g) where
   abbrev pr : ℕ → Text
-  pr p = print (symbolAt s w g p)
+  pr p = print (symbolIn s w g p)
 
   same-is : (p q : ℕ) → sameAt s w g p q ≡ sameAs (pr p) (pr q)
   unfolding samePrint printAt
   same-is p q = refl
 
-  text-is : (p : ℕ) → textAt s w g p ≡ cond (has (pr p) (texts s w (g .m))) (some (number (texts s w (g .m)) (pr p))) none
+  text-is : (p : ℕ) → textIn s w g p ≡ cond (has (pr p) (texts s w (g .m))) (some (number (texts s w (g .m)) (pr p))) none
   unfolding textIs printAt
   text-is p = refl
 
@@ -56,12 +56,12 @@ module _ (s w : List ℕ) (g : Ground) (bytes : Bytes w) (d : Grounded s w g) wh
   text-there : (p k : ℕ) → k < length (texts s w (g .m)) → getD (texts s w (g .m)) k [] ≡ pr p → has (pr p) (texts s w (g .m)) ≡ true
   text-there p k l e = rw (← e) (has-text (texts s w (g .m)) k l)
 
-  text-some : (p k : ℕ) → k < length (texts s w (g .m)) → getD (texts s w (g .m)) k [] ≡ pr p → textAt s w g p ≡ some k
+  text-some : (p k : ℕ) → k < length (texts s w (g .m)) → getD (texts s w (g .m)) k [] ≡ pr p → textIn s w g p ≡ some k
   text-some p k l e =
       let z : number (texts s w (g .m)) (pr p) ≡ k = ap (number (texts s w (g .m))) (sym e) ∙ number-text (texts s w (g .m)) k (d .distinct-texts) l in
       text-is p ∙ rw (text-there p k l e, z) refl
 
-  text-none : (p : ℕ) → has (pr p) (texts s w (g .m)) ≡ false → textAt s w g p ≡ none
+  text-none : (p : ℕ) → has (pr p) (texts s w (g .m)) ≡ false → textIn s w g p ≡ none
   text-none p e = text-is p ∙ rw e refl
 
   -- ---- no place of a list prints as p
@@ -72,22 +72,22 @@ module _ (s w : List ℕ) (g : Ground) (bytes : Bytes w) (d : Grounded s w g) wh
 
   module _ (n c : ℕ) (x : Slots) (h : Held s w g n c x) (p : ℕ) where
     abbrev noted : Slots
-    noted = note (sameAt s w g) (textAt s w g) p x
+    noted = note (sameAt s w g) (textIn s w g) p x
 
-    key-good : (j : ℕ) → j < n → Good (symbolAt s w g) (KeyAt s w g) (texts s w (g .m)) (x .firsts) (keyAt w g j) (refAt (keyAt w g j) (x .refs))
-    key-good j l = ref-good (symbolAt s w g) (KeyAt s w g) (texts s w (g .m)) (d .distinct-texts) (x .firsts) (keyAt w g j) (x .refs) (h .sound .refs) (key-has s w g n c x h j l)
+    key-good : (j : ℕ) → j < n → Good (symbolIn s w g) (KeyAt s w g) (texts s w (g .m)) (x .firsts) (keyAt w g j) (refAt (keyAt w g j) (x .refs))
+    key-good j l = ref-good (symbolIn s w g) (KeyAt s w g) (texts s w (g .m)) (d .distinct-texts) (x .firsts) (keyAt w g j) (x .refs) (h .sound .refs) (key-has s w g n c x h j l)
 
     -- where no first prints so, its text says what it is
-    note-apart : Each (λ q. sameAs (pr q) (pr p) ≡ false) (x .firsts) → noted ≡ noteBy (sameAt s w g) (textAt s w g) p (textAt s w g p) x
+    note-apart : Each (λ q. sameAs (pr q) (pr p) ≡ false) (x .firsts) → noted ≡ noteBy (sameAt s w g) (textIn s w g) p (textIn s w g p) x
     unfolding note noteAs
     note-apart a =
-        let z = first-none (symbolAt s w g) (KeyAt s w g) (texts s w (g .m)) (d .distinct-texts) (sameAt s w g) (textAt s w g) same-is text-is key-print p (x .firsts) (prints-not (pr p) (x .firsts) a) in
+        let z = first-none (symbolIn s w g) (KeyAt s w g) (texts s w (g .m)) (d .distinct-texts) (sameAt s w g) (textIn s w g) same-is text-is key-print p (x .firsts) (prints-not (pr p) (x .firsts) a) in
         rw z refl
 
     note-like : (q : ℕ) → among q (x .firsts) ≡ true → pr q ≡ pr p → noted ≡ refer p (like q) x
     unfolding note noteAs
     note-like q i e =
-        let z = first-some (symbolAt s w g) (KeyAt s w g) (texts s w (g .m)) (d .distinct-texts) (sameAt s w g) (textAt s w g) same-is p q (x .firsts) (h .sound .apart) i e in
+        let z = first-some (symbolIn s w g) (KeyAt s w g) (texts s w (g .m)) (d .distinct-texts) (sameAt s w g) (textIn s w g) same-is p q (x .firsts) (h .sound .apart) i e in
         rw z refl
 
     -- a text is the print of no first
@@ -98,15 +98,15 @@ module _ (s w : List ℕ) (g : Ground) (bytes : Bytes w) (d : Grounded s w g) wh
         go q z true e = absurd (false≢true (sym z ∙ ap (λ (t : Text). has t (texts s w (g .m))) (sameAs-eq (pr q) (pr p) e) ∙ i))
         go q z false e = refl
 
-    by-text : (k : ℕ) → textAt s w g p ≡ some k → among k (x .marks) ≡ true → noteBy (sameAt s w g) (textAt s w g) p (textAt s w g p) x ≡ refer p (text k) x
+    by-text : (k : ℕ) → textIn s w g p ≡ some k → among k (x .marks) ≡ true → noteBy (sameAt s w g) (textIn s w g) p (textIn s w g p) x ≡ refer p (text k) x
     unfolding noteBy
     by-text k e m = rw (e, m) refl
 
-    by-push : (k : ℕ) → textAt s w g p ≡ some k → among k (x .marks) ≡ false → noteBy (sameAt s w g) (textAt s w g) p (textAt s w g p) x ≡ pushText p k x
+    by-push : (k : ℕ) → textIn s w g p ≡ some k → among k (x .marks) ≡ false → noteBy (sameAt s w g) (textIn s w g) p (textIn s w g p) x ≡ pushText p k x
     unfolding noteBy
     by-push k e m = rw (e, m) refl
 
-    by-new : textAt s w g p ≡ none → noteBy (sameAt s w g) (textAt s w g) p (textAt s w g p) x ≡ pushNew p x
+    by-new : textIn s w g p ≡ none → noteBy (sameAt s w g) (textIn s w g) p (textIn s w g p) x ≡ pushNew p x
     unfolding noteBy
     by-new e = rw e refl
 
@@ -126,7 +126,7 @@ module _ (s w : List ℕ) (g : Ground) (bytes : Bytes w) (d : Grounded s w g) wh
       pub note-found : noted ≡ refer p (refAt (keyAt w g j) (x .refs)) x
       note-found = go (refAt (keyAt w g j) (x .refs)) refl (key-good j l)
         where
-          go : (ρ : Ref) → refAt (keyAt w g j) (x .refs) ≡ ρ → Good (symbolAt s w g) (KeyAt s w g) (texts s w (g .m)) (x .firsts) (keyAt w g j) ρ → noted ≡ refer p ρ x
+          go : (ρ : Ref) → refAt (keyAt w g j) (x .refs) ≡ ρ → Good (symbolIn s w g) (KeyAt s w g) (texts s w (g .m)) (x .firsts) (keyAt w g j) ρ → noted ≡ refer p ρ x
           go (like q) f a = note-like q (a .1) (a .0 ∙ alike)
           go (text k) f a =
               note-apart (firsts-apart (text-there p k (a .0) (a .1 ∙ alike))) ∙ by-text k (text-some p k (a .0) (a .1 ∙ alike)) (text-marked k (a .0) f)
@@ -154,7 +154,7 @@ module _ (s w : List ℕ) (g : Ground) (bytes : Bytes w) (d : Grounded s w g) wh
             one m a true e = absurd (false≢true (sym (none-so j l) ∙ eq-sameAs (pr (keyAt w g j)) (pr p) (sym a ∙ ap (λ (v : ℕ). getD (texts s w (g .m)) v []) (eqb-true m k e) ∙ there)))
             one m a false e = refl
 
-            go : (ρ : Ref) → Good (symbolAt s w g) (KeyAt s w g) (texts s w (g .m)) (x .firsts) (keyAt w g j) ρ → isText k ρ ≡ false
+            go : (ρ : Ref) → Good (symbolIn s w g) (KeyAt s w g) (texts s w (g .m)) (x .firsts) (keyAt w g j) ρ → isText k ρ ≡ false
             go (text m) a = one m (a .1) (eqb m k) refl
             go (like q) a = refl
 
@@ -177,5 +177,5 @@ module _ (s w : List ℕ) (g : Ground) (bytes : Bytes w) (d : Grounded s w g) wh
       note-new y = note-apart apart ∙ by-new (text-none p y)
 
     -- theorem: whatever it is, it is sound
-    pub noted-sound : KeyAt s w g p → Sound (symbolAt s w g) (KeyAt s w g) (texts s w (g .m)) noted (enter (symbolAt s w g p) (h .expander))
-    noted-sound k = note-sound (symbolAt s w g) (KeyAt s w g) (texts s w (g .m)) (d .distinct-texts) (sameAt s w g) (textAt s w g) same-is text-is key-print p x (h .expander) k (h .sound)
+    pub noted-sound : KeyAt s w g p → Sound (symbolIn s w g) (KeyAt s w g) (texts s w (g .m)) noted (enter (symbolIn s w g p) (h .expander))
+    noted-sound k = note-sound (symbolIn s w g) (KeyAt s w g) (texts s w (g .m)) (d .distinct-texts) (sameAt s w g) (textIn s w g) same-is text-is key-print p x (h .expander) k (h .sound)

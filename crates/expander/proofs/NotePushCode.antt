@@ -23,7 +23,7 @@ use Rattle.texts.proofs.TableFindCode.{linked-few, linked-many}
 use Rattle.display.specs.declared.form.Form.{Form}
 use Rattle.display.specs.Form.{textForm}
 use Rattle.expander.specs.declared.Ground.{Ground}
-use Rattle.expander.specs.Ground.{sizeIn, stageIn, topOf, keyAt, printedAt, KeyAt, Grounded, Records, Kept}
+use Rattle.expander.specs.Ground.{sizeIn, stageIn, topOf, keyAt, printedAt, KeyAt, Grounded, Records, KeptAround}
 use Rattle.expander.specs.Note.{Pushed}
 use Rattle.expander.proofs.GroundLaws.{kept-around, stage-around, texts-around}
 
@@ -81,7 +81,7 @@ module _ (s w : List ℕ) (g : Ground) (n p : ℕ) (f : Form) (d : Grounded s w 
       others i (inl h) = k .before i h ∙ a .before i (omega arith)
       others i (inr h) = k .after i (omega (arith, d .fits)) (omega (arith, d .fits, d .few)) ∙ a .after i (omega (arith, d .fits))
 
-      kept : Kept g w w2
+      kept : KeptAround g w w2
       unfolding topOf
       kept = record { long = k .long ∙ a .long; others = λ i h. others i (elim h [ inl b ↦ inl b | inr b ↦ inr (omega arith) ]) }
 

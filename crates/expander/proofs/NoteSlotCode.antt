@@ -17,7 +17,7 @@ use Rattle.replacing.specs.Slots.{Ref, text, like, Slots, refAt, among, refer, 
 use Rattle.replacing.specs.Sound.{HasRef, Sound}
 use Rattle.replacing.proofs.SlotsMean.{or-skip}
 use Rattle.expander.specs.declared.Ground.{Ground}
-use Rattle.expander.specs.Ground.{sizeIn, topOf, slotPlace, slotAt, keyAt, listPlace, listAt, pushedText, symbolAt, KeyAt, sameAt, textAt, Grounded, Records, Kept}
+use Rattle.expander.specs.Ground.{sizeIn, topOf, slotPlace, slotAt, keyAt, listPlace, listAt, pushedText, symbolIn, KeyAt, sameAt, textIn, Grounded, Records, KeptAround}
 use Rattle.expander.specs.Held.{down, keepIf, anyOf, refIn, refBy, followed, isLike, isText, Refers, Held, Off, NotedBy}
 use Rattle.expander.proofs.GroundLaws.{Around, keys-slots, slots-top, kept-around, stage-around, texts-around, pushed-around, sound-around}
 use Rattle.expander.proofs.RecordsLaws.{key-stays, records-stay}
@@ -32,14 +32,14 @@ place-room s w g p d h = omega (arith, d .top)
 module _ (s w w1 w2 : List ℕ) (g : Ground) (n c m v p : ℕ) (x : Slots) (d : Grounded s w g) (h : Held s w g n c x) (off : Off p x) (inside : p + 9 ≤ sizeIn g)
     (long : length w1 ≡ length w) (before : (j : ℕ) → j < n → keyAt w1 g j ≡ keyAt w g j) (others : (i : ℕ) → (i < g .keys) ⊎ (g .slots ≤ i) → getD w1 i 0 ≡ getD w i 0)
     (records : Records s w1 g m) (o : w2 ≡ store w1 (slotPlace g p) (le 8 v)) (small : v < 256 ^ 8)
-    (σ : Expander) (sound : Sound (symbolAt s w g) (KeyAt s w g) (texts s w (g .m)) (note (sameAt s w g) (textAt s w g) p x) σ) where
+    (σ : Expander) (sound : Sound (symbolIn s w g) (KeyAt s w g) (texts s w (g .m)) (note (sameAt s w g) (textIn s w g) p x) σ) where
   abbrev noted : Slots
-  noted = note (sameAt s w g) (textAt s w g) p x
+  noted = note (sameAt s w g) (textIn s w g) p x
 
-  kept-first : Kept g w w1
+  kept-first : KeptAround g w w1
   kept-first = record { long = long; others = λ i a. others i (elim a [ inl b ↦ inl b | inr b ↦ inr (omega (arith, slots-top s w g d)) ]) }
 
-  kept-then : Kept g w w2
+  kept-then : KeptAround g w w2
   kept-then = record { long = slot-long w1 w2 g p v o ∙ long; others = go }
     where
       go : (i : ℕ) → (i < g .keys) ⊎ (topOf g ≤ i) → getD w2 i 0 ≡ getD w i 0
@@ -76,8 +76,8 @@ module _ (s w w1 w2 : List ℕ) (g : Ground) (n c m v p : ℕ) (x : Slots) (d : 
   still = records-stay s w1 w2 g m (d .few) (d .fits) (λ i a b. slot-before w1 w2 g p v o i b)
       (stage-around s w w2 g d around ∙ sym (stage-around s w w1 g d first)) (texts-around s w w2 g d around ∙ sym (texts-around s w w1 g d first)) records
 
-  sound-as : (y : Slots) → noted ≡ y → Sound (symbolAt s w2 g) (KeyAt s w2 g) (texts s w2 (g .m)) y σ
-  sound-as y e = sound-around s w w2 g d around y σ (subst (λ (u : Slots). Sound (symbolAt s w g) (KeyAt s w g) (texts s w (g .m)) u σ) e sound)
+  sound-as : (y : Slots) → noted ≡ y → Sound (symbolIn s w2 g) (KeyAt s w2 g) (texts s w2 (g .m)) y σ
+  sound-as y e = sound-around s w w2 g d around y σ (subst (λ (u : Slots). Sound (symbolIn s w g) (KeyAt s w g) (texts s w (g .m)) u σ) e sound)
 
   noted-as : (y : Slots) (r : ℕ) → noted ≡ y → n ≤ r → r ≤ n + 1 → Held s w2 g r c y → NotedBy s w g n c p x r w2
   noted-as y r e l b k = record { held = subst (Held s w2 g r c) (sym e) k; kept = kept-then; most = b; least = l }

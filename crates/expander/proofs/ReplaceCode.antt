@@ -30,7 +30,7 @@ use Rattle.display.proofs.FormLaws.{from-form, from-then, from-as, table-hashed
 use Rattle.display.proofs.StandsLaws.{beforeText, betweenText, behindText, print-parts, Standing, standing}
 use Rattle.expander.specs.declared.Ground.{Ground}
 use Rattle.expander.specs.declared.replace.Keyed.{Keyed}
-use Rattle.expander.specs.Ground.{sizeIn, printedAt, sameAt, textAt, Grounded, Kept}
+use Rattle.expander.specs.Ground.{sizeIn, printedAt, sameAt, textIn, Grounded, KeptAround}
 use Rattle.expander.specs.Held.{Notable, Notes}
 use Rattle.expander.specs.Replace.{expandedCode, keysOf, keysOfAll, StandsAt, StandAt, SomeSymbol, SomeSymbols, NotedAll, ReplacesOne, ReplacesAll}
 use Rattle.expander.proofs.KeysLaws.{ownKeys, keys-parts, keys-spread-all, Spread, sym-length, stands-code, stands-print, stands-key, notes-off}
@@ -154,7 +154,7 @@ module _ (s w : List ℕ) (g : Ground) (left p n : ℕ) (G : Grounded s w g) (S 
       inner-noted : NotedAll s w g (p + l) n (S .end) (keysOfAll (g .width) (texts s w (g .m)) (children (S .symbol)) (p + l)) q v
       inner-noted = met (S .four) (S .end) (S .symbol) (S .stands) (S .inside) .0
 
-      inner-kept : Kept g w v
+      inner-kept : KeptAround g w v
       inner-kept = inner-noted .kept
 
       symbol-length : length v ≡ length w
@@ -226,9 +226,9 @@ module _ (s w : List ℕ) (g : Ground) (left p n : ℕ) (G : Grounded s w g) (S 
                 inside = omega arith;
                 room = omega arith;
                 count = b′ .new;
-                slots = noteAll (sameAt s w g) (textAt s w g) (keysOfAll (g .width) (texts s w (g .m)) (children (S .symbol)) (p + l)) (b′ .slots);
+                slots = noteAll (sameAt s w g) (textIn s w g) (keysOfAll (g .width) (texts s w (g .m)) (children (S .symbol)) (p + l)) (b′ .slots);
                 held = inner-noted .held (b′ .new) (b′ .slots) (b′ .held) (λ o m. omega (arith, b′ .before o m));
-                off = notes-off (sameAt s w g) (textAt s w g) p (p + l) (S .end) (keysOfAll (g .width) (texts s w (g .m)) (children (S .symbol)) (p + l)) (b′ .slots) (omega arith) (inner-spread (S .four) (S .end) (S .symbol) (S .stands)) (b′ .before);
+                off = notes-off (sameAt s w g) (textIn s w g) p (p + l) (S .end) (keysOfAll (g .width) (texts s w (g .m)) (children (S .symbol)) (p + l)) (b′ .slots) (omega arith) (inner-spread (S .four) (S .end) (S .symbol) (S .stands)) (b′ .before);
               }
 
           symbol-form : f ≡ textForm (printedAt s v g p)

@@ -18,20 +18,20 @@ use Rattle.replacing.specs.Prints.{samePrint, textIs}
 use Rattle.replacing.specs.Slots.{Slots, noteAll}
 use Rattle.expander.specs.declared.Ground.{Ground}
 use Rattle.expander.specs.declared.replace.Keyed.{Keyed}
-use Rattle.expander.specs.Ground.{sizeIn, stageIn, topOf, sameAt, textAt, Grounded, Kept}
-use Rattle.expander.specs.Held.{Held, Before, Off, Notes}
+use Rattle.expander.specs.Ground.{sizeIn, stageIn, topOf, sameAt, textIn, Grounded, KeptAround}
+use Rattle.expander.specs.Held.{Held, AllBefore, Off, Notes}
 use Rattle.expander.specs.Replace.{StandsAt, StandAt, HeldBefore, NotedAll}
 use Rattle.expander.proofs.GroundLaws.{Around, kept-around, stage-around, texts-around, grounded-around}
 use Rattle.expander.proofs.KeysLaws.{Spread, notes-append, notes-before, notes-off}
 
-kept-none : (g : Ground) (w : List ℕ) → Kept g w w
+kept-none : (g : Ground) (w : List ℕ) → KeptAround g w w
 kept-none g w = record { long = refl; others = λ i h. refl }
 
-kept-then : (g : Ground) (u v w : List ℕ) → Kept g u v → Kept g v w → Kept g u w
+kept-then : (g : Ground) (u v w : List ℕ) → KeptAround g u v → KeptAround g v w → KeptAround g u w
 kept-then g u v w a b = record { long = b .long ∙ a .long; others = λ i h. b .others i h ∙ a .others i h }
 
 -- ---- where symbols were noted
-module _ (s w v : List ℕ) (g : Ground) (G : Grounded s w g) (k : Kept g w v) where
+module _ (s w v : List ℕ) (g : Ground) (G : Grounded s w g) (k : KeptAround g w v) where
   abbrev away : Around g w v
   away = kept-around s w g G v k
 
@@ -81,7 +81,7 @@ module _ (s w v : List ℕ) (g : Ground) (G : Grounded s w g) (k : Kept g w v) w
   said-back P x = subst (λ (ts : List Text). P (stageIn w g) ts) kept-texts (subst (λ (st : List ℕ). P st (texts s v (g .m))) kept-stage x)
 
   -- symbols print alike as before
-  notes-back : (z : List ℕ) (n c : ℕ) (ps : List ℕ) (x : Slots) → Held s z g n c (noteAll (sameAt s v g) (textAt s v g) ps x) → Held s z g n c (noteAll (sameAt s w g) (textAt s w g) ps x)
+  notes-back : (z : List ℕ) (n c : ℕ) (ps : List ℕ) (x : Slots) → Held s z g n c (noteAll (sameAt s v g) (textIn s v g) ps x) → Held s z g n c (noteAll (sameAt s w g) (textIn s w g) ps x)
   notes-back z n c ps x h = said-back (λ st ts. Held s z g n c (noteAll (λ p q. samePrint false (g .width) st ts p q) (λ p. textIs false (g .width) st ts p) ps x)) h
 
 -- ---- one behind another
@@ -105,9 +105,9 @@ module _ (s w : List ℕ) (g : Ground) where
       kept = kept-then g w v z (a .kept) (b .kept);
       least = omega (arith, a .least, b .least);
       most = omega (arith, a .most, b .most);
-      held = λ c x h f. subst (λ (y : Slots). Held s z g (t .pile) c y) (sym (notes-append (sameAt s w g) (textAt s w g) ps qs x))
-          (notes-back s w v g G (a .kept) z (t .pile) c qs (noteAll (sameAt s w g) (textAt s w g) ps x)
-          (b .held c (noteAll (sameAt s w g) (textAt s w g) ps x) (a .held c x h f) (notes-before (sameAt s w g) (textAt s w g) p d ps x l sp f)));
+      held = λ c x h f. subst (λ (y : Slots). Held s z g (t .pile) c y) (sym (notes-append (sameAt s w g) (textIn s w g) ps qs x))
+          (notes-back s w v g G (a .kept) z (t .pile) c qs (noteAll (sameAt s w g) (textIn s w g) ps x)
+          (b .held c (noteAll (sameAt s w g) (textIn s w g) ps x) (a .held c x h f) (notes-before (sameAt s w g) (textIn s w g) p d ps x l sp f)));
     }
 
     -- those inside a symbol that is not expanded
@@ -117,7 +117,7 @@ module _ (s w : List ℕ) (g : Ground) where
       kept = a .kept;
       least = omega (arith, a .least);
       most = omega (arith, a .most);
-      held = λ c x h f. subst (λ (m : ℕ). Held s v g m c (noteAll (sameAt s w g) (textAt s w g) ps x)) (sym j) (a .held c x h (λ o y. omega (arith, f o y)));
+      held = λ c x h f. subst (λ (m : ℕ). Held s v g m c (noteAll (sameAt s w g) (textIn s w g) ps x)) (sym j) (a .held c x h (λ o y. omega (arith, f o y)));
     }
 
     -- theorem: those inside a symbol that is, then itself
@@ -125,9 +125,9 @@ module _ (s w : List ℕ) (g : Ground) where
         → NotedAll s w g p n e (ps ++ (p ∷ [])) r z
     unfolding noteAll Notes
     noted-own v z p d n e m ps q r l sp i j b a o =
-        let inner : (c : ℕ) (x : Slots) → Held s w g n c x → Before p x → Held s v g (q .pile) c (noteAll (sameAt s w g) (textAt s w g) ps x) = λ c x h f. a .held c x h (λ u y. omega (arith, f u y)) in
-        let off : (x : Slots) → Before p x → Off p (noteAll (sameAt s w g) (textAt s w g) ps x) = λ x f. notes-off (sameAt s w g) (textAt s w g) p d e ps x l sp f in
-        let some = o (b .new) (noteAll (sameAt s w g) (textAt s w g) ps (b .slots)) (inner (b .new) (b .slots) (b .held) (b .before)) (off (b .slots) (b .before)) in
+        let inner : (c : ℕ) (x : Slots) → Held s w g n c x → AllBefore p x → Held s v g (q .pile) c (noteAll (sameAt s w g) (textIn s w g) ps x) = λ c x h f. a .held c x h (λ u y. omega (arith, f u y)) in
+        let off : (x : Slots) → AllBefore p x → Off p (noteAll (sameAt s w g) (textIn s w g) ps x) = λ x f. notes-off (sameAt s w g) (textIn s w g) p d e ps x l sp f in
+        let some = o (b .new) (noteAll (sameAt s w g) (textIn s w g) ps (b .slots)) (inner (b .new) (b .slots) (b .held) (b .before)) (off (b .slots) (b .before)) in
         let x0 = a .least in
         let x1 = a .most in
         let x2 = some .least in
@@ -138,10 +138,10 @@ module _ (s w : List ℕ) (g : Ground) where
           least = omega arith;
           most = omega arith;
           held = λ c x h f.
-              subst (λ (k : ℕ). Held s z g k c (noteAll (sameAt s w g) (textAt s w g) (ps ++ (p ∷ [])) x)) (sym j)
-              (subst (λ (y : Slots). Held s z g m c y) (sym (notes-append (sameAt s w g) (textAt s w g) ps (p ∷ []) x))
-              (notes-back s w v g G (a .kept) z m c (p ∷ []) (noteAll (sameAt s w g) (textAt s w g) ps x)
-              (o c (noteAll (sameAt s w g) (textAt s w g) ps x) (inner c x h f) (off x f) .held)));
+              subst (λ (k : ℕ). Held s z g k c (noteAll (sameAt s w g) (textIn s w g) (ps ++ (p ∷ [])) x)) (sym j)
+              (subst (λ (y : Slots). Held s z g m c y) (sym (notes-append (sameAt s w g) (textIn s w g) ps (p ∷ []) x))
+              (notes-back s w v g G (a .kept) z m c (p ∷ []) (noteAll (sameAt s w g) (textIn s w g) ps x)
+              (o c (noteAll (sameAt s w g) (textIn s w g) ps x) (inner c x h f) (off x f) .held)));
         }
 
     -- what is held behind them
@@ -149,9 +149,9 @@ module _ (s w : List ℕ) (g : Ground) where
     held-behind v p d n ps r l sp b a = record {
       few = omega (arith, a .most, b .few);
       new = b .new;
-      slots = noteAll (sameAt s w g) (textAt s w g) ps (b .slots);
+      slots = noteAll (sameAt s w g) (textIn s w g) ps (b .slots);
       held = a .held (b .new) (b .slots) (b .held) (b .before);
-      before = notes-before (sameAt s w g) (textAt s w g) p d ps (b .slots) l sp (b .before);
+      before = notes-before (sameAt s w g) (textIn s w g) p d ps (b .slots) l sp (b .before);
     }
 
     -- and inside a symbol before them

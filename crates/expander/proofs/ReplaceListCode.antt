@@ -21,7 +21,7 @@ use Rattle.display.proofs.FormLaws.{from-append, from-then, from-join}
 use Rattle.display.proofs.StandsLaws.{first-stands, none-stand, more}
 use Rattle.expander.specs.declared.Ground.{Ground}
 use Rattle.expander.specs.declared.replace.Keyed.{Keyed}
-use Rattle.expander.specs.Ground.{sizeIn, Grounded, Kept}
+use Rattle.expander.specs.Ground.{sizeIn, Grounded, KeptAround}
 use Rattle.expander.specs.Replace.{keysOf, keysOfAll, StandsAt, StandAt, HeldBefore, SomeSymbol, SomeSymbols, NotedAll, ReplacesOne, ReplacesAll}
 use Rattle.expander.proofs.KeysLaws.{keys-spread}
 use Rattle.expander.proofs.ReplaceLaws.{kept-grounded, kept-texts, kept-stand, noted-none, noted-then, held-behind}
@@ -136,7 +136,7 @@ module _ (s w₀ : List ℕ) (g : Ground) (left p k c n : ℕ) (f : Form) where
         unfolding ReplacesOne
         met four e y st l = one four e y st l
 
-        first-kept : Kept g w v
+        first-kept : KeptAround g w v
         first-kept = let o = replacing-first in met (o .four) (o .end) (o .symbol) (o .stands) (o .inside) .0 .kept
 
         next-ground : Grounded s v g

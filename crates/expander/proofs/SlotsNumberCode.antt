@@ -10,7 +10,7 @@ use Rattle.texts.specs.Table.{texts}
 use Rattle.replacing.specs.Slots.{Ref, like, Slots, among, numberNew}
 use Rattle.replacing.specs.Sound.{HasRef, Sound}
 use Rattle.expander.specs.declared.Ground.{Ground}
-use Rattle.expander.specs.Ground.{slotAt, keyAt, listAt, newAt, pushedText, symbolAt, KeyAt}
+use Rattle.expander.specs.Ground.{slotAt, keyAt, listAt, newAt, pushedText, symbolIn, KeyAt}
 use Rattle.expander.specs.Held.{down, upto, keepIf, anyOf, followed, refBy, refIn, isLike, isText, Refers, Held}
 use Rattle.expander.proofs.GroundLaws.{pushed-around, sound-around}
 use Rattle.expander.proofs.HeldLists.{down-same, upto-same, keep-down, any-down}
@@ -137,7 +137,7 @@ module _ {s w w′ : List ℕ} {g : Ground} {n c : ℕ} {x : Slots} {j q : ℕ} 
   new-news =
       sym (upto-more (newAt w′ g) c ∙ ap (λ (u : List ℕ). u ++ (newAt w′ g c ∷ [])) (upto-same (newAt w′ g) (newAt w g) c new-other ∙ sym (h .news)) ∙ ap (λ (v : ℕ). x .news ++ (v ∷ [])) new-own)
 
-  pub new-held : Sound (symbolAt s w g) (KeyAt s w g) (texts s w (g .m)) (numberNew q x) (h .expander) → Held s w′ g n (c + 1) (numberNew q x)
+  pub new-held : Sound (symbolIn s w g) (KeyAt s w g) (texts s w (g .m)) (numberNew q x) (h .expander) → Held s w′ g n (c + 1) (numberNew q x)
   unfolding numberNew
   new-held z = record {
     records = new-records nx;

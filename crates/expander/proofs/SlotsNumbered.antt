@@ -18,7 +18,7 @@ use Rattle.replacing.specs.Slots.{Ref, text, like, Slots, refAt, among, placeIn
 use Rattle.replacing.specs.Sound.{HasRef, Sound}
 use Rattle.replacing.proofs.NumbersMean.{numbered-sound}
 use Rattle.expander.specs.declared.Ground.{Ground}
-use Rattle.expander.specs.Ground.{slotPlace, slotAt, keyAt, listPlace, newAt, symbolAt, KeyAt, Grounded}
+use Rattle.expander.specs.Ground.{slotPlace, slotAt, keyAt, listPlace, newAt, symbolIn, KeyAt, Grounded}
 use Rattle.expander.specs.Held.{followed, refBy, refIn, Refers, Held, NumberedBy, Numbers}
 use Rattle.expander.specs.Names.{SomeNamed, NameRoom, NamesOne}
 use Rattle.expander.proofs.GroundLaws.{keys-slots, slots-top}
@@ -93,11 +93,11 @@ module _ (s w : List ℕ) (g : Ground) (n c p : ℕ) (x : Slots) (h : Held s w g
     new-is =
         numbered-new (g .m .count) p x q ref-key none-yet ∙ ap (λ (l : ℕ). (g .m .count + l, numberNew q x)) (ap length (h .news) ∙ length-upto (newAt w g) c)
 
-    new-sound : Sound (symbolAt s w g) (KeyAt s w g) (texts s w (g .m)) (numberNew q x) (h .expander)
+    new-sound : Sound (symbolIn s w g) (KeyAt s w g) (texts s w (g .m)) (numberNew q x) (h .expander)
     new-sound =
         let ts = texts s w (g .m) in
-        subst (λ (a : ℕ × Slots). Sound (symbolAt s w g) (KeyAt s w g) ts (a .1) (h .expander)) (numbered-new (length ts) p x q ref-key none-yet)
-        (numbered-sound (symbolAt s w g) (KeyAt s w g) ts (k .ground .distinct-texts) p x (h .expander) (h .sound) i .sound)
+        subst (λ (a : ℕ × Slots). Sound (symbolIn s w g) (KeyAt s w g) ts (a .1) (h .expander)) (numbered-new (length ts) p x q ref-key none-yet)
+        (numbered-sound (symbolIn s w g) (KeyAt s w g) ts (k .ground .distinct-texts) p x (h .expander) (h .sound) i .sound)
 
     new-by : NumberedBy s w g n c p x (record { number = g .m .count + c; count = c + 1 }) w′
     new-by = record {

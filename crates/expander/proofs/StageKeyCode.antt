@@ -27,7 +27,7 @@ use Rattle.expander.specs.declared.stage.Replaced.{Replaced}
 use Rattle.expander.specs.Ground.{sizeIn, stageIn, Grounded}
 use Rattle.expander.specs.Held.{Held, NumberedBy, Numbers}
 use Rattle.expander.specs.Names.{SomeNamed, NameRoom}
-use Rattle.expander.specs.Stage.{Wrote, SomeKeyed, PutBy, PutsKey}
+use Rattle.expander.specs.Stage.{WroteOnly, SomeKeyed, PutBy, PutsKeyed}
 use Rattle.expander.proofs.GroundLaws.{Around, list-keys, keys-slots, slots-top, listed-around, stage-around, table-around, grounded-around}
 use Rattle.expander.proofs.HeldStays.{Between, between-wrote, around-wrote, wrote-same, held-stays}
 use Rattle.expander.proofs.NamesLaws.{held-named}
@@ -173,7 +173,7 @@ module _ (s w : List ℕ) (g : Ground) (r : Replaced) (k : Keyed) (G : Grounded 
     abbrev after : Replaced
     after = record { at = k .at; to = r .to + 9 + g .width; pile = k .pile; count = n .count }
 
-    wrote : Wrote g (r .to) end w w2
+    wrote : WroteOnly g (r .to) end w w2
     wrote =
         wrote-same g (r .to) end w w1 w2 (around-wrote g (r .to) end w w1 (K .writable .top) (omega arith) around)
         (between-wrote g (r .to) end w1 w2 (K .writable .top) between (omega (arith, list-keys s w g G, keys-slots s w g G, slots-top s w g G)))
@@ -188,7 +188,7 @@ module _ (s w : List ℕ) (g : Ground) (r : Replaced) (k : Keyed) (G : Grounded 
           held = held-stays s w1 w2 g (r .to) end (K .writable .lim) ground (K .writable .top) (K .writable .items) upto above between (k .pile) (n .count) (numbered (g .m .count) (r .at) x .1) (d .held);
         }
 
-    pub key-put : PutsKey s w g r k (record { at = k .at; to = r .to + 9 + g .width; pile = k .pile; count = n .count }) w2
+    pub key-put : PutsKeyed s w g r k (record { at = k .at; to = r .to + 9 + g .width; pile = k .pile; count = n .count }) w2
     key-put = record { at = refl; pile = refl; to = refl; most = first .most; wrote = wrote; each = each }
 
 pub ruleset putting = (needs, key-named, key-room, key-span-room, key-to-fits, key-end-fits, key-put)

@@ -26,9 +26,9 @@ use Rattle.replacing.specs.Slots.{Slots, places}
 use Rattle.replacing.proofs.Going.{run, steps-append, steps-end}
 use Rattle.expander.specs.declared.Ground.{Ground}
 use Rattle.expander.specs.declared.stage.Replaced.{Replaced}
-use Rattle.expander.specs.Ground.{sizeIn, stageIn, topOf, listPlace, sameAt, textAt, Grounded}
-use Rattle.expander.specs.Held.{Held, Before}
-use Rattle.expander.specs.Stage.{Writable, Wrote, SomeTurn, turned, Turns, SomeStage, MarksAre, StagedBy, Stages}
+use Rattle.expander.specs.Ground.{sizeIn, stageIn, topOf, listPlace, sameAt, textIn, Grounded}
+use Rattle.expander.specs.Held.{Held, AllBefore}
+use Rattle.expander.specs.Stage.{Writable, WroteOnly, SomeTurn, turned, Turns, SomeStage, MarksAre, StagedBy, Stages}
 use Rattle.expander.proofs.GroundLaws.{list-start}
 use Rattle.expander.proofs.HeldStays.{wrote-then, stage-wrote, texts-wrote, grounded-wrote}
 use Rattle.expander.proofs.StageReads.{stage-length}
@@ -64,7 +64,7 @@ lies-agree w w′ a e xs l h n f z =
     subst (λ (v : List ℕ). Lies w′ a v e) (part-agree w w′ a e n h f ∙ lies-part w a e xs z) (part-lies w′ a e l (omega arith))
 
 -- the bound of the texts, from what was written back
-above-back : (s w w′ : List ℕ) (g : Ground) (a e z : ℕ) → Wrote g a e w w′ → Above s w′ (g .m) z → Above s w (g .m) z
+above-back : (s w w′ : List ℕ) (g : Ground) (a e z : ℕ) → WroteOnly g a e w w′ → Above s w′ (g .m) z → Above s w (g .m) z
 unfolding markAt
 above-back s w w′ g a e z k h = record { above = λ i l. subst (Behind s z) (mark i l) (h .above i l) }
   where
@@ -73,7 +73,7 @@ above-back s w w′ g a e z k h = record { above = λ i l. subst (Behind s z) (m
 
 -- ---- the loop
 abbrev stepped : List ℕ → List ℕ → Ground → ℕ → List ℕ → Run
-stepped s w g n ms = steps (sameAt s w g) (textAt s w g) (g .width) (g .m .count) (stageIn w g) n (run 0 [] (started ms))
+stepped s w g n ms = steps (sameAt s w g) (textIn s w g) (g .width) (g .m .count) (stageIn w g) n (run 0 [] (started ms))
 
 -- of some marks: so many turns were done
 pub record Sofar (s w₀ : List ℕ) (g : Ground) (to : ℕ) (ms w : List ℕ) (r : Replaced) : Type 0 where
@@ -84,7 +84,7 @@ pub record Sofar (s w₀ : List ℕ) (g : Ground) (to : ℕ) (ms w : List ℕ) (
   pub is : stepped s w₀ g turns ms ≡ run (r .at) out slots
   pub lies : Lies w to out (r .to)
   pub held : Held s w g (r .pile) (r .count) slots
-  pub before : Before (r .at) slots
+  pub before : AllBefore (r .at) slots
 
 pub record Staging (s w₀ : List ℕ) (g : Ground) (to : ℕ) (w : List ℕ) (r : Replaced) : Type 0 where
   pub ground : Grounded s w g
@@ -93,7 +93,7 @@ pub record Staging (s w₀ : List ℕ) (g : Ground) (to : ℕ) (w : List ℕ) (r
   pub turn : SomeTurn s w g r
   pub top : topOf g ≤ to
   pub after : to ≤ r .to
-  pub wrote : Wrote g to (r .to) w₀ w
+  pub wrote : WroteOnly g to (r .to) w₀ w
   pub each : (ms : List ℕ) → MarksAre w₀ g ms → Sofar s w₀ g to ms w r
 
 pub stage-start : (s w : List ℕ) (g : Ground) (to : ℕ) → Grounded s w g → SomeStage s w g to → Staging s w g to w (record { at = 0; to = to; pile = 0; count = 0 })
@@ -168,9 +168,9 @@ module _ (s w₀ : List ℕ) (g : Ground) (to : ℕ) (w : List ℕ) (r : Replace
           out = f .out ++ z .out;
           slots = z .slots;
           is =
-              steps-append (sameAt s w₀ g) (textAt s w₀ g) (g .width) (g .m .count) (stageIn w₀ g) (f .turns) 1 (run 0 [] (started ms))
-              ∙ ap (stepOn (sameAt s w₀ g) (textAt s w₀ g) (g .width) (g .m .count) (stageIn w₀ g)) (f .is)
-              ∙ step-behind (sameAt s w₀ g) (textAt s w₀ g) (g .width) (g .m .count) (stageIn w₀ g) (r .at) (f .out) (f .slots)
+              steps-append (sameAt s w₀ g) (textIn s w₀ g) (g .width) (g .m .count) (stageIn w₀ g) (f .turns) 1 (run 0 [] (started ms))
+              ∙ ap (stepOn (sameAt s w₀ g) (textIn s w₀ g) (g .width) (g .m .count) (stageIn w₀ g)) (f .is)
+              ∙ step-behind (sameAt s w₀ g) (textIn s w₀ g) (g .width) (g .m .count) (stageIn w₀ g) (r .at) (f .out) (f .slots)
               ∙ ap (λ (v : Run). run (v .at) (f .out ++ v .out) (v .slots)) (sym (turn-is (f .slots)))
               ∙ ap (λ (i : ℕ). run i (f .out ++ z .out) (z .slots)) (sym (t .at));
           lies =
@@ -207,14 +207,14 @@ module _ (s w₀ : List ℕ) (g : Ground) (to : ℕ) (w : List ℕ) (r : Replace
     unfolding replaced
     replaced-is ms f =
         let t = stageIn w₀ g in
-        let go : ℕ → ℕ → Run → Run = λ b n. steps (sameAt s w₀ g) (textAt s w₀ g) (g .width) b t n in
+        let go : ℕ → ℕ → Run → Run = λ b n. steps (sameAt s w₀ g) (textIn s w₀ g) (g .width) b t n in
         let e = stage-length s w₀ g G in
         let k : length t ≡ f .turns + (length t - f .turns) = omega (arith, f .few, end-is) in
         ap (λ (b : ℕ). go b (length t) (run 0 [] (started ms))) (texts-many s w₀ g)
         ∙ ap (λ (n : ℕ). go (g .m .count) n (run 0 [] (started ms))) k
-        ∙ steps-append (sameAt s w₀ g) (textAt s w₀ g) (g .width) (g .m .count) t (f .turns) (length t - f .turns) (run 0 [] (started ms))
+        ∙ steps-append (sameAt s w₀ g) (textIn s w₀ g) (g .width) (g .m .count) t (f .turns) (length t - f .turns) (run 0 [] (started ms))
         ∙ ap (go (g .m .count) (length t - f .turns)) (f .is)
-        ∙ steps-end (sameAt s w₀ g) (textAt s w₀ g) (g .width) (g .m .count) t (length t - f .turns) (run (r .at) (f .out) (f .slots)) (omega (arith, end-is))
+        ∙ steps-end (sameAt s w₀ g) (textIn s w₀ g) (g .width) (g .m .count) t (length t - f .turns) (run (r .at) (f .out) (f .slots)) (omega (arith, end-is))
 
     staged : (ms : List ℕ) → Sofar s w₀ g to ms w r → StagedBy s w₀ g to ms r w
     staged ms f = record {

@@ -28,10 +28,10 @@ use Rattle.replacing.proofs.Going.{own-last}
 use Rattle.expander.specs.declared.Ground.{Ground}
 use Rattle.expander.specs.declared.replace.Keyed.{Keyed}
 use Rattle.expander.specs.declared.stage.Replaced.{Replaced}
-use Rattle.expander.specs.Ground.{sizeIn, stageIn, listPlace, symbolAt, sameAt, textAt, Grounded}
-use Rattle.expander.specs.Held.{Held, Before}
+use Rattle.expander.specs.Ground.{sizeIn, stageIn, listPlace, symbolIn, sameAt, textIn, Grounded}
+use Rattle.expander.specs.Held.{Held, AllBefore}
 use Rattle.expander.specs.Replace.{expandedCode, keysOf, StandsAt, SomeSymbol, NotedAll, ReplacesOne}
-use Rattle.expander.specs.Stage.{Walks, Writable, Wrote, SomeKeyed, PutBy, PutsKey, SomeTurn, turned, TurnedBy, Turns}
+use Rattle.expander.specs.Stage.{Walks, Writable, WroteOnly, SomeKeyed, PutBy, PutsKeyed, SomeTurn, turned, TurnedBy, Turns}
 use Rattle.expander.proofs.GroundLaws.{Around, kept-around, stage-around, table-around, grounded-around, key-around}
 use Rattle.expander.proofs.HeldStays.{around-wrote, wrote-same, said-wrote, above-wrote}
 use Rattle.expander.proofs.KeysLaws.{keys-spread, notes-before}
@@ -110,16 +110,16 @@ module _ (s w : List ℕ) (g : Ground) (r : Replaced) (G : Grounded s w g) (T : 
     inside = omega (arith, M .inside, stage-length s w g G)
 
     nine : r .at + 9 ≤ end
-    nine = read-room s w g bytes G 64 (r .at) (symbolAt s w g (r .at)) end (M .firm .read) .0
+    nine = read-room s w g bytes G 64 (r .at) (symbolIn s w g (r .at)) end (M .firm .read) .0
 
-    stands : StandsAt s w g false 64 (r .at) end (symbolAt s w g (r .at))
+    stands : StandsAt s w g false 64 (r .at) end (symbolIn s w g (r .at))
     stands = key-stands s w g bytes G (r .at) (M .firm)
 
     pub turn-symbol : SomeSymbol s w g 64 (r .at) (r .pile)
     turn-symbol = record {
       four = false;
       end = end;
-      symbol = symbolAt s w g (r .at);
+      symbol = symbolIn s w g (r .at);
       levels = omega arith;
       stands = stands;
       inside = inside;
@@ -127,29 +127,29 @@ module _ (s w : List ℕ) (g : Ground) (r : Replaced) (G : Grounded s w g) (T : 
     }
 
     abbrev ps : List ℕ
-    ps = keysOf wd ts (symbolAt s w g (r .at)) (r .at)
+    ps = keysOf wd ts (symbolIn s w g (r .at)) (r .at)
 
     places-are : places wd t 64 (r .at) ≡ got ps end
-    places-are = sym-keys false wd t ts stage-bytes (G .distinct-texts) 64 (r .at) (symbolAt s w g (r .at)) end (M .firm .read)
+    places-are = sym-keys false wd t ts stage-bytes (G .distinct-texts) 64 (r .at) (symbolIn s w g (r .at)) end (M .firm .read)
 
     abbrev noted : Slots → Slots
-    noted x = noteAll (sameAt s w g) (textAt s w g) ps x
+    noted x = noteAll (sameAt s w g) (textIn s w g) ps x
 
     has : (x : Slots) → HasRef (r .at) (noted x)
     has x =
         let (sp, k, i, j) = key-node (nodeAt wd t (r .at)) (M .firm .key) in
-        own-last (sameAt s w g) (textAt s w g) wd t 63 (r .at) ps end x sp k i j places-are
+        own-last (sameAt s w g) (textIn s w g) wd t 63 (r .at) ps end x sp k i j places-are
 
-    noted-before : (x : Slots) → Before (r .at) x → Before end (noted x)
+    noted-before : (x : Slots) → AllBefore (r .at) x → AllBefore end (noted x)
     noted-before x i =
-        notes-before (sameAt s w g) (textAt s w g) (r .at) end ps x (omega (arith, nine))
-        (keys-spread wd ts (symbolAt s w g (r .at)) (r .at) end (omega (arith, stands .lies .end))) i
+        notes-before (sameAt s w g) (textIn s w g) (r .at) end ps x (omega (arith, nine))
+        (keys-spread wd ts (symbolIn s w g (r .at)) (r .at) end (omega (arith, stands .lies .end))) i
 
     -- ---- the symbols inside it were noted
     module _ (k : Keyed) (w1 : List ℕ) (R : ReplacesOne s w g 64 (r .at) (r .pile) k w1) where
       N : NotedAll s w g (r .at) (r .pile) end ps k w1
       unfolding ReplacesOne
-      N = R false end (symbolAt s w g (r .at)) stands inside .0
+      N = R false end (symbolIn s w g (r .at)) stands inside .0
 
       around : Around g w w1
       around = kept-around s w g G w1 (N .kept)
@@ -174,7 +174,7 @@ module _ (s w : List ℕ) (g : Ground) (r : Replaced) (G : Grounded s w g) (T : 
       }
 
       -- ---- and the nonterminal was written
-      module _ (q : Replaced) (w2 : List ℕ) (P : PutsKey s w1 g r k q w2) where
+      module _ (q : Replaced) (w2 : List ℕ) (P : PutsKeyed s w1 g r k q w2) where
         at-is : q .at ≡ end
         at-is = P .at ∙ N .end
 
@@ -188,7 +188,7 @@ module _ (s w : List ℕ) (g : Ground) (r : Replaced) (G : Grounded s w g) (T : 
         later : r .to ≤ q .to
         later = omega (arith, P .to)
 
-        wrote : Wrote g (r .to) (q .to) w w2
+        wrote : WroteOnly g (r .to) (q .to) w w2
         wrote = wrote-same g (r .to) (q .to) w w1 w2 (around-wrote g (r .to) (q .to) w w1 (W .top) later around) (P .wrote)
 
         abbrev run : Slots → Run
@@ -204,15 +204,15 @@ module _ (s w : List ℕ) (g : Ground) (r : Replaced) (G : Grounded s w g) (T : 
             let i : leb (length t) (r .at) ≡ false = lt-leb (length t) (r .at) (stage-in s w g G (r .at) l) in
             rw (i, key-no-macro (nodeAt wd t (r .at)) (M .firm .key), M .firm .key, places-are) refl
 
-        put : (x : Slots) → Held s w g (r .pile) (r .count) x → Before (r .at) x → PutBy s w1 g r (noted x) q w2
+        put : (x : Slots) → Held s w g (r .pile) (r .count) x → AllBefore (r .at) x → PutBy s w1 g r (noted x) q w2
         put x h i = P .each (noted x) (N .held (r .count) x h i) (has x)
 
-        behind : (x : Slots) → Before (r .at) x → Before (q .at) (run x .slots)
+        behind : (x : Slots) → AllBefore (r .at) x → AllBefore (q .at) (run x .slots)
         behind x i p j =
             let z = noted-before x i p (subst (λ (v : List (ℕ × Ref)). among p (map (λ (u : ℕ × Ref). u .0) v) ≡ true) (numbered-keeps (g .m .count) (r .at) (noted x)) j) in
             omega (arith, at-is)
 
-        each : (x : Slots) → Held s w g (r .pile) (r .count) x → Before (r .at) x → TurnedBy s w g r x q w2
+        each : (x : Slots) → Held s w g (r .pile) (r .count) x → AllBefore (r .at) x → TurnedBy s w g r x q w2
         each x h i =
             let p = put x h i in
             turned-by s w g r x q w2 (run x) (key-step x) at-is

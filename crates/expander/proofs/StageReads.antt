@@ -24,7 +24,7 @@ use Rattle.texts.specs.Table.{texts}
 use Rattle.grades.proofs.WordedLaws.{table-worded}
 use Rattle.display.specs.Standing.{Readable, SymStands, SomeSym}
 use Rattle.expander.specs.declared.Ground.{Ground}
-use Rattle.expander.specs.Ground.{Grounded, KeyAt, symbolAt, stageIn, sizeIn}
+use Rattle.expander.specs.Ground.{Grounded, KeyAt, symbolIn, stageIn, sizeIn}
 
 -- ---- parts
 
@@ -96,11 +96,11 @@ module _ (s w : List ℕ) (g : Ground) (b : Bytes w) (G : Grounded s w g) where
 
   module _ (p : ℕ) (k : KeyAt s w g p) where
     -- theorem: and so one that is expanded
-    pub key-stands : SymStands s w (g .m) (g .width) false 64 (g .from + p) (g .from + k .end) (symbolAt s w g p)
-    key-stands = read-stands 64 p (symbolAt s w g p) (k .end) (k .read)
+    pub key-stands : SymStands s w (g .m) (g .width) false 64 (g .from + p) (g .from + k .end) (symbolIn s w g p)
+    key-stands = read-stands 64 p (symbolIn s w g p) (k .end) (k .read)
 
     pub key-some : SomeSym s w (g .m) (g .width) 64 (g .from + p)
-    key-some = record { four = false; end = g .from + k .end; symbol = symbolAt s w g p; stands = key-stands }
+    key-some = record { four = false; end = g .from + k .end; symbol = symbolIn s w g p; stands = key-stands }
 
     pub key-room : p + 9 ≤ sizeIn g
-    key-room = omega (arith, read-room 64 p (symbolAt s w g p) (k .end) (k .read))
+    key-room = omega (arith, read-room 64 p (symbolIn s w g p) (k .end) (k .read))

@@ -19,8 +19,8 @@ use Rattle.replacing.specs.Slots.{among}
 use Rattle.replacing.specs.Sound.{HasRef, Sound}
 use Rattle.replacing.proofs.SlotsMean.{each-map}
 use Rattle.expander.specs.declared.Ground.{Ground}
-use Rattle.expander.specs.Ground.{pushedText, symbolAt, KeyAt, Grounded, Records}
-use Rattle.expander.specs.Held.{down, upto, keepIf, anyOf, Held, Before}
+use Rattle.expander.specs.Ground.{pushedText, symbolIn, KeyAt, Grounded, Records}
+use Rattle.expander.specs.Held.{down, upto, keepIf, anyOf, Held, AllBefore}
 use Rattle.expander.specs.Stage.{MarksAre}
 use Rattle.expander.proofs.GroundLaws.{list-keys}
 
@@ -55,7 +55,7 @@ none-has : (ms : List ℕ) (p : ℕ) → HasRef p (started ms) → ⊥
 unfolding started among
 none-has ms p h = false≢true h
 
-pub start-before : (ms : List ℕ) (p : ℕ) → Before p (started ms)
+pub start-before : (ms : List ℕ) (p : ℕ) → AllBefore p (started ms)
 start-before ms p q h = absurd (none-has ms q h)
 
 module _ (s w : List ℕ) (g : Ground) (G : Grounded s w g) (e : Chained w (g .keys) (g .buckets) 0) where
@@ -85,7 +85,7 @@ module _ (s w : List ℕ) (g : Ground) (G : Grounded s w g) (e : Chained w (g .k
     apart = λ p q h i. absurd (none-has ms p h);
     expander = record { keys = map (λ k. getD (texts s w (g .m)) k []) ms; pile = [] };
     sound =
-        start-sound (symbolAt s w g) (KeyAt s w g) (texts s w (g .m)) ms (G .distinct-texts)
+        start-sound (symbolIn s w g) (KeyAt s w g) (texts s w (g .m)) ms (G .distinct-texts)
         (each-map (λ k l. omega (arith, l, texts-many s w g)) ms (m .below));
   }
 

@@ -22,9 +22,9 @@ use Rattle.replacing.specs.Slots.{Slots}
 use Rattle.expander.specs.declared.Ground.{Ground}
 use Rattle.expander.specs.declared.stage.Replaced.{Replaced}
 use Rattle.expander.specs.Ground.{sizeIn, stageIn, topOf, listPlace, Grounded}
-use Rattle.expander.specs.Held.{Held, Before}
+use Rattle.expander.specs.Held.{Held, AllBefore}
 use Rattle.expander.specs.Replace.{expandedCode}
-use Rattle.expander.specs.Stage.{commandLong, macroAt, WholeAt, Walks, SomeHops, Skips, Writable, Wrote, SomeTurn, turned, TurnedBy, Turns}
+use Rattle.expander.specs.Stage.{commandLong, macroAt, WholeAt, Walks, SomeHops, Skips, Writable, WroteOnly, SomeTurn, turned, TurnedBy, Turns}
 use Rattle.expander.proofs.GroundLaws.{list-keys, keys-slots, slots-top}
 use Rattle.expander.proofs.HeldStays.{Between, between-wrote, held-stays, said-wrote, above-wrote}
 use Rattle.expander.proofs.NodeCodes.{whole-long}
@@ -35,12 +35,12 @@ use Rattle.expander.proofs.StageMeets.{room-less, room-copy, room-upto,
 
 -- a turn that is known
 pub turned-by : (s w : List ℕ) (g : Ground) (r : Replaced) (x : Slots) (q : Replaced) (w′ : List ℕ) (R : Run) → turned s w g (r .at) x ≡ R → q .at ≡ R .at → Lies w′ (r .to) (R .out) (q .to)
-    → Held s w′ g (q .pile) (q .count) (R .slots) → Before (q .at) (R .slots) → TurnedBy s w g r x q w′
+    → Held s w′ g (q .pile) (q .count) (R .slots) → AllBefore (q .at) (R .slots) → TurnedBy s w g r x q w′
 turned-by s w g r x q w′ R e a l h b = record {
   at = a ∙ sym (ap (λ (v : Run). v .at) e);
   lies = subst (λ (v : Run). Lies w′ (r .to) (v .out) (q .to)) (sym e) l;
   held = subst (λ (v : Run). Held s w′ g (q .pile) (q .count) (v .slots)) (sym e) h;
-  before = subst (λ (v : Run). Before (q .at) (v .slots)) (sym e) b;
+  before = subst (λ (v : Run). AllBefore (q .at) (v .slots)) (sym e) b;
 }
 
 -- room for the next turn
@@ -111,7 +111,7 @@ module _ (s w : List ℕ) (g : Ground) (r : Replaced) (G : Grounded s w g) (T : 
           ahead : r .at < q
           ahead = omega (arith, h .from, size-is, M .whole .some)
 
-          later : (x : Slots) → Before (r .at) x → Before q x
+          later : (x : Slots) → AllBefore (r .at) x → AllBefore q x
           later x i p j = omega (arith, i p j, ahead)
 
           pub turn-skip : Turns s w g r (record { at = q; to = r .to; pile = r .pile; count = r .count }) w
@@ -185,7 +185,7 @@ module _ (s w : List ℕ) (g : Ground) (r : Replaced) (G : Grounded s w g) (T : 
           between : Between (r .to) (r .to + n) w w2
           between = stored-between w w2 (r .to) n bytes o bytes-long
 
-          wrote : Wrote g (r .to) (r .to + n) w w2
+          wrote : WroteOnly g (r .to) (r .to + n) w w2
           wrote = between-wrote g (r .to) (r .to + n) w w2 (W .top) between (list-top s w g G)
 
           stays : (x : Slots) → Held s w g (r .pile) (r .count) x → Held s w2 g (r .pile) (r .count) x
@@ -197,7 +197,7 @@ module _ (s w : List ℕ) (g : Ground) (r : Replaced) (G : Grounded s w g) (T : 
               let i : leb (length t) (r .at) ≡ false = lt-leb (length t) (r .at) (stage-in s w g G (r .at) l) in
               rw (i, C .macro, C .copied) (ap (λ (j : ℕ). record { at = r .at + j; out = part (r .at) (r .at + j) t; slots = x }) (sym size-is))
 
-          further : (x : Slots) → Before (r .at) x → Before (r .at + n) x
+          further : (x : Slots) → AllBefore (r .at) x → AllBefore (r .at + n) x
           further x i p j = omega (arith, i p j)
 
           pub turn-copy : Turns s w g r (record { at = r .at + n; to = r .to + n; pile = r .pile; count = r .count }) w2

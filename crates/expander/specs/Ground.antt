@@ -61,8 +61,8 @@ pushedText w g k = leb 2147483648 (cellAt w (g .m .base) k)
 
 -- ---- symbols by their places
 module _ (s w : List ℕ) (g : Ground) where
-  abbrev pub symbolAt : ℕ → Sym
-  symbolAt p = symAt false (g .width) (stageIn w g) (texts s w (g .m)) p
+  abbrev pub symbolIn : ℕ → Sym
+  symbolIn p = symAt false (g .width) (stageIn w g) (texts s w (g .m)) p
 
   abbrev pub printedAt : ℕ → Text
   printedAt p = printAt false (g .width) (stageIn w g) (texts s w (g .m)) p
@@ -74,8 +74,8 @@ module _ (s w : List ℕ) (g : Ground) where
   abbrev pub sameAt : ℕ → ℕ → Bool
   sameAt p q = samePrint false (g .width) (stageIn w g) (texts s w (g .m)) p q
 
-  abbrev pub textAt : ℕ → Option ℕ
-  textAt p = textIs false (g .width) (stageIn w g) (texts s w (g .m)) p
+  abbrev pub textIn : ℕ → Option ℕ
+  textIn p = textIs false (g .width) (stageIn w g) (texts s w (g .m)) p
 
   -- ---- the regions are apart, and the texts can be read and found
   pub record Grounded : Type 0 where
@@ -107,6 +107,6 @@ module _ (s w : List ℕ) (g : Ground) where
     pub lengths : (j : ℕ) → j < n → cellAt w (g .keys) j ≡ stop (length (printedAt (keyAt w g j)))
 
 -- from w to w′ nothing changed but records of pushed symbols and slots
-pub record Kept (g : Ground) (w w′ : List ℕ) : Type 0 where
+pub record KeptAround (g : Ground) (w w′ : List ℕ) : Type 0 where
   pub long : length w′ ≡ length w
   pub others : (i : ℕ) → (i < g .keys) ⊎ (topOf g ≤ i) → getD w′ i 0 ≡ getD w i 0

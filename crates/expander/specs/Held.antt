@@ -13,7 +13,7 @@ use Rattle.replacing.specs.Slots.{Ref, text, like, Slots, refAt, among, note, n
 use Rattle.replacing.specs.Sound.{HasRef, Sound}
 use Rattle.expander.specs.declared.Ground.{Ground}
 use Rattle.expander.specs.declared.slots.Numbered.{Numbered}
-use Rattle.expander.specs.Ground.{sizeIn, topOf, slotAt, keyAt, listPlace, listAt, newAt, pushedText, symbolAt, KeyAt, sameAt, textAt, Records, Kept}
+use Rattle.expander.specs.Ground.{sizeIn, topOf, slotAt, keyAt, listPlace, listAt, newAt, pushedText, symbolIn, KeyAt, sameAt, textIn, Records, KeptAround}
 
 -- ---- lists by index
 -- the last first
@@ -79,7 +79,7 @@ pub record Held (s w : List ℕ) (g : Ground) (n c : ℕ) (x : Slots) : Type 0 w
   pub inside : (p : ℕ) → HasRef p x → p + 9 ≤ sizeIn g
   pub apart : (p q : ℕ) → HasRef p x → HasRef q x → (p ≡ q) ⊎ (p + 9 ≤ q) ⊎ (q + 9 ≤ p)
   pub expander : Expander
-  pub sound : Sound (symbolAt s w g) (KeyAt s w g) (texts s w (g .m)) x expander
+  pub sound : Sound (symbolIn s w g) (KeyAt s w g) (texts s w (g .m)) x expander
 
 -- from w to w′ nothing changed but the list of new texts and slots
 pub record Listed (g : Ground) (w w′ : List ℕ) : Type 0 where
@@ -104,8 +104,8 @@ abbrev pub Off : ℕ → Slots → Type 0
 Off p x = (q : ℕ) → HasRef q x → (q + 9 ≤ p) ⊎ (p + 9 ≤ q)
 
 -- all of them are before p
-abbrev pub Before : ℕ → Slots → Type 0
-Before p x = (q : ℕ) → HasRef q x → q + 9 ≤ p
+abbrev pub AllBefore : ℕ → Slots → Type 0
+AllBefore p x = (q : ℕ) → HasRef q x → q + 9 ≤ p
 
 -- the symbol at p can be noted
 pub record Notable (s w : List ℕ) (g : Ground) (n p : ℕ) : Type 0 where
@@ -119,8 +119,8 @@ pub record Notable (s w : List ℕ) (g : Ground) (n p : ℕ) : Type 0 where
 
 -- and was: r symbols are pushed then
 pub record NotedBy (s w : List ℕ) (g : Ground) (n c p : ℕ) (x : Slots) (r : ℕ) (w′ : List ℕ) : Type 0 where
-  pub held : Held s w′ g r c (note (sameAt s w g) (textAt s w g) p x)
-  pub kept : Kept g w w′
+  pub held : Held s w′ g r c (note (sameAt s w g) (textIn s w g) p x)
+  pub kept : KeptAround g w w′
   pub most : r ≤ n + 1
   pub least : n ≤ r
 

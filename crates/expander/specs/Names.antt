@@ -22,13 +22,13 @@ use Rattle.expander.specs.Held.{followed, Refers, Listed}
 unfoldable pub describedBy : List ℕ → List ℕ → Ground → ℕ → Text
 describedBy s w g v = pick (eqb (v % 2) 0) (printedAt s w g (keyAt w g (v / 2))) (getD builtIns (v / 2) [])
 
-unfoldable pub newTexts : List ℕ → List ℕ → Ground → ℕ → List Text
-newTexts s w g zero = []
-newTexts s w g (suc c) = newTexts s w g c ++ (describedBy s w g (listAt w g c) ∷ [])
+unfoldable pub listedTexts : List ℕ → List ℕ → Ground → ℕ → List Text
+listedTexts s w g zero = []
+listedTexts s w g (suc c) = listedTexts s w g c ++ (describedBy s w g (listAt w g c) ∷ [])
 
 -- the texts by number, c of them new
 unfoldable pub namedIn : List ℕ → List ℕ → Ground → ℕ → List Text
-namedIn s w g c = texts s w (g .m) ++ newTexts s w g c
+namedIn s w g c = texts s w (g .m) ++ listedTexts s w g c
 
 -- a followed reference v of the symbol at p: the number of its text; or a pushed symbol that prints so, and no text does yet
 pub record NameRef (s w : List ℕ) (g : Ground) (n c p v : ℕ) : Type 0 where

@@ -17,8 +17,8 @@ use Rattle.display.specs.Follow.{betweenBy}
 use Rattle.display.specs.Form.{textForm, formFrom}
 use Rattle.expander.specs.declared.Ground.{Ground}
 use Rattle.expander.specs.declared.replace.Keyed.{Keyed}
-use Rattle.expander.specs.Ground.{sizeIn, sameAt, textAt, Kept}
-use Rattle.expander.specs.Held.{Held, Before}
+use Rattle.expander.specs.Ground.{sizeIn, sameAt, textIn, KeptAround}
+use Rattle.expander.specs.Held.{Held, AllBefore}
 
 -- 25, 26, 29, 2a, 2b
 unfoldable pub expandedCode : ℕ → Bool
@@ -75,7 +75,7 @@ module _ (s w : List ℕ) (g : Ground) where
     pub new : ℕ
     pub slots : Slots
     pub held : Held s w g n new slots
-    pub before : Before p slots
+    pub before : AllBefore p slots
 
   pub record SomeSymbol (left p n : ℕ) : Type 0 where
     pub four : Bool
@@ -99,10 +99,10 @@ module _ (s w : List ℕ) (g : Ground) where
   -- from w to w′ the symbols at ps, between p and e, were noted
   pub record NotedAll (p n e : ℕ) (ps : List ℕ) (r : Keyed) (w′ : List ℕ) : Type 0 where
     pub end : r .at ≡ e
-    pub kept : Kept g w w′
+    pub kept : KeptAround g w w′
     pub least : n ≤ r .pile
     pub most : 9 * r .pile + p ≤ 9 * n + e
-    pub held : (c : ℕ) (x : Slots) → Held s w g n c x → Before p x → Held s w′ g (r .pile) c (noteAll (sameAt s w g) (textAt s w g) ps x)
+    pub held : (c : ℕ) (x : Slots) → Held s w g n c x → AllBefore p x → Held s w′ g (r .pile) c (noteAll (sameAt s w g) (textIn s w g) ps x)
 
   -- of every symbol that stands at p
   unfoldable pub ReplacesOne : ℕ → ℕ → ℕ → Keyed → List ℕ → Type 0

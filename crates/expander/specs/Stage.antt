@@ -21,8 +21,8 @@ use Rattle.replacing.specs.Round.{replaced}
 use Rattle.expander.specs.declared.Ground.{Ground}
 use Rattle.expander.specs.declared.replace.Keyed.{Keyed}
 use Rattle.expander.specs.declared.stage.Replaced.{Replaced}
-use Rattle.expander.specs.Ground.{sizeIn, stageIn, topOf, listPlace, pushedText, KeyAt, sameAt, textAt, Grounded}
-use Rattle.expander.specs.Held.{Held, Before}
+use Rattle.expander.specs.Ground.{sizeIn, stageIn, topOf, listPlace, pushedText, KeyAt, sameAt, textIn, Grounded}
+use Rattle.expander.specs.Held.{Held, AllBefore}
 
 -- ---- commands by their codes
 unfoldable pub commandLong : ℕ → ℕ → ℕ
@@ -79,7 +79,7 @@ pub record Writable (s w : List ℕ) (g : Ground) (to n : ℕ) : Type 0 where
   pub above : Above s w (g .m) lim
 
 -- from w to w′ nothing changed but the list of new texts, records, slots, and what was written from a up to e
-pub record Wrote (g : Ground) (a e : ℕ) (w w′ : List ℕ) : Type 0 where
+pub record WroteOnly (g : Ground) (a e : ℕ) (w w′ : List ℕ) : Type 0 where
   pub long : length w′ ≡ length w
   pub others : (i : ℕ) → (i < listPlace g 0) ⊎ ((topOf g ≤ i) × (i < a)) ⊎ (e ≤ i) → getD w′ i 0 ≡ getD w i 0
 
@@ -98,12 +98,12 @@ module _ (s w : List ℕ) (g : Ground) where
     pub lies : Lies w′ (r .to) (keyBytes (g .width) (nodeAt (g .width) (stageIn w g) (r .at)) (numbered (g .m .count) (r .at) x .0)) (q .to)
     pub held : Held s w′ g (q .pile) (q .count) (numbered (g .m .count) (r .at) x .1)
 
-  pub record PutsKey (r : Replaced) (k : Keyed) (q : Replaced) (w′ : List ℕ) : Type 0 where
+  pub record PutsKeyed (r : Replaced) (k : Keyed) (q : Replaced) (w′ : List ℕ) : Type 0 where
     pub at : q .at ≡ k .at
     pub pile : q .pile ≡ k .pile
     pub to : q .to ≡ r .to + 9 + g .width
     pub most : q .count ≤ r .count + 1
-    pub wrote : Wrote g (r .to) (q .to) w w′
+    pub wrote : WroteOnly g (r .to) (q .to) w w′
     pub each : (x : Slots) → Held s w g (k .pile) (r .count) x → HasRef (r .at) x → PutBy r x q w′
 
   -- ---- one turn
@@ -117,25 +117,25 @@ module _ (s w : List ℕ) (g : Ground) where
     pub few : 9 * r .pile ≤ r .at
     pub slots : Slots
     pub held : Held s w g (r .pile) (r .count) slots
-    pub before : Before (r .at) slots
+    pub before : AllBefore (r .at) slots
 
   -- a turn of the definition
   abbrev pub turned : ℕ → Slots → Run
-  turned p x = stepOn (sameAt s w g) (textAt s w g) (g .width) (g .m .count) (stageIn w g) (record { at = p; out = []; slots = x })
+  turned p x = stepOn (sameAt s w g) (textIn s w g) (g .width) (g .m .count) (stageIn w g) (record { at = p; out = []; slots = x })
 
   pub record TurnedBy (r : Replaced) (x : Slots) (q : Replaced) (w′ : List ℕ) : Type 0 where
     pub at : q .at ≡ turned (r .at) x .at
     pub lies : Lies w′ (r .to) (turned (r .at) x .out) (q .to)
     pub held : Held s w′ g (q .pile) (q .count) (turned (r .at) x .slots)
-    pub before : Before (q .at) (turned (r .at) x .slots)
+    pub before : AllBefore (q .at) (turned (r .at) x .slots)
 
 -- the turn is that of every x that is held; and another one can follow
 pub record Turns (s w : List ℕ) (g : Ground) (r q : Replaced) (w′ : List ℕ) : Type 0 where
-  pub each : (x : Slots) → Held s w g (r .pile) (r .count) x → Before (r .at) x → TurnedBy s w g r x q w′
+  pub each : (x : Slots) → Held s w g (r .pile) (r .count) x → AllBefore (r .at) x → TurnedBy s w g r x q w′
   pub next : SomeTurn s w′ g q
   pub on : r .at < q .at
   pub to : r .to ≤ q .to
-  pub wrote : Wrote g (r .to) (q .to) w w′
+  pub wrote : WroteOnly g (r .to) (q .to) w w′
 
 -- ---- the whole stage
 
@@ -161,6 +161,6 @@ pub record StagedBy (s w : List ℕ) (g : Ground) (to : ℕ) (ms : List ℕ) (r 
 pub record Stages (s w : List ℕ) (g : Ground) (to : ℕ) (r : Replaced) (w′ : List ℕ) : Type 0 where
   pub each : (ms : List ℕ) → MarksAre w g ms → StagedBy s w g to ms r w′
   pub end : r .at ≡ sizeIn g
-  pub wrote : Wrote g to (r .to) w w′
+  pub wrote : WroteOnly g to (r .to) w w′
   pub ground : Grounded s w′ g
   pub writable : Writable s w′ g (r .to) 0

@@ -13,7 +13,7 @@ ghost use mathlib.Core.Path.{_≡_};
 ghost use Prim.Native.Nat.{_+_, _≤_, _<_};
 ghost use lib.ListN.{length};
 ghost use Rattle.expander.specs.Ground.{sizeIn, Grounded};
-ghost use Rattle.expander.specs.Stage.{commandLong, itemCode, macroAt, SomeHops, Skips, SomeKeyed, PutsKey, SomeTurn, Turns, SomeStage, Stages};
+ghost use Rattle.expander.specs.Stage.{commandLong, itemCode, macroAt, SomeHops, Skips, SomeKeyed, PutsKeyed, SomeTurn, Turns, SomeStage, Stages};
 
 // Where the run stands: the place to read on at, the place to write on at, how many symbols are pushed, how many texts are new.
 pub struct Replaced {
@@ -80,7 +80,7 @@ fn next_item<'a>(tape: &'a [u8], work: &'a [u8], g: Ground, p: usize) -> usize
 // The nonterminal of the symbol at r.at, behind which k says where to read on.
 fn put_key(tape: &[u8], work: &mut [u8], g: Ground, r: Replaced, k: Keyed) -> Replaced
     requires { ⌜ Grounded (now tape) (now work) g × SomeKeyed (now tape) (now work) g r k ⌝ }
-    ensures { λ q. ⌜ PutsKey (now (tape .entry)) (now (work .entry)) g r k q (now (work .exit)) ⌝ }
+    ensures { λ q. ⌜ PutsKeyed (now (tape .entry)) (now (work .entry)) g r k q (now (work .exit)) ⌝ }
 {
     let x = number(tape, work, g, k.pile, r.count, r.at);
     let span = u64_at(work, g.from + r.at + 1);

@@ -5,7 +5,7 @@ use mathlib.Core.List.{List, [], _∷_, _++_, map, append-nil}
 use mathlib.Core.Option.{Option, none, some}
 use Prim.Native.Nat.{ℕ}
 use Rattle.parse_tree.specs.plain.Tree.{Text, Nonterminal, Item, item}
-use Rattle.parse_tree.specs.plain.Texts.{has, withNew}
+use Rattle.parse_tree.specs.plain.Texts.{withNew}
 use Rattle.parse_tree.specs.plain.References.{textsOfEach, alternativeTexts, itemTexts}
 use Rattle.parse_tree.specs.working.Within.{Each, NonterminalWithin, ItemWithin}
 use Rattle.passes.specs.Grades.{Graded, annotated, graded}

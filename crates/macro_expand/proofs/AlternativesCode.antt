@@ -3,10 +3,10 @@ use mathlib.Core.Path.{_≡_, refl, sym, ap, _∙_, subst}
 use mathlib.Core.Bool.{Bool}
 use mathlib.Core.Logic.{inl, inr, _⊎_}
 use mathlib.Core.List.{List, [], _∷_, _++_}
-use Prim.Native.Nat.{ℕ, _+_, _-_, _≤_, _<_}
+use Prim.Native.Nat.{ℕ, _+_, _≤_, _<_}
 use native.Mathlib.Omega.{arith}
 use borrow.Author.Needs.{needs}
-use lib.ListN.{length, set, getD}
+use lib.ListN.{length, set}
 use Rattle.octets.specs.working.Stores.{store}
 use Rattle.octets.specs.plain.Numbers.{leAt, le}
 use Rattle.octets.specs.plain.Runs.{part, Lies}
@@ -36,7 +36,7 @@ use Rattle.macro_expand.specs.PutIn.{symsPiece, Placed, Framed, Frame, S
 use Rattle.macro_expand.specs.Alternatives.{alternativePiece, bareOut, SomeAlternative, OpensAlternative, PutsAlternative}
 use Rattle.macro_expand.proofs.FrameLaws.{placed-stays, frame-stays}
 use Rattle.macro_expand.proofs.PutInPlain.{named-extends}
-use Rattle.macro_expand.proofs.AlternativesTrees.{tailBytes, bareBytes, Parted, parted, expanded-bytes, expanded-texts, expanded-fits}
+use Rattle.macro_expand.proofs.AlternativesTrees.{bareBytes, Parted, parted, expanded-bytes, expanded-texts, expanded-fits}
 
 -- ---- put_zero
 pub zero-over : (w : List ℕ) (lim to : ℕ) → lim ≤ to → Puts w lim to (0 ∷ []) (lim + 1) w

@@ -1,13 +1,12 @@
 -- Laws of the code that appends the alternatives that hold, one behind another. Assumes nothing.
 use mathlib.Core.Path.{_≡_, refl, sym, ap, _∙_, subst}
 use mathlib.Core.Bool.{Bool, true, false, cond}
-use mathlib.Core.List.{List, [], _∷_, _++_}
-use Prim.Native.Nat.{ℕ, suc, _+_, _-_, _≤_, _<_}
+use mathlib.Core.List.{List, [], _∷_}
+use Prim.Native.Nat.{ℕ, _+_, _-_, _≤_, _<_}
 use native.Mathlib.Omega.{arith}
 use borrow.Author.Needs.{needs}
-use lib.ListN.{length, getD}
-use Rattle.octets.specs.plain.Numbers.{leAt, le}
-use Rattle.octets.specs.plain.Runs.{Lies}
+use lib.ListN.{length}
+use Rattle.octets.specs.plain.Numbers.{le}
 use Rattle.parse_tree.specs.plain.Tree.{Text, Syms, Alternative}
 use Rattle.parse_tree.specs.plain.WriteTape.{bytesOfEach}
 use Rattle.parse_tree.specs.working.Nodes.{spanBytes, spanIn}
@@ -28,7 +27,7 @@ use Rattle.macro_expand.specs.declared.arguments.Call.{Call}
 use Rattle.macro_expand.specs.declared.arguments.Judged.{Judged}
 use Rattle.macro_expand.specs.Arguments.{Readable, holdsAt}
 use Rattle.macro_expand.specs.PutIn.{Placed, Framed, Frame}
-use Rattle.macro_expand.specs.Alternatives.{alternativePiece, alternativesPiece, held, SomeAlternative, PutsAlternative, PutsIf, SomeAlternatives, PutsAlternatives}
+use Rattle.macro_expand.specs.Alternatives.{alternativesPiece, held, SomeAlternative, PutsAlternative, PutsIf, SomeAlternatives, PutsAlternatives}
 use Rattle.macro_expand.proofs.FrameLaws.{placed-split, placed-stays, frame-stays, frame-readable}
 use Rattle.macro_expand.proofs.AlternativesTrees.{parted}
 use Rattle.macro_expand.proofs.AlternativesCode.{alternative-head, alternative-upto}

@@ -1,11 +1,11 @@
 -- Alternatives whose texts are all known have the same bytes by more texts; and those that hold, one behind another. Assumes nothing.
-use mathlib.Core.Path.{_≡_, refl, sym, ap, _∙_, subst}
+use mathlib.Core.Path.{_≡_, refl, sym, ap}
 use mathlib.Core.Bool.{Bool, true, false, cond, _&&_}
 use mathlib.Core.List.{List, [], _∷_, _++_, append-nil}
 use mathlib.Core.Option.{Option, none, some}
-use Prim.Native.Nat.{ℕ, _+_}
+use Prim.Native.Nat.{ℕ}
 use Rattle.parse_tree.specs.plain.Tree.{Text, Syms, Action, Attribute, Condition, Alternative, noAction, user, fallible, lookaheadAction, lookbehindAction, conditions}
-use Rattle.parse_tree.specs.plain.Texts.{has, withNew}
+use Rattle.parse_tree.specs.plain.Texts.{withNew}
 use Rattle.parse_tree.specs.plain.References.{textsOfEach, actionTexts, attributeTexts, conditionTexts, alternativeTexts, symsTexts}
 use Rattle.parse_tree.specs.plain.WriteTape.{bytesOfEach}
 use Rattle.parse_tree.specs.working.Nodes.{nodeBytes}

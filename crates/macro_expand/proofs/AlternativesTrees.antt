@@ -1,9 +1,9 @@
 -- Alternatives of a macro's definition by parts: the command, the attributes, the condition, the symbols; and one with the arguments put in. Assumes nothing.
 use mathlib.Core.Path.{_≡_, refl, sym, ap, _∙_, subst}
-use mathlib.Core.Bool.{Bool, true, false, _&&_}
+use mathlib.Core.Bool.{Bool}
 use mathlib.Core.List.{List, [], _∷_, _++_, append-nil, append-assoc}
 use mathlib.Core.Option.{Option, none, some}
-use Prim.Native.Nat.{ℕ, zero, suc, _+_, _*_, _≤_, _<_}
+use Prim.Native.Nat.{ℕ, _+_, _*_, _≤_}
 use native.Mathlib.Omega.{arith}
 use native.Mathlib.Nat.{mul-suc, mul-comm}
 use borrow.Author.Tests.{lt-ltb}
@@ -12,20 +12,19 @@ use Rattle.octets.specs.plain.Numbers.{leAt, le}
 use Rattle.octets.specs.plain.Runs.{part, Lies}
 use Rattle.octets.proofs.LiesLaws.{lies-split, lies-from, lies-to, lies-append, lies-part}
 use Rattle.octets.proofs.NumbersLaws.{length-le}
-use Rattle.parse_tree.specs.plain.Tree.{Text, Syms, Action, Attribute, Condition, Alternative, noAction, user, fallible, lookaheadAction, lookbehindAction, count, conditions}
-use Rattle.parse_tree.specs.plain.Texts.{has, number, withNew}
-use Rattle.parse_tree.specs.plain.References.{textsOfEach, actionTexts, attributeTexts, conditionTexts, alternativeTexts, symsTexts}
+use Rattle.parse_tree.specs.plain.Tree.{Text, Syms, Action, Attribute, Alternative, noAction, user, fallible, lookaheadAction, lookbehindAction, count, conditions}
+use Rattle.parse_tree.specs.plain.Texts.{withNew}
+use Rattle.parse_tree.specs.plain.References.{textsOfEach, actionTexts, attributeTexts, alternativeTexts, symsTexts}
 use Rattle.parse_tree.specs.plain.WriteTape.{bytesOfEach}
 use Rattle.parse_tree.specs.working.Nodes.{spanBytes, nodeBytes}
 use Rattle.parse_tree.specs.working.Encode.{actionCode, actionText, alternativeNode, attributeNode, attributeBytes, conditionBytes, alternativeBytes, symsBytes}
 use Rattle.parse_tree.specs.working.Within.{Each, ActionWithin, ArgumentWithin, AttributeWithin, AlternativeWithin}
 use Rattle.parse_tree.specs.declared.syntax.Span.{Span}
-use Rattle.parse_tree.proofs.SizeLaws.{length-span}
 use Rattle.parse_tree.proofs.FieldLaws.{byte-read, span-read}
 use Rattle.passes.specs.Sizes.{alternativeFits, symsFit}
 use Rattle.passes.specs.Macros.{macroExpandSymbols, expandAlternative}
 use Rattle.grades.specs.Annotations.{conditionsFrom, symbolsFrom}
-use Rattle.grades.proofs.AlternativesMean.{AlternativeAt, alternative-read}
+use Rattle.grades.proofs.AlternativesMean.{alternative-read}
 use Rattle.replacing.proofs.Going.{Extends, There, new-append, new-there, extends-number}
 use Rattle.macro_expand.proofs.ExpandTrees.{all-count}
 

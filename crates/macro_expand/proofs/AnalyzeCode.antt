@@ -1,8 +1,8 @@
 -- The loop of `analyze_expr`: what is left of the direct symbols. Assumes nothing.
 use mathlib.Core.Path.{_≡_, refl, sym, ap, _∙_, subst}
 use mathlib.Core.Bool.{Bool, true, false, cond, _||_, true≢false}
-use mathlib.Core.List.{List, [], _∷_, _++_}
-use Prim.Native.Nat.{ℕ, zero, suc, _+_, _-_, _^_, _<_, _≤_}
+use mathlib.Core.List.{List}
+use Prim.Native.Nat.{ℕ, suc, _+_, _-_, _^_, _<_, _≤_}
 use native.Mathlib.Omega.{arith}
 use mir.Syntax.{w64}
 use mir.Val.{Fits}
@@ -12,20 +12,19 @@ use lib.ListN.{length, getD}
 use Rattle.octets.specs.working.Choice.{pick}
 use Rattle.octets.specs.plain.Runs.{Lies}
 use Rattle.octets.proofs.LiesLaws.{lies-first}
-use Rattle.parse_tree.specs.plain.Tree.{Text, Leaf, Around, Over, Sym, Syms, ambiguous, bare, quoted, regex, nonterminal, lookahead, lookbehind, error, repeat, choose, name, macro, group, leaf, around, over, nil, cons, count}
+use Rattle.parse_tree.specs.plain.Tree.{Text, Sym, Syms, ambiguous, bare, quoted, regex, nonterminal, lookahead, lookbehind, error, repeat, choose, name, macro, group, leaf, around, over, nil, cons, count}
 use Rattle.parse_tree.specs.working.Nodes.{nodeBytes, symbolBytes, leafCode}
-use Rattle.parse_tree.specs.working.Encode.{symBytes, symsBytes, leafNode, aroundNode, overNode}
+use Rattle.parse_tree.specs.working.Encode.{symBytes, leafNode, aroundNode, overNode}
 use Rattle.texts.specs.Table.{texts}
 use Rattle.passes.specs.Macros.{isNamed, isChosen, hasName, chosen}
 use Rattle.laws.proofs.Flat.{sym-fits}
 use Rattle.grades.specs.Skip.{skipOut}
 use Rattle.grades.proofs.SkipMean.{skip-means}
 use Rattle.display.specs.Standing.{SymsStand}
-use Rattle.display.proofs.StandsLaws.{Standing, standing, first-stands, one-stands, none-stand}
+use Rattle.display.proofs.StandsLaws.{standing, first-stands, one-stands}
 use Rattle.expander.specs.declared.Ground.{Ground}
-use Rattle.expander.specs.Ground.{sizeIn, Grounded}
+use Rattle.expander.specs.Ground.{sizeIn}
 use Rattle.expander.specs.Replace.{StandAt}
-use Rattle.macro_expand.specs.declared.norm_util.Analyzed.{Analyzed}
 use Rattle.macro_expand.specs.NormUtil.{chosenOne, SomeDirect, Analyzes}
 
 -- ---- chosen_one

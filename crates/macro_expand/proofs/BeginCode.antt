@@ -10,7 +10,7 @@ use borrow.Author.Needs.{needs}
 use lib.ListN.{length, getD}
 use Rattle.octets.specs.plain.Numbers.{leAt, le, Bytes}
 use Rattle.parse_tree.specs.plain.Tree.{Text, Sym}
-use Rattle.parse_tree.specs.plain.Texts.{has, number}
+use Rattle.parse_tree.specs.plain.Texts.{number}
 use Rattle.parse_tree.specs.plain.Display.{print}
 use Rattle.precedence.specs.Write.{Puts}
 use Rattle.precedence.proofs.WriteLaws.{puts-append}

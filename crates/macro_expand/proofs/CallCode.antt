@@ -1,13 +1,13 @@
 -- Laws of the command of an item that is appended for a call, and what a call frames. Assumes nothing.
 use mathlib.Core.Path.{_≡_, refl, sym, ap, _∙_, subst}
-use mathlib.Core.Bool.{Bool, true, false}
+use mathlib.Core.Bool.{Bool, true}
 use mathlib.Core.Logic.{_⊎_, inl, inr}
-use mathlib.Core.List.{List, [], _∷_, _++_, append-nil}
-use Prim.Native.Nat.{ℕ, _+_, _-_, _%_, _≤_, _<_}
+use mathlib.Core.List.{List, [], _∷_, _++_}
+use Prim.Native.Nat.{ℕ, _+_, _-_, _%_, _≤_}
 use native.Mathlib.Omega.{arith}
 use borrow.Author.Needs.{needs}
 use lib.ListN.{length, getD, length-append}
-use Rattle.octets.specs.plain.Numbers.{leAt, le}
+use Rattle.octets.specs.plain.Numbers.{le}
 use Rattle.octets.specs.plain.Runs.{Lies}
 use Rattle.octets.proofs.LiesLaws.{lies-split, lies-first, lies-from}
 use Rattle.octets.proofs.NumbersLaws.{length-le}
@@ -17,7 +17,7 @@ use Rattle.parse_tree.specs.plain.Display.{print}
 use Rattle.parse_tree.specs.plain.WriteTape.{bytesOfEach, bit}
 use Rattle.parse_tree.specs.working.Nodes.{spanBytes, nodeBytes, symbolBytes, sizeOf}
 use Rattle.parse_tree.specs.working.Encode.{overNode, argumentBytes, alternativeBytes, nonterminalNode, itemBytes}
-use Rattle.parse_tree.specs.working.Within.{Each, NonterminalWithin}
+use Rattle.parse_tree.specs.working.Within.{Each}
 use Rattle.parse_tree.specs.declared.syntax.Span.{Span}
 use Rattle.parse_tree.proofs.SizeLaws.{length-span}
 use Rattle.texts.specs.Table.{texts}
@@ -26,30 +26,27 @@ use Rattle.laws.specs.Keys.{Expands}
 use Rattle.replacing.specs.Trees.{isKey}
 use Rattle.octets.specs.working.Choice.{pick}
 use Rattle.resolve.specs.Commands.{longOf}
-use Rattle.resolve.proofs.GrammarLaws.{Named, named, Headed, headed}
+use Rattle.resolve.proofs.GrammarLaws.{named, Headed, headed}
 use Rattle.precedence.specs.Write.{Puts}
-use Rattle.grades.specs.Annotations.{firstAlternative}
 use Rattle.grades.proofs.AlternativesMean.{first-means}
 use Rattle.display.proofs.StandsLaws.{Standing, standing}
 use Rattle.replacing.specs.Slots.{among}
 use Rattle.expander.specs.declared.Ground.{Ground}
 use Rattle.expander.specs.declared.slots.Numbered.{Numbered}
 use Rattle.expander.specs.Ground.{sizeIn, topOf, listPlace, printedAt, Grounded}
-use Rattle.expander.specs.Names.{namedIn, NamedBy, SomeNamed, NameRoom, NamesOne}
+use Rattle.expander.specs.Names.{namedIn, SomeNamed, NameRoom, NamesOne}
 use Rattle.expander.specs.Replace.{overLong, keysOf, keysOfAll}
 use Rattle.expander.proofs.KeysLaws.{ownKeys, keys-parts, stands-print}
 use Rattle.appending.specs.declared.Appended.{Appended}
-use Rattle.appending.specs.Built.{Gives}
 use Rattle.appending.specs.Commands.{itemHead}
 use Rattle.appending.specs.Pieces.{naming, plainly, thenPiece, Appends}
-use Rattle.appending.specs.Symbols.{Referring}
 use Rattle.appending.proofs.PiecesLaws.{steady-naming, appends-then, appends-is, appends-puts, appends-gives}
 use Rattle.appending.proofs.BuiltLaws.{number-gives}
 use Rattle.appending.proofs.BuiltRoom.{names-room}
 use Rattle.appending.proofs.SymbolsTrees.{each-parts}
 use Rattle.macro_expand.specs.declared.call.Macro.{Macro}
 use Rattle.macro_expand.specs.Expand.{Popped}
-use Rattle.macro_expand.specs.Call.{Defines, Calls, SomeCall}
+use Rattle.macro_expand.specs.Call.{Calls, SomeCall}
 use Rattle.macro_expand.specs.PutIn.{Placed, Framed}
 use Rattle.macro_expand.specs.Macro.{ReadsCall, macroPiece, PutsHead}
 use Rattle.macro_expand.proofs.PutInNamed.{low-bytes}

@@ -3,19 +3,19 @@ use mathlib.Core.Path.{_≡_, refl, sym, ap, _∙_, subst}
 use mathlib.Core.Bool.{Bool, true, false, cond, not, false≢true}
 use mathlib.Core.List.{List, [], _∷_, _++_, append-nil}
 use mathlib.Core.Option.{Option, none, some}
-use Prim.Native.Nat.{ℕ, zero, suc, _+_, _-_, _≤_, _<_, _^_}
+use Prim.Native.Nat.{ℕ, zero, suc, _+_, _≤_, _<_}
 use native.Mathlib.Omega.{arith}
-use borrow.Author.Tests.{lt-leb, eq-eqb, ne-eqb}
+use borrow.Author.Tests.{lt-leb}
 use lib.Dec.{eqb, leb}
 use lib.ListN.{length, getD, length-append}
 use Rattle.octets.specs.working.Choice.{pick}
 use Rattle.octets.specs.plain.Numbers.{leAt, le}
 use Rattle.octets.specs.plain.Runs.{Lies, sameAs}
 use Rattle.octets.proofs.LiesLaws.{lies-split, lies-first}
-use Rattle.parse_tree.specs.plain.Tree.{Text, Leaf, Around, Over, Sym, Syms, ambiguous, bare, quoted, regex, nonterminal, lookahead, lookbehind, error, repeat, choose, name, macro, group, leaf, around, over, nil, cons, Condition, Alternative, conditions}
+use Rattle.parse_tree.specs.plain.Tree.{Text, Sym, Syms, ambiguous, bare, quoted, regex, nonterminal, lookahead, lookbehind, error, repeat, choose, name, macro, group, leaf, around, over, nil, Condition, Alternative, conditions}
 use Rattle.parse_tree.specs.plain.Texts.{has, number}
 use Rattle.parse_tree.specs.plain.WriteTape.{bytesOfEach}
-use Rattle.parse_tree.specs.working.Nodes.{spanBytes, spanIn, nodeBytes, symbolBytes, leafCode, leafOperand}
+use Rattle.parse_tree.specs.working.Nodes.{spanIn, nodeBytes, symbolBytes, leafCode, leafOperand}
 use Rattle.parse_tree.specs.working.Encode.{leafNode, aroundNode, overNode, conditionNode, conditionBytes, symBytes, symsBytes}
 use Rattle.parse_tree.specs.working.Within.{Each, SymWithin, ConditionWithin, AlternativeWithin}
 use Rattle.parse_tree.specs.declared.syntax.Span.{Span}
@@ -27,7 +27,7 @@ use Rattle.passes.specs.Macros.{argumentOf, quotedIn, evaluateCondition}
 use Rattle.laws.specs.Flat.{symNode, children}
 use Rattle.laws.proofs.Flat.{sym-bytes, node-size}
 use Rattle.laws.proofs.Rename.{number-tells}
-use Rattle.resolve.proofs.GrammarLaws.{Named, named, named-last}
+use Rattle.resolve.proofs.GrammarLaws.{named, named-last}
 use Rattle.grades.specs.Annotations.{conditionsFrom}
 use Rattle.display.specs.Standing.{SymStands}
 use Rattle.display.proofs.StandsLaws.{first-stands, none-stand}
@@ -36,11 +36,10 @@ use Rattle.expander.specs.declared.Ground.{Ground}
 use Rattle.expander.specs.Ground.{sizeIn}
 use Rattle.expander.proofs.KeysLaws.{sym-length}
 use Rattle.appending.specs.declared.Appended.{Appended}
-use Rattle.appending.specs.Symbols.{Referring}
 use Rattle.macro_expand.specs.declared.arguments.Call.{Call}
 use Rattle.macro_expand.specs.declared.arguments.Judged.{Judged}
 use Rattle.macro_expand.specs.Arguments.{equalBy, argumentFor, judgedBy, judgedAt, holdsAt}
-use Rattle.macro_expand.specs.PutIn.{Placed, Framed}
+use Rattle.macro_expand.specs.PutIn.{Framed}
 use Rattle.macro_expand.proofs.FrameLaws.{Answers, Finds, frame-finds, argument-renamed}
 use Rattle.macro_expand.proofs.AlternativesTrees.{Parted}
 

@@ -1,32 +1,29 @@
 -- The loop of `drain`: what was appended, and what is left of the pile. Assumes nothing.
 use mathlib.Core.Path.{_≡_, refl, sym, ap, _∙_, subst}
-use mathlib.Core.Bool.{Bool, true, false}
-use mathlib.Core.List.{List, [], _∷_, _++_, map, append-nil}
-use Prim.Native.Nat.{ℕ, zero, suc, _+_, _-_, _<_, _≤_}
+use mathlib.Core.Bool.{Bool}
+use mathlib.Core.List.{List, [], _∷_, map}
+use Prim.Native.Nat.{ℕ, suc, _-_, _<_, _≤_}
 use native.Mathlib.Omega.{arith}
 use borrow.Author.Needs.{needs}
 use lib.ListN.{length}
-use Rattle.parse_tree.specs.plain.Tree.{Text, Sym, Nonterminal, Item, item}
-use Rattle.parse_tree.specs.plain.Texts.{withNew}
-use Rattle.parse_tree.specs.plain.References.{textsOfEach, itemTexts}
+use Rattle.parse_tree.specs.plain.Tree.{Nonterminal, Item, item}
+use Rattle.parse_tree.specs.plain.References.{textsOfEach}
 use Rattle.parse_tree.specs.plain.WriteTape.{bytesOfEach}
-use Rattle.parse_tree.specs.working.Encode.{itemBytes}
 use Rattle.parse_tree.specs.working.Refusals.{refusalOver}
 use Rattle.parse_tree.specs.declared.refusal.Refusal.{Refusal}
-use Rattle.parse_tree.specs.declared.syntax.Span.{Span}
 use Rattle.passes.specs.Outcome.{Tree, Outcome, yes, no, after}
 use Rattle.passes.specs.Macros.{Pending, expandSymbol, drain}
 use Rattle.resolve.specs.declared.Grammar.{Grammar}
 use Rattle.replacing.specs.Trees.{inner}
 use Rattle.expander.specs.declared.Ground.{Ground}
-use Rattle.expander.specs.Ground.{keyAt, symbolAt}
+use Rattle.expander.specs.Ground.{keyAt, symbolIn}
 use Rattle.expander.specs.Held.{down}
 use Rattle.appending.specs.declared.Appended.{Appended}
-use Rattle.appending.specs.Pieces.{Piece, itemPiece, plainly, thenPiece, Appending, Appends}
+use Rattle.appending.specs.Pieces.{itemPiece, plainly, thenPiece, Appending, Appends}
 use Rattle.appending.proofs.PiecesLaws.{steady-item, appends-none, appends-then, appends-is}
 use Rattle.macro_expand.specs.declared.Expanded.{Expanded}
-use Rattle.macro_expand.specs.Expand.{ExpandedBy}
-use Rattle.macro_expand.specs.Drain.{Pile, SomePile, ExpandsOne, itemsPiece, DrainedBy, Drains}
+use Rattle.macro_expand.specs.Expand.{ExpandsTo}
+use Rattle.macro_expand.specs.Drain.{Pile, SomePile, ExpandsPushed, itemsPiece, DrainedBy, Drains}
 use Rattle.macro_expand.proofs.PileStays.{symbol-stays, pile-stays}
 
 -- ---- what an answer is
@@ -41,7 +38,7 @@ isOr a (Expanded.Refused b) = a
 module _ (s : List ℕ) (g : Ground) (n lim : ℕ) (t : Grammar) where
   -- the pending symbols of the first i places, the last first
   abbrev pending : List ℕ → ℕ → List Pending
-  pending w i = map (λ p. inner (symbolAt s w g p)) (down (keyAt w g) i)
+  pending w i = map (λ p. inner (symbolIn s w g p)) (down (keyAt w g) i)
 
   -- ---- items one behind another
   module _ (ps : List ℕ) where
@@ -70,7 +67,7 @@ module _ (s : List ℕ) (g : Ground) (n lim : ℕ) (t : Grammar) where
   pub record Onward (w₀ : List ℕ) (v : Appended) (w : List ℕ) (x : Appended) (i : ℕ) (ps : List ℕ) (four : Bool) (G : Tree) : Type 0 where
     pub pile : Pile s w g n lim t x ps four G
     pub keys : (j : ℕ) → j < n → keyAt w g j ≡ keyAt w₀ g j
-    pub symbols : (p : ℕ) → symbolAt s w g p ≡ symbolAt s w₀ g p
+    pub symbols : (p : ℕ) → symbolIn s w g p ≡ symbolIn s w₀ g p
     pub carry : (r : Expanded) (w′ : List ℕ) → DrainedBy s w g n lim x ps (drain G (pending w₀ i)) r w′ → DrainedBy s w₀ g n lim v ps (drain G (pending w₀ n)) r w′
 
   pub record Draining (w₀ : List ℕ) (v : Appended) (w : List ℕ) (x : Appended) (i : ℕ) : Type 0 where
@@ -106,10 +103,10 @@ module _ (s : List ℕ) (g : Ground) (n lim : ℕ) (t : Grammar) where
         o = D .each ps four G p
 
         abbrev y : Pending
-        y = inner (symbolAt s w₀ g (keyAt w₀ g j))
+        y = inner (symbolIn s w₀ g (keyAt w₀ g j))
 
-        same : inner (symbolAt s w g (keyAt w g j)) ≡ y
-        same = ap (λ (q : ℕ). inner (symbolAt s w g q)) (o .keys j below) ∙ ap inner (o .symbols (keyAt w₀ g j))
+        same : inner (symbolIn s w g (keyAt w g j)) ≡ y
+        same = ap (λ (q : ℕ). inner (symbolIn s w g q)) (o .keys j below) ∙ ap inner (o .symbols (keyAt w₀ g j))
 
         -- the outcome of the pile from its first symbol on
         first : drain G (pending w₀ i) ≡ after (expandSymbol G y) (λ d. after (drain G (pending w₀ j)) (λ ds. yes (item d ∷ ds)))
@@ -121,16 +118,16 @@ module _ (s : List ℕ) (g : Ground) (n lim : ℕ) (t : Grammar) where
         carried u e r w′ h =
             o .carry r w′ (subst (λ (z : Outcome (List Item)). DrainedBy s w g n lim x ps z r w′) (sym (first ∙ ap (λ (z : Outcome Nonterminal). after z (λ d. after (drain G (pending w₀ j)) (λ ds. yes (item d ∷ ds)))) e)) h)
 
-        told : (r : Expanded) (w′ : List ℕ) → ExpandsOne s w g n lim t j x r w′ → ExpandedBy s w g n lim (keyAt w g j) x ps (expandSymbol G y) r w′
-        unfolding ExpandsOne
-        told r w′ h = subst (λ (z : Pending). ExpandedBy s w g n lim (keyAt w g j) x ps (expandSymbol G z) r w′) same (h ps four G (o .pile))
+        told : (r : Expanded) (w′ : List ℕ) → ExpandsPushed s w g n lim t j x r w′ → ExpandsTo s w g n lim (keyAt w g j) x ps (expandSymbol G y) r w′
+        unfolding ExpandsPushed
+        told r w′ h = subst (λ (z : Pending). ExpandsTo s w g n lim (keyAt w g j) x ps (expandSymbol G z) r w′) same (h ps four G (o .pile))
 
         -- it is refused
-        refused : (why : Refusal) (w′ : List ℕ) → ExpandsOne s w g n lim t j x (Expanded.Refused why) w′ → DrainedBy s w₀ g n lim v ps (drain G (pending w₀ n)) (Expanded.Refused why) w′
-        unfolding ExpandedBy DrainedBy
+        refused : (why : Refusal) (w′ : List ℕ) → ExpandsPushed s w g n lim t j x (Expanded.Refused why) w′ → DrainedBy s w₀ g n lim v ps (drain G (pending w₀ n)) (Expanded.Refused why) w′
+        unfolding ExpandsTo DrainedBy
         refused why w′ h = go (expandSymbol G y) refl (told (Expanded.Refused why) w′ h)
           where
-            go : (u : Outcome Nonterminal) → expandSymbol G y ≡ u → ExpandedBy s w g n lim (keyAt w g j) x ps u (Expanded.Refused why) w′ → DrainedBy s w₀ g n lim v ps (drain G (pending w₀ n)) (Expanded.Refused why) w′
+            go : (u : Outcome Nonterminal) → expandSymbol G y ≡ u → ExpandsTo s w g n lim (keyAt w g j) x ps u (Expanded.Refused why) w′ → DrainedBy s w₀ g n lim v ps (drain G (pending w₀ n)) (Expanded.Refused why) w′
             go (yes d) e (v′, z, a) = absurd (other z)
               where
                 other : Expanded.Refused why ≡ Expanded.Is v′ → ⊥
@@ -138,11 +135,11 @@ module _ (s : List ℕ) (g : Ground) (n lim : ℕ) (t : Grammar) where
             go (no k sp) e z = carried (no k sp) e (Expanded.Refused why) w′ z
 
         -- its item is appended
-        onward : (x′ : Appended) (w′ : List ℕ) → ExpandsOne s w g n lim t j x (Expanded.Is x′) w′ → Onward w₀ v w′ x′ j ps four G
-        unfolding ExpandedBy
+        onward : (x′ : Appended) (w′ : List ℕ) → ExpandsPushed s w g n lim t j x (Expanded.Is x′) w′ → Onward w₀ v w′ x′ j ps four G
+        unfolding ExpandsTo
         onward x′ w′ h = go (expandSymbol G y) refl (told (Expanded.Is x′) w′ h)
           where
-            go : (u : Outcome Nonterminal) → expandSymbol G y ≡ u → ExpandedBy s w g n lim (keyAt w g j) x ps u (Expanded.Is x′) w′ → Onward w₀ v w′ x′ j ps four G
+            go : (u : Outcome Nonterminal) → expandSymbol G y ≡ u → ExpandsTo s w g n lim (keyAt w g j) x ps u (Expanded.Is x′) w′ → Onward w₀ v w′ x′ j ps four G
             go (no k sp) e z = absurd (other z)
               where
                 other : Expanded.Is x′ ≡ Expanded.Refused (refusalOver k sp) → ⊥
@@ -159,11 +156,11 @@ module _ (s : List ℕ) (g : Ground) (n lim : ℕ) (t : Grammar) where
                 }
 
     -- the pile stays where an item is appended
-    pile-next : (j : ℕ) (x′ : Appended) (w′ : List ℕ) (ps : List ℕ) (four : Bool) (G : Tree) → Pile s w g n lim t x ps four G → ExpandsOne s w g n lim t j x (Expanded.Is x′) w′ → Pile s w′ g n lim t x′ ps four G
-    unfolding ExpandsOne ExpandedBy
-    pile-next j x′ w′ ps four G p h = go (expandSymbol G (inner (symbolAt s w g (keyAt w g j)))) (h ps four G p)
+    pile-next : (j : ℕ) (x′ : Appended) (w′ : List ℕ) (ps : List ℕ) (four : Bool) (G : Tree) → Pile s w g n lim t x ps four G → ExpandsPushed s w g n lim t j x (Expanded.Is x′) w′ → Pile s w′ g n lim t x′ ps four G
+    unfolding ExpandsPushed ExpandsTo
+    pile-next j x′ w′ ps four G p h = go (expandSymbol G (inner (symbolIn s w g (keyAt w g j)))) (h ps four G p)
       where
-        go : (u : Outcome Nonterminal) → ExpandedBy s w g n lim (keyAt w g j) x ps u (Expanded.Is x′) w′ → Pile s w′ g n lim t x′ ps four G
+        go : (u : Outcome Nonterminal) → ExpandsTo s w g n lim (keyAt w g j) x ps u (Expanded.Is x′) w′ → Pile s w′ g n lim t x′ ps four G
         go (no k sp) z = absurd (let e : _≡_ {A = ℕ} 0 1 = ap kindOf (sym z) in omega arith)
         go (yes d) (v′, z, a) =
             subst (λ (q : Appended). Pile s w′ g n lim t q ps four G) (sym (ap (isOr x′) z)) (pile-stays s g n lim ps w x (p .going) (itemPiece (g .width) (item d)) v′ w′ a t four G p)
@@ -175,11 +172,11 @@ module _ (s : List ℕ) (g : Ground) (n lim : ℕ) (t : Grammar) where
     pub draining-less : 0 < i → i - 1 < n
     draining-less z = omega (arith, D .upto)
 
-    pub draining-refused : 0 < i → (r : Expanded) (w′ : List ℕ) → ExpandsOne s w g n lim t (i - 1) x r w′ → (why : Refusal) → r ≡ Expanded.Refused why → Drains s w₀ g n lim t v (Expanded.Refused why) w′
+    pub draining-refused : 0 < i → (r : Expanded) (w′ : List ℕ) → ExpandsPushed s w g n lim t (i - 1) x r w′ → (why : Refusal) → r ≡ Expanded.Refused why → Drains s w₀ g n lim t v (Expanded.Refused why) w′
     unfolding Drains
-    draining-refused z r w′ h why e ps four G p = refused (i - 1) (omega arith) ps four G p why w′ (subst (λ (q : Expanded). ExpandsOne s w g n lim t (i - 1) x q w′) e h)
+    draining-refused z r w′ h why e ps four G p = refused (i - 1) (omega arith) ps four G p why w′ (subst (λ (q : Expanded). ExpandsPushed s w g n lim t (i - 1) x q w′) e h)
 
-    pub draining-next : 0 < i → (r : Expanded) (w′ : List ℕ) → length w′ ≡ length w → ExpandsOne s w g n lim t (i - 1) x r w′ → (x′ : Appended) → r ≡ Expanded.Is x′ → Draining w₀ v w′ x′ (i - 1)
+    pub draining-next : 0 < i → (r : Expanded) (w′ : List ℕ) → length w′ ≡ length w → ExpandsPushed s w g n lim t (i - 1) x r w′ → (x′ : Appended) → r ≡ Expanded.Is x′ → Draining w₀ v w′ x′ (i - 1)
     draining-next z r w′ b k x′ e = record {
       some = more;
       upto = omega (arith, D .upto);
@@ -187,8 +184,8 @@ module _ (s : List ℕ) (g : Ground) (n lim : ℕ) (t : Grammar) where
       each = λ ps four G p. onward (i - 1) (omega arith) ps four G p x′ w′ h;
     }
       where
-        h : ExpandsOne s w g n lim t (i - 1) x (Expanded.Is x′) w′
-        h = subst (λ (q : Expanded). ExpandsOne s w g n lim t (i - 1) x q w′) e k
+        h : ExpandsPushed s w g n lim t (i - 1) x (Expanded.Is x′) w′
+        h = subst (λ (q : Expanded). ExpandsPushed s w g n lim t (i - 1) x q w′) e k
 
         P : SomePile s w g n lim t x
         P = D .some

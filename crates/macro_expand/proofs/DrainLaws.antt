@@ -1,39 +1,26 @@
 -- What stands on the pile and what its item is; the definition of a macro that is called. Assumes nothing.
 use mathlib.Core.Path.{_≡_, refl, sym, ap, _∙_, subst}
-use mathlib.Core.Bool.{Bool, true, false}
-use mathlib.Core.Logic.{_⊎_, inl, inr}
-use mathlib.Core.List.{List, [], _∷_, _++_}
+use mathlib.Core.Bool.{Bool}
+use mathlib.Core.List.{List, [], _∷_}
 use mathlib.Core.Option.{Option, none, some}
-use Prim.Native.Nat.{ℕ, zero, suc, _+_, _*_, _/_, _%_, _-_, _^_, _<_, _≤_}
+use Prim.Native.Nat.{ℕ, zero, suc, _+_, _≤_}
 use native.Mathlib.Omega.{arith}
-use native.Mathlib.Numerals.{add-one}
-use lib.ListN.{length, getD}
-use Rattle.octets.specs.plain.Numbers.{leAt, le}
+use lib.ListN.{length}
 use Rattle.octets.specs.plain.Runs.{Lies}
-use Rattle.octets.proofs.LiesLaws.{lies-split}
-use Rattle.parse_tree.specs.plain.Tree.{Text, Op, Sym, Syms, Item, Nonterminal, item, count, repeat, macro, group, leaf, around, over}
-use Rattle.parse_tree.specs.plain.Texts.{number}
+use Rattle.parse_tree.specs.plain.Tree.{Text, Op, Sym, Syms, Item, Nonterminal, repeat, macro, group, around, over}
 use Rattle.parse_tree.specs.plain.Display.{print}
-use Rattle.parse_tree.specs.working.Encode.{symBytes, symsBytes, itemBytes, overNode}
-use Rattle.parse_tree.specs.working.Nodes.{nodeBytes, symbolBytes, spanBytes}
-use Rattle.parse_tree.specs.working.Within.{Each, ItemWithin, SpanWithin}
+use Rattle.parse_tree.specs.working.Encode.{itemBytes}
+use Rattle.parse_tree.specs.working.Within.{Each, ItemWithin}
 use Rattle.parse_tree.specs.declared.syntax.Span.{Span}
-use Rattle.texts.specs.Fields.{cellAt}
-use Rattle.texts.specs.Table.{texts}
-use Rattle.passes.specs.Outcome.{Tree, Outcome, yes}
+use Rattle.passes.specs.Outcome.{Tree, yes}
 use Rattle.passes.specs.Views.{Look, ahead, behind}
 use Rattle.passes.specs.Macros.{looking, symbolOf, macroIn, expandSymbol, expandRepeatSymbol, expandLookaroundSymbol, expandExprSymbol, expandMacroSymbol}
 use Rattle.resolve.specs.declared.Grammar.{Grammar}
 use Rattle.resolve.specs.Items.{itemPlaceIn}
-use Rattle.resolve.proofs.GrammarLaws.{Row, row-below, Named, named}
+use Rattle.resolve.proofs.GrammarLaws.{Row, row-below}
 use Rattle.replacing.specs.Trees.{renamed, renamedAll, inner}
 use Rattle.replacing.proofs.TreesMean.{print-inner}
-use Rattle.expander.specs.declared.Ground.{Ground}
-use Rattle.expander.specs.Ground.{sizeIn, topOf, keyAt, listPlace, symbolAt}
-use Rattle.appending.specs.declared.Appended.{Appended}
-use Rattle.macro_expand.specs.Expand.{Popped}
-use Rattle.macro_expand.specs.Drain.{itemOf, Declares, OnPile, Pile, Definition}
-use Rattle.macro_expand.proofs.KeyCodes.{keyCode, key-is, key-code}
+use Rattle.macro_expand.specs.Drain.{itemOf}
 
 -- ---- the item of a symbol, by what it is
 pub look-item : (G : Tree) (sp : Span) (k : Look) → expandSymbol G (inner (symbolOf (looking sp k))) ≡ yes (expandLookaroundSymbol sp (print (symbolOf (looking sp k))) k)

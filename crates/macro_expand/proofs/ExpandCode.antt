@@ -1,36 +1,34 @@
 -- Laws of `macro_expand_symbol`: a parameter gives way to its argument, any other command is copied. Assumes nothing.
 use mathlib.Core.Path.{_≡_, refl, sym, ap, _∙_, subst}
 use mathlib.Core.Bool.{Bool, true, false, false≢true}
-use mathlib.Core.List.{List, [], _∷_, _++_}
+use mathlib.Core.List.{List, _∷_, _++_}
 use mathlib.Core.Option.{Option, none, some}
-use Prim.Native.Nat.{ℕ, zero, suc, _+_, _-_, _*_, _≤_, _<_, _^_}
+use Prim.Native.Nat.{ℕ, zero, suc, _+_, _-_, _*_, _≤_, _<_}
 use native.Mathlib.Omega.{arith}
 use mir.Syntax.{w8}
 use mir.Val as Bound
 use borrow.Author.Needs.{needs}
 use borrow.Author.Tests.{eq-eqb, ne-eqb}
 use lib.Dec.{eqb}
-use lib.ListN.{length, getD, length-append}
+use lib.ListN.{length, getD}
 use Rattle.octets.specs.working.Choice.{pick}
 use Rattle.octets.specs.plain.Numbers.{leAt, le}
 use Rattle.octets.specs.plain.Runs.{part, Lies}
-use Rattle.octets.proofs.LiesLaws.{lies-split, lies-part}
-use Rattle.octets.proofs.NumbersLaws.{length-le}
-use Rattle.parse_tree.specs.plain.Tree.{Text, Leaf, Sym, Syms, ambiguous, bare, quoted, regex, nonterminal, lookahead, lookbehind, error, leaf, around, over, nil, cons, count}
-use Rattle.parse_tree.specs.plain.Texts.{has, number, withNew}
+use Rattle.octets.proofs.LiesLaws.{lies-part}
+use Rattle.parse_tree.specs.plain.Tree.{Text, Sym, Syms, ambiguous, bare, quoted, regex, nonterminal, lookahead, lookbehind, error, leaf, around, over, count}
+use Rattle.parse_tree.specs.plain.Texts.{number}
 use Rattle.parse_tree.specs.working.Nodes.{spanBytes, nodeBytes, symbolBytes, leafCode, leafOperand, sizeOf}
 use Rattle.parse_tree.specs.working.Encode.{leafNode, symBytes, symsBytes}
 use Rattle.parse_tree.specs.working.Within.{SpanWithin, SymWithin, SymsWithin}
 use Rattle.parse_tree.specs.declared.syntax.Span.{Span}
-use Rattle.parse_tree.proofs.SizeLaws.{length-span}
 use Rattle.texts.specs.declared.Found.{Found}
 use Rattle.texts.specs.Table.{texts}
 use Rattle.passes.specs.Macros.{at, argumentOf, orName, macroExpandSymbol, macroExpandSymbols}
 use Rattle.laws.specs.Flat.{symNode, children}
 use Rattle.laws.proofs.Flat.{sym-bytes, node-size}
 use Rattle.resolve.specs.Commands.{longOf}
-use Rattle.resolve.proofs.GrammarLaws.{Named, named-last}
-use Rattle.grades.specs.Skip.{insideBy, insideAt}
+use Rattle.resolve.proofs.GrammarLaws.{named-last}
+use Rattle.grades.specs.Skip.{insideAt}
 use Rattle.precedence.specs.Write.{Puts}
 use Rattle.precedence.proofs.WriteMean.{span-there}
 use Rattle.display.proofs.StandsLaws.{Standing, standing}

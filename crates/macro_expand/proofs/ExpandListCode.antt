@@ -1,15 +1,15 @@
 -- Laws of `macro_expand_symbols`: symbol by symbol, what is to come makes the whole. Assumes nothing.
-use mathlib.Core.Path.{_≡_, refl, sym, ap, _∙_, subst}
+use mathlib.Core.Path.{_≡_, refl, sym, _∙_, subst}
 use mathlib.Core.Bool.{Bool}
 use mathlib.Core.List.{List, [], _++_}
-use Prim.Native.Nat.{ℕ, zero, suc, _+_, _-_, _*_, _≤_, _<_}
+use Prim.Native.Nat.{ℕ, _+_, _-_, _*_, _≤_, _<_}
 use native.Mathlib.Omega.{arith}
 use borrow.Author.Needs.{needs}
 use lib.ListN.{length}
 use Rattle.parse_tree.specs.plain.Tree.{Text, Sym, Syms, nil, cons, count}
 use Rattle.parse_tree.specs.plain.References.{symsTexts}
 use Rattle.parse_tree.specs.working.Encode.{symBytes, symsBytes}
-use Rattle.parse_tree.specs.working.Within.{SymWithin, SymsWithin}
+use Rattle.parse_tree.specs.working.Within.{SymsWithin}
 use Rattle.texts.specs.Table.{texts}
 use Rattle.passes.specs.Macros.{macroExpandSymbol, macroExpandSymbols}
 use Rattle.replacing.specs.Trees.{renamedAll}

@@ -1,9 +1,8 @@
 -- A symbol of a macro's definition that is no parameter: its command as it stands, then what stands inside with the arguments put in. Assumes nothing.
-use mathlib.Core.Path.{_≡_, refl, sym, ap, _∙_, subst}
+use mathlib.Core.Path.{_≡_, refl, sym, ap, _∙_}
 use mathlib.Core.Bool.{Bool, true, false, _&&_, false≢true}
-use mathlib.Core.List.{List, [], _∷_, _++_, append-nil}
-use mathlib.Core.Option.{Option, none, some}
-use Prim.Native.Nat.{ℕ, zero, suc, _+_, _-_, _≤_, _<_}
+use mathlib.Core.List.{List, _++_, append-nil}
+use Prim.Native.Nat.{ℕ, zero, suc, _-_}
 use native.Mathlib.Omega.{arith}
 use borrow.Author.Tests.{le-leb, lt-ltb}
 use lib.Dec.{eqb}
@@ -16,7 +15,6 @@ use Rattle.parse_tree.specs.plain.References.{leafTexts, aroundTexts, overTexts
 use Rattle.parse_tree.specs.working.Nodes.{nodeBytes, symbolBytes, leafCode}
 use Rattle.parse_tree.specs.working.Encode.{leafNode, aroundNode, overNode, symBytes, symsBytes}
 use Rattle.parse_tree.specs.working.Within.{SymWithin, OverWithin}
-use Rattle.parse_tree.specs.declared.syntax.Span.{Span}
 use Rattle.parse_tree.specs.declared.syntax.SymbolKind.{SymbolKind}
 use Rattle.parse_tree.specs.declared.syntax.Node.{Node}
 use Rattle.passes.specs.Sizes.{overFits, symFits, symsFit}

@@ -4,21 +4,21 @@ use mathlib.Core.Bool.{Bool, true, false, cond}
 use mathlib.Core.Logic.{_⊎_, inl, inr}
 use mathlib.Core.List.{List, [], _∷_, _++_, append-nil}
 use mathlib.Core.Option.{Option, none, some}
-use Prim.Native.Nat.{ℕ, zero, suc, _+_, _-_, _≤_, _<_, _^_}
+use Prim.Native.Nat.{ℕ, _+_, _≤_, _<_, _^_}
 use native.Mathlib.Omega.{arith}
 use lib.Dec.{eqb}
-use lib.ListN.{length, getD, length-append}
+use lib.ListN.{length, length-append}
 use Rattle.octets.specs.working.Choice.{pick}
-use Rattle.octets.specs.plain.Numbers.{leAt, le}
+use Rattle.octets.specs.plain.Numbers.{leAt}
 use Rattle.octets.specs.plain.Runs.{Lies, sameAs}
-use Rattle.octets.proofs.LiesLaws.{lies-split, lies-from, lies-first, lies-inside}
+use Rattle.octets.proofs.LiesLaws.{lies-split, lies-from}
 use Rattle.octets.proofs.NumbersLaws.{length-le}
 use Rattle.parse_tree.specs.plain.Tree.{Text, Sym, Syms, nil, cons, count}
-use Rattle.parse_tree.specs.plain.Texts.{isName, has, number}
+use Rattle.parse_tree.specs.plain.Texts.{isName, number}
 use Rattle.parse_tree.specs.plain.WriteTape.{bytesOfEach}
 use Rattle.parse_tree.specs.working.Nodes.{nodeBytes}
-use Rattle.parse_tree.specs.working.Encode.{argumentBytes, symBytes, symsBytes}
-use Rattle.parse_tree.specs.working.Within.{Each, Uses, SymsWithin}
+use Rattle.parse_tree.specs.working.Encode.{argumentBytes, symBytes}
+use Rattle.parse_tree.specs.working.Within.{Each, Uses}
 use Rattle.parse_tree.proofs.FieldLaws.{byte-read, le-read-last}
 use Rattle.texts.specs.declared.Found.{Found}
 use Rattle.texts.specs.Table.{texts}

@@ -1,44 +1,41 @@
 -- The ways out of the functions that expand a group. Assumes nothing.
 use mathlib.Core.Path.{_≡_, refl, sym, ap, _∙_, subst}
-use mathlib.Core.Bool.{Bool, true, false, cond, true≢false}
-use mathlib.Core.List.{List, [], _∷_, _++_, append-nil}
-use Prim.Native.Nat.{ℕ, _+_, _-_, _*_, _^_, _≤_, _<_}
+use mathlib.Core.Bool.{Bool, true, false, cond}
+use mathlib.Core.List.{List, [], _∷_, _++_}
+use Prim.Native.Nat.{ℕ, _+_, _-_, _≤_, _<_}
 use native.Mathlib.Omega.{arith}
-use mir.Syntax.{w8, w64}
+use mir.Syntax.{w64}
 use mir.Val.{Fits}
 use borrow.Author.Needs.{needs}
 use borrow.Author.Tests.{lt-ltb, eq-eqb, ne-eqb}
-use lib.Dec.{eqb, ltb}
-use lib.ListN.{length, getD}
+use lib.ListN.{length}
 use Rattle.octets.specs.working.Choice.{pick}
 use Rattle.octets.specs.plain.Numbers.{leAt}
 use Rattle.parse_tree.specs.plain.Tree.{Text, Sym, Syms, group, over, count, user, Nonterminal, item}
 use Rattle.parse_tree.specs.plain.Texts.{number, withNew}
 use Rattle.parse_tree.specs.plain.References.{symsTexts, actionTexts, itemTexts}
 use Rattle.parse_tree.specs.plain.Display.{print}
-use Rattle.parse_tree.specs.plain.WriteTape.{bit}
 use Rattle.parse_tree.specs.working.Nodes.{spanIn}
 use Rattle.parse_tree.specs.working.Encode.{actionText, symsBytes, itemBytes}
 use Rattle.parse_tree.specs.working.Refusals.{refusalOver}
 use Rattle.parse_tree.specs.declared.refusal.Refusal.{Refusal}
 use Rattle.parse_tree.specs.declared.syntax.Span.{Span}
 use Rattle.passes.specs.Outcome.{Outcome, yes, no, simple}
-use Rattle.passes.specs.Macros.{made, hasName, chosen, groupAction, expandExprSymbol}
+use Rattle.passes.specs.Macros.{made, hasName, chosen, groupAction}
 use Rattle.replacing.specs.Trees.{renamedAll}
 use Rattle.expander.specs.declared.Ground.{Ground}
-use Rattle.expander.specs.Ground.{sizeIn}
 use Rattle.expander.specs.Names.{namedIn}
 use Rattle.appending.specs.declared.Appended.{Appended}
 use Rattle.appending.specs.declared.symbols.Copied.{Copied}
 use Rattle.appending.specs.Built.{builtText}
-use Rattle.appending.specs.Pieces.{Piece, symbolsPiece, itemPiece, thenPiece, Appending, Appends}
+use Rattle.appending.specs.Pieces.{symbolsPiece, itemPiece, thenPiece, Appends}
 use Rattle.appending.specs.Symbols.{Referring, SomeReferring, PutsSymbols}
 use Rattle.appending.proofs.PiecesLaws.{appends-then, appends-is}
 use Rattle.appending.proofs.SymbolsStays.{referring-stays}
 use Rattle.macro_expand.specs.declared.Expanded.{Expanded}
 use Rattle.macro_expand.specs.declared.begin.Begun.{Begun}
 use Rattle.macro_expand.specs.declared.norm_util.Analyzed.{Analyzed}
-use Rattle.macro_expand.specs.Expand.{Popped, SomePopped, IsAny, IsGroup, headBytes, headPiece, Begins, ExpandedBy, ExpandsExpr}
+use Rattle.macro_expand.specs.Expand.{Popped, SomePopped, IsAny, IsGroup, headBytes, headPiece, Begins, ExpandsTo, ExpandsExpr}
 use Rattle.macro_expand.specs.NormUtil.{SomeDirect, Analyzes}
 use Rattle.macro_expand.specs.Group.{groupText, SomeGroup, PutsGroup}
 use Rattle.macro_expand.proofs.ItemPieces.{steady-head}
@@ -202,11 +199,11 @@ module _ (s w : List ℕ) (g : Ground) (n lim q : ℕ) (v : Appended) (K : SomeP
 
       -- "Group without a direct name symbol? 19"
       pub expr-refused : x .named ≡ true → (sp : Span) → sp ≡ spanIn w (g .from + q + 1) → (why : Refusal) → why ≡ refusalOver 19 sp → ExpandsExpr s w g n lim q v (Expanded.Refused why) w
-      unfolding ExpandsExpr ExpandedBy
+      unfolding ExpandsExpr ExpandsTo
       expr-refused t sp₀ d why f ps four left e sp xs R =
           let z : hasName (renamedAll xs) ≡ true = renamed-named xs ∙ sym (analyzed ps four left e sp xs R .0) ∙ t in
           let y : sp₀ ≡ sp = d ∙ group-span s w g n lim ps four left q e sp xs v R in
-          subst (λ (u : Outcome Nonterminal). ExpandedBy s w g n lim q v ps u (Expanded.Refused why) w) (sym (ap (λ (c : Bool). cond c (no 19 sp) (yes (made sp (print (over sp group xs)) true (simple sp (groupAction (renamedAll xs)) (renamedAll xs) ∷ [])))) z))
+          subst (λ (u : Outcome Nonterminal). ExpandsTo s w g n lim q v ps u (Expanded.Refused why) w) (sym (ap (λ (c : Bool). cond c (no 19 sp) (yes (made sp (print (over sp group xs)) true (simple sp (groupAction (renamedAll xs)) (renamedAll xs) ∷ [])))) z))
           (ap Expanded.Refused (f ∙ ap (refusalOver 19) y))
 
       module _ (t : x .named ≡ false) (i : ℕ) (f : i ≡ groupText (x .chosen) k) where
@@ -214,13 +211,13 @@ module _ (s w : List ℕ) (g : Ground) (n lim q : ℕ) (v : Appended) (K : SomeP
         expr-some l = record { popped = K; less = l; many = a }
 
         pub expr-done : (r : Appended) (w′ : List ℕ) → PutsGroup s w g n lim q v i r w′ → ExpandsExpr s w g n lim q v (Expanded.Is r) w′
-        unfolding ExpandsExpr ExpandedBy PutsGroup
+        unfolding ExpandsExpr ExpandsTo PutsGroup
         expr-done r w′ P ps four left e sp xs R =
             let (c, d) = analyzed ps four left e sp xs R in
             let o : hasName xs ≡ false = sym c ∙ t in
             let z : hasName (renamedAll xs) ≡ false = renamed-named xs ∙ o in
             let y : groupAction (renamedAll xs) ≡ user (builtText i) = group-action xs ∙ ap (λ (j : ℕ). user (builtText j)) (sym (f ∙ ap (λ (j : ℕ). groupText j k) (d o) ∙ ap (groupText (chosen xs)) (sym (many ps four left e sp xs R)))) in
-            subst (λ (u : Outcome Nonterminal). ExpandedBy s w g n lim q v ps u (Expanded.Is r) w′)
+            subst (λ (u : Outcome Nonterminal). ExpandsTo s w g n lim q v ps u (Expanded.Is r) w′)
             (sym (ap (λ (b : Bool). cond b (no 19 sp) (yes (made sp (print (over sp group xs)) true (simple sp (groupAction (renamedAll xs)) (renamedAll xs) ∷ [])))) z
             ∙ ap (λ (act : _). yes (made sp (print (over sp group xs)) true (simple sp act (renamedAll xs) ∷ []))) y))
             (r, refl, P ps four left e sp xs R)

@@ -1,21 +1,20 @@
 -- Laws of groups: what stands inside one, and its item. Assumes nothing.
-use mathlib.Core.Path.{_≡_, refl, sym, ap, _∙_, subst}
-use mathlib.Core.Bool.{Bool, true, false, cond, _&&_, _||_}
-use mathlib.Core.List.{List, [], _∷_, _++_, append-nil}
-use Prim.Native.Nat.{ℕ, zero, suc, _+_, _-_, _^_, _≤_, _<_}
+use mathlib.Core.Path.{_≡_, refl, ap, _∙_, subst}
+use mathlib.Core.Bool.{Bool, true, false, cond}
+use mathlib.Core.List.{List, [], _∷_, _++_}
+use Prim.Native.Nat.{ℕ, zero, suc, _+_, _-_, _≤_, _<_}
 use native.Mathlib.Omega.{arith}
-use borrow.Author.Tests.{lt-ltb, eq-eqb, ne-eqb, eqb-true, eqb-false}
-use lib.Dec.{eqb, ltb}
-use lib.ListN.{length, getD, length-append}
+use lib.Dec.{eqb}
+use lib.ListN.{length, length-append}
 use Rattle.octets.specs.working.Choice.{pick}
 use Rattle.octets.specs.plain.Numbers.{leAt, le}
 use Rattle.octets.specs.plain.Runs.{Lies}
 use Rattle.octets.proofs.LiesLaws.{lies-first, lies-split, le-read}
 use Rattle.octets.proofs.NumbersLaws.{length-le}
-use Rattle.parse_tree.specs.plain.Tree.{Text, Action, Leaf, Around, Over, Sym, Syms, ambiguous, bare, quoted, regex, nonterminal, lookahead, lookbehind, error, repeat, choose, name, macro, group, leaf, around, over, nil, cons, count, user}
+use Rattle.parse_tree.specs.plain.Tree.{Text, Leaf, Sym, Syms, ambiguous, bare, quoted, regex, nonterminal, lookahead, lookbehind, error, repeat, choose, name, group, leaf, around, over, nil, cons, count, user}
 use Rattle.parse_tree.specs.working.Nodes.{spanBytes, spanIn, symbolBytes, nodeBytes}
 use Rattle.parse_tree.specs.working.Encode.{overNode, symBytes, symsBytes}
-use Rattle.parse_tree.specs.working.Within.{Each, SpanWithin, SymWithin, SymsWithin}
+use Rattle.parse_tree.specs.working.Within.{SpanWithin, SymWithin, SymsWithin}
 use Rattle.parse_tree.specs.declared.syntax.Span.{Span}
 use Rattle.parse_tree.proofs.FieldLaws.{span-read}
 use Rattle.texts.specs.Table.{texts}

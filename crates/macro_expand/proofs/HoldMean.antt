@@ -1,12 +1,12 @@
 -- What counting the alternatives that hold means: none is refused, or the first that is. Assumes nothing.
 use mathlib.Core.Path.{_≡_, refl, sym, ap, _∙_, subst}
 use mathlib.Core.Bool.{Bool, true, false, cond}
-use mathlib.Core.List.{List, [], _∷_, _++_}
-use Prim.Native.Nat.{ℕ, zero, suc, _+_, _-_, _≤_, _<_}
+use mathlib.Core.List.{List, [], _∷_}
+use Prim.Native.Nat.{ℕ, suc, _+_, _≤_}
 use native.Mathlib.Omega.{arith}
 use borrow.Author.Tests.{lt-leb}
 use lib.Dec.{leb}
-use lib.ListN.{length, getD}
+use lib.ListN.{length}
 use Rattle.octets.specs.working.Choice.{pick}
 use Rattle.octets.specs.plain.Runs.{Lies}
 use Rattle.octets.proofs.LiesLaws.{lies-split}
@@ -17,7 +17,7 @@ use Rattle.parse_tree.specs.working.Encode.{alternativeBytes}
 use Rattle.parse_tree.specs.working.Within.{Each, AlternativeWithin}
 use Rattle.parse_tree.specs.declared.syntax.Span.{Span}
 use Rattle.texts.specs.Table.{texts}
-use Rattle.passes.specs.Outcome.{Outcome, yes, no, after}
+use Rattle.passes.specs.Outcome.{Outcome, yes, no}
 use Rattle.passes.specs.Macros.{evaluateCondition, expandAlternative, expandAlternatives}
 use Rattle.grades.specs.Annotations.{conditionsFrom, alternativeEnd}
 use Rattle.grades.proofs.AlternativesMean.{end-means}

@@ -1,14 +1,14 @@
 -- A symbol that is expanded, told by the code of its command. Assumes nothing.
-use mathlib.Core.Path.{_≡_, refl, sym, ap, _∙_}
-use mathlib.Core.Bool.{Bool, true}
-use mathlib.Core.List.{List, [], _∷_, _++_}
-use Prim.Native.Nat.{ℕ, _+_}
+use mathlib.Core.Path.{_≡_, refl}
+use mathlib.Core.Bool.{true}
+use mathlib.Core.List.{List}
+use Prim.Native.Nat.{ℕ}
 use native.Mathlib.Omega.{arith}
 use lib.ListN.{getD}
 use Rattle.octets.specs.plain.Runs.{Lies}
 use Rattle.octets.proofs.LiesLaws.{lies-first}
-use Rattle.parse_tree.specs.plain.Tree.{Text, Leaf, Around, Over, Sym, Syms, ambiguous, bare, quoted, regex, nonterminal, lookahead, lookbehind, error, repeat, choose, name, macro, group, leaf, around, over}
-use Rattle.parse_tree.specs.working.Nodes.{nodeBytes, symbolBytes, leafCode, leafOperand}
+use Rattle.parse_tree.specs.plain.Tree.{Text, Leaf, Over, Sym, ambiguous, bare, quoted, regex, nonterminal, lookahead, lookbehind, error, repeat, choose, name, macro, group, leaf, around, over}
+use Rattle.parse_tree.specs.working.Nodes.{nodeBytes, symbolBytes, leafCode}
 use Rattle.parse_tree.specs.working.Encode.{symBytes, leafNode, aroundNode, overNode}
 use Rattle.passes.specs.Views.{ahead, behind}
 use Rattle.laws.specs.Keys.{Expands}

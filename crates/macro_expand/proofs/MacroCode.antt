@@ -1,9 +1,9 @@
 -- Laws of `put_macro` and `expand_macro_symbol`: the item of a call, or its refusal. Assumes nothing.
 use mathlib.Core.Path.{_≡_, refl, sym, ap, _∙_, subst}
-use mathlib.Core.Bool.{Bool, true, false, _&&_}
+use mathlib.Core.Bool.{Bool, _&&_}
 use mathlib.Core.List.{List, [], _∷_, _++_}
 use mathlib.Core.Option.{some}
-use Prim.Native.Nat.{ℕ, _+_, _-_, _*_, _^_, _%_, _≤_, _<_}
+use Prim.Native.Nat.{ℕ, _+_, _*_, _^_, _%_, _≤_, _<_}
 use native.Mathlib.Omega.{arith}
 use mir.Syntax.{w8, w64}
 use mir.Val as Bound
@@ -13,22 +13,19 @@ use lib.ListN.{length, getD}
 use Rattle.octets.specs.plain.Numbers.{leAt, le}
 use Rattle.octets.proofs.LiesLaws.{lies-split}
 use Rattle.parse_tree.specs.plain.Tree.{Text, Sym, Syms, macro, over, count, Alternative, Nonterminal, item}
-use Rattle.parse_tree.specs.plain.Texts.{number, withNew}
+use Rattle.parse_tree.specs.plain.Texts.{number}
 use Rattle.parse_tree.specs.plain.Display.{print}
-use Rattle.parse_tree.specs.plain.References.{textsOfEach, alternativeTexts, itemTexts}
+use Rattle.parse_tree.specs.plain.References.{itemTexts}
 use Rattle.parse_tree.specs.plain.WriteTape.{bytesOfEach, bit}
 use Rattle.parse_tree.specs.working.Nodes.{spanBytes, spanIn, nodeBytes, symbolBytes}
-use Rattle.parse_tree.specs.working.Encode.{overNode, argumentBytes, alternativeBytes, nonterminalNode, itemBytes, symBytes, symsBytes}
+use Rattle.parse_tree.specs.working.Encode.{overNode, alternativeBytes, nonterminalNode, itemBytes, symBytes, symsBytes}
 use Rattle.parse_tree.specs.working.Within.{Each, AlternativeWithin}
 use Rattle.parse_tree.specs.working.Refusals.{refusalOver}
 use Rattle.parse_tree.specs.declared.syntax.Span.{Span}
-use Rattle.parse_tree.specs.declared.syntax.SymbolKind.{SymbolKind}
-use Rattle.parse_tree.specs.declared.syntax.Node.{Node}
 use Rattle.parse_tree.specs.declared.refusal.Refusal.{Refusal}
 use Rattle.texts.specs.Table.{texts}
-use Rattle.passes.specs.Sizes.{each, alternativeFits, itemFits}
-use Rattle.passes.specs.Outcome.{Outcome, yes, no, after}
-use Rattle.passes.specs.Macros.{expandAlternatives, expandMacroSymbol}
+use Rattle.passes.specs.Sizes.{each, alternativeFits}
+use Rattle.passes.specs.Outcome.{Outcome, yes, after}
 use Rattle.precedence.proofs.WriteMean.{span-there}
 use Rattle.replacing.specs.Trees.{renamedAll}
 use Rattle.replacing.proofs.Going.{extends-number}
@@ -45,7 +42,7 @@ use Rattle.macro_expand.specs.declared.arguments.Upheld.{Upheld}
 use Rattle.macro_expand.specs.declared.call.Macro.{Macro}
 use Rattle.macro_expand.specs.declared.call.Started.{Started}
 use Rattle.macro_expand.specs.Arguments.{Readable, holdFrom}
-use Rattle.macro_expand.specs.Expand.{Popped, ExpandedBy}
+use Rattle.macro_expand.specs.Expand.{ExpandsTo}
 use Rattle.macro_expand.specs.Call.{Calls, SomeCall, ExpandsMacro}
 use Rattle.macro_expand.specs.PutIn.{Placed, Framed, Frame}
 use Rattle.macro_expand.specs.Alternatives.{alternativesPiece, held, SomeAlternatives, PutsAlternatives}
@@ -234,10 +231,10 @@ module _ (s w : List ℕ) (g : Ground) (n lim q d : ℕ) (v : Appended) (K : Som
     expand-add l = record { fits = omega (arith, expand-room) }
 
     pub expand-refused : (f : Span) → f ≡ spanIn w (p + 1) → (o : Refusal) → o ≡ refusalOver 17 f → ExpandsMacro s w g n lim q d v (Expanded.Refused o) w
-    unfolding ExpandsMacro ExpandedBy
+    unfolding ExpandsMacro ExpandsTo
     expand-refused f j o k ps four left e sp t xs four′ end D C =
         let z = subst (Tells s w g n lim (x .call) v ps (D .args) xs (F s w g n lim q d v ps four left e sp t xs four′ end D C x R) sp (D .alternatives) 0) h (call-tells s w g n lim q d v ps four left e sp t xs four′ end D C x R u i) in
-        subst (λ (a : Outcome (List Alternative)). ExpandedBy s w g n lim q v ps (after a (λ as′. yes (record { span = sp; name = print (over sp (macro t) xs); inline = D .inline; public = D .public; args = []; alternatives = as′ }))) (Expanded.Refused o) w) (sym (z .0))
+        subst (λ (a : Outcome (List Alternative)). ExpandsTo s w g n lim q v ps (after a (λ as′. yes (record { span = sp; name = print (over sp (macro t) xs); inline = D .inline; public = D .public; args = []; alternatives = as′ }))) (Expanded.Refused o) w) (sym (z .0))
         (ap (λ (b : Refusal). Expanded.Refused b) (k ∙ ap (refusalOver 17) j))
 
   -- ---- appended
@@ -248,10 +245,10 @@ module _ (s w : List ℕ) (g : Ground) (n lim q d : ℕ) (v : Appended) (K : Som
         omega (arith, z .1, held-few (K .span) (K .definition .args) (renamedAll (K .arguments)) (K .definition .alternatives), K .calls .defines .within .fewer)
 
     pub expand-is : (r : Appended) (w′ : List ℕ) → PutsMacro s w g n lim q d m v r w′ → ExpandsMacro s w g n lim q d v (Expanded.Is r) w′
-    unfolding ExpandsMacro ExpandedBy PutsMacro
+    unfolding ExpandsMacro ExpandsTo PutsMacro
     expand-is r w′ U ps four left e sp t xs four′ end D C =
         let z = subst (Tells s w g n lim (x .call) v ps (D .args) xs (F s w g n lim q d v ps four left e sp t xs four′ end D C x R) sp (D .alternatives) 0) h (call-tells s w g n lim q d v ps four left e sp t xs four′ end D C x R u i) in
-        subst (λ (a : Outcome (List Alternative)). ExpandedBy s w g n lim q v ps (after a (λ as′. yes (record { span = sp; name = print (over sp (macro t) xs); inline = D .inline; public = D .public; args = []; alternatives = as′ }))) (Expanded.Is r) w′) (sym (z .0))
+        subst (λ (a : Outcome (List Alternative)). ExpandsTo s w g n lim q v ps (after a (λ as′. yes (record { span = sp; name = print (over sp (macro t) xs); inline = D .inline; public = D .public; args = []; alternatives = as′ }))) (Expanded.Is r) w′) (sym (z .0))
         (r, refl, U ps four left e sp t xs four′ end D C (omega (arith, z .1)))
 
 pub ruleset expanding-macro = (needs, macro-narrow, macro-wide, macro-call, macro-definition, macro-readable, macro-few, expand-room, expand-add, expand-refused, expand-few, expand-is)

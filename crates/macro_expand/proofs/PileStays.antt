@@ -2,35 +2,31 @@
 use mathlib.Core.Path.{_≡_, refl, sym, ap, _∙_, subst}
 use mathlib.Core.Bool.{Bool, true, false}
 use mathlib.Core.Logic.{_⊎_, inl, inr}
-use mathlib.Core.List.{List, []}
-use mathlib.Core.Option.{some}
-use Prim.Native.Nat.{ℕ, _+_, _*_, _%_, _<_, _≤_}
+use mathlib.Core.List.{List}
+use Prim.Native.Nat.{ℕ, _+_, _%_, _<_, _≤_}
 use native.Mathlib.Omega.{arith}
-use lib.ListN.{length, getD}
+use lib.ListN.{getD}
 use Rattle.octets.specs.plain.Runs.{Lies}
-use Rattle.parse_tree.specs.plain.Tree.{Text, Sym, Item, Nonterminal, item, nil, cons}
+use Rattle.parse_tree.specs.plain.Tree.{Text, Sym}
 use Rattle.parse_tree.specs.plain.Texts.{number}
 use Rattle.parse_tree.specs.working.Encode.{symBytes}
 use Rattle.parse_tree.specs.working.Within.{Each, ItemWithin, SymWithin}
 use Rattle.texts.specs.Fields.{cellAt}
-use Rattle.texts.specs.Table.{Stays, texts}
-use Rattle.texts.proofs.TableStays.{leAt-agree, part-agree}
+use Rattle.texts.specs.Table.{texts}
+use Rattle.texts.proofs.TableStays.{part-agree}
 use Rattle.passes.specs.Outcome.{Tree}
-use Rattle.passes.specs.Macros.{macroIn}
 use Rattle.resolve.specs.declared.Grammar.{Grammar}
-use Rattle.resolve.specs.Whole.{Apart}
-use Rattle.resolve.proofs.GrammarLaws.{Row, row-same, row-below}
+use Rattle.resolve.proofs.GrammarLaws.{Row, row-same}
 use Rattle.replacing.specs.Slots.{among}
-use Rattle.replacing.specs.Prints.{symAt}
 use Rattle.expander.specs.declared.Ground.{Ground}
-use Rattle.expander.specs.Ground.{sizeIn, stageIn, topOf, keyAt, listPlace, symbolAt}
+use Rattle.expander.specs.Ground.{sizeIn, stageIn, topOf, keyAt, listPlace, symbolIn}
 use Rattle.expander.specs.Replace.{keysOf, StandsAt}
 use Rattle.expander.proofs.GroundLaws.{list-start}
 use Rattle.appending.specs.declared.Appended.{Appended}
 use Rattle.appending.specs.Pieces.{Piece, Appending, Appends}
 use Rattle.appending.proofs.PiecesLaws.{appends-on}
 use Rattle.appending.proofs.SymbolsStays.{table-stays, texts-stay, item-stays, lies-stays}
-use Rattle.macro_expand.specs.Drain.{itemOf, Declares, CallsMacro, OnPile, Pile}
+use Rattle.macro_expand.specs.Drain.{Declares, OnPile, Pile}
 
 module _ (s : List ℕ) (g : Ground) (n lim : ℕ) (ps : List ℕ) (w : List ℕ) (v : Appended) (h : Appending s g n lim ps w v) (x : Piece) (v′ : Appended) (w′ : List ℕ) (a : Appends s g n lim ps w v x v′ w′) where
   abbrev same : texts s w′ (g .m) ≡ texts s w (g .m)
@@ -40,7 +36,7 @@ module _ (s : List ℕ) (g : Ground) (n lim : ℕ) (ps : List ℕ) (w : List ℕ
   unfolding stageIn
   stage-same = part-agree w w′ (g .from) (g .end) (a .long) (h .ground .inside) (item-stays s g n lim ps w v h x v′ w′ a)
 
-  pub symbol-stays : (p : ℕ) → symbolAt s w′ g p ≡ symbolAt s w g p
+  pub symbol-stays : (p : ℕ) → symbolIn s w′ g p ≡ symbolIn s w g p
   symbol-stays p = rw (stage-same, same) refl
 
   pub stands-stay : (four : Bool) (left p e : ℕ) (y : Sym) → e ≤ sizeIn g → StandsAt s w g four left p e y → StandsAt s w′ g four left p e y
@@ -51,7 +47,7 @@ module _ (s : List ℕ) (g : Ground) (n lim : ℕ) (ps : List ℕ) (w : List ℕ
 
   pub on-pile-stays : (G : Tree) (p : ℕ) → OnPile s w g ps G p → OnPile s w′ g ps G p
   on-pile-stays G p o =
-      let y = symbolAt s w g p in
+      let y = symbolIn s w g p in
       let e = sym (symbol-stays p) in
       record {
         end = o .end;

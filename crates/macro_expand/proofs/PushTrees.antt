@@ -2,7 +2,7 @@
 use mathlib.Core.Path.{_≡_, refl, sym, ap, _∙_}
 use mathlib.Core.Bool.{Bool, true, false, _&&_}
 use mathlib.Core.List.{List, [], _∷_, _++_, append-assoc}
-use Prim.Native.Nat.{ℕ, _+_}
+use Prim.Native.Nat.{ℕ}
 use Rattle.octets.specs.plain.Numbers.{le}
 use Rattle.parse_tree.specs.plain.Tree.{Text, Sym, Syms, plus, nonterminal, name, leaf, around, nil, cons, count, user, item}
 use Rattle.parse_tree.specs.plain.Texts.{has, number, withNew}

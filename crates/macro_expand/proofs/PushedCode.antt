@@ -1,48 +1,44 @@
 -- The ways out of `definition`, `expand_other` and `expand`, which take the item of a pushed symbol. Assumes nothing.
 use mathlib.Core.Path.{_≡_, refl, sym, ap, _∙_, subst}
-use mathlib.Core.Bool.{Bool, true, false}
+use mathlib.Core.Bool.{Bool, false}
 use mathlib.Core.Logic.{_⊎_, inl, inr}
-use mathlib.Core.List.{List, [], _∷_, _++_}
-use mathlib.Core.Option.{Option, none, some}
-use Prim.Native.Nat.{ℕ, zero, suc, _+_, _*_, _/_, _%_, _-_, _^_, _<_, _≤_}
+use mathlib.Core.List.{List, [], _∷_}
+use mathlib.Core.Option.{some}
+use Prim.Native.Nat.{ℕ, _+_, _*_, _%_, _-_, _^_, _<_, _≤_}
 use native.Mathlib.Omega.{arith}
 use mir.Syntax.{w64}
 use mir.Val.{Fits}
 use borrow.Author.Needs.{needs}
 use lib.ListN.{length, getD}
-use Rattle.octets.specs.plain.Numbers.{leAt, le}
+use Rattle.octets.specs.plain.Numbers.{leAt}
 use Rattle.octets.specs.plain.Runs.{Lies}
 use Rattle.octets.proofs.LiesLaws.{lies-split, lies-inside}
-use Rattle.parse_tree.specs.plain.Tree.{Text, Op, Sym, Syms, Item, Nonterminal, item, count, repeat, macro, group, leaf, around, over}
+use Rattle.parse_tree.specs.plain.Tree.{Text, Sym, Syms, Nonterminal, item, count, repeat, macro, group, around, over}
 use Rattle.parse_tree.specs.plain.Texts.{number}
 use Rattle.parse_tree.specs.plain.Display.{print}
 use Rattle.parse_tree.specs.working.Encode.{symBytes, symsBytes, itemBytes, overNode}
-use Rattle.parse_tree.specs.working.Nodes.{nodeBytes, symbolBytes, spanBytes}
-use Rattle.parse_tree.specs.working.Within.{SymWithin}
+use Rattle.parse_tree.specs.working.Nodes.{nodeBytes, symbolBytes}
 use Rattle.parse_tree.specs.declared.syntax.Span.{Span}
 use Rattle.parse_tree.specs.declared.syntax.Node.{Node}
 use Rattle.parse_tree.specs.declared.syntax.SymbolKind.{SymbolKind}
 use Rattle.texts.specs.Fields.{markAt, cellAt}
 use Rattle.texts.specs.Table.{texts}
 use Rattle.passes.specs.Outcome.{Tree, Outcome, yes}
-use Rattle.passes.specs.Views.{Look}
-use Rattle.passes.specs.Macros.{looking, symbolOf, macroIn, expandSymbol, expandRepeatSymbol, expandLookaroundSymbol, expandExprSymbol, expandMacroSymbol}
-use Rattle.laws.specs.Keys.{Expands}
+use Rattle.passes.specs.Macros.{looking, symbolOf, expandSymbol, expandRepeatSymbol, expandLookaroundSymbol, expandExprSymbol, expandMacroSymbol}
 use Rattle.resolve.specs.declared.Grammar.{Grammar}
 use Rattle.resolve.specs.Items.{itemPlaceIn}
 use Rattle.resolve.proofs.GrammarLaws.{Named, named}
 use Rattle.replacing.specs.Trees.{renamed, renamedAll, inner}
 use Rattle.expander.specs.declared.Ground.{Ground}
-use Rattle.expander.specs.Ground.{sizeIn, topOf, keyAt, listPlace, symbolAt}
+use Rattle.expander.specs.Ground.{sizeIn, topOf, keyAt, listPlace, symbolIn}
 use Rattle.expander.specs.Replace.{StandsAt}
 use Rattle.appending.specs.declared.Appended.{Appended}
-use Rattle.appending.specs.Pieces.{Appending}
 use Rattle.macro_expand.specs.declared.Expanded.{Expanded}
-use Rattle.macro_expand.specs.Expand.{Popped, SomePopped, ExpandedBy, ExpandsLook, ExpandsRepeat, ExpandsExpr, IsLook, IsRepeat, IsGroup, IsMacro}
+use Rattle.macro_expand.specs.Expand.{Popped, SomePopped, ExpandsTo, ExpandsLook, ExpandsRepeat, ExpandsExpr, IsLook, IsRepeat, IsGroup, IsMacro}
 use Rattle.macro_expand.specs.Call.{Defines, Calls, SomeCall, ExpandsMacro}
-use Rattle.macro_expand.specs.Drain.{itemOf, Declares, CallsMacro, OnPile, Pile, SomePile, SomeOther, Definition, SomeDefinition, IsDefinition, ExpandsOne}
+use Rattle.macro_expand.specs.Drain.{itemOf, CallsMacro, OnPile, Pile, SomePile, SomeOther, Definition, SomeDefinition, IsDefinition, ExpandsPushed}
 use Rattle.macro_expand.proofs.KeyCodes.{keyCode, key-code, macro-there, repeat-there, group-there, look-there}
-use Rattle.macro_expand.proofs.DrainLaws.{look-item, repeat-item, group-item, macro-item, RowAt, row-at, within-at}
+use Rattle.macro_expand.proofs.DrainLaws.{look-item, repeat-item, group-item, macro-item, row-at, within-at}
 
 -- ---- definition
 module _ (s w : List ℕ) (g : Ground) (t : Grammar) (q : ℕ) (k₀ k c₀ c : ℕ) (a₀ : k₀ ≡ leAt (g .width) w (g .from + q + 9)) (a : k ≡ k₀) (b₀ : c₀ ≡ cellAt w (g .m .base) k) (b : c ≡ c₀) where
@@ -65,7 +61,7 @@ module _ (s w : List ℕ) (g : Ground) (n lim : ℕ) (t : Grammar) (v : Appended
     at = keyAt w g j
 
     abbrev y : Sym
-    y = symbolAt s w g (keyAt w g j)
+    y = symbolIn s w g (keyAt w g j)
 
     abbrev o : OnPile s w g ps G (keyAt w g j)
     o = p .piled j l
@@ -168,40 +164,40 @@ module _ (s w : List ℕ) (g : Ground) (n lim : ℕ) (t : Grammar) (v : Appended
     key-fits h = record { fits = omega (arith, key-inside) }
 
     module _ (c : ℕ) (f : c ≡ getD w (g .from + q) 0) where
-      code-is : (ps : List ℕ) (four : Bool) (G : Tree) → Pile s w g n lim t v ps four G → c ≡ keyCode (symbolAt s w g (keyAt w g j))
+      code-is : (ps : List ℕ) (four : Bool) (G : Tree) → Pile s w g n lim t v ps four G → c ≡ keyCode (symbolIn s w g (keyAt w g j))
       code-is ps four G p = f ∙ ap (λ (k : ℕ). getD w (g .from + k) 0) key-is ∙ code-there s w g n lim t v j l ps four G p
 
-      some-popped : (K : Sym → Type 0) → K (symbolAt s w g (keyAt w g j)) → SomePopped K s w g n lim q v
+      some-popped : (K : Sym → Type 0) → K (symbolIn s w g (keyAt w g j)) → SomePopped K s w g n lim q v
       some-popped K k = subst (λ (x : ℕ). SomePopped K s w g n lim x v) (sym key-is) (record {
         places = P .places;
         four = false;
         left = 64;
         end = first .end;
-        symbol = symbolAt s w g (keyAt w g j);
+        symbol = symbolIn s w g (keyAt w g j);
         popped = popped s w g n lim t v j l (P .places) (P .four) (P .tree) (P .pile);
         is = k;
       })
 
-      here : c ≡ keyCode (symbolAt s w g (keyAt w g j))
+      here : c ≡ keyCode (symbolIn s w g (keyAt w g j))
       here = code-is (P .places) (P .four) (P .tree) (P .pile)
 
       -- what is told of the place is told of the j-th
-      told : (ps : List ℕ) (G : Tree) (u : Outcome Nonterminal) (r : Expanded) (w′ : List ℕ) → expandSymbol G (inner (symbolAt s w g (keyAt w g j))) ≡ u → ExpandedBy s w g n lim q v ps u r w′
-          → ExpandedBy s w g n lim (keyAt w g j) v ps (expandSymbol G (inner (symbolAt s w g (keyAt w g j)))) r w′
+      told : (ps : List ℕ) (G : Tree) (u : Outcome Nonterminal) (r : Expanded) (w′ : List ℕ) → expandSymbol G (inner (symbolIn s w g (keyAt w g j))) ≡ u → ExpandsTo s w g n lim q v ps u r w′
+          → ExpandsTo s w g n lim (keyAt w g j) v ps (expandSymbol G (inner (symbolIn s w g (keyAt w g j)))) r w′
       told ps G u r w′ e h =
-          subst (λ (a : ℕ). ExpandedBy s w g n lim a v ps (expandSymbol G (inner (symbolAt s w g (keyAt w g j)))) r w′) key-is
-          (subst (λ (x : Outcome Nonterminal). ExpandedBy s w g n lim q v ps x r w′) (sym e) h)
+          subst (λ (a : ℕ). ExpandsTo s w g n lim a v ps (expandSymbol G (inner (symbolIn s w g (keyAt w g j)))) r w′) key-is
+          (subst (λ (x : Outcome Nonterminal). ExpandsTo s w g n lim q v ps x r w′) (sym e) h)
 
       -- ---- a macro call
       module _ (z : c ≡ 37) where
-        is-macro : IsMacro (symbolAt s w g (keyAt w g j))
-        is-macro = macro-there (symbolAt s w g (keyAt w g j)) (first .expands) (sym here ∙ z)
+        is-macro : IsMacro (symbolIn s w g (keyAt w g j))
+        is-macro = macro-there (symbolIn s w g (keyAt w g j)) (first .expands) (sym here ∙ z)
 
         pub definition-asked : SomeDefinition s w g t q
         definition-asked = let (sp, m, xs, y) = is-macro in subst (SomeDefinition s w g t) (sym key-is) (record { index = _; definition = defined s w g n lim t v j l (P .places) (P .four) (P .tree) (P .pile) sp m xs y })
 
         module _ (d : ℕ) (i : IsDefinition s w g t q d) where
-          place-is : (ps : List ℕ) (four : Bool) (G : Tree) (p : Pile s w g n lim t v ps four G) (sp : Span) (m : Text) (xs : Syms) (y : symbolAt s w g (keyAt w g j) ≡ over sp (macro m) xs)
+          place-is : (ps : List ℕ) (four : Bool) (G : Tree) (p : Pile s w g n lim t v ps four G) (sp : Span) (m : Text) (xs : Syms) (y : symbolIn s w g (keyAt w g j) ≡ over sp (macro m) xs)
               → d ≡ itemPlaceIn t w (found s w g n lim t v j l ps four G p sp m xs y .0)
           unfolding IsDefinition
           place-is ps four G p sp m xs y = i (found s w g n lim t v j l ps four G p sp m xs y .0) (subst (λ (x : ℕ). Definition s w g t x (found s w g n lim t v j l ps four G p sp m xs y .0)) (sym key-is) (defined s w g n lim t v j l ps four G p sp m xs y))
@@ -224,8 +220,8 @@ module _ (s w : List ℕ) (g : Ground) (n lim : ℕ) (t : Grammar) (v : Appended
                 calls = calling s w g n lim t v j l (P .places) (P .four) (P .tree) (P .pile) sp m xs y;
               }))
 
-          pub macro-told : (r : Expanded) (w′ : List ℕ) → ExpandsMacro s w g n lim q d v r w′ → ExpandsOne s w g n lim t j v r w′
-          unfolding ExpandsMacro ExpandsOne
+          pub macro-told : (r : Expanded) (w′ : List ℕ) → ExpandsMacro s w g n lim q d v r w′ → ExpandsPushed s w g n lim t j v r w′
+          unfolding ExpandsMacro ExpandsPushed
           macro-told r w′ h ps four G p =
               let (sp, m, xs, y) = is-macro in
               let k = place-is ps four G p sp m xs y in
@@ -237,21 +233,21 @@ module _ (s w : List ℕ) (g : Ground) (n lim : ℕ) (t : Grammar) (v : Appended
               told ps G (expandMacroSymbol sp (print (over sp (macro m) xs)) (renamedAll xs) (some F)) r w′
               (ap (λ (a : Sym). expandSymbol G (inner a)) y ∙ macro-item G sp m xs F (calls s w g n lim t v j l ps four G p sp m xs y .1)) x
 
-      popped-as : (ps : List ℕ) (four : Bool) (G : Tree) (p : Pile s w g n lim t v ps four G) (z : Sym) → symbolAt s w g (keyAt w g j) ≡ z → Popped s w g n lim ps false 64 q (p .piled j l .end) z v
+      popped-as : (ps : List ℕ) (four : Bool) (G : Tree) (p : Pile s w g n lim t v ps four G) (z : Sym) → symbolIn s w g (keyAt w g j) ≡ z → Popped s w g n lim ps false 64 q (p .piled j l .end) z v
       popped-as ps four G p z e =
           subst (λ (a : ℕ). Popped s w g n lim ps false 64 a (p .piled j l .end) z v) (sym key-is)
           (subst (λ (x : Sym). Popped s w g n lim ps false 64 (keyAt w g j) (p .piled j l .end) x v) e (popped s w g n lim t v j l ps four G p))
 
       -- ---- a repeat
       module _ (z : c ≡ 38) where
-        is-repeat : IsRepeat (symbolAt s w g (keyAt w g j))
-        is-repeat = repeat-there (symbolAt s w g (keyAt w g j)) (first .expands) (sym here ∙ z)
+        is-repeat : IsRepeat (symbolIn s w g (keyAt w g j))
+        is-repeat = repeat-there (symbolIn s w g (keyAt w g j)) (first .expands) (sym here ∙ z)
 
         pub repeat-asked : SomePopped IsRepeat s w g n lim q v
         repeat-asked = some-popped IsRepeat is-repeat
 
-        pub repeat-told : (r : Appended) (w′ : List ℕ) → ExpandsRepeat s w g n lim q v r w′ → ExpandsOne s w g n lim t j v (Expanded.Is r) w′
-        unfolding ExpandsRepeat ExpandsOne ExpandedBy
+        pub repeat-told : (r : Appended) (w′ : List ℕ) → ExpandsRepeat s w g n lim q v r w′ → ExpandsPushed s w g n lim t j v (Expanded.Is r) w′
+        unfolding ExpandsRepeat ExpandsPushed ExpandsTo
         repeat-told r w′ h ps four G p =
             let (sp, o, x, e) = is-repeat in
             told ps G (yes (expandRepeatSymbol sp (print (around sp (repeat o) x)) o (renamed x))) (Expanded.Is r) w′ (ap (λ (a : Sym). expandSymbol G (inner a)) e ∙ repeat-item G sp o x)
@@ -259,14 +255,14 @@ module _ (s w : List ℕ) (g : Ground) (n lim : ℕ) (t : Grammar) (v : Appended
 
       -- ---- a group
       module _ (z : c ≡ 41) where
-        is-group : IsGroup (symbolAt s w g (keyAt w g j))
-        is-group = group-there (symbolAt s w g (keyAt w g j)) (first .expands) (sym here ∙ z)
+        is-group : IsGroup (symbolIn s w g (keyAt w g j))
+        is-group = group-there (symbolIn s w g (keyAt w g j)) (first .expands) (sym here ∙ z)
 
         pub group-asked : SomePopped IsGroup s w g n lim q v
         group-asked = some-popped IsGroup is-group
 
-        pub group-told : (r : Expanded) (w′ : List ℕ) → ExpandsExpr s w g n lim q v r w′ → ExpandsOne s w g n lim t j v r w′
-        unfolding ExpandsExpr ExpandsOne
+        pub group-told : (r : Expanded) (w′ : List ℕ) → ExpandsExpr s w g n lim q v r w′ → ExpandsPushed s w g n lim t j v r w′
+        unfolding ExpandsExpr ExpandsPushed
         group-told r w′ h ps four G p =
             let (sp, xs, e) = is-group in
             told ps G (expandExprSymbol sp (print (over sp group xs)) (renamedAll xs)) r w′ (ap (λ (a : Sym). expandSymbol G (inner a)) e ∙ group-item G sp xs)
@@ -274,14 +270,14 @@ module _ (s w : List ℕ) (g : Ground) (n lim : ℕ) (t : Grammar) (v : Appended
 
       -- ---- `@L` or `@R`
       module _ (a : c ≡ 37 → ⊥) (b : c ≡ 38 → ⊥) (d : c ≡ 41 → ⊥) where
-        is-look : IsLook (symbolAt s w g (keyAt w g j))
-        is-look = look-there (symbolAt s w g (keyAt w g j)) (first .expands) (λ z. a (here ∙ z)) (λ z. b (here ∙ z)) (λ z. d (here ∙ z))
+        is-look : IsLook (symbolIn s w g (keyAt w g j))
+        is-look = look-there (symbolIn s w g (keyAt w g j)) (first .expands) (λ z. a (here ∙ z)) (λ z. b (here ∙ z)) (λ z. d (here ∙ z))
 
         pub look-asked : SomePopped IsLook s w g n lim q v
         look-asked = some-popped IsLook is-look
 
-        pub look-told : (r : Appended) (w′ : List ℕ) → ExpandsLook s w g n lim q v r w′ → ExpandsOne s w g n lim t j v (Expanded.Is r) w′
-        unfolding ExpandsLook ExpandsOne ExpandedBy
+        pub look-told : (r : Appended) (w′ : List ℕ) → ExpandsLook s w g n lim q v r w′ → ExpandsPushed s w g n lim t j v (Expanded.Is r) w′
+        unfolding ExpandsLook ExpandsPushed ExpandsTo
         look-told r w′ h ps four G p =
             let (sp, k, e) = is-look in
             told ps G (yes (expandLookaroundSymbol sp (print (symbolOf (looking sp k))) k)) (Expanded.Is r) w′ (ap (λ (x : Sym). expandSymbol G (inner x)) e ∙ look-item G sp k)
@@ -303,19 +299,19 @@ module _ (s w : List ℕ) (g : Ground) (n lim : ℕ) (t : Grammar) (v : Appended
   pub other-repeat : c ≡ 38 → SomePopped IsRepeat s w g n lim q v
   other-repeat z = repeat-asked s w g n lim t v j (h .pile) (h .less) q marked c (h .code) z
 
-  pub other-repeat-told : c ≡ 38 → (r : Appended) (w′ : List ℕ) → ExpandsRepeat s w g n lim q v r w′ → ExpandsOne s w g n lim t j v (Expanded.Is r) w′
+  pub other-repeat-told : c ≡ 38 → (r : Appended) (w′ : List ℕ) → ExpandsRepeat s w g n lim q v r w′ → ExpandsPushed s w g n lim t j v (Expanded.Is r) w′
   other-repeat-told z r w′ k = repeat-told s w g n lim t v j (h .pile) (h .less) q marked c (h .code) z r w′ k
 
   pub other-group : c ≡ 41 → SomePopped IsGroup s w g n lim q v
   other-group z = group-asked s w g n lim t v j (h .pile) (h .less) q marked c (h .code) z
 
-  pub other-group-told : c ≡ 41 → (r : Expanded) (w′ : List ℕ) → ExpandsExpr s w g n lim q v r w′ → ExpandsOne s w g n lim t j v r w′
+  pub other-group-told : c ≡ 41 → (r : Expanded) (w′ : List ℕ) → ExpandsExpr s w g n lim q v r w′ → ExpandsPushed s w g n lim t j v r w′
   other-group-told z r w′ k = group-told s w g n lim t v j (h .pile) (h .less) q marked c (h .code) z r w′ k
 
   pub other-look : (c ≡ 38 → ⊥) → (c ≡ 41 → ⊥) → SomePopped IsLook s w g n lim q v
   other-look b d = look-asked s w g n lim t v j (h .pile) (h .less) q marked c (h .code) (h .other) b d
 
-  pub other-look-told : (c ≡ 38 → ⊥) → (c ≡ 41 → ⊥) → (r : Appended) (w′ : List ℕ) → ExpandsLook s w g n lim q v r w′ → ExpandsOne s w g n lim t j v (Expanded.Is r) w′
+  pub other-look-told : (c ≡ 38 → ⊥) → (c ≡ 41 → ⊥) → (r : Appended) (w′ : List ℕ) → ExpandsLook s w g n lim q v r w′ → ExpandsPushed s w g n lim t j v (Expanded.Is r) w′
   other-look-told b d r w′ k = look-told s w g n lim t v j (h .pile) (h .less) q marked c (h .code) (h .other) b d r w′ k
 
 pub ruleset others = (needs, other-repeat, other-repeat-told, other-group, other-group-told, other-look, other-look-told)

@@ -1,7 +1,7 @@
 -- Laws of `put_argument`: how deep the symbol for a parameter is nested, and which way it is appended. Assumes nothing.
 use mathlib.Core.Path.{_≡_, refl, sym, ap, _∙_, subst}
-use mathlib.Core.Bool.{Bool, true, false, _&&_, _||_, not}
-use mathlib.Core.List.{List, [], _∷_}
+use mathlib.Core.Bool.{Bool, true, false, _&&_}
+use mathlib.Core.List.{List}
 use Prim.Native.Nat.{ℕ, zero, suc, _+_, _-_, _≤_, _<_}
 use native.Mathlib.Omega.{arith}
 use borrow.Author.Needs.{needs}
@@ -11,9 +11,9 @@ use lib.ListN.{length, getD}
 use Rattle.octets.specs.working.Choice.{pick}
 use Rattle.octets.specs.plain.Runs.{Lies}
 use Rattle.octets.proofs.LiesLaws.{lies-first, lies-split}
-use Rattle.parse_tree.specs.plain.Tree.{Text, Leaf, Around, Over, Sym, Syms, ambiguous, bare, quoted, regex, nonterminal, lookahead, lookbehind, error, repeat, choose, name, macro, group, leaf, around, over, nil, cons}
+use Rattle.parse_tree.specs.plain.Tree.{Text, Leaf, Around, Sym, ambiguous, bare, quoted, regex, nonterminal, lookahead, lookbehind, error, repeat, choose, name, macro, group, leaf, around, over, nil}
 use Rattle.parse_tree.specs.working.Nodes.{nodeBytes, symbolBytes, leafCode}
-use Rattle.parse_tree.specs.working.Encode.{leafNode, aroundNode, overNode, symBytes, symsBytes}
+use Rattle.parse_tree.specs.working.Encode.{leafNode, aroundNode, overNode, symsBytes}
 use Rattle.parse_tree.specs.declared.syntax.Span.{Span}
 use Rattle.texts.specs.declared.Map.{Map}
 use Rattle.texts.specs.Table.{texts}
@@ -22,8 +22,8 @@ use Rattle.passes.specs.Macros.{at}
 use Rattle.laws.specs.Flat.{symNode, children}
 use Rattle.laws.proofs.Flat.{sym-bytes, node-size}
 use Rattle.resolve.specs.Commands.{longOf}
-use Rattle.display.specs.Standing.{SymStands, SymsStand}
-use Rattle.display.proofs.StandsLaws.{Standing, standing, first-stands, none-stand}
+use Rattle.display.specs.Standing.{SymStands}
+use Rattle.display.proofs.StandsLaws.{standing, first-stands, none-stand}
 use Rattle.replacing.specs.Trees.{renamedLeaf, renamed, isKey}
 use Rattle.expander.specs.declared.Ground.{Ground}
 use Rattle.expander.specs.Ground.{sizeIn}

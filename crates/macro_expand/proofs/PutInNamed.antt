@@ -1,13 +1,12 @@
 -- A number in two or three bytes is that of its lowest four; and the symbol for a parameter, which is expanded, appended as the name of its print. Assumes nothing.
 use mathlib.Core.Path.{_≡_, refl, sym, ap, _∙_, subst}
-use mathlib.Core.Bool.{Bool, true, false, false≢true}
-use mathlib.Core.List.{List, [], _∷_, _++_, append-nil}
+use mathlib.Core.Bool.{Bool, true}
+use mathlib.Core.List.{List, [], _∷_, _++_}
 use Prim.Native.Nat.{ℕ, zero, suc, _+_, _-_, _*_, _/_, _%_, _≤_}
 use native.Mathlib.Omega.{arith}
 use borrow.Author.Needs.{needs}
-use lib.ListN.{length, getD}
 use Rattle.octets.specs.plain.Numbers.{le}
-use Rattle.parse_tree.specs.plain.Tree.{Text, Leaf, Around, Sym, Syms, ambiguous, bare, quoted, regex, nonterminal, lookahead, lookbehind, error, repeat, choose, name, leaf, around, over, nil, cons}
+use Rattle.parse_tree.specs.plain.Tree.{Text, Sym, nil}
 use Rattle.parse_tree.specs.plain.Texts.{number, withNew}
 use Rattle.parse_tree.specs.plain.Display.{print}
 use Rattle.parse_tree.specs.plain.References.{leafTexts, symTexts}
@@ -33,7 +32,7 @@ use Rattle.appending.specs.Pieces.{naming, plainly, thenPiece, Appends}
 use Rattle.appending.proofs.PiecesLaws.{steady-naming, appends-then, appends-is, appends-puts, appends-gives}
 use Rattle.appending.proofs.BuiltLaws.{number-gives}
 use Rattle.appending.proofs.BuiltRoom.{names-room}
-use Rattle.appending.proofs.SymbolsTrees.{own-key, spanOf, renamed-key}
+use Rattle.appending.proofs.SymbolsTrees.{own-key, renamed-key}
 use Rattle.macro_expand.specs.PutIn.{symbolPiece, Argument, SomeArgument, PutsOne}
 
 rest-most : (k m h : ℕ) → k ≡ 256 * h + m → k / 256 ≤ h + m / 256

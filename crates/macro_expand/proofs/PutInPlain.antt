@@ -9,11 +9,11 @@ use lib.ListN.{length, getD}
 use Rattle.octets.specs.plain.Numbers.{le}
 use Rattle.octets.specs.plain.Runs.{part, Lies}
 use Rattle.octets.proofs.LiesLaws.{lies-first, lies-split, lies-from, lies-part}
-use Rattle.parse_tree.specs.plain.Tree.{Text, Leaf, Around, Sym, Syms, ambiguous, bare, quoted, regex, nonterminal, lookahead, lookbehind, error, repeat, choose, name, leaf, around, over, nil, cons, count}
+use Rattle.parse_tree.specs.plain.Tree.{Text, Leaf, Sym, Syms, ambiguous, bare, quoted, regex, nonterminal, lookahead, lookbehind, error, repeat, choose, name, leaf, around, over, nil, cons, count}
 use Rattle.parse_tree.specs.plain.Texts.{withNew}
 use Rattle.parse_tree.specs.plain.References.{symTexts, symsTexts}
 use Rattle.parse_tree.specs.working.Nodes.{spanBytes, nodeBytes, symbolBytes, sizeOf}
-use Rattle.parse_tree.specs.working.Encode.{leafNode, aroundNode, symBytes, symsBytes}
+use Rattle.parse_tree.specs.working.Encode.{aroundNode, symBytes, symsBytes}
 use Rattle.parse_tree.specs.working.Within.{Each, SpanWithin, SymWithin}
 use Rattle.parse_tree.specs.declared.syntax.Span.{Span}
 use Rattle.parse_tree.proofs.SizeLaws.{length-span}
@@ -30,7 +30,7 @@ use Rattle.replacing.specs.Trees.{renamed, renamedAll, isKey}
 use Rattle.replacing.proofs.Going.{Extends}
 use Rattle.expander.specs.declared.Ground.{Ground}
 use Rattle.expander.specs.Ground.{sizeIn, Grounded}
-use Rattle.expander.specs.Names.{newTexts, namedIn}
+use Rattle.expander.specs.Names.{listedTexts, namedIn}
 use Rattle.expander.specs.Replace.{keysOfAll}
 use Rattle.appending.specs.declared.Appended.{Appended}
 use Rattle.appending.specs.declared.symbols.Copied.{Copied}
@@ -44,7 +44,7 @@ use Rattle.macro_expand.specs.PutIn.{symbolPiece, Argument, SomeArgument
 -- the texts by number begin with those of the table
 pub named-extends : (s w w′ : List ℕ) (g : Ground) (c : ℕ) → texts s w′ (g .m) ≡ texts s w (g .m) → Extends (texts s w (g .m)) (namedIn s w′ g c)
 unfolding namedIn
-named-extends s w w′ g c e = record { more = newTexts s w′ g c; is = ap (λ (ts : List Text). ts ++ newTexts s w′ g c) e }
+named-extends s w w′ g c e = record { more = listedTexts s w′ g c; is = ap (λ (ts : List Text). ts ++ listedTexts s w′ g c) e }
 
 -- ---- the command at another span
 behind-span : (w : List ℕ) (p d c : ℕ) (sp : Span) (ys : List ℕ) → Lies w p (c ∷ (spanBytes sp ++ ys)) d → (getD w p 0 ≡ c) × (part (p + 9) d w ≡ ys)

@@ -19,7 +19,7 @@ use Rattle.expander.specs.declared.Ground.{Ground}
 use Rattle.expander.specs.Ground.{topOf, listPlace}
 use Rattle.appending.specs.declared.Appended.{Appended}
 use Rattle.macro_expand.specs.declared.Expanded.{Expanded}
-use Rattle.macro_expand.specs.Expand.{Popped, ExpandedBy}
+use Rattle.macro_expand.specs.Expand.{Popped, ExpandsTo}
 
 -- the definition D stands at d, up to e, where nothing is written
 pub record Defines (s w : List ℕ) (g : Ground) (v : Appended) (four : Bool) (d e : ℕ) (D : Nonterminal) : Type 0 where
@@ -52,4 +52,4 @@ pub record SomeCall (s w : List ℕ) (g : Ground) (n lim q d : ℕ) (v : Appende
 unfoldable pub ExpandsMacro : List ℕ → List ℕ → Ground → ℕ → ℕ → ℕ → ℕ → Appended → Expanded → List ℕ → Type 0
 ExpandsMacro s w g n lim q d v r w′ = (ps : List ℕ) (four : Bool) (left e : ℕ) (sp : Span) (m : Text) (xs : Syms) (four′ : Bool) (end : ℕ) (D : Nonterminal)
     → Calls s w g n lim q d v ps four left e sp m xs four′ end D
-    → ExpandedBy s w g n lim q v ps (expandMacroSymbol sp (print (over sp (macro m) xs)) (renamedAll xs) (some D)) r w′
+    → ExpandsTo s w g n lim q v ps (expandMacroSymbol sp (print (over sp (macro m) xs)) (renamedAll xs) (some D)) r w′

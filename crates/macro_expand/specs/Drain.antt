@@ -7,7 +7,7 @@ use mathlib.Core.Option.{Option, none, some}
 use Prim.Native.Nat.{ℕ, zero, suc, _+_, _*_, _%_, _≤_, _<_}
 use lib.ListN.{length, getD}
 use Rattle.octets.specs.plain.Numbers.{leAt}
-use Rattle.parse_tree.specs.plain.Tree.{Text, Around, Over, Sym, Syms, count, macro, group, leaf, around, over, Nonterminal, Item, item}
+use Rattle.parse_tree.specs.plain.Tree.{Text, Over, Sym, Syms, count, macro, group, leaf, around, over, Nonterminal, Item, item}
 use Rattle.parse_tree.specs.plain.Texts.{number}
 use Rattle.parse_tree.specs.plain.References.{textsOfEach, itemTexts}
 use Rattle.parse_tree.specs.plain.WriteTape.{bytesOfEach}
@@ -26,13 +26,13 @@ use Rattle.resolve.proofs.GrammarLaws.{Row}
 use Rattle.replacing.specs.Trees.{inner}
 use Rattle.replacing.specs.Slots.{among}
 use Rattle.expander.specs.declared.Ground.{Ground}
-use Rattle.expander.specs.Ground.{sizeIn, topOf, keyAt, listPlace, symbolAt}
+use Rattle.expander.specs.Ground.{sizeIn, topOf, keyAt, listPlace, symbolIn}
 use Rattle.expander.specs.Held.{down}
 use Rattle.expander.specs.Replace.{keysOf, StandsAt}
 use Rattle.appending.specs.declared.Appended.{Appended}
 use Rattle.appending.specs.Pieces.{Piece, Appending, Appends}
 use Rattle.macro_expand.specs.declared.Expanded.{Expanded}
-use Rattle.macro_expand.specs.Expand.{Popped, ExpandedBy}
+use Rattle.macro_expand.specs.Expand.{ExpandsTo}
 
 -- ---- the definitions
 
@@ -69,11 +69,11 @@ CallsMacro G (over s o xs) = OverCalls G o xs
 -- the symbol at p can be expanded
 pub record OnPile (s w : List ℕ) (g : Ground) (ps : List ℕ) (G : Tree) (p : ℕ) : Type 0 where
   pub end : ℕ
-  pub stands : StandsAt s w g false 64 p end (symbolAt s w g p)
+  pub stands : StandsAt s w g false 64 p end (symbolIn s w g p)
   pub inside : end ≤ sizeIn g
-  pub referred : Each (λ (q : ℕ). among q ps ≡ true) (keysOf (g .width) (texts s w (g .m)) (symbolAt s w g p) p)
-  pub expands : Expands (symbolAt s w g p)
-  pub calls : CallsMacro G (symbolAt s w g p)
+  pub referred : Each (λ (q : ℕ). among q ps ≡ true) (keysOf (g .width) (texts s w (g .m)) (symbolIn s w g p) p)
+  pub expands : Expands (symbolIn s w g p)
+  pub calls : CallsMacro G (symbolIn s w g p)
 
 -- n symbols are on it
 pub record Pile (s w : List ℕ) (g : Ground) (n lim : ℕ) (t : Grammar) (v : Appended) (ps : List ℕ) (four : Bool) (G : Tree) : Type 0 where
@@ -97,8 +97,8 @@ pub record SomeOther (s w : List ℕ) (g : Ground) (n lim : ℕ) (t : Grammar) (
   pub code : c ≡ getD w (g .from + q) 0
   pub other : c ≡ 37 → ⊥
 
-unfoldable pub ExpandsOne : List ℕ → List ℕ → Ground → ℕ → ℕ → Grammar → ℕ → Appended → Expanded → List ℕ → Type 0
-ExpandsOne s w g n lim t j v r w′ = (ps : List ℕ) (four : Bool) (G : Tree) → Pile s w g n lim t v ps four G → ExpandedBy s w g n lim (keyAt w g j) v ps (expandSymbol G (inner (symbolAt s w g (keyAt w g j)))) r w′
+unfoldable pub ExpandsPushed : List ℕ → List ℕ → Ground → ℕ → ℕ → Grammar → ℕ → Appended → Expanded → List ℕ → Type 0
+ExpandsPushed s w g n lim t j v r w′ = (ps : List ℕ) (four : Bool) (G : Tree) → Pile s w g n lim t v ps four G → ExpandsTo s w g n lim (keyAt w g j) v ps (expandSymbol G (inner (symbolIn s w g (keyAt w g j)))) r w′
 
 -- ---- all
 abbrev pub itemsPiece : ℕ → List Item → Piece
@@ -111,7 +111,7 @@ DrainedBy s w g n lim v ps (no k sp) r w′ = r ≡ Expanded.Refused (refusalOve
 -- "New items are appended in the order they leave the pile, last in first out"
 unfoldable pub Drains : List ℕ → List ℕ → Ground → ℕ → ℕ → Grammar → Appended → Expanded → List ℕ → Type 0
 Drains s w g n lim t v r w′ = (ps : List ℕ) (four : Bool) (G : Tree) → Pile s w g n lim t v ps four G
-    → DrainedBy s w g n lim v ps (drain G (map (λ p. inner (symbolAt s w g p)) (down (keyAt w g) n))) r w′
+    → DrainedBy s w g n lim v ps (drain G (map (λ p. inner (symbolIn s w g p)) (down (keyAt w g) n))) r w′
 
 -- ---- the definition of a macro that is called
 

@@ -80,9 +80,9 @@ module _ (s w : List ℕ) (g : Ground) (n lim q : ℕ) (v : Appended) where
   -- ---- whole items
 
   -- d is appended, or refused
-  unfoldable pub ExpandedBy : List ℕ → Outcome Nonterminal → Expanded → List ℕ → Type 0
-  ExpandedBy ps (yes d) r w′ = (v′ : Appended) × (r ≡ Expanded.Is v′) × Appends s g n lim ps w v (itemPiece (g .width) (item d)) v′ w′
-  ExpandedBy ps (no k sp) r w′ = r ≡ Expanded.Refused (refusalOver k sp)
+  unfoldable pub ExpandsTo : List ℕ → Outcome Nonterminal → Expanded → List ℕ → Type 0
+  ExpandsTo ps (yes d) r w′ = (v′ : Appended) × (r ≡ Expanded.Is v′) × Appends s g n lim ps w v (itemPiece (g .width) (item d)) v′ w′
+  ExpandsTo ps (no k sp) r w′ = r ≡ Expanded.Refused (refusalOver k sp)
 
   -- `@L` or `@R`
   unfoldable pub ExpandsLook : Appended → List ℕ → Type 0
@@ -97,7 +97,7 @@ module _ (s w : List ℕ) (g : Ground) (n lim q : ℕ) (v : Appended) where
   -- a group
   unfoldable pub ExpandsExpr : Expanded → List ℕ → Type 0
   ExpandsExpr r w′ = (ps : List ℕ) (four : Bool) (left e : ℕ) (sp : Span) (xs : Syms) → Popped s w g n lim ps four left q e (over sp group xs) v
-      → ExpandedBy ps (expandExprSymbol sp (print (over sp group xs)) (renamedAll xs)) r w′
+      → ExpandsTo ps (expandExprSymbol sp (print (over sp group xs)) (renamedAll xs)) r w′
 
 -- what stands there
 abbrev pub IsLook : Sym → Type 0

@@ -6,7 +6,7 @@ use Prim.Native.Nat.{ℕ, _+_, _<_}
 use lib.Dec.{eqb}
 use Rattle.octets.specs.working.Choice.{pick}
 use Rattle.octets.specs.plain.Numbers.{leAt}
-use Rattle.parse_tree.specs.plain.Tree.{Syms, count, group, over, user, item}
+use Rattle.parse_tree.specs.plain.Tree.{Syms, group, over, user, item}
 use Rattle.parse_tree.specs.plain.Display.{print}
 use Rattle.parse_tree.specs.declared.syntax.Span.{Span}
 use Rattle.passes.specs.Outcome.{simple}

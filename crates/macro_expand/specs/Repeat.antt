@@ -29,8 +29,8 @@ use Rattle.macro_expand.specs.declared.star.Starred.{Starred}
 use Rattle.macro_expand.specs.Expand.{headPiece, Popped, allNamed, Begins}
 
 -- the operator of a code
-unfoldable pub opOf : ℕ → Op
-opOf c = elim (eqb c 0) [ true ↦ star | false ↦ elim (eqb c 1) [ true ↦ plus | false ↦ question ] ]
+unfoldable pub repeatOf : ℕ → Op
+repeatOf c = elim (eqb c 0) [ true ↦ star | false ↦ elim (eqb c 1) [ true ↦ plus | false ↦ question ] ]
 
 module _ (s w : List ℕ) (g : Ground) (n lim q : ℕ) (v : Appended) where
   -- whatever repeat stands there, the item that it has as one of the operator o was appended

@@ -13,7 +13,7 @@ use resolve::items::place;
 use texts::fields::cell;
 use texts::fields::mark;
 ghost use Prim.Native.Nat.{_<_};
-ghost use Rattle.macro_expand.specs.Drain.{SomePile, SomeOther, SomeDefinition, IsDefinition, ExpandsOne, Drains};
+ghost use Rattle.macro_expand.specs.Drain.{SomePile, SomeOther, SomeDefinition, IsDefinition, ExpandsPushed, Drains};
 
 // The place of the definition of the macro that is called at q.
 fn definition<'a>(tape: &'a [u8], work: &'a [u8], g: Ground, t: Grammar, q: usize) -> usize
@@ -39,7 +39,7 @@ fn expand_other(
     v: Appended,
 ) -> Expanded
     requires { ⌜ SomeOther (now tape) (now work) g n lim t v j q c ⌝ }
-    ensures { λ r. ⌜ ExpandsOne (now (tape .entry)) (now (work .entry)) g n lim t j v r (now (work .exit)) ⌝ }
+    ensures { λ r. ⌜ ExpandsPushed (now (tape .entry)) (now (work .entry)) g n lim t j v r (now (work .exit)) ⌝ }
 {
     if c == 38 {
         return Expanded::Is(expand_repeat_symbol(tape, work, g, n, lim, q, v));
@@ -62,7 +62,7 @@ fn expand(
     v: Appended,
 ) -> Expanded
     requires { ⌜ SomePile (now tape) (now work) g n lim t v × (j < n) ⌝ }
-    ensures { λ r. ⌜ ExpandsOne (now (tape .entry)) (now (work .entry)) g n lim t j v r (now (work .exit)) ⌝ }
+    ensures { λ r. ⌜ ExpandsPushed (now (tape .entry)) (now (work .entry)) g n lim t j v r (now (work .exit)) ⌝ }
 {
     let q = mark(work, g.keys, j);
     let c = work[g.from + q];

@@ -14,7 +14,7 @@ ghost use Rattle.parse_tree.specs.plain.Tree.{question};
 ghost use Rattle.appending.specs.Built.{builtText};
 ghost use Rattle.appending.specs.Pieces.{SomeAppending};
 ghost use Rattle.macro_expand.specs.Expand.{IsRepeat, SomePopped, ExpandsRepeat};
-ghost use Rattle.macro_expand.specs.Repeat.{ExpandsAs, opOf, bareHead, PutsBy};
+ghost use Rattle.macro_expand.specs.Repeat.{ExpandsAs, repeatOf, bareHead, PutsBy};
 
 // An alternative without symbols, whose action is the i-th built-in text.
 fn put_bare(
@@ -79,7 +79,7 @@ fn expand_as(
     v: Appended,
 ) -> Appended
     requires { ⌜ SomePopped IsRepeat (now tape) (now work) g n lim q v ⌝ }
-    ensures { λ r. ⌜ ExpandsAs (now (tape .entry)) (now (work .entry)) g n lim q v (opOf op) r (now (work .exit)) ⌝ }
+    ensures { λ r. ⌜ ExpandsAs (now (tape .entry)) (now (work .entry)) g n lim q v (repeatOf op) r (now (work .exit)) ⌝ }
 {
     if op == 0 {
         return expand_star(tape, work, g, n, lim, q, v);

@@ -1,17 +1,16 @@
 -- Macro calls stay as resolving left them: in what is pushed, and in the items of what is popped. Assumes nothing.
-use mathlib.Core.Path.{_≡_, refl, sym, ap, _∙_, subst}
+use mathlib.Core.Path.{_≡_, refl, sym, ap, _∙_}
 use mathlib.Core.Bool.{Bool, true, false, cond, _&&_}
-use mathlib.Core.List.{List, [], _∷_, _++_}
+use mathlib.Core.List.{List, [], _∷_}
 use mathlib.Core.Option.{Option, none, some}
-use Prim.Native.Nat.{ℕ, suc}
-use lib.ListN.{length}
+use Prim.Native.Nat.{suc}
 use Rattle.octets.specs.plain.Runs.{sameAs}
-use Rattle.parse_tree.specs.plain.Tree.{Text, Op, star, plus, question, Leaf, Around, Over, Sym, Syms, ambiguous, bare, quoted, regex, nonterminal, lookahead, lookbehind, error, repeat, choose, name, macro, group, leaf, around, over, nil, cons, count, Alternative, Nonterminal, Item, item}
+use Rattle.parse_tree.specs.plain.Tree.{Text, Op, star, plus, question, Leaf, Over, Sym, Syms, ambiguous, bare, quoted, regex, nonterminal, lookahead, lookbehind, error, repeat, choose, name, macro, group, leaf, around, over, nil, cons, count, Alternative, Nonterminal, Item, item}
 use Rattle.parse_tree.specs.plain.Texts.{has}
 use Rattle.parse_tree.specs.plain.Display.{print}
 use Rattle.parse_tree.specs.working.Within.{Each}
 use Rattle.parse_tree.specs.declared.syntax.Span.{Span}
-use Rattle.passes.specs.Outcome.{Tree, Outcome, yes, no, after, simple}
+use Rattle.passes.specs.Outcome.{Tree, yes, no, after, simple}
 use Rattle.passes.specs.Views.{Look, ahead, behind}
 use Rattle.passes.specs.Macros.{Pending, looking, repeating, listing, Expander, at, argumentOf, orName, macroExpandSymbol, macroExpandSymbols, evaluateCondition, expandAlternative, expandAlternatives, macroIn, expandMacroSymbol, made, hasName, groupAction, expandExprSymbol, expandRepeatSymbol, expandLookaroundSymbol, expandSymbol, drain}
 use Rattle.passes.proofs.Outcomes.{after-yes, no≢yes}

@@ -1,12 +1,10 @@
 -- The ways out of the functions that make a round's ground. Assumes nothing.
-use mathlib.Core.Path.{_≡_, refl, sym, ap, _∙_, subst}
+use mathlib.Core.Path.{_≡_, refl, ap, _∙_}
 use mathlib.Core.Bool.{Bool, true, false}
 use mathlib.Core.Logic.{_⊎_, inl, inr}
 use mathlib.Core.List.{List}
-use Prim.Native.Nat.{ℕ, _+_, _-_, _*_, _/_, _^_, _≤_, _<_}
+use Prim.Native.Nat.{ℕ, _+_, _-_, _*_, _/_, _≤_, _<_}
 use native.Mathlib.Omega.{arith}
-use mir.Syntax.{w64}
-use mir.Val.{Fits}
 use borrow.Author.Needs.{needs}
 use borrow.Author.Tests.{lt-ltb, le-ltb, ltb-true, ltb-false, eqb-true, eqb-false}
 use lib.Dec.{eqb, ltb}
@@ -18,12 +16,11 @@ use Rattle.octets.proofs.NumbersLaws.{length-le}
 use Rattle.octets.proofs.StoreLaws.{length-store, getD-store-before, getD-store-after, leAt-same, leAt-other}
 use Rattle.parse_tree.specs.plain.Texts.{distinct}
 use Rattle.texts.specs.declared.Map.{Map}
-use Rattle.texts.specs.Fields.{Chained, Relinked}
-use Rattle.texts.specs.Table.{Stays, Table, Above, texts}
+use Rattle.texts.specs.Fields.{Relinked}
+use Rattle.texts.specs.Table.{Stays}
 use Rattle.texts.proofs.TableStays.{stays, above-stays}
-use Rattle.resolve.specs.Whole.{Apart}
 use Rattle.expander.specs.declared.Ground.{Ground}
-use Rattle.expander.specs.Ground.{sizeIn, topOf, Grounded}
+use Rattle.expander.specs.Ground.{sizeIn, topOf}
 use Rattle.appending.specs.Built.{builtPlace, builtAt}
 use Rattle.rounds.specs.Start.{Cleared}
 use Rattle.rounds.specs.Grounds.{bucketsOf, Groundable, Grounds}

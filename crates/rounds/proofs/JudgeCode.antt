@@ -4,32 +4,31 @@ use mathlib.Core.Bool.{Bool, true, false}
 use Prim.Native.Nat.{ℕ, _≤_, _<_}
 use borrow.Author.Needs.{needs}
 use borrow.Author.Tests.{lt-ltb, le-ltb}
-use lib.Dec.{ltb}
 use Rattle.octets.specs.working.Choice.{pick}
-use Rattle.rounds.specs.Judge.{judged}
+use Rattle.rounds.specs.Judge.{sized}
 
 module _ (count : ℕ) (long deep : Bool) (bytes cap : ℕ) where
-  pub judge-many : 65536 < count → 20 ≡ judged count long deep bytes cap
-  unfolding judged pick
+  pub judge-many : 65536 < count → 20 ≡ sized count long deep bytes cap
+  unfolding sized pick
   judge-many h = cc (lt-ltb 65536 count h)
 
   module _ (h : count ≤ 65536) where
-    pub judge-long : long ≡ true → 20 ≡ judged count long deep bytes cap
-    unfolding judged pick
+    pub judge-long : long ≡ true → 20 ≡ sized count long deep bytes cap
+    unfolding sized pick
     judge-long l = cc (le-ltb 65536 count h)
 
     module _ (l : long ≡ false) where
-      pub judge-deep : deep ≡ true → 20 ≡ judged count long deep bytes cap
-      unfolding judged pick
+      pub judge-deep : deep ≡ true → 20 ≡ sized count long deep bytes cap
+      unfolding sized pick
       judge-deep d = cc (le-ltb 65536 count h)
 
       module _ (d : deep ≡ false) where
-        pub judge-over : cap < bytes → 21 ≡ judged count long deep bytes cap
-        unfolding judged pick
+        pub judge-over : cap < bytes → 21 ≡ sized count long deep bytes cap
+        unfolding sized pick
         judge-over b = cc (le-ltb 65536 count h, lt-ltb cap bytes b)
 
-        pub judge-fine : bytes ≤ cap → 0 ≡ judged count long deep bytes cap
-        unfolding judged pick
+        pub judge-fine : bytes ≤ cap → 0 ≡ sized count long deep bytes cap
+        unfolding sized pick
         judge-fine b = cc (le-ltb 65536 count h, le-ltb cap bytes b)
 
 pub ruleset judging = (needs, judge-many, judge-long, judge-deep, judge-over, judge-fine)

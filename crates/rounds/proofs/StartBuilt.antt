@@ -10,19 +10,19 @@ use Rattle.parse_tree.specs.plain.Texts.{has}
 use Rattle.laws.specs.Keys.{builtIns}
 use Rattle.expander.specs.declared.Ground.{Ground}
 use Rattle.expander.specs.Ground.{sizeIn, keyAt, listPlace, listAt, printedAt}
-use Rattle.expander.specs.Names.{newTexts}
+use Rattle.expander.specs.Names.{listedTexts}
 use Rattle.expander.proofs.NamedTexts.{has-more, described-even}
 use Rattle.appending.specs.Built.{builtText, builtAt, Built}
 use Rattle.appending.proofs.BuiltLaws.{built-has}
 
 -- n symbols were pushed, none of which prints as a built-in text; all new texts are prints of them
 module _ (s w : List ℕ) (g : Ground) (n : ℕ) (other : (j : ℕ) → j < n → has (printedAt s w g (keyAt w g j)) builtIns ≡ false) where
-  none-new : (i : ℕ) → i < 9 → (c : ℕ) → ((k : ℕ) → k < c → (listAt w g k % 2 ≡ 0) × (listAt w g k / 2 < n)) → has (builtText i) (newTexts s w g c) ≡ false
-  unfolding newTexts has
+  none-new : (i : ℕ) → i < 9 → (c : ℕ) → ((k : ℕ) → k < c → (listAt w g k % 2 ≡ 0) × (listAt w g k / 2 < n)) → has (builtText i) (listedTexts s w g c) ≡ false
+  unfolding listedTexts has
   none-new i h zero f = refl
   none-new i h (suc c) f =
       let (a, b) = f c (omega arith) in
-      has-more (builtText i) _ (newTexts s w g c) (none-new i h c (λ k l. f k (omega arith)))
+      has-more (builtText i) _ (listedTexts s w g c) (none-new i h c (λ k l. f k (omega arith)))
       (λ e. false≢true (sym (other (listAt w g c / 2) b) ∙ ap (λ (t : Text). has t builtIns) (sym (described-even s w g (listAt w g c) a) ∙ e) ∙ built-has i h))
 
   -- theorem

@@ -27,9 +27,9 @@ use Rattle.replacing.proofs.SlotsMean.{each-map}
 use Rattle.replacing.proofs.RoundMeans.{round-means}
 use Rattle.expander.specs.declared.Ground.{Ground}
 use Rattle.expander.specs.declared.stage.Replaced.{Replaced}
-use Rattle.expander.specs.Ground.{stageIn, keyAt, listAt, symbolAt, printedAt, Grounded}
+use Rattle.expander.specs.Ground.{stageIn, keyAt, listAt, symbolIn, printedAt, Grounded}
 use Rattle.expander.specs.Held.{down, Held}
-use Rattle.expander.specs.Stage.{Wrote}
+use Rattle.expander.specs.Stage.{WroteOnly}
 use Rattle.expander.specs.Names.{namedIn, Names}
 use Rattle.expander.proofs.GroundLaws.{Around, stage-around, texts-around, grounded-around}
 use Rattle.expander.proofs.HeldStays.{stage-wrote, texts-wrote}
@@ -38,7 +38,7 @@ use Rattle.expander.proofs.NamesLaws.{held-names}
 use Rattle.appending.specs.Built.{Built}
 use Rattle.appending.specs.Pieces.{Appending}
 use Rattle.macro_expand.specs.Drain.{Declares, OnPile}
-use Rattle.rounds.specs.Start.{Replacing, Cleared, Roomy, Starts, started, replacedBy}
+use Rattle.rounds.specs.Start.{Replacing, Cleared, Roomy, StartsAppending, atStart, replacedBy}
 use Rattle.rounds.proofs.StartTrees.{Fine, pushed-fine}
 use Rattle.rounds.proofs.StartNames.{cleared-around, pile-same, list-same, named-cleared, names-cleared}
 use Rattle.rounds.proofs.StartBuilt.{built-started}
@@ -78,7 +78,7 @@ module _ (s w : List ℕ) (g : Ground) (to : ℕ) (r : Replaced) (w′ : List �
   names = held-names s w′ g (h .stages .ground) (r .pile) (r .count) slots held
 
   -- ---- items and texts are those that were read
-  back : Wrote g to (r .to) w′ w
+  back : WroteOnly g to (r .to) w′ w
   back = let k = h .stages .wrote in record { long = sym (k .long); others = λ i d. sym (k .others i d) }
 
   before : r .to ≤ h .stages .writable .lim
@@ -130,13 +130,13 @@ module _ (s w : List ℕ) (g : Ground) (to : ℕ) (r : Replaced) (w′ : List �
     noted-now = subst (λ (st : List ℕ). AllNoted (g .width) st slots) stage-now (round .noted)
 
     -- ---- the pile
-    pending-is : map (λ p. inner (symbolAt s w″ g p)) (down (keyAt w″ g) (r .pile)) ≡ replacedBy is K .1 .pile
+    pending-is : map (λ p. inner (symbolIn s w″ g p)) (down (keyAt w″ g) (r .pile)) ≡ replacedBy is K .1 .pile
     pending-is =
-        ap (map (λ p. inner (symbolAt s w″ g p))) (pile-same s w′ w″ g (r .pile) (h .stages .ground) (m .records) (m .heads) k ∙ sym (held .pile))
+        ap (map (λ p. inner (symbolIn s w″ g p))) (pile-same s w′ w″ g (r .pile) (h .stages .ground) (m .records) (m .heads) k ∙ sym (held .pile))
         ∙ said (λ st ts. map (λ p. inner (symAt false (g .width) st ts p)) (slots .pile) ≡ replacedBy is K .1 .pile) (round .pile)
 
-    fine : (j : ℕ) → j < r .pile → Fine G (inner (symbolAt s w″ g (keyAt w″ g j)))
-    fine = each-at (Fine G) (λ p. inner (symbolAt s w″ g p)) (keyAt w″ g) (r .pile) (subst (Each (Fine G)) (sym pending-is) (pushed-fine G (withoutMacros is) K (h .sound) (h .calls)))
+    fine : (j : ℕ) → j < r .pile → Fine G (inner (symbolIn s w″ g (keyAt w″ g j)))
+    fine = each-at (Fine G) (λ p. inner (symbolIn s w″ g p)) (keyAt w″ g) (r .pile) (subst (Each (Fine G)) (sym pending-is) (pushed-fine G (withoutMacros is) K (h .sound) (h .calls)))
 
     other : (j : ℕ) → j < r .pile → has (printedAt s w″ g (keyAt w″ g j)) builtIns ≡ false
     other j l = key-other s w″ g ground bytes-now (keyAt w″ g j) (names-now .records .keys j l) G (fine j l)
@@ -153,7 +153,7 @@ module _ (s w : List ℕ) (g : Ground) (to : ℕ) (r : Replaced) (w′ : List �
     built-now : Built s w″ g (r .pile) (r .count)
     built-now = built-started s w″ g (r .pile) other (r .count) (m .records) (m .heads) (m .list) (k .words) entries-now
 
-    going : Appending s g (r .pile) lim places w″ (started r)
+    going : Appending s g (r .pile) lim places w″ (atStart r)
     going = record {
       ground = ground;
       names = names-now;
@@ -167,7 +167,7 @@ module _ (s w : List ℕ) (g : Ground) (to : ℕ) (r : Replaced) (w′ : List �
       above = m .above;
     }
 
-    starts : (t : Grammar) (four : Bool) → Declares s w″ g t (started r) four G → Starts s w g r is K lim t four G w″
+    starts : (t : Grammar) (four : Bool) → Declares s w″ g t (atStart r) four G → StartsAppending s w g r is K lim t four G w″
     starts t four d = record {
       places = places;
       pile = record { going = going; declares = d; piled = on-pile };
@@ -177,6 +177,6 @@ module _ (s w : List ℕ) (g : Ground) (to : ℕ) (r : Replaced) (w′ : List �
 
 -- theorem: appending begins with what replacing left
 pub pile-starts : (s w : List ℕ) (g : Ground) (to : ℕ) (r : Replaced) (w′ : List ℕ) (is : List Item) (K : List Text) (ms : List ℕ) (G : Tree) → Replacing s w g to r w′ is K ms G
-    → (w″ : List ℕ) → Cleared g w′ w″ → (lim : ℕ) → Roomy s w″ g r lim → (t : Grammar) (four : Bool) → Declares s w″ g t (started r) four G
-    → Starts s w g r is K lim t four G w″
+    → (w″ : List ℕ) → Cleared g w′ w″ → (lim : ℕ) → Roomy s w″ g r lim → (t : Grammar) (four : Bool) → Declares s w″ g t (atStart r) four G
+    → StartsAppending s w g r is K lim t four G w″
 pile-starts s w g to r w′ is K ms G h w″ k lim m t four d = starts s w g to r w′ is K ms G h w″ k lim m t four d

@@ -8,7 +8,6 @@ use Rattle.octets.specs.plain.Numbers.{Bytes}
 use Rattle.octets.proofs.LiesLaws.{lies-inside}
 use Rattle.parse_tree.specs.plain.Tree.{Text}
 use Rattle.parse_tree.specs.plain.Texts.{has}
-use Rattle.parse_tree.specs.plain.Display.{print}
 use Rattle.parse_tree.specs.working.Encode.{symBytes}
 use Rattle.parse_tree.specs.working.Within.{Each}
 use Rattle.parse_tree.proofs.ItemFound.{sym-finds}
@@ -24,7 +23,7 @@ use Rattle.replacing.proofs.TreesMean.{print-inner}
 use Rattle.replacing.proofs.Keys.{sym-key}
 use Rattle.replacing.proofs.SlotsMean.{among-here, among-later}
 use Rattle.expander.specs.declared.Ground.{Ground}
-use Rattle.expander.specs.Ground.{sizeIn, stageIn, symbolAt, printedAt, KeyAt, Grounded}
+use Rattle.expander.specs.Ground.{sizeIn, stageIn, symbolIn, printedAt, KeyAt, Grounded}
 use Rattle.expander.specs.Replace.{keysOf, StandsAt}
 use Rattle.expander.proofs.StageReads.{lies-whole, stage-length}
 use Rattle.expander.proofs.KeysPlaces.{sym-keys}
@@ -38,31 +37,31 @@ each-among P (x ∷ xs) f = (f x (among-here x xs), each-among P xs (λ q h. f q
 
 -- a symbol that is expanded stands at p
 module _ (s w : List ℕ) (g : Ground) (e : Grounded s w g) (b : Bytes (stageIn w g)) (p : ℕ) (k : KeyAt s w g p) where
-  pub key-own : isKey (symbolAt s w g p) ≡ true
-  key-own = sym-key false (g .width) (stageIn w g) (texts s w (g .m)) b 63 p (symbolAt s w g p) (k .end) (k .key) (k .read)
+  pub key-own : isKey (symbolIn s w g p) ≡ true
+  key-own = sym-key false (g .width) (stageIn w g) (texts s w (g .m)) b 63 p (symbolIn s w g p) (k .end) (k .key) (k .read)
 
-  key-stands : StandsAt s w g false 64 p (k .end) (symbolAt s w g p)
+  key-stands : StandsAt s w g false 64 p (k .end) (symbolIn s w g p)
   unfolding stageIn
   key-stands =
-      let f = sym-finds false (g .width) (stageIn w g) (texts s w (g .m)) b (e .distinct-texts) 64 p (symbolAt s w g p) (k .end) (k .read) in
+      let f = sym-finds false (g .width) (stageIn w g) (texts s w (g .m)) b (e .distinct-texts) 64 p (symbolIn s w g p) (k .end) (k .read) in
       record {
         within = f .within;
-        lies = lies-whole w (g .from) (g .end) (e .ordered) (e .inside) p (symBytes (g .width) (texts s w (g .m)) (symbolAt s w g p)) (k .end) (f .lies);
+        lies = lies-whole w (g .from) (g .end) (e .ordered) (e .inside) p (symBytes (g .width) (texts s w (g .m)) (symbolIn s w g p)) (k .end) (f .lies);
       }
 
   key-inside : k .end ≤ sizeIn g
   key-inside =
-      let y = symbolAt s w g p in
+      let y = symbolIn s w g p in
       let ts = texts s w (g .m) in
       let f = sym-finds false (g .width) (stageIn w g) ts b (e .distinct-texts) 64 p y (k .end) (k .read) in
       let i = lies-inside (stageIn w g) p (k .end) (symBytes (g .width) ts y) (omega (arith, sym-length (g .width) ts y, node-size (g .width) ts y)) (f .lies) in
       omega (arith, stage-length s w g e)
 
-  module _ (G : Tree) (fine : Fine G (inner (symbolAt s w g p))) where
+  module _ (G : Tree) (fine : Fine G (inner (symbolIn s w g p))) where
     -- theorem: its print is no built-in text
     pub key-other : has (printedAt s w g p) builtIns ≡ false
     unfolding printAt
-    key-other = ap (λ (t : Text). has t builtIns) (sym (print-inner (symbolAt s w g p) key-own)) ∙ fine .0
+    key-other = ap (λ (t : Text). has t builtIns) (sym (print-inner (symbolIn s w g p) key-own)) ∙ fine .0
 
     -- theorem: where all inside it have references with it
     pub key-on-pile : (x : Slots) → AllNoted (g .width) (stageIn w g) x → HasRef p x → OnPile s w g (map (λ (r : ℕ × Ref). r .0) (x .refs)) G p
@@ -70,9 +69,9 @@ module _ (s w : List ℕ) (g : Ground) (e : Grounded s w g) (b : Bytes (stageIn 
       end = k .end;
       stands = key-stands;
       inside = key-inside;
-      referred = each-among (λ (q : ℕ). HasRef q x) (keysOf (g .width) (texts s w (g .m)) (symbolAt s w g p) p)
-          (noted p here (keysOf (g .width) (texts s w (g .m)) (symbolAt s w g p) p) (k .end)
-          (sym-keys false (g .width) (stageIn w g) (texts s w (g .m)) b (e .distinct-texts) 64 p (symbolAt s w g p) (k .end) (k .read)));
-      expands = key-expands (symbolAt s w g p) key-own;
-      calls = calls-inner G (symbolAt s w g p) (fine .1);
+      referred = each-among (λ (q : ℕ). HasRef q x) (keysOf (g .width) (texts s w (g .m)) (symbolIn s w g p) p)
+          (noted p here (keysOf (g .width) (texts s w (g .m)) (symbolIn s w g p) p) (k .end)
+          (sym-keys false (g .width) (stageIn w g) (texts s w (g .m)) b (e .distinct-texts) 64 p (symbolIn s w g p) (k .end) (k .read)));
+      expands = key-expands (symbolIn s w g p) key-own;
+      calls = calls-inner G (symbolIn s w g p) (fine .1);
     }

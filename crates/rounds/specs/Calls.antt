@@ -1,5 +1,4 @@
 -- Macro calls that are as resolving leaves them: each names a macro of G, with as many arguments. Assumes nothing: these are definitions.
-use mathlib.Core.List.{List}
 use Rattle.parse_tree.specs.plain.Tree.{Sym, Syms, leaf, around, over, nil, cons, Alternative, Item, item}
 use Rattle.parse_tree.specs.working.Within.{Each}
 use Rattle.passes.specs.Outcome.{Tree}

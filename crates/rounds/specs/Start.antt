@@ -1,12 +1,12 @@
 -- What stands in work between the replacing stage of a round and its appending stage. s is the tape, w is work. Assumes nothing: these are definitions.
 use mathlib.Core.Path.{_≡_}
-use mathlib.Core.Bool.{Bool, true, false}
+use mathlib.Core.Bool.{Bool, false}
 use mathlib.Core.Logic.{_⊎_}
-use mathlib.Core.List.{List, [], _∷_, _++_, map}
-use Prim.Native.Nat.{ℕ, _+_, _-_, _*_, _/_, _≤_, _<_}
+use mathlib.Core.List.{List, [], map}
+use Prim.Native.Nat.{ℕ, _+_, _-_, _/_, _≤_, _<_}
 use lib.ListN.{length, getD}
 use Rattle.octets.specs.plain.Numbers.{Bytes}
-use Rattle.parse_tree.specs.plain.Tree.{Text, Item, Stage}
+use Rattle.parse_tree.specs.plain.Tree.{Text, Item}
 use Rattle.parse_tree.specs.plain.Texts.{has}
 use Rattle.parse_tree.specs.plain.Reading.{got}
 use Rattle.parse_tree.specs.plain.References.{stageOf}
@@ -21,13 +21,13 @@ use Rattle.replacing.specs.Trees.{inner}
 use Rattle.replacing.specs.Sound.{Key}
 use Rattle.expander.specs.declared.Ground.{Ground}
 use Rattle.expander.specs.declared.stage.Replaced.{Replaced}
-use Rattle.expander.specs.Ground.{sizeIn, stageIn, topOf, keyAt, listPlace, symbolAt, Grounded}
+use Rattle.expander.specs.Ground.{sizeIn, stageIn, topOf, keyAt, listPlace, symbolIn, Grounded}
 use Rattle.expander.specs.Held.{down}
 use Rattle.expander.specs.Stage.{MarksAre, Stages}
 use Rattle.expander.specs.Names.{namedIn}
 use Rattle.appending.specs.Built.{builtAt}
 use Rattle.appending.specs.declared.Appended.{Appended}
-use Rattle.macro_expand.specs.Drain.{Declares, Pile}
+use Rattle.macro_expand.specs.Drain.{Pile}
 use Rattle.rounds.specs.Calls.{ItemCalls}
 
 -- the items `is` were read in w, K are the keys before the round, whose texts have the numbers ms; replacing wrote from `to` on and left w′
@@ -65,16 +65,16 @@ pub record Roomy (s w : List ℕ) (g : Ground) (r : Replaced) (lim : ℕ) : Type
   pub above : Above s w (g .m) lim
 
 -- what appending begins with
-abbrev pub started : Replaced → Appended
-started r = record { to = r .to; count = r .count; deep = false }
+abbrev pub atStart : Replaced → Appended
+atStart r = record { to = r .to; count = r .count; deep = false }
 
 -- what replacing comes to
 abbrev pub replacedBy : List Item → List Text → List Item × Expander
 replacedBy is K = replaceItems (withoutMacros is) (record { keys = K; pile = [] })
 
 -- the pile stands in w″, and is that of the definitions; the texts by number are those of the stage
-pub record Starts (s w : List ℕ) (g : Ground) (r : Replaced) (is : List Item) (K : List Text) (lim : ℕ) (t : Grammar) (four : Bool) (G : Tree) (w″ : List ℕ) : Type 0 where
+pub record StartsAppending (s w : List ℕ) (g : Ground) (r : Replaced) (is : List Item) (K : List Text) (lim : ℕ) (t : Grammar) (four : Bool) (G : Tree) (w″ : List ℕ) : Type 0 where
   pub places : List ℕ
-  pub pile : Pile s w″ g (r .pile) lim t (started r) places four G
-  pub pending : map (λ p. inner (symbolAt s w″ g p)) (down (keyAt w″ g) (r .pile)) ≡ replacedBy is K .1 .pile
+  pub pile : Pile s w″ g (r .pile) lim t (atStart r) places four G
+  pub pending : map (λ p. inner (symbolIn s w″ g p)) (down (keyAt w″ g) (r .pile)) ≡ replacedBy is K .1 .pile
   pub texts-are : namedIn s w″ g (r .count) ≡ stageOf (texts s w (g .m)) (replacedBy is K .0) .atoms

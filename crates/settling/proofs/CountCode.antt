@@ -16,7 +16,7 @@ use Rattle.parse_tree.specs.plain.WriteTape.{bytesOfEach}
 use Rattle.texts.specs.Forms.{stop}
 use Rattle.expander.specs.declared.Ground.{Ground}
 use Rattle.expander.specs.Ground.{listPlace, listAt, Grounded}
-use Rattle.expander.specs.Names.{describedBy, newTexts}
+use Rattle.expander.specs.Names.{describedBy, listedTexts}
 use Rattle.expander.proofs.GroundLaws.{keys-slots, slots-top}
 use Rattle.settling.specs.One.{Entry}
 use Rattle.settling.specs.Settle.{newBytes, someLong, SomeNew, Counts}
@@ -48,12 +48,12 @@ stop-short n h = go (ltb n 65536) refl
 -- ---- the texts before the i-th are counted
 pub record Counting (s w : List ℕ) (g : Ground) (n c i bytes : ℕ) (long : Bool) : Type 0 where
   pub upto : i ≤ c
-  pub far : long ≡ someLong (newTexts s w g i)
-  pub size : someLong (newTexts s w g i) ≡ false → bytes ≡ length (newBytes s w g i)
+  pub far : long ≡ someLong (listedTexts s w g i)
+  pub size : someLong (listedTexts s w g i) ≡ false → bytes ≡ length (newBytes s w g i)
   pub small : bytes ≤ 65539 * i
 
 pub count-start : (s w : List ℕ) (g : Ground) (n c : ℕ) → SomeNew s w g n c → Counting s w g n c 0 0 false
-unfolding newBytes newTexts bytesOfEach someLong
+unfolding newBytes listedTexts bytesOfEach someLong
 count-start s w g n c h = record { upto = omega arith; far = refl; size = λ e. refl; small = omega arith }
 
 module _ (s w : List ℕ) (g : Ground) (n c : ℕ) (h : SomeNew s w g n c) (i : ℕ) (l : i < c) where
@@ -84,7 +84,7 @@ module _ (s w : List ℕ) (g : Ground) (n c : ℕ) (h : SomeNew s w g n c) (i by
     module _ (r : Bool) where
       pub count-long : 65535 < l → r ≡ true → Counting s w g n c (i + 1) (bytes + (3 + l)) r
       count-long z p =
-          let y : someLong (newTexts s w g (i + 1)) ≡ true = ap someLong (new-more s w g i) ∙ long-yes (newTexts s w g i) t (stop-long (length t) (rw l-is at z)) in
+          let y : someLong (listedTexts s w g (i + 1)) ≡ true = ap someLong (new-more s w g i) ∙ long-yes (listedTexts s w g i) t (stop-long (length t) (rw l-is at z)) in
           record {
             upto = omega arith;
             far = p ∙ sym y;
@@ -95,7 +95,7 @@ module _ (s w : List ℕ) (g : Ground) (n c : ℕ) (h : SomeNew s w g n c) (i by
       pub count-short : l ≤ 65535 → r ≡ long → Counting s w g n c (i + 1) (bytes + (3 + l)) r
       count-short z p =
           let x : stop (length t) ≡ length t = stop-short (length t) (rw l-is at z) in
-          let y : someLong (newTexts s w g (i + 1)) ≡ someLong (newTexts s w g i) = ap someLong (new-more s w g i) ∙ long-no (newTexts s w g i) t (omega (arith, l-is)) in
+          let y : someLong (listedTexts s w g (i + 1)) ≡ someLong (listedTexts s w g i) = ap someLong (new-more s w g i) ∙ long-no (listedTexts s w g i) t (omega (arith, l-is)) in
           record {
             upto = omega arith;
             far = p ∙ k .far ∙ sym y;
@@ -106,6 +106,6 @@ module _ (s w : List ℕ) (g : Ground) (n c : ℕ) (h : SomeNew s w g n c) (i by
   pub count-done : c ≤ i → Counts s w g n c (record { bytes = bytes; long = long })
   count-done a =
       let z : i ≡ c = omega (arith, k .upto) in
-      record { long = k .far ∙ ap (λ (j : ℕ). someLong (newTexts s w g j)) z; bytes = rw z at (k .size) }
+      record { long = k .far ∙ ap (λ (j : ℕ). someLong (listedTexts s w g j)) z; bytes = rw z at (k .size) }
 
 pub ruleset counting = (needs, count-start, count-place, count-entry, count-ground, count-three, count-fits, count-long, count-short, count-done)

@@ -14,7 +14,7 @@ use Rattle.parse_tree.proofs.ReadingLaws.{bytes-more}
 use Rattle.parse_tree.proofs.ReadBack.{atom-size}
 use Rattle.expander.specs.declared.Ground.{Ground}
 use Rattle.expander.specs.Ground.{listAt}
-use Rattle.expander.specs.Names.{describedBy, newTexts, Names}
+use Rattle.expander.specs.Names.{describedBy, listedTexts, Names}
 use Rattle.settling.specs.One.{Entry}
 use Rattle.settling.specs.Settle.{newBytes, someLong}
 
@@ -43,16 +43,16 @@ long-last ts t e = go (ltb 65535 (length t)) refl
 
 -- ---- one new text more
 module _ (s w : List ℕ) (g : Ground) where
-  pub new-more : (i : ℕ) → newTexts s w g (i + 1) ≡ newTexts s w g i ++ (describedBy s w g (listAt w g i) ∷ [])
-  unfolding newTexts
-  new-more i = let z : i + 1 ≡ suc i = omega arith in ap (newTexts s w g) z
+  pub new-more : (i : ℕ) → listedTexts s w g (i + 1) ≡ listedTexts s w g i ++ (describedBy s w g (listAt w g i) ∷ [])
+  unfolding listedTexts
+  new-more i = let z : i + 1 ≡ suc i = omega arith in ap (listedTexts s w g) z
 
   pub bytes-next : (i : ℕ) → newBytes s w g (i + 1) ≡ newBytes s w g i ++ atomBytes 2 (describedBy s w g (listAt w g i))
   unfolding newBytes
-  bytes-next i = ap (bytesOfEach (atomBytes 2)) (new-more i) ∙ bytes-more (atomBytes 2) (newTexts s w g i) (describedBy s w g (listAt w g i))
+  bytes-next i = ap (bytesOfEach (atomBytes 2)) (new-more i) ∙ bytes-more (atomBytes 2) (listedTexts s w g i) (describedBy s w g (listAt w g i))
 
   pub bytes-none : newBytes s w g 0 ≡ []
-  unfolding newBytes newTexts bytesOfEach
+  unfolding newBytes listedTexts bytesOfEach
   bytes-none = refl
 
   pub size-next : (i : ℕ) → length (newBytes s w g (i + 1)) ≡ length (newBytes s w g i) + (3 + length (describedBy s w g (listAt w g i)))
@@ -60,23 +60,23 @@ module _ (s w : List ℕ) (g : Ground) where
       ap length (bytes-next i) ∙ length-append (newBytes s w g i) (atomBytes 2 (describedBy s w g (listAt w g i)))
       ∙ ap (λ (k : ℕ). length (newBytes s w g i) + k) (atom-size 2 (describedBy s w g (listAt w g i)))
 
-  new-short : (i : ℕ) → someLong (newTexts s w g (i + 1)) ≡ false → length (describedBy s w g (listAt w g i)) ≤ 65535
-  new-short i e = long-last (newTexts s w g i) (describedBy s w g (listAt w g i)) (ap someLong (sym (new-more i)) ∙ e)
+  new-short : (i : ℕ) → someLong (listedTexts s w g (i + 1)) ≡ false → length (describedBy s w g (listAt w g i)) ≤ 65535
+  new-short i e = long-last (listedTexts s w g i) (describedBy s w g (listAt w g i)) (ap someLong (sym (new-more i)) ∙ e)
 
-  pub new-rest : (i : ℕ) → someLong (newTexts s w g (i + 1)) ≡ false → someLong (newTexts s w g i) ≡ false
-  new-rest i e = sym (long-no (newTexts s w g i) (describedBy s w g (listAt w g i)) (new-short i e)) ∙ ap someLong (sym (new-more i)) ∙ e
+  pub new-rest : (i : ℕ) → someLong (listedTexts s w g (i + 1)) ≡ false → someLong (listedTexts s w g i) ≡ false
+  new-rest i e = sym (long-no (listedTexts s w g i) (describedBy s w g (listAt w g i)) (new-short i e)) ∙ ap someLong (sym (new-more i)) ∙ e
 
   -- theorem: the first of the texts have no more bytes than all
   pub size-grows : (i d : ℕ) → length (newBytes s w g i) ≤ length (newBytes s w g (i + d))
   size-grows i zero = let z : i + 0 ≡ i = omega arith in rw z (omega arith)
   size-grows i (suc d) = let z : i + suc d ≡ i + d + 1 = omega arith in rw z (omega (arith, size-grows i d, size-next (i + d)))
 
-  short-first : (i d : ℕ) → someLong (newTexts s w g (i + d)) ≡ false → someLong (newTexts s w g i) ≡ false
+  short-first : (i d : ℕ) → someLong (listedTexts s w g (i + d)) ≡ false → someLong (listedTexts s w g i) ≡ false
   short-first i zero e = let z : i + 0 ≡ i = omega arith in rw z at e
   short-first i (suc d) e = let z : i + suc d ≡ i + d + 1 = omega arith in short-first i d (new-rest (i + d) (rw z at e))
 
   -- theorem: each is short if none is too long
-  pub each-short : (i d : ℕ) → someLong (newTexts s w g (i + 1 + d)) ≡ false → length (describedBy s w g (listAt w g i)) < 65536
+  pub each-short : (i d : ℕ) → someLong (listedTexts s w g (i + 1 + d)) ≡ false → length (describedBy s w g (listAt w g i)) < 65536
   each-short i d e = omega (arith, new-short i (short-first (i + 1) d e))
 
   -- theorem: each has an entry that says it

@@ -15,7 +15,7 @@ use Rattle.texts.specs.Fields.{markAt, hashAt}
 use Rattle.texts.specs.Hash.{hashOf}
 use Rattle.replacing.specs.Prints.{printAt}
 use Rattle.expander.specs.declared.Ground.{Ground}
-use Rattle.expander.specs.Ground.{sizeIn, topOf, keyAt, symbolAt, printedAt, KeyAt}
+use Rattle.expander.specs.Ground.{sizeIn, topOf, keyAt, symbolIn, printedAt, KeyAt}
 use Rattle.expander.specs.Names.{describedBy}
 use Rattle.expander.proofs.NamedTexts.{described-even}
 use Rattle.expander.proofs.GroundLaws.{keys-slots, slots-top}
@@ -57,12 +57,12 @@ module _ (s w : List ℕ) (g : Ground) (v len end : ℕ) (h : Puttable s w g v l
     key-end : g .from + put-key .end ≤ end - (len + 3)
     unfolding sizeIn
     key-end =
-        let r = read-room s w g (λ j. b j .fits) (h .ground) 64 p (symbolAt s w g p) (put-key .end) (put-key .read) .1 in
+        let r = read-room s w g (λ j. b j .fits) (h .ground) 64 p (symbolIn s w g p) (put-key .end) (put-key .read) .1 in
         let o = h .ground .ordered in
         omega (arith, r, h .items)
 
     pub put-some : SomeBelow s w (g .m) (g .width) 1 64 (g .from + p) (end - (len + 3))
-    put-some = symbol-below s w (g .m) (g .width) false 64 (g .from + p) (g .from + put-key .end) (end - (len + 3)) (symbolAt s w g p) (key-stands s w g (λ j. b j .fits) (h .ground) p put-key) key-end
+    put-some = symbol-below s w (g .m) (g .width) false 64 (g .from + p) (g .from + put-key .end) (end - (len + 3)) (symbolIn s w g p) (key-stands s w g (λ j. b j .fits) (h .ground) p put-key) key-end
 
     pub print-put : (r x : ℕ) (w1 : List ℕ) → r ≡ hashAt w (g .keys) (v / 2) → AtomPut s w (g .m) (g .width) 64 (g .from + p) len end x w1 → TextPut w (describedBy s w g v) end r w1
     unfolding printAt keyAt
@@ -70,7 +70,7 @@ module _ (s w : List ℕ) (g : Ground) (v len end : ℕ) (h : Puttable s w g v l
         let d : describedBy s w g v ≡ printedAt s w g p = described-even s w g v e ∙ ap (printedAt s w g) (sym m) in
         let n : length (printedAt s w g p) ≡ len = ap length (sym d) ∙ sym (h .is) in
         let k : g .from + put-key .end ≤ x = omega (arith, key-end, a .place) in
-        let o = a .each false (g .from + put-key .end) (symbolAt s w g p) (key-stands s w g (λ j. b j .fits) (h .ground) p put-key) k n in
+        let o = a .each false (g .from + put-key .end) (symbolIn s w g p) (key-stands s w g (λ j. b j .fits) (h .ground) p put-key) k n in
         record {
           bytes = o ∙ ap (λ (t : Text). store w x (atomBytes 2 t)) (sym d) ∙ ap (λ (q : ℕ). store w q (atomBytes 2 (describedBy s w g v))) (a .place ∙ ap (λ (i : ℕ). end - (i + 3)) (h .is));
           hash = f ∙ h .entry .hash e ∙ ap (λ (t : Text). hashOf t) (sym (described-even s w g v e));

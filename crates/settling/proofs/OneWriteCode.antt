@@ -24,13 +24,13 @@ use Rattle.expander.specs.declared.Ground.{Ground}
 use Rattle.expander.specs.Ground.{topOf, listPlace, listAt, Grounded}
 use Rattle.expander.specs.Names.{describedBy}
 use Rattle.expander.proofs.GroundLaws.{keys-slots, slots-top}
-use Rattle.settling.specs.One.{TextPut, Entry, Puttable, Ready, Written}
+use Rattle.settling.specs.One.{TextPut, Entry, Puttable, TextReady, Written}
 use Rattle.settling.proofs.OneCode.{stop-less}
 
 pub hash-fits : (w : List ℕ) (t : Text) (end x : ℕ) (w1 : List ℕ) → TextPut w t end x w1 → x < 4294967296
 hash-fits w t end x w1 p = omega (arith, p .hash, hash-small t)
 
-module _ (s w : List ℕ) (g : Ground) (i end : ℕ) (h : Ready s w g i end) where
+module _ (s w : List ℕ) (g : Ground) (i end : ℕ) (h : TextReady s w g i end) where
   abbrev t : Text
   t = describedBy s w g (listAt w g i)
 

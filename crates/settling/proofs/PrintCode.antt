@@ -22,7 +22,7 @@ use Rattle.display.specs.Follow.{wordAt, leafText, markText, nameText, beforeBy
 use Rattle.precedence.specs.Write.{Puts}
 use Rattle.precedence.proofs.WriteLaws.{puts-none}
 use Rattle.settling.specs.declared.Source.{Source}
-use Rattle.settling.specs.Put.{textOf, Fixed, Placed}
+use Rattle.settling.specs.Put.{sourceText, Fixed, Placed}
 use Rattle.settling.specs.Print.{Printable, Opening, Closing, Opens}
 use Rattle.settling.proofs.PutLaws.{puts-as}
 use Rattle.settling.proofs.PrintLaws.{printable-next}
@@ -144,18 +144,18 @@ pub ruleset closing = (needs, close-inside, close-room, behind-macro, behind-rep
 
 -- ---- put_named
 pub named-put : (s w : List ℕ) (m : Map) (wd at lim to r : ℕ) (w1 : List ℕ) (p : Source) → Placed s w m (wordAt wd (texts s w m) w (at + 10)) p
-    → Puts w lim to (nameText (getD w (at + 9) 0) (textOf s w p)) r w1 → Puts w lim to (nameText (getD w (at + 9) 0) (wordAt wd (texts s w m) w (at + 10))) r w1
+    → Puts w lim to (nameText (getD w (at + 9) 0) (sourceText s w p)) r w1 → Puts w lim to (nameText (getD w (at + 9) 0) (wordAt wd (texts s w m) w (at + 10))) r w1
 named-put s w m wd at lim to r w1 p d a = puts-as (ap (nameText (getD w (at + 9) 0)) (d .text)) a
 
 pub ruleset naming = (needs, print-worded, print-narrow, print-wide, print-inside, print-stop, print-fixed, named-put)
 
 -- ---- put_before
 module _ (s w : List ℕ) (m : Map) (wd at c lim to r : ℕ) (w1 : List ℕ) where
-  pub before-named : (p : Source) → c < 37 → Placed s w m (wordAt wd (texts s w m) w (at + 9)) p → Puts w lim to (leafText c (textOf s w p)) r w1 → Puts w lim to (beforeBy wd (texts s w m) w at c) r w1
+  pub before-named : (p : Source) → c < 37 → Placed s w m (wordAt wd (texts s w m) w (at + 9)) p → Puts w lim to (leafText c (sourceText s w p)) r w1 → Puts w lim to (beforeBy wd (texts s w m) w at c) r w1
   unfolding beforeBy pick
   before-named p h d a = let z = d .text in rw (lt-ltb c 37 h) (puts-as (ap (leafText c) z) a)
 
-  pub before-macro : (p : Source) → c ≡ 37 → Placed s w m (wordAt wd (texts s w m) w (at + 9)) p → Puts w lim to (textOf s w p ++ (60 ∷ [])) r w1 → Puts w lim to (beforeBy wd (texts s w m) w at c) r w1
+  pub before-macro : (p : Source) → c ≡ 37 → Placed s w m (wordAt wd (texts s w m) w (at + 9)) p → Puts w lim to (sourceText s w p ++ (60 ∷ [])) r w1 → Puts w lim to (beforeBy wd (texts s w m) w at c) r w1
   unfolding beforeBy pick
   before-macro p e d a = rw e (puts-as (ap (λ (t : Text). t ++ (60 ∷ [])) (d .text)) a)
 

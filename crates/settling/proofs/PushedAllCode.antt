@@ -18,7 +18,7 @@ use Rattle.expander.specs.Held.{down, anyOf, followed, refBy, refIn, isText}
 use Rattle.expander.specs.Names.{Names}
 use Rattle.expander.proofs.GroundLaws.{keys-slots}
 use Rattle.settling.specs.Pushed.{slotText, Markable, MarksOne}
-use Rattle.settling.specs.Settle.{SomePushed, Marked}
+use Rattle.settling.specs.Settle.{SomePushed, MarkedPushed}
 use Rattle.settling.proofs.PushedMean.{marked-ground}
 
 -- ---- the reference of a pushed symbol is its slot
@@ -51,7 +51,7 @@ module _ (s w : List ℕ) (g : Ground) (n c : ℕ) (ps : List ℕ) (h : Names s 
 -- ---- those before the j-th are marked
 pub record Marking (s w : List ℕ) (g : Ground) (n j : ℕ) (w′ : List ℕ) : Type 0 where
   pub upto : j ≤ n
-  pub marked : Marked s w g j w′
+  pub marked : MarkedPushed s w g j w′
 
 module _ (s w : List ℕ) (g : Ground) (n : ℕ) (h : SomePushed s w g n) where
   pub marking-start : Marking s w g n 0 w
@@ -132,7 +132,7 @@ module _ (s w : List ℕ) (g : Ground) (n : ℕ) (h : SomePushed s w g n) where
           };
         }
 
-    pub marking-done : n ≤ j → Marked s w g n w1
+    pub marking-done : n ≤ j → MarkedPushed s w g n w1
     marking-done l = let z : j ≡ n = omega (arith, x .upto) in rw z at (x .marked)
 
 pub ruleset allMarking = (needs, marking-start, marking-same, marking-one, marking-next, marking-done)

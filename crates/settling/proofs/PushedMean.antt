@@ -15,12 +15,12 @@ use Rattle.texts.proofs.TableStays.{part-agree}
 use Rattle.resolve.specs.Whole.{Apart}
 use Rattle.expander.specs.declared.Ground.{Ground}
 use Rattle.expander.specs.Ground.{stageIn, topOf, listPlace, Grounded}
-use Rattle.expander.specs.Names.{newTexts, namedIn, Names}
+use Rattle.expander.specs.Names.{listedTexts, namedIn, Names}
 use Rattle.expander.proofs.GroundLaws.{list-start, keys-slots, slots-top}
 use Rattle.expander.proofs.NamesLaws.{named-agree, names-agree}
-use Rattle.settling.specs.Settle.{newBytes, someLong, Settling, Marked}
+use Rattle.settling.specs.Settle.{newBytes, someLong, Settling, MarkedPushed}
 
-module _ (s w : List ℕ) (g : Ground) (n : ℕ) (w1 : List ℕ) (G : Grounded s w g) (m : Marked s w g n w1) where
+module _ (s w : List ℕ) (g : Ground) (n : ℕ) (w1 : List ℕ) (G : Grounded s w g) (m : MarkedPushed s w g n w1) where
   -- theorem: where the texts stand
   pub marked-above : (z : ℕ) → Above s w (g .m) z → Above s w1 (g .m) z
   marked-above z a = record { above = λ i l. rw (m .marks i l) (a .above i l) }
@@ -71,13 +71,13 @@ module _ (s w : List ℕ) (g : Ground) (n : ℕ) (w1 : List ℕ) (G : Grounded s
     marked-named = named-agree s w w1 g G marked-agree marked-stage (m .same) k c ps h
 
 -- ---- the new texts and their bytes
-new-is : (s w : List ℕ) (g : Ground) (c : ℕ) → newTexts s w g c ≡ drop (length (texts s w (g .m))) (namedIn s w g c)
+new-is : (s w : List ℕ) (g : Ground) (c : ℕ) → listedTexts s w g c ≡ drop (length (texts s w (g .m))) (namedIn s w g c)
 unfolding namedIn
-new-is s w g c = sym (drop-append-seam (texts s w (g .m)) (newTexts s w g c))
+new-is s w g c = sym (drop-append-seam (texts s w (g .m)) (listedTexts s w g c))
 
-module _ (s w : List ℕ) (g : Ground) (n : ℕ) (w1 : List ℕ) (G : Grounded s w g) (m : Marked s w g n w1) (k c : ℕ) (ps : List ℕ) (h : Names s w g k c ps) where
+module _ (s w : List ℕ) (g : Ground) (n : ℕ) (w1 : List ℕ) (G : Grounded s w g) (m : MarkedPushed s w g n w1) (k c : ℕ) (ps : List ℕ) (h : Names s w g k c ps) where
   -- theorem: the new texts
-  pub marked-new : newTexts s w1 g c ≡ newTexts s w g c
+  pub marked-new : listedTexts s w1 g c ≡ listedTexts s w g c
   marked-new =
       new-is s w1 g c ∙ ap (λ (ts : List Text). drop (length ts) (namedIn s w1 g c)) (m .same) ∙ ap (drop (length (texts s w (g .m)))) (marked-named s w g n w1 G m k c ps h) ∙ sym (new-is s w g c)
 
@@ -87,7 +87,7 @@ module _ (s w : List ℕ) (g : Ground) (n : ℕ) (w1 : List ℕ) (G : Grounded s
   marked-bytes = ap (bytesOfEach (atomBytes 2)) marked-new
 
 -- theorem: new texts can be settled after marking as before
-pub marked-settling : (s w : List ℕ) (g : Ground) (n c end : ℕ) (w1 : List ℕ) → Settling s w g n c end → Marked s w g n w1 → Settling s w1 g n c end
+pub marked-settling : (s w : List ℕ) (g : Ground) (n c end : ℕ) (w1 : List ℕ) → Settling s w g n c end → MarkedPushed s w g n w1 → Settling s w1 g n c end
 marked-settling s w g n c end w1 h m =
     let z = marked-bytes s w g n w1 (h .ground) m n c (h .places) (h .names) in
     record {

@@ -12,7 +12,7 @@ use Rattle.texts.specs.Table.{Growing, Grown}
 use Rattle.expander.specs.declared.Ground.{Ground}
 use Rattle.expander.specs.Ground.{listAt}
 use Rattle.expander.specs.Names.{describedBy}
-use Rattle.settling.specs.One.{Ready, Written}
+use Rattle.settling.specs.One.{TextReady, Written}
 use Rattle.settling.specs.Settle.{Settling, Settles}
 use Rattle.settling.proofs.SettleLaws.{Going, going-start, going-ready}
 use Rattle.settling.proofs.SettleNext.{going-next}
@@ -26,7 +26,7 @@ module _ (s w : List ℕ) (g : Ground) (n c end : ℕ) (h : Settling s w g n c e
     pub settle-same : length w1 ≡ length w
     settle-same = x .placed .long
 
-    pub settle-ready : 0 < i → Ready s w1 g (i - 1) q
+    pub settle-ready : 0 < i → TextReady s w1 g (i - 1) q
     settle-ready l = going-ready s w g n c end h i q w1 x (i - 1) (omega arith)
 
     pub settle-next : 0 < i → (r : ℕ) (w2 : List ℕ) → Written s w1 g (i - 1) (describedBy s w1 g (listAt w1 g (i - 1))) q r w2 → Going s w g c end (i - 1) r w2

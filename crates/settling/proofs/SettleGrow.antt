@@ -18,7 +18,7 @@ use Rattle.texts.specs.Texts.{markedText, Whole, Behind, textsOf}
 use Rattle.texts.specs.Table.{Above, texts, Growing, Grown}
 use Rattle.expander.specs.declared.Ground.{Ground}
 use Rattle.expander.specs.Ground.{topOf, listAt, Grounded}
-use Rattle.expander.specs.Names.{describedBy, newTexts, namedIn}
+use Rattle.expander.specs.Names.{describedBy, listedTexts, namedIn}
 use Rattle.settling.specs.Settle.{newBytes, Settling, Settles}
 use Rattle.settling.proofs.NewLaws.{bytes-none}
 use Rattle.settling.proofs.SettleStays.{placed-texts, placed-cells, placed-above}
@@ -74,8 +74,8 @@ module _ (s w : List ℕ) (g : Ground) (n c end : ℕ) (h : Settling s w g n c e
       }
 
   -- ---- the texts by number
-  new-texts : (k : ℕ) → k ≤ c → textsOf s w1 (g .m .base) (g .m .count + k) ≡ texts s w (g .m) ++ newTexts s w g k
-  unfolding textsOf newTexts texts
+  new-texts : (k : ℕ) → k ≤ c → textsOf s w1 (g .m .base) (g .m .count + k) ≡ texts s w (g .m) ++ listedTexts s w g k
+  unfolding textsOf listedTexts texts
   new-texts zero l =
       let z : g .m .count + 0 ≡ g .m .count = omega arith in
       ap (textsOf s w1 (g .m .base)) z ∙ placed-texts s w w1 g (g .m .count + 0) q end (h .ground) (omega arith) above-q items-q (h .above) (x .placed) ∙ sym (append-nil (texts s w (g .m)))
@@ -83,8 +83,8 @@ module _ (s w : List ℕ) (g : Ground) (n c end : ℕ) (h : Settling s w g n c e
       let z : g .m .count + suc k ≡ suc (g .m .count + k) = omega arith in
       ap (textsOf s w1 (g .m .base)) z
       ∙ ap (λ (us : List Text). us ++ (markedText s w1 (markAt w1 (g .m .base) (g .m .count + k)) ∷ [])) (new-texts k (omega arith))
-      ∙ ap (λ (t : Text). (texts s w (g .m) ++ newTexts s w g k) ++ (t ∷ [])) (told k (omega arith) .text)
-      ∙ append-assoc (texts s w (g .m)) (newTexts s w g k) (describedBy s w g (listAt w g k) ∷ [])
+      ∙ ap (λ (t : Text). (texts s w (g .m) ++ listedTexts s w g k) ++ (t ∷ [])) (told k (omega arith) .text)
+      ∙ append-assoc (texts s w (g .m)) (listedTexts s w g k) (describedBy s w g (listAt w g k) ∷ [])
 
   -- ---- the table has grown
   module _ (m : Map) (w2 : List ℕ) (l : length w2 ≡ length w1) (r : Grown s w1 (g .m) (g .m .count + c) m w2) where

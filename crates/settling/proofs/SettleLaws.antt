@@ -14,7 +14,7 @@ use Rattle.expander.specs.declared.Ground.{Ground}
 use Rattle.expander.specs.Ground.{topOf, listPlace, listAt, Grounded}
 use Rattle.expander.specs.Names.{describedBy}
 use Rattle.expander.proofs.GroundLaws.{keys-slots, slots-top}
-use Rattle.settling.specs.One.{Entry, Ready}
+use Rattle.settling.specs.One.{Entry, TextReady}
 use Rattle.settling.specs.Settle.{newBytes, Settling}
 use Rattle.settling.proofs.NewLaws.{size-next, each-short, names-entry}
 use Rattle.settling.proofs.SettleStays.{Placed, placed-ground, placed-above, placed-list, placed-entry, placed-text}
@@ -94,7 +94,7 @@ module _ (s w : List ℕ) (g : Ground) (n c end : ℕ) (h : Settling s w g n c e
       going-size = ap (λ (k : ℕ). length (newBytes s w g k)) e ∙ size-next s w g j
 
       -- theorem: it can be written
-      pub going-ready : Ready s w1 g j q
+      pub going-ready : TextReady s w1 g j q
       unfolding listPlace
       going-ready =
           let t = ap length text-old in

@@ -19,7 +19,7 @@ use Rattle.replacing.specs.Prints.{printAt}
 use Rattle.replacing.specs.Sound.{Firm}
 use Rattle.expander.specs.declared.Ground.{Ground}
 use Rattle.expander.specs.Ground.{sizeIn, topOf, keyAt, listPlace, listAt, printedAt, KeyAt, Grounded}
-use Rattle.expander.specs.Stage.{Wrote}
+use Rattle.expander.specs.Stage.{WroteOnly}
 use Rattle.expander.specs.Names.{describedBy}
 use Rattle.expander.proofs.GroundLaws.{list-start, keys-slots, slots-top}
 use Rattle.expander.proofs.NamedTexts.{described-even}
@@ -36,7 +36,7 @@ module _ (s w w′ : List ℕ) (g : Ground) (k q e : ℕ) (G : Grounded s w g) (
   keys-top : g .keys ≤ topOf g
   keys-top = omega (arith, keys-slots s w g G, slots-top s w g G)
 
-  wrote : Wrote g q e w w′
+  wrote : WroteOnly g q e w w′
   wrote = record { long = p .long; others = λ j d. p .others j (go j d) }
     where
       go : (j : ℕ) → (j < listPlace g 0) ⊎ ((topOf g ≤ j) × (j < q)) ⊎ (e ≤ j) → (j < g .m .base + 24 * k) ⊎ ((g .keys ≤ j) × (j < q)) ⊎ (e ≤ j)

@@ -27,7 +27,7 @@ use Rattle.display.specs.Follow.{quotedText, wordAt, leafText, markText, labelT
 use Rattle.precedence.specs.Write.{Puts}
 use Rattle.precedence.proofs.WriteLaws.{puts-none}
 use Rattle.settling.specs.declared.Source.{Source}
-use Rattle.settling.specs.Put.{textOf, Fixed, Marked, Placed}
+use Rattle.settling.specs.Put.{sourceText, Fixed, Marked, Placed}
 use Rattle.settling.proofs.PutLaws.{puts-stop, then, puts-as}
 use Rattle.settling.proofs.WordsLaws.{fixed-same, source-next}
 
@@ -41,7 +41,7 @@ module _ (s w : List ℕ) (x : ℕ) (g : Whole s w x) where
   tape-two h = omega (arith, tape-whole s w x g h)
 
   pub tape-marked : (m n : ℕ) → x / 4 < length s → m ≡ leAt 2 s (x / 4 + 1) → n ≡ m → Marked s w x (record { here = false; from = x / 4 + 3; end = x / 4 + 3 + n })
-  unfolding textOf pick atomEnd atomText
+  unfolding sourceText pick atomEnd atomText
   tape-marked m n h e d =
       let z : n ≡ leAt 2 s (x / 4 + 1) = d ∙ e in
       record {
@@ -70,7 +70,7 @@ module _ (s w : List ℕ) (x : ℕ) (g : Whole s w x) where
       work-end f = record { fits = omega (arith, work-whole s w x g h, d, e) }
 
       pub work-marked : Marked s w x (record { here = true; from = x + 4 * length s + 3; end = x + 4 * length s + 3 + n })
-      unfolding textOf pick atomEnd atomText
+      unfolding sourceText pick atomEnd atomText
       work-marked =
           let z : n ≡ leAt 2 w (x + 4 * length s + 1) = d ∙ e in
           record {
@@ -95,7 +95,7 @@ module _ (wd : ℕ) (s w : List ℕ) (m : Map) (at x k : ℕ) (j : x ≡ leAt wd
   many = length-texts s w (m .base) (m .count)
 
   pub word-beyond : m .count ≤ k → Placed s w m (wordAt wd (texts s w m) w at) (record { here = false; from = 0; end = 0 })
-  unfolding textOf
+  unfolding sourceText
   word-beyond l = record {
     text = part-none 0 0 (pick false w s) (omega arith) ∙ sym (some ∙ List·getD-eq-default (texts s w m) [] {n = k} (omega (arith, many)));
     fixed = λ z a. record { ordered = omega arith; tape = λ p. omega arith; work = λ p. absurd (not-here p); behind = λ p. absurd (not-here p) };
@@ -132,55 +132,55 @@ module _ (s w : List ℕ) (lim : ℕ) (p : Source) (f : Fixed (length s) (length
     pub here-inside : p .end ≤ length w
     here-inside = f .work h
 
-    pub here-text : (to r : ℕ) (w1 : List ℕ) → Puts w lim to (part (p .from) (p .end) w) r w1 → Puts w lim to (textOf s w p) r w1
-    unfolding textOf pick
+    pub here-text : (to r : ℕ) (w1 : List ℕ) → Puts w lim to (part (p .from) (p .end) w) r w1 → Puts w lim to (sourceText s w p) r w1
+    unfolding sourceText pick
     here-text to r w1 g = puts-as (ap (λ (b : Bool). part (p .from) (p .end) (pick b w s)) (sym h)) g
 
-    pub here-escaped : (to r : ℕ) (w1 : List ℕ) → Puts w lim to (escaped (part (p .from) (p .end) w) []) r w1 → Puts w lim to (escaped (textOf s w p) []) r w1
-    unfolding textOf pick
+    pub here-escaped : (to r : ℕ) (w1 : List ℕ) → Puts w lim to (escaped (part (p .from) (p .end) w) []) r w1 → Puts w lim to (escaped (sourceText s w p) []) r w1
+    unfolding sourceText pick
     here-escaped to r w1 g = puts-as (ap (λ (b : Bool). escaped (part (p .from) (p .end) (pick b w s)) []) (sym h)) g
 
   module _ (h : p .here ≡ false) where
     pub tape-inside : p .end ≤ length s
     tape-inside = f .tape h
 
-    pub tape-put : (to r : ℕ) (w1 : List ℕ) → Puts w lim to (part (p .from) (p .end) s) r w1 → Puts w lim to (textOf s w p) r w1
-    unfolding textOf pick
+    pub tape-put : (to r : ℕ) (w1 : List ℕ) → Puts w lim to (part (p .from) (p .end) s) r w1 → Puts w lim to (sourceText s w p) r w1
+    unfolding sourceText pick
     tape-put to r w1 g = puts-as (ap (λ (b : Bool). part (p .from) (p .end) (pick b w s)) (sym h)) g
 
-    pub tape-escaped : (to r : ℕ) (w1 : List ℕ) → Puts w lim to (escaped (part (p .from) (p .end) s) []) r w1 → Puts w lim to (escaped (textOf s w p) []) r w1
-    unfolding textOf pick
+    pub tape-escaped : (to r : ℕ) (w1 : List ℕ) → Puts w lim to (escaped (part (p .from) (p .end) s) []) r w1 → Puts w lim to (escaped (sourceText s w p) []) r w1
+    unfolding sourceText pick
     tape-escaped to r w1 g = puts-as (ap (λ (b : Bool). escaped (part (p .from) (p .end) (pick b w s)) []) (sym h)) g
 
 pub ruleset reading = (needs, source-ordered, here-behind, here-inside, here-text, here-escaped, tape-inside, tape-put, tape-escaped)
 
 -- ---- put_quoted
-pub quoted-put : (s w w1 w2 w3 : List ℕ) (lim to q z r : ℕ) (p : Source) → Fixed (length s) (length w) lim p → Puts w lim to (34 ∷ []) q w1 → Puts w1 lim q (escaped (textOf s w1 p) []) z w2 → Puts w2 lim z (34 ∷ []) r w3
-    → Puts w lim to (quotedText (textOf s w p)) r w3
+pub quoted-put : (s w w1 w2 w3 : List ℕ) (lim to q z r : ℕ) (p : Source) → Fixed (length s) (length w) lim p → Puts w lim to (34 ∷ []) q w1 → Puts w1 lim q (escaped (sourceText s w1 p) []) z w2 → Puts w2 lim z (34 ∷ []) r w3
+    → Puts w lim to (quotedText (sourceText s w p)) r w3
 unfolding quotedText
 quoted-put s w w1 w2 w3 lim to q z r p f a b c = then a (then (puts-as (ap (λ (t : Text). escaped t []) (source-next s w lim p f to (34 ∷ []) q w1 a)) b) c)
 
 -- ---- put_open
-pub open-put : (s w w1 w2 : List ℕ) (lim to q r : ℕ) (p : Source) → Puts w lim to (textOf s w p) q w1 → Puts w1 lim q (60 ∷ []) r w2 → Puts w lim to (textOf s w p ++ (60 ∷ [])) r w2
+pub open-put : (s w w1 w2 : List ℕ) (lim to q r : ℕ) (p : Source) → Puts w lim to (sourceText s w p) q w1 → Puts w1 lim q (60 ∷ []) r w2 → Puts w lim to (sourceText s w p ++ (60 ∷ [])) r w2
 open-put s w w1 w2 lim to q r p a b = then a b
 
 pub ruleset enclosing = (needs, puts-stop, fixed-same, quoted-put, open-put)
 
 -- ---- put_regex, put_leaf
 pub regex-put : (s w w1 w2 w3 : List ℕ) (lim to q z r : ℕ) (p : Source) → Fixed (length s) (length w) lim p → Puts w lim to (114 ∷ 35 ∷ []) q w1
-    → Puts w1 lim q (quotedText (textOf s w1 p)) z w2 → Puts w2 lim z (35 ∷ []) r w3 → Puts w lim to (114 ∷ 35 ∷ (quotedText (textOf s w p) ++ (35 ∷ []))) r w3
+    → Puts w1 lim q (quotedText (sourceText s w1 p)) z w2 → Puts w2 lim z (35 ∷ []) r w3 → Puts w lim to (114 ∷ 35 ∷ (quotedText (sourceText s w p) ++ (35 ∷ []))) r w3
 regex-put s w w1 w2 w3 lim to q z r p f a b c = then a (then (puts-as (ap quotedText (source-next s w lim p f to (114 ∷ 35 ∷ []) q w1 a)) b) c)
 
 module _ (s w : List ℕ) (lim to r : ℕ) (p : Source) (c : ℕ) (w4 : List ℕ) where
-  pub leaf-quoted : c ≡ 34 → Puts w lim to (quotedText (textOf s w p)) r w4 → Puts w lim to (leafText c (textOf s w p)) r w4
+  pub leaf-quoted : c ≡ 34 → Puts w lim to (quotedText (sourceText s w p)) r w4 → Puts w lim to (leafText c (sourceText s w p)) r w4
   unfolding leafText pick
   leaf-quoted e a = rw e a
 
-  pub leaf-regex : c ≡ 35 → Puts w lim to (114 ∷ 35 ∷ (quotedText (textOf s w p) ++ (35 ∷ []))) r w4 → Puts w lim to (leafText c (textOf s w p)) r w4
+  pub leaf-regex : c ≡ 35 → Puts w lim to (114 ∷ 35 ∷ (quotedText (sourceText s w p) ++ (35 ∷ []))) r w4 → Puts w lim to (leafText c (sourceText s w p)) r w4
   unfolding leafText pick
   leaf-regex e a = rw e a
 
-  pub leaf-plain : (c ≡ 34 → ⊥) → (c ≡ 35 → ⊥) → Puts w lim to (textOf s w p) r w4 → Puts w lim to (leafText c (textOf s w p)) r w4
+  pub leaf-plain : (c ≡ 34 → ⊥) → (c ≡ 35 → ⊥) → Puts w lim to (sourceText s w p) r w4 → Puts w lim to (leafText c (sourceText s w p)) r w4
   unfolding leafText pick
   leaf-plain n m a = rw (ne-eqb c 34 n, ne-eqb c 35 m) a
 
@@ -216,8 +216,8 @@ module _ (w : List ℕ) (b lim to : ℕ) where
   unfolding labelText pick
   label-none n g = rw (ne-eqb b 1 n) (puts-none w lim to g)
 
-  pub name-put : (s : List ℕ) (p : Source) (y q r : ℕ) (w1 w2 w3 : List ℕ) → Fixed (length s) (length w) lim p → Puts w lim to (labelText b) y w1 → Puts w1 lim y (textOf s w1 p) q w2 → Puts w2 lim q (58 ∷ []) r w3
-      → Puts w lim to (nameText b (textOf s w p)) r w3
+  pub name-put : (s : List ℕ) (p : Source) (y q r : ℕ) (w1 w2 w3 : List ℕ) → Fixed (length s) (length w) lim p → Puts w lim to (labelText b) y w1 → Puts w1 lim y (sourceText s w1 p) q w2 → Puts w2 lim q (58 ∷ []) r w3
+      → Puts w lim to (nameText b (sourceText s w p)) r w3
   unfolding nameText
   name-put s p y q r w1 w2 w3 f a c d = then a (then (puts-as (source-next s w lim p f to (labelText b) y w1 a) c) d)
 

@@ -12,15 +12,15 @@ use Rattle.texts.proofs.TableStays.{part-agree}
 use Rattle.precedence.specs.Write.{Puts}
 use Rattle.precedence.proofs.WriteLaws.{puts-beside}
 use Rattle.settling.specs.declared.Source.{Source}
-use Rattle.settling.specs.Put.{textOf, Fixed}
+use Rattle.settling.specs.Put.{sourceText, Fixed}
 
 -- theorem: a place stays while the length does
 pub fixed-same : (t n lim : ℕ) (p : Source) (k : ℕ) → Fixed t n lim p → k ≡ n → Fixed t k lim p
 fixed-same t n lim p k f e = rw e f
 
 -- theorem: a text stays where bytes were put
-pub source-next : (s w : List ℕ) (lim : ℕ) (p : Source) → Fixed (length s) (length w) lim p → (to : ℕ) (xs : List ℕ) (r : ℕ) (w1 : List ℕ) → Puts w lim to xs r w1 → textOf s w1 p ≡ textOf s w p
-unfolding textOf pick
+pub source-next : (s w : List ℕ) (lim : ℕ) (p : Source) → Fixed (length s) (length w) lim p → (to : ℕ) (xs : List ℕ) (r : ℕ) (w1 : List ℕ) → Puts w lim to xs r w1 → sourceText s w1 p ≡ sourceText s w p
+unfolding sourceText pick
 source-next s w lim p f to xs r w1 g = go (p .here) (f .work) (f .behind)
   where
     go : (b : Bool) → (b ≡ true → p .end ≤ length w) → (b ≡ true → lim ≤ p .from) → part (p .from) (p .end) (pick b w1 s) ≡ part (p .from) (p .end) (pick b w s)

@@ -42,7 +42,7 @@ pub record Puttable (s w : List ℕ) (g : Ground) (v len end : ℕ) : Type 0 whe
   pub above : Above s w (g .m) end
 
 -- the text of the i-th entry can be put so that it ends at `end`, and its record can be written
-pub record Ready (s w : List ℕ) (g : Ground) (i end : ℕ) : Type 0 where
+pub record TextReady (s w : List ℕ) (g : Ground) (i end : ℕ) : Type 0 where
   pub ground : Grounded s w g
   pub entry : Entry s w g (listAt w g i)
   pub short : length (describedBy s w g (listAt w g i)) < 65536

@@ -13,8 +13,8 @@ use Rattle.texts.specs.Table.{Above}
 use Rattle.settling.specs.declared.Source.{Source}
 
 -- the text that stands there
-unfoldable pub textOf : List ℕ → List ℕ → Source → Text
-textOf s w p = part (p .from) (p .end) (pick (p .here) w s)
+unfoldable pub sourceText : List ℕ → List ℕ → Source → Text
+sourceText s w p = part (p .from) (p .end) (pick (p .here) w s)
 
 -- it is whole on a tape of t bytes or in work of n bytes, there at lim or behind: it stays where only bytes before lim are written
 pub record Fixed (t n lim : ℕ) (p : Source) : Type 0 where
@@ -25,7 +25,7 @@ pub record Fixed (t n lim : ℕ) (p : Source) : Type 0 where
 
 -- the text of the mark x stands there
 pub record Marked (s w : List ℕ) (x : ℕ) (p : Source) : Type 0 where
-  pub text : textOf s w p ≡ markedText s w x
+  pub text : sourceText s w p ≡ markedText s w x
   pub ordered : p .from ≤ p .end
   pub tape : p .here ≡ false → p .end ≤ length s
   pub work : p .here ≡ true → p .end ≤ length w
@@ -34,5 +34,5 @@ pub record Marked (s w : List ℕ) (x : ℕ) (p : Source) : Type 0 where
 
 -- the text t stands there, behind each bound of the texts in work
 pub record Placed (s w : List ℕ) (m : Map) (t : Text) (p : Source) : Type 0 where
-  pub text : textOf s w p ≡ t
+  pub text : sourceText s w p ≡ t
   pub fixed : (z : ℕ) → Above s w m z → Fixed (length s) (length w) z p

@@ -16,13 +16,13 @@ use Rattle.texts.specs.Table.{Table, Above, texts}
 use Rattle.expander.specs.declared.Ground.{Ground}
 use Rattle.expander.specs.Ground.{topOf, keyAt, pushedText, Grounded}
 use Rattle.expander.specs.Held.{down, anyOf, refIn, isText}
-use Rattle.expander.specs.Names.{newTexts, namedIn, Names}
+use Rattle.expander.specs.Names.{listedTexts, namedIn, Names}
 use Rattle.settling.specs.declared.settle.Fresh.{Fresh}
 use Rattle.settling.specs.declared.settle.Settled.{Settled}
 
 -- the bytes of the new texts with their commands
 unfoldable pub newBytes : List ℕ → List ℕ → Ground → ℕ → List ℕ
-newBytes s w g c = bytesOfEach (atomBytes 2) (newTexts s w g c)
+newBytes s w g c = bytesOfEach (atomBytes 2) (listedTexts s w g c)
 
 -- whether one of them is longer than a text can be
 unfoldable pub someLong : List Text → Bool
@@ -37,8 +37,8 @@ pub record SomeNew (s w : List ℕ) (g : Ground) (n c : ℕ) : Type 0 where
   pub few : c ≤ 65536
 
 pub record Counts (s w : List ℕ) (g : Ground) (n c : ℕ) (r : Fresh) : Type 0 where
-  pub long : r .long ≡ someLong (newTexts s w g c)
-  pub bytes : someLong (newTexts s w g c) ≡ false → r .bytes ≡ length (newBytes s w g c)
+  pub long : r .long ≡ someLong (listedTexts s w g c)
+  pub bytes : someLong (listedTexts s w g c) ≡ false → r .bytes ≡ length (newBytes s w g c)
 
 -- ---- written and entered
 
@@ -48,7 +48,7 @@ pub record Settling (s w : List ℕ) (g : Ground) (n c end : ℕ) : Type 0 where
   pub ground : Grounded s w g
   pub names : Names s w g n c places
   pub few : g .m .count + c ≤ 65536
-  pub short : someLong (newTexts s w g c) ≡ false
+  pub short : someLong (listedTexts s w g c) ≡ false
   pub records : g .m .base + 24 * (g .m .count + c) ≤ g .keys
   pub items : g .end + length (newBytes s w g c) ≤ end
   pub top : topOf g + length (newBytes s w g c) ≤ end
@@ -82,7 +82,7 @@ pub record SomePushed (s w : List ℕ) (g : Ground) (n : ℕ) : Type 0 where
   pub ground : Grounded s w g
   pub names : Names s w g n count places
 
-pub record Marked (s w : List ℕ) (g : Ground) (n : ℕ) (w′ : List ℕ) : Type 0 where
+pub record MarkedPushed (s w : List ℕ) (g : Ground) (n : ℕ) (w′ : List ℕ) : Type 0 where
   pub long : length w′ ≡ length w
   pub pushed : (k : ℕ) → k < g .m .count → pushedText w′ g k ≡ (pushedText w g k || anyOf (λ q. isText k (refIn w g q)) (down (keyAt w g) n))
   pub rest : (k : ℕ) → k < g .m .count → cellAt w′ (g .m .base) k % 2147483648 ≡ cellAt w (g .m .base) k % 2147483648

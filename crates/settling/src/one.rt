@@ -15,7 +15,7 @@ ghost use lib.ListN.{length};
 ghost use Rattle.texts.specs.Forms.{stop};
 ghost use Rattle.expander.specs.Ground.{listPlace, listAt, Grounded};
 ghost use Rattle.expander.specs.Names.{describedBy};
-ghost use Rattle.settling.specs.One.{TextPut, Entry, Puttable, Ready, Written};
+ghost use Rattle.settling.specs.One.{TextPut, Entry, Puttable, TextReady, Written};
 
 // The i-th entry of the list of new texts.
 pub fn entry(work: &[u8], g: Ground, i: usize) -> usize
@@ -60,7 +60,7 @@ fn put_new(tape: &[u8], work: &mut [u8], g: Ground, v: usize, len: usize, end: u
 
 // The i-th new text as an atom that ends at `end`, and its record; says where it begins.
 pub fn write_text(tape: &[u8], work: &mut [u8], g: Ground, i: usize, end: usize) -> usize
-    requires { ⌜ Ready (now tape) (now work) g i end ⌝ }
+    requires { ⌜ TextReady (now tape) (now work) g i end ⌝ }
     ensures { λ r. ⌜ Written (now (tape .entry)) (now (work .entry)) g i (describedBy (now (tape .entry)) (now (work .entry)) g (listAt (now (work .entry)) g i)) end r (now (work .exit)) ⌝ }
 {
     let v = entry(work, g, i);

@@ -11,7 +11,7 @@ ghost use Rattle.octets.specs.plain.Numbers.{le};
 ghost use Rattle.octets.specs.working.Stores.{store};
 ghost use Rattle.texts.specs.Fields.{cellAt};
 ghost use Rattle.settling.specs.Pushed.{Markable, MarksOne};
-ghost use Rattle.settling.specs.Settle.{SomePushed, Marked};
+ghost use Rattle.settling.specs.Settle.{SomePushed, MarkedPushed};
 
 // Text k of the records from base on.
 fn mark_text(work: &mut [u8], base: usize, k: usize)
@@ -40,7 +40,7 @@ fn mark_one(tape: &[u8], work: &mut [u8], g: Ground, j: usize)
 // Of all n.
 pub fn mark_pushed(tape: &[u8], work: &mut [u8], g: Ground, n: usize)
     requires { ⌜ SomePushed (now tape) (now work) g n ⌝ }
-    ensures { λ _. ⌜ Marked (now (tape .entry)) (now (work .entry)) g n (now (work .exit)) ⌝ }
+    ensures { λ _. ⌜ MarkedPushed (now (tape .entry)) (now (work .entry)) g n (now (work .exit)) ⌝ }
 {
     let mut j = 0;
     while j < n {

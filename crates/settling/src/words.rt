@@ -21,7 +21,7 @@ ghost use Rattle.texts.specs.Texts.{Whole};
 ghost use Rattle.grades.specs.Grading.{Worded};
 ghost use Rattle.display.specs.Follow.{quotedText, wordAt, leafText, markText, labelText, nameText};
 ghost use Rattle.precedence.specs.Write.{Puts};
-ghost use Rattle.settling.specs.Put.{textOf, Fixed, Marked, Placed};
+ghost use Rattle.settling.specs.Put.{sourceText, Fixed, Marked, Placed};
 
 // Where the text of a mark stands.
 fn mark_source(tape: &[u8], work: &[u8], x: usize) -> Source
@@ -66,7 +66,7 @@ pub fn word_source(tape: &[u8], work: &[u8], m: Map, width: usize, at: usize) ->
 // A text.
 pub fn put_text(tape: &[u8], work: &mut [u8], p: Source, lim: usize, to: usize) -> usize
     requires { ⌜ (lim ≤ length (now work)) × Fixed (length (now tape)) (length (now work)) lim p ⌝ }
-    ensures { λ r. ⌜ Puts (now (work .entry)) lim to (textOf (now (tape .entry)) (now (work .entry)) p) r (now (work .exit)) ⌝ }
+    ensures { λ r. ⌜ Puts (now (work .entry)) lim to (sourceText (now (tape .entry)) (now (work .entry)) p) r (now (work .exit)) ⌝ }
 {
     if p.here {
         return put_down(work, p.from, p.end, lim, to);
@@ -77,7 +77,7 @@ pub fn put_text(tape: &[u8], work: &mut [u8], p: Source, lim: usize, to: usize) 
 // As it stands between quotes.
 fn put_escaped(tape: &[u8], work: &mut [u8], p: Source, lim: usize, to: usize) -> usize
     requires { ⌜ (lim ≤ length (now work)) × (to ≤ lim + 1) × Fixed (length (now tape)) (length (now work)) lim p ⌝ }
-    ensures { λ r. ⌜ Puts (now (work .entry)) lim to (escaped (textOf (now (tape .entry)) (now (work .entry)) p) []) r (now (work .exit)) ⌝ }
+    ensures { λ r. ⌜ Puts (now (work .entry)) lim to (escaped (sourceText (now (tape .entry)) (now (work .entry)) p) []) r (now (work .exit)) ⌝ }
 {
     if p.here {
         return escape_down(work, p.from, p.end, lim, to);
@@ -88,7 +88,7 @@ fn put_escaped(tape: &[u8], work: &mut [u8], p: Source, lim: usize, to: usize) -
 // With the quotes.
 fn put_quoted(tape: &[u8], work: &mut [u8], p: Source, lim: usize, to: usize) -> usize
     requires { ⌜ (lim ≤ length (now work)) × Fixed (length (now tape)) (length (now work)) lim p ⌝ }
-    ensures { λ r. ⌜ Puts (now (work .entry)) lim to (quotedText (textOf (now (tape .entry)) (now (work .entry)) p)) r (now (work .exit)) ⌝ }
+    ensures { λ r. ⌜ Puts (now (work .entry)) lim to (quotedText (sourceText (now (tape .entry)) (now (work .entry)) p)) r (now (work .exit)) ⌝ }
 {
     let q = put_byte(work, 34, lim, to);
     let z = put_escaped(tape, work, p, lim, q);
@@ -98,7 +98,7 @@ fn put_quoted(tape: &[u8], work: &mut [u8], p: Source, lim: usize, to: usize) ->
 // As a regular expression.
 fn put_regex(tape: &[u8], work: &mut [u8], p: Source, lim: usize, to: usize) -> usize
     requires { ⌜ (lim ≤ length (now work)) × Fixed (length (now tape)) (length (now work)) lim p ⌝ }
-    ensures { λ r. ⌜ Puts (now (work .entry)) lim to (114 ∷ 35 ∷ (quotedText (textOf (now (tape .entry)) (now (work .entry)) p) ++ (35 ∷ []))) r (now (work .exit)) ⌝ }
+    ensures { λ r. ⌜ Puts (now (work .entry)) lim to (114 ∷ 35 ∷ (quotedText (sourceText (now (tape .entry)) (now (work .entry)) p) ++ (35 ∷ []))) r (now (work .exit)) ⌝ }
 {
     let q = put_two(work, 114, 35, lim, to);
     let z = put_quoted(tape, work, p, lim, q);
@@ -108,7 +108,7 @@ fn put_regex(tape: &[u8], work: &mut [u8], p: Source, lim: usize, to: usize) -> 
 // A leaf of the code c.
 pub fn put_leaf(tape: &[u8], work: &mut [u8], p: Source, c: u8, lim: usize, to: usize) -> usize
     requires { ⌜ (lim ≤ length (now work)) × Fixed (length (now tape)) (length (now work)) lim p ⌝ }
-    ensures { λ r. ⌜ Puts (now (work .entry)) lim to (leafText c (textOf (now (tape .entry)) (now (work .entry)) p)) r (now (work .exit)) ⌝ }
+    ensures { λ r. ⌜ Puts (now (work .entry)) lim to (leafText c (sourceText (now (tape .entry)) (now (work .entry)) p)) r (now (work .exit)) ⌝ }
 {
     if c == 34 {
         return put_quoted(tape, work, p, lim, to);
@@ -122,7 +122,7 @@ pub fn put_leaf(tape: &[u8], work: &mut [u8], p: Source, c: u8, lim: usize, to: 
 // `M<`.
 pub fn put_open(tape: &[u8], work: &mut [u8], p: Source, lim: usize, to: usize) -> usize
     requires { ⌜ (lim ≤ length (now work)) × Fixed (length (now tape)) (length (now work)) lim p ⌝ }
-    ensures { λ r. ⌜ Puts (now (work .entry)) lim to (textOf (now (tape .entry)) (now (work .entry)) p ++ (60 ∷ [])) r (now (work .exit)) ⌝ }
+    ensures { λ r. ⌜ Puts (now (work .entry)) lim to (sourceText (now (tape .entry)) (now (work .entry)) p ++ (60 ∷ [])) r (now (work .exit)) ⌝ }
 {
     let q = put_text(tape, work, p, lim, to);
     put_byte(work, 60, lim, q)
@@ -167,7 +167,7 @@ fn put_label(work: &mut [u8], b: u8, lim: usize, to: usize) -> usize
 // `x:` or `mut x:`.
 pub fn put_name(tape: &[u8], work: &mut [u8], p: Source, b: u8, lim: usize, to: usize) -> usize
     requires { ⌜ (lim ≤ length (now work)) × (to ≤ lim + 1) × Fixed (length (now tape)) (length (now work)) lim p ⌝ }
-    ensures { λ r. ⌜ Puts (now (work .entry)) lim to (nameText b (textOf (now (tape .entry)) (now (work .entry)) p)) r (now (work .exit)) ⌝ }
+    ensures { λ r. ⌜ Puts (now (work .entry)) lim to (nameText b (sourceText (now (tape .entry)) (now (work .entry)) p)) r (now (work .exit)) ⌝ }
 {
     let y = put_label(work, b, lim, to);
     let q = put_text(tape, work, p, lim, y);
