@@ -25,9 +25,9 @@ use Rattle.appending.specs.Pieces.{Appends}
 use Rattle.appending.proofs.SymbolsStays.{texts-stay}
 use Rattle.macro_expand.specs.declared.arguments.Call.{Call}
 use Rattle.macro_expand.specs.declared.arguments.Judged.{Judged}
-use Rattle.macro_expand.specs.Arguments.{Readable, holdsAt}
+use Rattle.macro_expand.specs.Arguments.{ReadableCall, holdsAt}
 use Rattle.macro_expand.specs.PutIn.{Placed, Framed, Frame}
-use Rattle.macro_expand.specs.Alternatives.{alternativesPiece, held, SomeAlternative, PutsAlternative, PutsIf, SomeAlternatives, PutsAlternatives}
+use Rattle.macro_expand.specs.Alternatives.{alternativesPiece, held, SomeAlternative, PutsAlternative, PutsIf, SomeAlternatives, PutsHolding}
 use Rattle.macro_expand.proofs.FrameLaws.{placed-split, placed-stays, frame-stays, frame-readable}
 use Rattle.macro_expand.proofs.AlternativesTrees.{parted}
 use Rattle.macro_expand.proofs.AlternativesCode.{alternative-head, alternative-upto}
@@ -37,7 +37,7 @@ use Rattle.macro_expand.proofs.ConditionsMean.{outcomeOf, holds-means}
 -- ---- expand_if
 module _ (s w : List ℕ) (g : Ground) (n lim : ℕ) (c : Call) (span p : ℕ) (v : Appended) where
   module _ (K : Frame s w g n lim c v) (I : SomeAlternative s w g c p v) where
-    pub if-readable : Readable g c w
+    pub if-readable : ReadableCall g c w
     if-readable = frame-readable s w g n lim c v (K .places) (K .names) (K .args) (K .framed)
 
     pub if-inside : p < c .end
@@ -132,8 +132,8 @@ module _ (s w₀ : List ℕ) (g : Ground) (n lim : ℕ) (c : Call) (span k from 
     pub adding-definition : c .end + 16 ≤ length w
     adding-definition = inv .frame .framed .definition
 
-    pub adding-done : i ≤ 0 → PutsAlternatives s w₀ g n lim c span k from v r w
-    unfolding PutsAlternatives held
+    pub adding-done : i ≤ 0 → PutsHolding s w₀ g n lim c span k from v r w
+    unfolding PutsHolding held
     adding-done z ps names args four e xs sp F m W P u S = go (o .zs) (o .many) (o .carry)
       where
         o : Rest w i p r ps names args four e xs sp

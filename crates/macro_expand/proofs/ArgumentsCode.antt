@@ -19,7 +19,7 @@ use Rattle.expander.specs.declared.Ground.{Ground}
 use Rattle.macro_expand.specs.declared.arguments.Call.{Call}
 use Rattle.macro_expand.specs.declared.arguments.Judged.{Judged}
 use Rattle.macro_expand.specs.declared.arguments.Upheld.{Upheld}
-use Rattle.macro_expand.specs.Arguments.{parametersLong, argumentIn, Readable, equalBy, argumentFor, judgedBy, judgedAt, holdsAt, holdFrom}
+use Rattle.macro_expand.specs.Arguments.{parametersLong, argumentIn, ReadableCall, equalBy, argumentFor, judgedBy, judgedAt, holdsAt, holdFrom}
 
 -- ---- the bytes of parameters
 pub long-more : (wd n : ℕ) → parametersLong wd (suc n) ≡ parametersLong wd n + (1 + wd)
@@ -30,20 +30,6 @@ pub long-none : (wd : ℕ) → parametersLong wd 0 ≡ 0
 unfolding parametersLong
 long-none wd = omega arith
 
--- ---- what can be read
-module _ (g : Ground) (c : Call) (w : List ℕ) (r : Readable g c w) where
-  pub read-narrow : 2 ≤ g .width
-  read-narrow = r .narrow
-
-  pub read-wide : g .width ≤ 3
-  read-wide = r .wide
-
-  pub read-items : g .end + 16 ≤ length w
-  read-items = r .items
-
-  pub read-definition : c .end + 16 ≤ length w
-  read-definition = r .definition
-
 -- ---- argument: i parameters are to come, of m from a₀ on
 pub record Looking (g : Ground) (w : List ℕ) (k size m a₀ p₀ i a p : ℕ) : Type 0 where
   pub narrow : 2 ≤ g .width
@@ -53,7 +39,7 @@ pub record Looking (g : Ground) (w : List ℕ) (k size m a₀ p₀ i a p : ℕ) 
   pub room : a + parametersLong (g .width) i ≤ length w
   pub rest : argumentIn (g .width) (g .end) w k i a p ≡ argumentIn (g .width) (g .end) w k m a₀ p₀
 
-pub look-start : (g : Ground) (c : Call) (w : List ℕ) (k : ℕ) → Readable g c w → Looking g w k (1 + g .width) (c .many) (c .params) (c .args) (c .many) (c .params) (c .args)
+pub look-start : (g : Ground) (c : Call) (w : List ℕ) (k : ℕ) → ReadableCall g c w → Looking g w k (1 + g .width) (c .many) (c .params) (c .args) (c .many) (c .params) (c .args)
 look-start g c w k r = record { narrow = r .narrow; wide = r .wide; items = r .items; long = refl; room = r .parameters; rest = refl }
 
 module _ (g : Ground) (c : Call) (w : List ℕ) (k size i a p : ℕ) (l : Looking g w k size (c .many) (c .params) (c .args) i a p) where
@@ -192,15 +178,15 @@ pub ruleset counting = (needs, counted-yes, counted-no)
 
 -- ---- holding: i alternatives are to come, and k hold so far
 pub record Holds (g : Ground) (c : Call) (w : List ℕ) (n at i p k : ℕ) : Type 0 where
-  pub readable : Readable g c w
+  pub readable : ReadableCall g c w
   pub few : k + i ≤ n
   pub rest : holdFrom g c w i p k ≡ holdFrom g c w n at 0
 
-pub hold-start : (g : Ground) (c : Call) (w : List ℕ) (n at : ℕ) → Readable g c w → Holds g c w n at n at 0
+pub hold-start : (g : Ground) (c : Call) (w : List ℕ) (n at : ℕ) → ReadableCall g c w → Holds g c w n at n at 0
 hold-start g c w n at r = record { readable = r; few = omega arith; rest = refl }
 
 module _ (g : Ground) (c : Call) (w : List ℕ) (n at i p k : ℕ) (l : Holds g c w n at i p k) where
-  pub hold-readable : Readable g c w
+  pub hold-readable : ReadableCall g c w
   hold-readable = l .readable
 
   pub hold-narrow : 2 ≤ g .width

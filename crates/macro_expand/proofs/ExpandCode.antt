@@ -42,7 +42,7 @@ use Rattle.appending.proofs.PiecesLaws.{steady-plainly, appends-then, appends-i
 use Rattle.appending.proofs.SymbolsStays.{texts-stay}
 use Rattle.macro_expand.specs.declared.arguments.Call.{Call}
 use Rattle.macro_expand.specs.declared.expand.Opened.{Opened}
-use Rattle.macro_expand.specs.Arguments.{Readable, argumentFor}
+use Rattle.macro_expand.specs.Arguments.{ReadableCall, argumentFor}
 use Rattle.macro_expand.specs.PutIn.{symPiece, symsPiece, Placed, Framed, Frame, Argument, AnyArgument, PutsArgument, parameterAt, PutsHere, SomeInside, SomeInsides, PutsIn, PutsInAll, Opens}
 use Rattle.macro_expand.proofs.FrameLaws.{placed-split, placed-stays, frame-stays, Answers, Finds, frame-readable, frame-finds, argument-renamed}
 use Rattle.macro_expand.proofs.PutInPlain.{named-extends}
@@ -297,7 +297,7 @@ module _ (s w : List ℕ) (g : Ground) (n lim : ℕ) (c : Call) (left : ℕ) (x 
 
 -- ---- the code
 module _ (s w : List ℕ) (g : Ground) (n lim : ℕ) (c : Call) (left : ℕ) (x : Copied) (K : Frame s w g n lim c (x .out)) (I : SomeInside s w g left x) where
-  pub one-readable : Readable g c w
+  pub one-readable : ReadableCall g c w
   one-readable = frame-readable s w g n lim c (x .out) (K .places) (K .names) (K .args) (K .framed)
 
   long : x .at + 9 ≤ I .end

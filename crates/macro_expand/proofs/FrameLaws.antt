@@ -41,7 +41,7 @@ use Rattle.appending.proofs.PiecesLaws.{appends-on}
 use Rattle.appending.proofs.SymbolsTrees.{each-parts}
 use Rattle.appending.proofs.SymbolsStays.{texts-stay, referring-stays}
 use Rattle.macro_expand.specs.declared.arguments.Call.{Call}
-use Rattle.macro_expand.specs.Arguments.{parametersLong, argumentIn, Readable, argumentFor}
+use Rattle.macro_expand.specs.Arguments.{parametersLong, argumentIn, ReadableCall, argumentFor}
 use Rattle.macro_expand.specs.PutIn.{Placed, Framed}
 use Rattle.macro_expand.proofs.ArgumentsCode.{long-more, long-none}
 
@@ -200,7 +200,7 @@ module _ (s w : List ℕ) (g : Ground) (places : List ℕ) (four : Bool) (left :
       go false e y j O f = rw (y, e, j) f
 
 module _ (s w : List ℕ) (g : Ground) (n lim : ℕ) (c : Call) (v : Appended) (ps : List ℕ) (names : List Text) (args : Syms) (F : Framed s w g n lim c v ps names args) where
-  pub frame-readable : Readable g c w
+  pub frame-readable : ReadableCall g c w
   frame-readable = record {
     narrow = F .going .ground .narrow;
     wide = F .going .ground .wide;

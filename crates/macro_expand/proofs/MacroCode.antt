@@ -41,11 +41,11 @@ use Rattle.macro_expand.specs.declared.Expanded.{Expanded}
 use Rattle.macro_expand.specs.declared.arguments.Upheld.{Upheld}
 use Rattle.macro_expand.specs.declared.call.Macro.{Macro}
 use Rattle.macro_expand.specs.declared.call.Started.{Started}
-use Rattle.macro_expand.specs.Arguments.{Readable, holdFrom}
+use Rattle.macro_expand.specs.Arguments.{ReadableCall, holdFrom}
 use Rattle.macro_expand.specs.Expand.{ExpandsTo}
 use Rattle.macro_expand.specs.Call.{Calls, SomeCall, ExpandsMacro}
 use Rattle.macro_expand.specs.PutIn.{Placed, Framed, Frame}
-use Rattle.macro_expand.specs.Alternatives.{alternativesPiece, held, SomeAlternatives, PutsAlternatives}
+use Rattle.macro_expand.specs.Alternatives.{alternativesPiece, held, SomeAlternatives, PutsHolding}
 use Rattle.macro_expand.specs.Macro.{ReadsCall, macroPiece, PutsHead, expandedBy, StartsMacro, PutsMacro}
 use Rattle.macro_expand.proofs.FrameLaws.{placed-stays, frame-stays, frame-readable}
 use Rattle.macro_expand.proofs.HoldMean.{Tells, hold-means, held-few}
@@ -86,7 +86,7 @@ module _ (s w : List ℕ) (g : Ground) (n lim q d : ℕ) (v : Appended) (ps : Li
     upto : end ≤ x .call .end
     upto = call-upto s w g n lim q d v ps four left e sp t xs four′ end D C x R
 
-    pub call-readable : Readable g (x .call) w
+    pub call-readable : ReadableCall g (x .call) w
     call-readable = frame-readable s w g n lim (x .call) v ps (D .args) xs F
 
     -- what was counted
@@ -119,9 +119,9 @@ module _ (s w : List ℕ) (g : Ground) (n lim q d : ℕ) (v : Appended) (ps : Li
       item-some i = record { span-of = sp; span-is = i; four = four′; end = end; alternatives = D .alternatives; many = many; within = item-within; placed = item-placed; upto = upto }
 
       pub item-whole : le 8 span ≡ spanBytes sp → flags ≡ getD w (d + 9 + wd) 0 → m ≡ length (held sp (D .args) (renamedAll xs) (D .alternatives)) → m < 65536 → (r : Appended) (w2 : List ℕ)
-          → PutsAlternatives s w1 g n lim (x .call) span (x .many) (x .from) u r w2
+          → PutsHolding s w1 g n lim (x .call) span (x .many) (x .from) u r w2
           → Appends s g n lim ps w v (itemPiece wd (item (expandedBy sp (print (over sp (macro t) xs)) (renamedAll xs) D))) r w2
-      unfolding PutsAlternatives itemTexts itemBytes nonterminalNode nodeBytes itemHead bytesOfEach
+      unfolding PutsHolding itemTexts itemBytes nonterminalNode nodeBytes itemHead bytesOfEach
       item-whole i j k l r w2 U =
           let as′ = held sp (D .args) (renamedAll xs) (D .alternatives) in
           let key = print (over sp (macro t) xs) in
@@ -169,7 +169,7 @@ module _ (s w : List ℕ) (g : Ground) (n lim q d : ℕ) (v : Appended) (K : Som
   macro-flags = omega (arith, ahead, C0 .defines .behind)
 
   module _ (x : Macro) (R : ReadsCall w g q d x) where
-    pub macro-readable : Readable g (x .call) w
+    pub macro-readable : ReadableCall g (x .call) w
     macro-readable = call-readable s w g n lim q d v (K .places) (K .four) (K .left) (K .end) (K .span) (K .name) (K .arguments) (K .four′) (K .behind) (K .definition) C0 x R
 
     pub macro-few : x .many < 65536
@@ -190,7 +190,7 @@ module _ (s w : List ℕ) (g : Ground) (n lim q d : ℕ) (v : Appended) (K : Som
           item-some s w g n lim q d v (K .places) (K .four) (K .left) (K .end) (K .span) (K .name) (K .arguments) (K .four′) (K .behind) (K .definition) C0 x R span (getD w (d + 9 + g .width) 0) k u w1 H
           (span-of s w g n lim q d v (K .places) (K .four) (K .left) (K .end) (K .span) (K .name) (K .arguments) (K .four′) (K .behind) (K .definition) C0 b span i)
 
-      macro-put : m < 65536 → (r : Appended) (w2 : List ℕ) → PutsAlternatives s w1 g n lim (x .call) span (x .many) (x .from) u r w2 → PutsMacro s w g n lim q d m v r w2
+      macro-put : m < 65536 → (r : Appended) (w2 : List ℕ) → PutsHolding s w1 g n lim (x .call) span (x .many) (x .from) u r w2 → PutsMacro s w g n lim q d m v r w2
       unfolding PutsMacro
       macro-put l r w2 U ps four left e sp t xs four′ end D C z =
           let h : k ≡ m = omega (arith, c) in
@@ -210,7 +210,7 @@ module _ (s w : List ℕ) (g : Ground) (n lim q d : ℕ) (x : Macro) (m : ℕ) (
   pub started-some : SomeAlternatives s w′ g (x .call) (r .span) (x .many) (x .from) (r .out)
   started-some = S .some
 
-  pub started-carry : (t : Appended) (w″ : List ℕ) → PutsAlternatives s w′ g n lim (x .call) (r .span) (x .many) (x .from) (r .out) t w″ → PutsMacro s w g n lim q d m v t w″
+  pub started-carry : (t : Appended) (w″ : List ℕ) → PutsHolding s w′ g n lim (x .call) (r .span) (x .many) (x .from) (r .out) t w″ → PutsMacro s w g n lim q d m v t w″
   started-carry t w″ U = S .carry t w″ U
 
 pub ruleset putting-macro = (needs, started-frame, started-some, started-carry)

@@ -82,7 +82,7 @@ pub record SomeAlternatives (s w : List ℕ) (g : Ground) (c : Call) (span k p :
   pub placed : Placed w g v p end (bytesOfEach (alternativeBytes (g .width) (texts s w (g .m))) alternatives)
   pub upto : end ≤ c .end
 
-unfoldable pub PutsAlternatives : List ℕ → List ℕ → Ground → ℕ → ℕ → Call → ℕ → ℕ → ℕ → Appended → Appended → List ℕ → Type 0
-PutsAlternatives s w g n lim c span k p v r w′ = (ps : List ℕ) (names : List Text) (args : Syms) (four : Bool) (e : ℕ) (xs : List Alternative) (sp : Span) → Framed s w g n lim c v ps names args
+unfoldable pub PutsHolding : List ℕ → List ℕ → Ground → ℕ → ℕ → Call → ℕ → ℕ → ℕ → Appended → Appended → List ℕ → Type 0
+PutsHolding s w g n lim c span k p v r w′ = (ps : List ℕ) (names : List Text) (args : Syms) (four : Bool) (e : ℕ) (xs : List Alternative) (sp : Span) → Framed s w g n lim c v ps names args
     → length xs ≡ k → Each (AlternativeWithin four (g .width) (texts s w (g .m))) xs → Placed w g v p e (bytesOfEach (alternativeBytes (g .width) (texts s w (g .m))) xs) → e ≤ c .end → le 8 span ≡ spanBytes sp
     → Appends s g n lim ps w v (alternativesPiece (g .width) (held sp names (renamedAll args) xs)) r w′

@@ -24,7 +24,7 @@ argumentIn wd e w k zero a p = Found.Nothing
 argumentIn wd e w k (suc n) a p = pick (eqb k (leAt wd w (a + 1))) (Found.At p) (argumentIn wd e w k n (a + (1 + wd)) (skipOut wd e w p e 1))
 
 -- what is read lies in work
-pub record Readable (g : Ground) (c : Call) (w : List ℕ) : Type 0 where
+pub record ReadableCall (g : Ground) (c : Call) (w : List ℕ) : Type 0 where
   pub narrow : 2 ≤ g .width
   pub wide : g .width ≤ 3
   pub parameters : c .params + parametersLong (g .width) (c .many) ≤ length w

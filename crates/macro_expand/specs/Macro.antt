@@ -20,7 +20,7 @@ use Rattle.macro_expand.specs.declared.call.Started.{Started}
 use Rattle.macro_expand.specs.Expand.{Popped}
 use Rattle.macro_expand.specs.PutIn.{Frame}
 use Rattle.macro_expand.specs.Call.{Calls}
-use Rattle.macro_expand.specs.Alternatives.{held, SomeAlternatives, PutsAlternatives}
+use Rattle.macro_expand.specs.Alternatives.{held, SomeAlternatives, PutsHolding}
 
 -- the call at q and the definition at d
 pub record ReadsCall (w : List ℕ) (g : Ground) (q d : ℕ) (r : Macro) : Type 0 where
@@ -53,4 +53,4 @@ PutsMacro s w g n lim q d m v r w′ = (ps : List ℕ) (four : Bool) (left e : �
 pub record StartsMacro (s w : List ℕ) (g : Ground) (n lim q d : ℕ) (x : Macro) (m : ℕ) (v : Appended) (r : Started) (w′ : List ℕ) : Type 0 where
   pub frame : Frame s w′ g n lim (x .call) (r .out)
   pub some : SomeAlternatives s w′ g (x .call) (r .span) (x .many) (x .from) (r .out)
-  pub carry : (t : Appended) (w″ : List ℕ) → PutsAlternatives s w′ g n lim (x .call) (r .span) (x .many) (x .from) (r .out) t w″ → PutsMacro s w g n lim q d m v t w″
+  pub carry : (t : Appended) (w″ : List ℕ) → PutsHolding s w′ g n lim (x .call) (r .span) (x .many) (x .from) (r .out) t w″ → PutsMacro s w g n lim q d m v t w″

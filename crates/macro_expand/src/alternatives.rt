@@ -19,7 +19,7 @@ ghost use Prim.Native.Nat.{_+_, _≤_};
 ghost use lib.ListN.{length};
 ghost use Rattle.precedence.specs.Write.{Puts};
 ghost use Rattle.macro_expand.specs.PutIn.{Frame};
-ghost use Rattle.macro_expand.specs.Alternatives.{bareOut, SomeAlternative, OpensAlternative, PutsAlternative, PutsIf, SomeAlternatives, PutsAlternatives};
+ghost use Rattle.macro_expand.specs.Alternatives.{bareOut, SomeAlternative, OpensAlternative, PutsAlternative, PutsIf, SomeAlternatives, PutsHolding};
 
 fn put_zero(work: &mut [u8], lim: usize, to: usize) -> usize
     requires { ⌜ lim ≤ length (now work) ⌝ }
@@ -132,7 +132,7 @@ pub fn expand_alternatives(
     v: Appended,
 ) -> Appended
     requires { ⌜ Frame (now tape) (now work) g n lim c v × SomeAlternatives (now tape) (now work) g c span k at v ⌝ }
-    ensures { λ r. ⌜ PutsAlternatives (now (tape .entry)) (now (work .entry)) g n lim c span k at v r (now (work .exit)) ⌝ }
+    ensures { λ r. ⌜ PutsHolding (now (tape .entry)) (now (work .entry)) g n lim c span k at v r (now (work .exit)) ⌝ }
 {
     let mut i = k;
     let mut p = at;

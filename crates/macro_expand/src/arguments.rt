@@ -10,7 +10,7 @@ ghost use Prim.Native.Nat.{_+_, _≤_, _<_};
 ghost use lib.ListN.{length};
 ghost use Rattle.grades.specs.Annotations.{conditionsFrom};
 ghost use Rattle.octets.specs.working.Choice.{pick};
-ghost use Rattle.macro_expand.specs.Arguments.{Readable, argumentFor, equalBy, judgedAt, holdsAt, holdFrom};
+ghost use Rattle.macro_expand.specs.Arguments.{ReadableCall, argumentFor, equalBy, judgedAt, holdsAt, holdFrom};
 
 // Where the parameters and the symbols for them stand, how many there are, and the place before which the definition ends.
 pub struct Call {
@@ -34,7 +34,7 @@ pub enum Upheld {
 
 // Where the symbol for the parameter stands whose name has the number k.
 pub fn argument(work: &[u8], g: Ground, c: Call, k: u32) -> Found
-    requires { ⌜ Readable g c (now work) ⌝ }
+    requires { ⌜ ReadableCall g c (now work) ⌝ }
     ensures { λ r. ⌜ r ≡ argumentFor g c (now (work .entry)) k ⌝ }
 {
     let size = 1 + g.width;
@@ -69,7 +69,7 @@ fn is_equal(work: &[u8], w: usize, p: usize, at: usize) -> bool
 
 // The condition at a place.
 pub fn evaluate_cond(work: &[u8], g: Ground, c: Call, at: usize) -> Judged
-    requires { ⌜ Readable g c (now work) ⌝ }
+    requires { ⌜ ReadableCall g c (now work) ⌝ }
     ensures { λ r. ⌜ r ≡ judgedAt g c (now (work .entry)) at ⌝ }
 {
     if c.end <= at {
@@ -102,7 +102,7 @@ pub fn conditions(work: &[u8], p: usize, width: usize) -> usize
 
 // Whether the alternative at p holds.
 pub fn holds(work: &[u8], g: Ground, c: Call, p: usize) -> Judged
-    requires { ⌜ Readable g c (now work) × (p < c .end) ⌝ }
+    requires { ⌜ ReadableCall g c (now work) × (p < c .end) ⌝ }
     ensures { λ r. ⌜ r ≡ holdsAt g c (now (work .entry)) p ⌝ }
 {
     let x = work[p + 10];
@@ -124,7 +124,7 @@ fn counted(k: usize, b: bool) -> usize
 
 // How many of n alternatives from a place on hold.
 pub fn holding(work: &[u8], g: Ground, c: Call, n: usize, at: usize) -> Upheld
-    requires { ⌜ Readable g c (now work) × (n < 65536) ⌝ }
+    requires { ⌜ ReadableCall g c (now work) × (n < 65536) ⌝ }
     ensures { λ r. ⌜ r ≡ holdFrom g c (now (work .entry)) n at 0 ⌝ }
 {
     let mut i = n;

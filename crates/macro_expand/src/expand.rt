@@ -16,7 +16,7 @@ ghost use Prim.Native.Nat.{_+_, _≤_};
 ghost use lib.ListN.{length, getD};
 ghost use Rattle.texts.specs.declared.Found.{Found};
 ghost use Rattle.resolve.specs.Commands.{longOf};
-ghost use Rattle.macro_expand.specs.Arguments.{Readable};
+ghost use Rattle.macro_expand.specs.Arguments.{ReadableCall};
 ghost use Rattle.macro_expand.specs.PutIn.{parameterAt, PutsHere, Opens, Frame, SomeInside, SomeInsides, PutsIn, PutsInAll};
 
 // How many symbols are to come, and from where on.
@@ -27,7 +27,7 @@ pub struct Opened {
 
 // Where the symbol for the parameter at a place stands, if there is one.
 fn parameter(work: &[u8], g: Ground, c: Call, at: usize) -> Found
-    requires { ⌜ Readable g c (now work) × (at + 16 ≤ length (now work)) ⌝ }
+    requires { ⌜ ReadableCall g c (now work) × (at + 16 ≤ length (now work)) ⌝ }
     ensures { λ r. ⌜ r ≡ parameterAt g c (now (work .entry)) at ⌝ }
 {
     let x = work[at];

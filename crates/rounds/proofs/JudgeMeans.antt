@@ -18,7 +18,7 @@ use Rattle.passes.specs.Sizes.{each, itemFits, stageFits}
 use Rattle.passes.specs.Calls.{nowhere, sizes}
 use Rattle.replacing.proofs.ThereBytes.{bytes-both}
 use Rattle.settling.specs.Settle.{someLong}
-use Rattle.rounds.specs.Judge.{sized, admitted}
+use Rattle.rounds.specs.Judge.{verdict, admitted}
 
 -- ---- lists
 each-two : {A : Type 0} (f : A → Bool) (xs ys : List A) → each f (xs ++ ys) ≡ each f xs && each f ys
@@ -85,15 +85,15 @@ module _ (cap : ℕ) (ts us : List Text) (old new : List Item) (atoms : stageOf 
       ∙ ap (λ (c : Bool). leb (length ts + length us) 65536 && (not (someLong us) && c)) b
 
   -- theorem: 20 and 21 of the stage are what is judged of its numbers
-  pub judge-means : sizes 2 cap g ≡ admitted (sized (length ts + length us) (someLong us) (not (each itemFits new)) bytesIn cap) g
-  unfolding sizes sized admitted pick
+  pub judge-means : sizes 2 cap g ≡ admitted (verdict (length ts + length us) (someLong us) (not (each itemFits new)) bytesIn cap) g
+  unfolding sizes verdict admitted pick
   judge-means =
       ap (λ (b : Bool). cond b (cond (leb (length (tapeOf 2 g)) cap) (yes g) (no 21 nowhere)) (no 20 nowhere)) fits-are
       ∙ ap (λ (n : ℕ). cond (leb (length ts + length us) 65536 && (not (someLong us) && each itemFits new)) (cond (leb n cap) (yes g) (no 21 nowhere)) (no 20 nowhere)) tape-long
       ∙ go (ltb 65536 (length ts + length us)) refl (someLong us) (each itemFits new) (ltb cap bytesIn) refl
     where
       go : (a : Bool) → ltb 65536 (length ts + length us) ≡ a → (b c d : Bool) → ltb cap bytesIn ≡ d
-          → cond (leb (length ts + length us) 65536 && (not b && c)) (cond (leb bytesIn cap) (yes g) (no 21 nowhere)) (no 20 nowhere) ≡ admitted (sized (length ts + length us) b (not c) bytesIn cap) g
+          → cond (leb (length ts + length us) 65536 && (not b && c)) (cond (leb bytesIn cap) (yes g) (no 21 nowhere)) (no 20 nowhere) ≡ admitted (verdict (length ts + length us) b (not c) bytesIn cap) g
       go true x b c d y = let l = lt-leb (length ts + length us) 65536 (ltb-true 65536 (length ts + length us) x) in cc
       go false x true c d y = let l = le-leb (length ts + length us) 65536 (ltb-false 65536 (length ts + length us) x) in cc
       go false x false false d y = let l = le-leb (length ts + length us) 65536 (ltb-false 65536 (length ts + length us) x) in cc

@@ -1,4 +1,5 @@
--- Laws of rounds: StartMeans has the pile between replacing and appending, CallsMean that macro calls stay as resolving left them. Assumes nothing.
+-- Laws of rounds: StartMeans has the pile between replacing and appending, CallsMean that macro calls stay as resolving left them, DefineMeans what the cells of macros' names say, PaidMeans
+-- that the items of a round pay for its new texts, JudgeMeans 20 and 21 of a stage, ReadyMeans that items which stand can be replaced. Assumes nothing.
 mod GroundCode
 pub mod CallsMean
 pub mod ReadyMeans
@@ -9,3 +10,15 @@ pub mod StartPile
 pub mod StartMeans
 mod JudgeCode
 pub mod JudgeMeans
+pub mod DefineCells
+mod DefineItem
+pub mod DefineMacro
+mod DefineCode
+pub mod DefineMeans
+pub mod PaidTexts
+pub mod PaidItems
+pub mod PaidCosts
+pub mod PaidPile
+pub mod PaidMeans
+pub mod PaidRounds
+pub mod PaidKeeps

@@ -8,8 +8,8 @@ use Rattle.passes.specs.Outcome.{Outcome, yes, no}
 use Rattle.passes.specs.Calls.{nowhere}
 
 -- 20, 21, or 0 where it is admitted: how many atoms it has, whether a text is too long, whether a symbol is nested too deep, how many bytes, and how many are admitted
-unfoldable pub sized : ℕ → Bool → Bool → ℕ → ℕ → ℕ
-sized count long deep bytes cap = pick (ltb 65536 count) 20 (pick long 20 (pick deep 20 (pick (ltb cap bytes) 21 0)))
+unfoldable pub verdict : ℕ → Bool → Bool → ℕ → ℕ → ℕ
+verdict count long deep bytes cap = pick (ltb 65536 count) 20 (pick long 20 (pick deep 20 (pick (ltb cap bytes) 21 0)))
 
 -- what that says of a stage
 unfoldable pub admitted : ℕ → Stage → Outcome Stage

@@ -1,3 +1,4 @@
-// The rounds of macro expansion: symbols replaced, the pile drained, new texts settled. Touches nothing but the slices that it is handed.
+// The rounds of macro expansion, as far as they are built: macros told in the cells of their names, a round's ground, its sizes. Touches nothing but the slices that it is handed.
+pub mod define;
 pub mod ground;
 pub mod judge;

@@ -22,8 +22,8 @@ use Rattle.display.specs.Follow.{wordAt, leafText, markText, nameText, beforeBy
 use Rattle.precedence.specs.Write.{Puts}
 use Rattle.precedence.proofs.WriteLaws.{puts-none}
 use Rattle.settling.specs.declared.Source.{Source}
-use Rattle.settling.specs.Put.{sourceText, Fixed, Placed}
-use Rattle.settling.specs.Print.{Printable, Opening, Closing, Opens}
+use Rattle.settling.specs.Put.{sourceText, Fixed, PlacedText}
+use Rattle.settling.specs.Print.{Printable, Opening, Closing, OpensPrint}
 use Rattle.settling.proofs.PutLaws.{puts-as}
 use Rattle.settling.proofs.PrintLaws.{printable-next}
 
@@ -44,7 +44,7 @@ module _ (s w : List ℕ) (m : Map) (wd lim to : ℕ) (g : Printable s w m wd li
   pub print-stop : to ≤ lim + 1
   print-stop = g .stop
 
-  pub print-fixed : (t : Text) (p : Source) → Placed s w m t p → Fixed (length s) (length w) lim p
+  pub print-fixed : (t : Text) (p : Source) → PlacedText s w m t p → Fixed (length s) (length w) lim p
   print-fixed t p d = d .fixed lim (g .above)
 
 -- ---- put_between
@@ -143,7 +143,7 @@ module _ (w : List ℕ) (at c lim to r : ℕ) (w1 : List ℕ) where
 pub ruleset closing = (needs, close-inside, close-room, behind-macro, behind-repeat, behind-choose, behind-group, behind-none)
 
 -- ---- put_named
-pub named-put : (s w : List ℕ) (m : Map) (wd at lim to r : ℕ) (w1 : List ℕ) (p : Source) → Placed s w m (wordAt wd (texts s w m) w (at + 10)) p
+pub named-put : (s w : List ℕ) (m : Map) (wd at lim to r : ℕ) (w1 : List ℕ) (p : Source) → PlacedText s w m (wordAt wd (texts s w m) w (at + 10)) p
     → Puts w lim to (nameText (getD w (at + 9) 0) (sourceText s w p)) r w1 → Puts w lim to (nameText (getD w (at + 9) 0) (wordAt wd (texts s w m) w (at + 10))) r w1
 named-put s w m wd at lim to r w1 p d a = puts-as (ap (nameText (getD w (at + 9) 0)) (d .text)) a
 
@@ -151,11 +151,11 @@ pub ruleset naming = (needs, print-worded, print-narrow, print-wide, print-insid
 
 -- ---- put_before
 module _ (s w : List ℕ) (m : Map) (wd at c lim to r : ℕ) (w1 : List ℕ) where
-  pub before-named : (p : Source) → c < 37 → Placed s w m (wordAt wd (texts s w m) w (at + 9)) p → Puts w lim to (leafText c (sourceText s w p)) r w1 → Puts w lim to (beforeBy wd (texts s w m) w at c) r w1
+  pub before-named : (p : Source) → c < 37 → PlacedText s w m (wordAt wd (texts s w m) w (at + 9)) p → Puts w lim to (leafText c (sourceText s w p)) r w1 → Puts w lim to (beforeBy wd (texts s w m) w at c) r w1
   unfolding beforeBy pick
   before-named p h d a = let z = d .text in rw (lt-ltb c 37 h) (puts-as (ap (leafText c) z) a)
 
-  pub before-macro : (p : Source) → c ≡ 37 → Placed s w m (wordAt wd (texts s w m) w (at + 9)) p → Puts w lim to (sourceText s w p ++ (60 ∷ [])) r w1 → Puts w lim to (beforeBy wd (texts s w m) w at c) r w1
+  pub before-macro : (p : Source) → c ≡ 37 → PlacedText s w m (wordAt wd (texts s w m) w (at + 9)) p → Puts w lim to (sourceText s w p ++ (60 ∷ [])) r w1 → Puts w lim to (beforeBy wd (texts s w m) w at c) r w1
   unfolding beforeBy pick
   before-macro p e d a = rw e (puts-as (ap (λ (t : Text). t ++ (60 ∷ [])) (d .text)) a)
 
@@ -187,7 +187,7 @@ module _ (s w : List ℕ) (m : Map) (wd at lim to : ℕ) (g : Printable s w m wd
   open-fits l k f = let z = h .within in omega arith
 
   pub open-put : (c k o l n q r : ℕ) (w1 w2 : List ℕ) → o ≡ getD w at 0 → l ≡ longOf wd o → 0 < l → n ≡ insideBy wd w at o → Puts w lim to (betweenBy c k) q w1
-      → Puts w1 lim q (beforeBy wd (texts s w1 m) w1 at o) r w2 → Opens s w m wd at c k lim to (record { code = o; end = at + l; inside = n; to = r }) w2
+      → Puts w1 lim q (beforeBy wd (texts s w1 m) w1 at o) r w2 → OpensPrint s w m wd at c k lim to (record { code = o; end = at + l; inside = n; to = r }) w2
   open-put c k o l n q r w1 w2 e d p i a b = record { code = e; end = ap (λ (v : ℕ). at + v) d; long = omega arith; room = omega (arith, h .room, ap (longOf wd) e); inside = i; work = w1; place = q; between = a; before = b }
 
 pub open-room : (w w1 : List ℕ) (wd at o : ℕ) → Opening w wd at → o ≡ getD w at 0 → length w1 ≡ length w → at + longOf wd o ≤ length w1

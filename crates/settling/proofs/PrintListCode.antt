@@ -22,7 +22,7 @@ use Rattle.precedence.specs.Write.{Puts}
 use Rattle.precedence.proofs.WriteLaws.{puts-beside, puts-none}
 use Rattle.settling.specs.declared.Printed.{Printed}
 use Rattle.settling.specs.declared.print.Opened.{Opened}
-use Rattle.settling.specs.Print.{Printable, Opening, Closing, Opens, SomeBelow, PrintsList, PrintsSymbol}
+use Rattle.settling.specs.Print.{Printable, Opening, Closing, OpensPrint, SomeBelow, PrintsList, PrintsSymbol}
 use Rattle.settling.proofs.PutLaws.{then, puts-as}
 use Rattle.settling.proofs.PrintTexts.{restText, rest-none, rest-step}
 use Rattle.settling.proofs.PrintLaws.{next-on, printable-next, symbol-next, symbols-next}
@@ -43,7 +43,7 @@ record FirstBelow (s w : List ℕ) (m : Map) (wd left p z : ℕ) : Type 0 where
   below : end ≤ z
 
 -- ---- what is asked behind the symbols inside
-pub closing-next : (s out w2 w3 : List ℕ) (m : Map) (wd left p code d lim q : ℕ) (f : Opened) (z : Printed) → Opens s out m wd p code d lim q f w2 → PrintsList s w2 m wd (f .inside) left (f .end) (f .code) lim (f .to) z w3
+pub closing-next : (s out w2 w3 : List ℕ) (m : Map) (wd left p code d lim q : ℕ) (f : Opened) (z : Printed) → OpensPrint s out m wd p code d lim q f w2 → PrintsList s w2 m wd (f .inside) left (f .end) (f .code) lim (f .to) z w3
     → Closing w3 wd p (f .code) lim (z .to)
 closing-next s out w2 w3 m wd left p code d lim q f z front printed = record {
   room = omega (arith, front .room, front .end, printed .puts .long, front .before .long, front .between .long);
@@ -124,7 +124,7 @@ module _ (s w : List ℕ) (m : Map) (wd n left at code lim to : ℕ) where
       pub going-falls : (t : ℕ) → left ≡ t → left - 1 < t
       going-falls t e = omega (arith, going-deep)
 
-      module _ (f : Opened) (w2 : List ℕ) (front : Opens s out m wd p code d lim q f w2) where
+      module _ (f : Opened) (w2 : List ℕ) (front : OpensPrint s out m wd p code d lim q f w2) where
         printable-one : Printable s (front .work) m wd lim (front .place)
         printable-one = printable-next s out m wd lim q (g .printable) (betweenBy code d) (front .place) (front .work) (front .between)
 

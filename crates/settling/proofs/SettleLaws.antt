@@ -17,7 +17,7 @@ use Rattle.expander.proofs.GroundLaws.{keys-slots, slots-top}
 use Rattle.settling.specs.One.{Entry, TextReady}
 use Rattle.settling.specs.Settle.{newBytes, Settling}
 use Rattle.settling.proofs.NewLaws.{size-next, each-short, names-entry}
-use Rattle.settling.proofs.SettleStays.{Placed, placed-ground, placed-above, placed-list, placed-entry, placed-text}
+use Rattle.settling.proofs.SettleStays.{PlacedText, placed-ground, placed-above, placed-list, placed-entry, placed-text}
 
 -- record k of the new ones says the text t, which stands from z on
 pub record Told (s w : List ℕ) (g : Ground) (k : ℕ) (t : Text) (z : ℕ) : Type 0 where
@@ -34,7 +34,7 @@ pub record Going (s w : List ℕ) (g : Ground) (c end i q : ℕ) (w′ : List �
   pub rest : List ℕ
   pub split : newBytes s w g c ≡ newBytes s w g i ++ rest
   pub lies : Lies w′ q rest end
-  pub placed : Placed g (g .m .count + i) q end w w′
+  pub placed : PlacedText g (g .m .count + i) q end w w′
   pub told : (k : ℕ) → i ≤ k → k < c → Told s w′ g k (describedBy s w g (listAt w g k)) q
 
 module _ (s w : List ℕ) (g : Ground) (n c end : ℕ) (h : Settling s w g n c end) where

@@ -25,7 +25,7 @@ use Rattle.expander.specs.Names.{describedBy}
 use Rattle.settling.specs.One.{Written}
 use Rattle.settling.specs.Settle.{newBytes, Settling}
 use Rattle.settling.proofs.NewLaws.{bytes-next}
-use Rattle.settling.proofs.SettleStays.{Placed}
+use Rattle.settling.proofs.SettleStays.{PlacedText}
 use Rattle.settling.proofs.SettleLaws.{Told, Going, keys-top, going-upto, text-old, going-short, going-size}
 
 -- a bound may be lower
@@ -103,7 +103,7 @@ module _ (s w : List ℕ) (g : Ground) (n c end : ℕ) (h : Settling s w g n c e
       lies-append (written .lies)
       (lies-agree w1 w2 q end (x .rest) (written .long) (omega (arith, x .placed .long, h .inside)) (λ d a b. written .others d (inr (inr a))) (x .lies))
 
-  next-placed : Placed g (g .m .count + j) r end w w2
+  next-placed : PlacedText g (g .m .count + j) r end w w2
   next-placed = record { long = written .long ∙ x .placed .long; others = go }
     where
       go : (d : ℕ) → (d < g .m .base + 24 * (g .m .count + j)) ⊎ ((g .keys ≤ d) × (d < r)) ⊎ (end ≤ d) → getD w2 d 0 ≡ getD w d 0

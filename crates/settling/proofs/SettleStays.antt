@@ -28,11 +28,11 @@ use Rattle.settling.specs.One.{Entry}
 use Rattle.settling.proofs.OneCode.{described-odd}
 
 -- from w to w′ nothing changed but records from k on, up to the records of pushed symbols, and texts from q up to e
-pub record Placed (g : Ground) (k q e : ℕ) (w w′ : List ℕ) : Type 0 where
+pub record PlacedText (g : Ground) (k q e : ℕ) (w w′ : List ℕ) : Type 0 where
   pub long : length w′ ≡ length w
   pub others : (j : ℕ) → (j < g .m .base + 24 * k) ⊎ ((g .keys ≤ j) × (j < q)) ⊎ (e ≤ j) → getD w′ j 0 ≡ getD w j 0
 
-module _ (s w w′ : List ℕ) (g : Ground) (k q e : ℕ) (G : Grounded s w g) (behind : g .m .count ≤ k) (top : topOf g ≤ q) (items : g .end ≤ q) (above : Above s w (g .m) e) (p : Placed g k q e w w′) where
+module _ (s w w′ : List ℕ) (g : Ground) (k q e : ℕ) (G : Grounded s w g) (behind : g .m .count ≤ k) (top : topOf g ≤ q) (items : g .end ≤ q) (above : Above s w (g .m) e) (p : PlacedText g k q e w w′) where
   keys-top : g .keys ≤ topOf g
   keys-top = omega (arith, keys-slots s w g G, slots-top s w g G)
 

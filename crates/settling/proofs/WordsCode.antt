@@ -27,7 +27,7 @@ use Rattle.display.specs.Follow.{quotedText, wordAt, leafText, markText, labelT
 use Rattle.precedence.specs.Write.{Puts}
 use Rattle.precedence.proofs.WriteLaws.{puts-none}
 use Rattle.settling.specs.declared.Source.{Source}
-use Rattle.settling.specs.Put.{sourceText, Fixed, Marked, Placed}
+use Rattle.settling.specs.Put.{sourceText, Fixed, Marked, PlacedText}
 use Rattle.settling.proofs.PutLaws.{puts-stop, then, puts-as}
 use Rattle.settling.proofs.WordsLaws.{fixed-same, source-next}
 
@@ -94,14 +94,14 @@ module _ (wd : ℕ) (s w : List ℕ) (m : Map) (at x k : ℕ) (j : x ≡ leAt wd
   unfolding texts
   many = length-texts s w (m .base) (m .count)
 
-  pub word-beyond : m .count ≤ k → Placed s w m (wordAt wd (texts s w m) w at) (record { here = false; from = 0; end = 0 })
+  pub word-beyond : m .count ≤ k → PlacedText s w m (wordAt wd (texts s w m) w at) (record { here = false; from = 0; end = 0 })
   unfolding sourceText
   word-beyond l = record {
     text = part-none 0 0 (pick false w s) (omega arith) ∙ sym (some ∙ List·getD-eq-default (texts s w m) [] {n = k} (omega (arith, many)));
     fixed = λ z a. record { ordered = omega arith; tape = λ p. omega arith; work = λ p. absurd (not-here p); behind = λ p. absurd (not-here p) };
   }
 
-  pub word-placed : (y : ℕ) (p : Source) → k < m .count → y ≡ markAt w (m .base) k → Marked s w y p → Placed s w m (wordAt wd (texts s w m) w at) p
+  pub word-placed : (y : ℕ) (p : Source) → k < m .count → y ≡ markAt w (m .base) k → Marked s w y p → PlacedText s w m (wordAt wd (texts s w m) w at) p
   unfolding texts
   word-placed y p l e d = record {
     text = d .text ∙ ap (markedText s w) e ∙ sym (texts-at s w (m .base) (m .count) k l) ∙ sym some;

@@ -48,7 +48,7 @@ module _ (s w : List ℕ) (m : Map) (wd : ℕ) where
     pub below : end ≤ z
 
   -- what stands before the k-th symbol inside one of the code c is put, and then what that at a place begins with
-  pub record Opens (at c k lim to : ℕ) (r : Opened) (w′ : List ℕ) : Type 0 where
+  pub record OpensPrint (at c k lim to : ℕ) (r : Opened) (w′ : List ℕ) : Type 0 where
     pub code : r .code ≡ getD w at 0
     pub end : r .end ≡ at + longOf wd (r .code)
     pub long : at < r .end

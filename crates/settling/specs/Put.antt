@@ -33,6 +33,6 @@ pub record Marked (s w : List ℕ) (x : ℕ) (p : Source) : Type 0 where
   pub behind : p .here ≡ true → x + 4 * length s ≤ p .from
 
 -- the text t stands there, behind each bound of the texts in work
-pub record Placed (s w : List ℕ) (m : Map) (t : Text) (p : Source) : Type 0 where
+pub record PlacedText (s w : List ℕ) (m : Map) (t : Text) (p : Source) : Type 0 where
   pub text : sourceText s w p ≡ t
   pub fixed : (z : ℕ) → Above s w m z → Fixed (length s) (length w) z p

@@ -17,7 +17,7 @@ ghost use Rattle.texts.specs.Table.{texts};
 ghost use Rattle.resolve.specs.Commands.{longOf};
 ghost use Rattle.display.specs.Follow.{wordAt, nameText, beforeBy, behindBy, betweenBy};
 ghost use Rattle.precedence.specs.Write.{Puts};
-ghost use Rattle.settling.specs.Print.{Printable, Closing, Opening, Opens, SomeBelow, PrintsList, PrintsSymbol};
+ghost use Rattle.settling.specs.Print.{Printable, Closing, Opening, OpensPrint, SomeBelow, PrintsList, PrintsSymbol};
 
 // What is read of a symbol's command: its code, where the symbols straight inside stand, and how many; and where to write on.
 pub struct Opened {
@@ -130,7 +130,7 @@ fn open(
     to: usize,
 ) -> Opened
     requires { ⌜ Printable (now tape) (now work) m width lim to × Opening (now work) width at ⌝ }
-    ensures { λ r. ⌜ Opens (now (tape .entry)) (now (work .entry)) m width at c k lim to r (now (work .exit)) ⌝ }
+    ensures { λ r. ⌜ OpensPrint (now (tape .entry)) (now (work .entry)) m width at c k lim to r (now (work .exit)) ⌝ }
 {
     let o = work[at];
     let end = at + long(o, width);

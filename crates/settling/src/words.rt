@@ -21,7 +21,7 @@ ghost use Rattle.texts.specs.Texts.{Whole};
 ghost use Rattle.grades.specs.Grading.{Worded};
 ghost use Rattle.display.specs.Follow.{quotedText, wordAt, leafText, markText, labelText, nameText};
 ghost use Rattle.precedence.specs.Write.{Puts};
-ghost use Rattle.settling.specs.Put.{sourceText, Fixed, Marked, Placed};
+ghost use Rattle.settling.specs.Put.{sourceText, Fixed, Marked, PlacedText};
 
 // Where the text of a mark stands.
 fn mark_source(tape: &[u8], work: &[u8], x: usize) -> Source
@@ -49,7 +49,7 @@ fn mark_source(tape: &[u8], work: &[u8], x: usize) -> Source
 // Where the text stands whose number stands at a place.
 pub fn word_source(tape: &[u8], work: &[u8], m: Map, width: usize, at: usize) -> Source
     requires { ⌜ Worded (now tape) (now work) m × (2 ≤ width) × (width ≤ 3) × (at + width ≤ length (now work)) ⌝ }
-    ensures { λ r. ⌜ Placed (now (tape .entry)) (now (work .entry)) m (wordAt width (texts (now (tape .entry)) (now (work .entry)) m) (now (work .entry)) at) r ⌝ }
+    ensures { λ r. ⌜ PlacedText (now (tape .entry)) (now (work .entry)) m (wordAt width (texts (now (tape .entry)) (now (work .entry)) m) (now (work .entry)) at) r ⌝ }
 {
     let k = from32(atom_at(work, at, width));
     if m.count <= k {
