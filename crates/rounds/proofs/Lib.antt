@@ -2,6 +2,7 @@
 -- that the items of a round pay for its new texts, JudgeMeans 20 and 21 of a stage, ReadyMeans that items which stand can be replaced. Assumes nothing.
 mod GroundCode
 pub mod CallsMean
+pub mod ResolvedCalls
 pub mod ReadyMeans
 pub mod StartTrees
 pub mod StartNames
