@@ -11,6 +11,7 @@ pub mod StartPile
 pub mod StartMeans
 mod JudgeCode
 pub mod JudgeMeans
+pub mod KeptMeans
 pub mod DefineCells
 mod DefineItem
 pub mod DefineMacro
