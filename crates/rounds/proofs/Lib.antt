@@ -24,3 +24,4 @@ pub mod PaidPile
 pub mod PaidMeans
 pub mod PaidRounds
 pub mod PaidKeeps
+pub mod PaidStarts
