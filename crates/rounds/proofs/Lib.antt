@@ -25,3 +25,4 @@ pub mod PaidMeans
 pub mod PaidRounds
 pub mod PaidKeeps
 pub mod PaidStarts
+pub mod RoundBegins

@@ -59,7 +59,7 @@ module _ (four : Bool) (w : ℕ) (ts : List Text) where
   condition-spans none h = tt
   condition-spans (some c) h = h .0 .span
 
-  item-spans : (i : Item) → ItemWithin four w ts i → ItemSpans SpanWithin i
+  pub item-spans : (i : Item) → ItemWithin four w ts i → ItemSpans SpanWithin i
   item-spans (item d) h =
       let alternative : (a : Alternative) → AlternativeWithin four w ts a → AlternativeSpans SpanWithin a = λ a k. (k .span, condition-spans (a .condition) (k .condition), syms-spans (a .symbols) 64 (k .symbols)) in
       (h .span, each-map (AlternativeWithin four w ts) (AlternativeSpans SpanWithin) alternative (d .alternatives) (h .alternatives))
@@ -207,7 +207,7 @@ short-texts (t ∷ ts) f =
 
 -- ---- stages
 module _ (w : ℕ) where
-  stage-within : (g : Stage) → Stocked w g → Each (ItemSpans SpanWithin) (g .items) → StageWithin false w g
+  pub stage-within : (g : Stage) → Stocked w g → Each (ItemSpans SpanWithin) (g .items) → StageWithin false w g
   unfolding stageFits
   stage-within g h p =
       let (f1, k) = and-eq-true-iff (leb (length (g .atoms)) (256 ^ w)) (each (λ (t : Text). ltb (length t) 65536) (g .atoms) && each itemFits (g .items)) .0 (h .fits) in

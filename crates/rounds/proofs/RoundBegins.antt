@@ -1,0 +1,107 @@
+-- What holds of the trees where a round begins, and that a round carries it to the next: texts, spans, soundness, calls, bounds, and what new texts cost. Assumes nothing.
+use mathlib.Core.Path.{_≡_, sym, subst}
+use mathlib.Core.Bool.{true, false}
+use mathlib.Core.List.{List, [], _++_}
+use Prim.Native.Nat.{ℕ, _≤_}
+use lib.ListN.{length}
+use Rattle.parse_tree.specs.plain.Tree.{Text, Item}
+use Rattle.parse_tree.specs.plain.Texts.{distinct}
+use Rattle.parse_tree.specs.plain.References.{textsOfEach, itemTexts, stageOf}
+use Rattle.parse_tree.specs.working.Within.{Each, SpanWithin, ItemWithin}
+use Rattle.parse_tree.proofs.ReadingLaws.{each-append}
+use Rattle.passes.specs.Outcome.{Tree, yes}
+use Rattle.passes.specs.Macros.{Pending, Expander, replaceItems, drain}
+use Rattle.passes.specs.Stages.{stage}
+use Rattle.passes.specs.Calls.{sizes}
+use Rattle.meaning.proofs.calls.Spans.{ItemSpans}
+use Rattle.meaning.proofs.calls.RoundSpans.{replaceItems-spans, drain-spans}
+use Rattle.meaning.proofs.calls.Atoms.{with-new-distinct, stage-stocked}
+use Rattle.meaning.proofs.calls.Output.{stage-within}
+use Rattle.laws.specs.Keys.{ItemSound, Piled}
+use Rattle.laws.proofs.Keys.{replace-items-sound, drain-sound}
+use Rattle.replacing.specs.Trees.{expandedItems}
+use Rattle.replacing.proofs.TreesMean.{replace-items-is}
+use Rattle.rounds.specs.Calls.{ItemCalls, PendingCalls}
+use Rattle.rounds.specs.Paid.{TreeKnown, KeysKnown, Paid}
+use Rattle.rounds.proofs.CallsMean.{pile-calls, drain-calls}
+use Rattle.rounds.proofs.PaidRounds.{after-round, round-known}
+use Rattle.rounds.proofs.PaidKeeps.{round-keeps}
+
+-- what is on the pile after replacing
+abbrev piledOf : List Item → List Text → List Pending
+piledOf fresh K = replaceItems fresh (record { keys = K; pile = [] }) .1 .pile
+
+-- G has the macros, ts are the former stage's texts, `past` those that no tape had; `old` are the items already replaced, `fresh` those added since, K the keys met so far
+pub record Begins (w : ℕ) (G : Tree) (old fresh : List Item) (K ts past : List Text) : Type 0 where
+  pub apart : distinct ts ≡ true
+  pub macros-known : TreeKnown ts G
+  pub old-known : TreeKnown ts old
+  pub fresh-known : TreeKnown ts fresh
+  pub keys-known : KeysKnown ts K
+  pub macros-spans : Each (ItemSpans SpanWithin) G
+  pub old-spans : Each (ItemSpans SpanWithin) old
+  pub fresh-spans : Each (ItemSpans SpanWithin) fresh
+  pub macros-sound : Each ItemSound G
+  pub fresh-sound : Each ItemSound fresh
+  pub piled : Piled (record { keys = K; pile = [] })
+  pub macros-call : Each (ItemCalls G) G
+  pub fresh-call : Each (ItemCalls G) fresh
+  pub within : Each (ItemWithin false w ts) (old ++ fresh)
+  -- in the first round only where a symbol is pushed
+  pub paid : 1 ≤ length (piledOf fresh K) → Paid past (old ++ fresh)
+
+-- ---- one round, whose appending stage is admitted
+module _ (w cap : ℕ) (G : Tree) (old fresh new : List Item) (K ts past us : List Text) (h : Begins w G old fresh K ts past) (some : 1 ≤ length (piledOf fresh K)) (e : drain G (piledOf fresh K) ≡ yes new)
+    (a : stage (sizes w cap) (stageOf ts (old ++ replaceItems fresh (record { keys = K; pile = [] }) .0) .atoms) (old ++ replaceItems fresh (record { keys = K; pile = [] }) .0 ++ new)
+    ≡ yes (stageOf (stageOf ts (old ++ replaceItems fresh (record { keys = K; pile = [] }) .0) .atoms) (old ++ replaceItems fresh (record { keys = K; pile = [] }) .0 ++ new)))
+    (u : after-round G old fresh new K ts ≡ ts ++ us) where
+  abbrev σ : Expander
+  σ = record { keys = K; pile = [] }
+
+  abbrev q : List Item × Expander
+  q = replaceItems fresh σ
+
+  replaced-apart : distinct (stageOf ts (old ++ q .0) .atoms) ≡ true
+  unfolding stageOf
+  replaced-apart = with-new-distinct ts (textsOfEach itemTexts (old ++ q .0)) (h .apart)
+
+  old-spans-next : Each (ItemSpans SpanWithin) (old ++ q .0)
+  old-spans-next = each-append (ItemSpans SpanWithin) old (q .0) (h .old-spans) (replaceItems-spans SpanWithin fresh σ (h .fresh-spans) tt .0)
+
+  new-spans : Each (ItemSpans SpanWithin) new
+  new-spans = drain-spans SpanWithin G (h .macros-spans) (q .1 .pile) new (replaceItems-spans SpanWithin fresh σ (h .fresh-spans) tt .1) e
+
+  piled-next : Piled (q .1)
+  piled-next = replace-items-sound fresh σ (h .fresh-sound) (h .piled) .1
+
+  pile-call : Each (PendingCalls G) (q .1 .pile)
+  pile-call = subst (λ (x : List Item × Expander). Each (PendingCalls G) (x .1 .pile)) (sym (replace-items-is fresh σ)) (pile-calls G (expandedItems fresh) σ tt)
+
+  within-next : Each (ItemWithin false w (after-round G old fresh new K ts)) (old ++ q .0 ++ new)
+  unfolding stageOf
+  within-next =
+      let g = stageOf (stageOf ts (old ++ q .0) .atoms) (old ++ q .0 ++ new) in
+      stage-within w g (stage-stocked w cap (stageOf ts (old ++ q .0) .atoms) (old ++ q .0 ++ new) g replaced-apart a) (each-append (ItemSpans SpanWithin) (old ++ q .0) new old-spans-next new-spans) .items
+
+  -- theorem: the next round begins with the same
+  pub round-carries : Begins w G (old ++ q .0) new (q .1 .keys) (after-round G old fresh new K ts) (past ++ us)
+  round-carries =
+      let known = round-known G old fresh new K ts (h .macros-known) (h .old-known) (h .fresh-known) (h .keys-known) e in
+      let g = stageOf (stageOf ts (old ++ q .0) .atoms) (old ++ q .0 ++ new) in
+      record {
+        apart = stage-stocked w cap (stageOf ts (old ++ q .0) .atoms) (old ++ q .0 ++ new) g replaced-apart a .apart;
+        macros-known = known .0;
+        old-known = known .1;
+        fresh-known = known .2;
+        keys-known = known .3;
+        macros-spans = h .macros-spans;
+        old-spans = old-spans-next;
+        fresh-spans = new-spans;
+        macros-sound = h .macros-sound;
+        fresh-sound = drain-sound G (q .1 .pile) new (h .macros-sound) (piled-next .pile) e;
+        piled = record { keys = piled-next .keys; pile = tt };
+        macros-call = h .macros-call;
+        fresh-call = drain-calls G (q .1 .pile) new (h .macros-call) pile-call e;
+        within = within-next;
+        paid = λ z. round-keeps G old fresh new K ts past us (h .macros-known) (h .old-known) (h .fresh-known) (h .keys-known) e u (h .paid some);
+      }
