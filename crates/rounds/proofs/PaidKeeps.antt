@@ -9,6 +9,7 @@ use Rattle.parse_tree.specs.plain.Tree.{Text, Syms, count, Item, item}
 use Rattle.parse_tree.specs.plain.Texts.{has}
 use Rattle.parse_tree.specs.plain.WriteTape.{bytesOfEach}
 use Rattle.parse_tree.specs.working.Encode.{atomBytes}
+use Rattle.parse_tree.specs.working.Within.{Each}
 use Rattle.passes.specs.Outcome.{Tree, yes}
 use Rattle.passes.specs.Macros.{replaceItems, drain, withoutMacros}
 use Rattle.laws.specs.Counts.{heads, overItems}
@@ -55,16 +56,16 @@ round-keeps G old fresh new K ts past us g a b f e w p =
     paid-more past us (old ++ replaceItems fresh (record { keys = K; pile = [] }) .0) new (paid-replaced past old fresh K p) (round-pays G old fresh new K ts g a b f e us w)
 
 -- ---- the first round
--- theorem: no keys were met, and the items that are no definitions of macros have the texts of the tree
+-- theorem: no keys were met, and what holds of each item holds of those that are no definitions of macros
 pub keys-none : (ts : List Text) → KeysKnown ts []
 unfolding has
 keys-none ts t k h = absurd (false≢true h)
 
-pub without-known : (ts : List Text) (G : Tree) → TreeKnown ts G → TreeKnown ts (withoutMacros G)
-without-known ts [] h = tt
-without-known ts (item d ∷ rest) h = go (d .args) (without-known ts rest (h .1))
+pub without-each : (P : Item → Type 0) (G : Tree) → Each P G → Each P (withoutMacros G)
+without-each P [] h = tt
+without-each P (item d ∷ rest) h = go (d .args) (without-each P rest (h .1))
   where
-    go : (ps : List Text) → TreeKnown ts (withoutMacros rest) → TreeKnown ts (elim ps [ [] ↦ item d ∷ withoutMacros rest | p ∷ qs ↦ withoutMacros rest ])
+    go : (ps : List Text) → Each P (withoutMacros rest) → Each P (elim ps [ [] ↦ item d ∷ withoutMacros rest | p ∷ qs ↦ withoutMacros rest ])
     go [] i = (h .0, i)
     go (p ∷ qs) i = i
-without-known ts (Item.terminal s o t ∷ rest) h = (h .0, without-known ts rest (h .1))
+without-each P (Item.terminal s o t ∷ rest) h = (h .0, without-each P rest (h .1))

@@ -36,7 +36,7 @@ unfolding textsOfEach
 together P [] h = tt
 together P (i ∷ is) h = each-append P (itemTexts i) (textsOfEach itemTexts is) (h .0) (together P is (h .1))
 
-apart : (P : Text → Type 0) (is : List Item) → Each P (textsOfEach itemTexts is) → Each (λ i. Each P (itemTexts i)) is
+pub apart : (P : Text → Type 0) (is : List Item) → Each P (textsOfEach itemTexts is) → Each (λ i. Each P (itemTexts i)) is
 unfolding textsOfEach
 apart P [] h = tt
 apart P (i ∷ is) h = let (a, b) = each-parts P (itemTexts i) (textsOfEach itemTexts is) h in (a, apart P is b)

@@ -4,19 +4,21 @@ use mathlib.Core.Bool.{true, false}
 use mathlib.Core.List.{List, [], _++_}
 use Prim.Native.Nat.{ℕ, _≤_}
 use lib.ListN.{length}
-use Rattle.parse_tree.specs.plain.Tree.{Text, Item}
-use Rattle.parse_tree.specs.plain.Texts.{distinct}
+use Rattle.parse_tree.specs.plain.Tree.{Text, Item, Stage}
+use Rattle.parse_tree.specs.plain.Texts.{distinct, has}
 use Rattle.parse_tree.specs.plain.References.{textsOfEach, itemTexts, stageOf}
-use Rattle.parse_tree.specs.working.Within.{Each, SpanWithin, ItemWithin}
+use Rattle.parse_tree.specs.working.Within.{Each, SpanWithin, ItemWithin, StageWithin}
 use Rattle.parse_tree.proofs.ReadingLaws.{each-append}
 use Rattle.passes.specs.Outcome.{Tree, yes}
-use Rattle.passes.specs.Macros.{Pending, Expander, replaceItems, drain}
+use Rattle.passes.specs.Macros.{Pending, Expander, replaceItems, drain, withoutMacros}
+use Rattle.passes.specs.Resolve.{resolve}
 use Rattle.passes.specs.Stages.{stage}
 use Rattle.passes.specs.Calls.{sizes}
+use Rattle.passes.proofs.ResolveWithin.{resolve-alike}
 use Rattle.meaning.proofs.calls.Spans.{ItemSpans}
 use Rattle.meaning.proofs.calls.RoundSpans.{replaceItems-spans, drain-spans}
 use Rattle.meaning.proofs.calls.Atoms.{with-new-distinct, stage-stocked}
-use Rattle.meaning.proofs.calls.Output.{stage-within}
+use Rattle.meaning.proofs.calls.Output.{item-spans, stage-within}
 use Rattle.laws.specs.Keys.{ItemSound, Piled}
 use Rattle.laws.proofs.Keys.{replace-items-sound, drain-sound}
 use Rattle.replacing.specs.Trees.{expandedItems}
@@ -24,8 +26,12 @@ use Rattle.replacing.proofs.TreesMean.{replace-items-is}
 use Rattle.rounds.specs.Calls.{ItemCalls, PendingCalls}
 use Rattle.rounds.specs.Paid.{TreeKnown, KeysKnown, Paid}
 use Rattle.rounds.proofs.CallsMean.{pile-calls, drain-calls}
-use Rattle.rounds.proofs.PaidRounds.{after-round, round-known}
-use Rattle.rounds.proofs.PaidKeeps.{round-keeps}
+use Rattle.rounds.proofs.PaidPile.{each-all}
+use Rattle.rounds.proofs.PaidRounds.{apart, after-round, round-known}
+use Rattle.rounds.proofs.PaidKeeps.{round-keeps, keys-none, without-each}
+use Rattle.rounds.proofs.PaidStarts.{paid-start}
+use Rattle.rounds.proofs.KeptMeans.{items-sound}
+use Rattle.rounds.proofs.ResolvedCalls.{resolved-calls}
 
 -- what is on the pile after replacing
 abbrev piledOf : List Item → List Text → List Pending
@@ -105,3 +111,37 @@ module _ (w cap : ℕ) (G : Tree) (old fresh new : List Item) (K ts past us : Li
         within = within-next;
         paid = λ z. round-keeps G old fresh new K ts past us (h .macros-known) (h .old-known) (h .fresh-known) (h .keys-known) e u (h .paid some);
       }
+
+-- ---- the first round
+-- theorem: ts are the texts of a tree A, whose items are within bounds
+pub first-begins : (w : ℕ) (A : Tree) (ts : List Text) → distinct ts ≡ true → TreeKnown ts A → Each (ItemSpans SpanWithin) A → Each ItemSound A → Each (ItemCalls A) A → Each (ItemWithin false w ts) A
+    → Begins w A [] (withoutMacros A) [] ts []
+first-begins w A ts d k p s c i =
+    record {
+      apart = d;
+      macros-known = k;
+      old-known = tt;
+      fresh-known = without-each (λ x. Each (λ (t : Text). has t ts ≡ true) (itemTexts x)) A k;
+      keys-known = keys-none ts;
+      macros-spans = p;
+      old-spans = tt;
+      fresh-spans = without-each (ItemSpans SpanWithin) A p;
+      macros-sound = s;
+      fresh-sound = without-each ItemSound A s;
+      piled = record { keys = tt; pile = tt };
+      macros-call = c;
+      fresh-call = without-each (ItemCalls A) A c;
+      within = without-each (ItemWithin false w ts) A i;
+      paid = paid-start (withoutMacros A) [];
+    }
+
+-- theorem: the call for macros alone: u was read, R is what resolving gives, and its stage is admitted
+pub macros-begin : (w cap : ℕ) (u : Stage) (R : Tree) → StageWithin true w u → resolve (u .items) ≡ yes R → stage (sizes w cap) (u .atoms) R ≡ yes (stageOf (u .atoms) R)
+    → Begins w R [] (withoutMacros R) [] (stageOf (u .atoms) R .atoms) []
+unfolding stageOf
+macros-begin w cap u R h e a =
+    let within = resolve-alike true w (u .atoms) (u .items) R e .within (h .items) in
+    let spans = each-all (ItemWithin true w (u .atoms)) (ItemSpans SpanWithin) (item-spans true w (u .atoms)) R within in
+    let stocked = stage-stocked w cap (u .atoms) R (stageOf (u .atoms) R) (h .apart) a in
+    first-begins w R (stageOf (u .atoms) R .atoms) (stocked .apart) (apart (λ (t : Text). has t (stageOf (u .atoms) R .atoms) ≡ true) R (stocked .there)) spans (items-sound w (u .atoms) R within)
+    (resolved-calls (u .items) R e) (stage-within w (stageOf (u .atoms) R) stocked spans .items)
