@@ -26,3 +26,4 @@ pub mod PaidRounds
 pub mod PaidKeeps
 pub mod PaidStarts
 pub mod RoundBegins
+pub mod StepMeans

@@ -5,3 +5,4 @@ pub mod Grounds
 pub mod Judge
 pub mod Define
 pub mod Paid
+pub mod Step
