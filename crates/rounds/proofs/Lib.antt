@@ -27,3 +27,4 @@ pub mod PaidKeeps
 pub mod PaidStarts
 pub mod RoundBegins
 pub mod StepMeans
+pub mod RoomNine
