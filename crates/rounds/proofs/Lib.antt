@@ -28,3 +28,4 @@ pub mod PaidStarts
 pub mod RoundBegins
 pub mod StepMeans
 pub mod RoomNine
+pub mod RoomMeans

@@ -18,7 +18,7 @@ use Rattle.replacing.proofs.ThereBytes.{bytes-both}
 use Rattle.rounds.specs.Paid.{TreeKnown, KeysKnown, Paid}
 use Rattle.rounds.proofs.PaidRounds.{after-round, round-pays}
 
-heads-both : (xs ys : List Item) → heads (xs ++ ys) ≡ heads xs + heads ys
+pub heads-both : (xs ys : List Item) → heads (xs ++ ys) ≡ heads xs + heads ys
 unfolding heads
 heads-both [] ys = omega arith
 heads-both (item d ∷ xs) ys = omega (arith, heads-both xs ys)
@@ -30,7 +30,7 @@ over-both f [] ys = omega arith
 over-both f (item d ∷ xs) ys = omega (arith, over-both f xs ys)
 over-both f (Item.terminal s o t ∷ xs) ys = over-both f xs ys
 
-texts-both : (us vs : List Text) → length (bytesOfEach (atomBytes 2) (us ++ vs)) ≡ length (bytesOfEach (atomBytes 2) us) + length (bytesOfEach (atomBytes 2) vs)
+pub texts-both : (us vs : List Text) → length (bytesOfEach (atomBytes 2) (us ++ vs)) ≡ length (bytesOfEach (atomBytes 2) us) + length (bytesOfEach (atomBytes 2) vs)
 texts-both us vs = omega (arith, ap length (bytes-both (atomBytes 2) us vs), length-append (bytesOfEach (atomBytes 2) us) (bytesOfEach (atomBytes 2) vs))
 
 -- more items that pay for more texts

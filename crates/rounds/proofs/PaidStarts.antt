@@ -21,6 +21,7 @@ use Rattle.replacing.specs.Trees.{inner, ownLeaf, ownAround, expanded, expanded
 use Rattle.replacing.proofs.TreesMean.{replace-items-is}
 use Rattle.rounds.specs.Grounds.{bucketsOf}
 use Rattle.rounds.specs.Paid.{Paid}
+use Rattle.rounds.proofs.PaidKeeps.{heads-both}
 
 -- ---- how many are expanded
 leaf-count : (s : Span) (l : Leaf) → length (ownLeaf s l) ≡ looksLeaf l
@@ -89,7 +90,7 @@ expanded-heads (item d ∷ is) h = go (overAlternatives countExpandedAll (d .alt
 expanded-heads (Item.terminal s o t ∷ is) h = expanded-heads is h
 
 -- ---- without definitions of macros there are no more
-without-less : (f : Syms → ℕ) (is : List Item) → (heads (withoutMacros is) ≤ heads is) × (overItems f (withoutMacros is) ≤ overItems f is)
+pub without-less : (f : Syms → ℕ) (is : List Item) → (heads (withoutMacros is) ≤ heads is) × (overItems f (withoutMacros is) ≤ overItems f is)
 unfolding heads overItems
 without-less f [] = (omega arith, omega arith)
 without-less f (item d ∷ is) = go (d .args) (without-less f is)
@@ -116,10 +117,10 @@ module _ (is : List Item) (K : List Text) where
   pub pile-heads : 1 ≤ pile → 31 ≤ heads is
   pile-heads h = expanded-heads is (omega (arith, h, pile-few))
 
-  -- theorem: before the first round nothing is owed
-  pub paid-start : 1 ≤ pile → Paid [] is
-  unfolding bytesOfEach
-  paid-start h = (omega (arith, pile-heads h), omega arith)
+-- theorem: before the first round nothing is owed
+pub paid-start : (old is : List Item) (K : List Text) → 1 ≤ pile is K → Paid [] (old ++ is)
+unfolding bytesOfEach
+paid-start old is K h = (omega (arith, pile-heads is K h, heads-both old is), omega arith)
 
 -- ---- records of pushed symbols, and heads of buckets
 buckets-room : (s : ℕ) → 40 ≤ s → bucketsOf s + 3 ≤ s / 9

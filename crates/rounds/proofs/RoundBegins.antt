@@ -1,6 +1,7 @@
 -- What holds of the trees where a round begins, and that a round carries it to the next: texts, spans, soundness, calls, bounds, and what new texts cost. Assumes nothing.
-use mathlib.Core.Path.{_≡_, sym, subst}
+use mathlib.Core.Path.{_≡_, refl, sym, subst}
 use mathlib.Core.Bool.{true, false}
+use mathlib.Core.Logic.{_⊎_, inl, inr}
 use mathlib.Core.List.{List, [], _++_}
 use Prim.Native.Nat.{ℕ, _≤_}
 use lib.ListN.{length}
@@ -34,7 +35,7 @@ use Rattle.rounds.proofs.KeptMeans.{items-sound}
 use Rattle.rounds.proofs.ResolvedCalls.{resolved-calls}
 
 -- what is on the pile after replacing
-abbrev piledOf : List Item → List Text → List Pending
+abbrev pub piledOf : List Item → List Text → List Pending
 piledOf fresh K = replaceItems fresh (record { keys = K; pile = [] }) .1 .pile
 
 -- G has the macros, ts are the former stage's texts, `past` those that no tape had; `old` are the items already replaced, `fresh` those added since, K the keys met so far
@@ -53,8 +54,16 @@ pub record Begins (w : ℕ) (G : Tree) (old fresh : List Item) (K ts past : List
   pub macros-call : Each (ItemCalls G) G
   pub fresh-call : Each (ItemCalls G) fresh
   pub within : Each (ItemWithin false w ts) (old ++ fresh)
-  -- in the first round only where a symbol is pushed
-  pub paid : 1 ≤ length (piledOf fresh K) → Paid past (old ++ fresh)
+  -- before the first round nothing is owed
+  pub paid : (past ≡ []) ⊎ Paid past (old ++ fresh)
+
+-- theorem: where a symbol is pushed all is paid, in the first round too
+pub begins-paid : (w : ℕ) (G : Tree) (old fresh : List Item) (K ts past : List Text) → Begins w G old fresh K ts past → 1 ≤ length (piledOf fresh K) → Paid past (old ++ fresh)
+begins-paid w G old fresh K ts past h some = go (h .paid)
+  where
+    go : (past ≡ []) ⊎ Paid past (old ++ fresh) → Paid past (old ++ fresh)
+    go (inl e) = subst (λ (us : List Text). Paid us (old ++ fresh)) (sym e) (paid-start old fresh K some)
+    go (inr p) = p
 
 -- ---- one round, whose appending stage is admitted
 module _ (w cap : ℕ) (G : Tree) (old fresh new : List Item) (K ts past us : List Text) (h : Begins w G old fresh K ts past) (some : 1 ≤ length (piledOf fresh K)) (e : drain G (piledOf fresh K) ≡ yes new)
@@ -109,7 +118,7 @@ module _ (w cap : ℕ) (G : Tree) (old fresh new : List Item) (K ts past us : Li
         macros-call = h .macros-call;
         fresh-call = drain-calls G (q .1 .pile) new (h .macros-call) pile-call e;
         within = within-next;
-        paid = λ z. round-keeps G old fresh new K ts past us (h .macros-known) (h .old-known) (h .fresh-known) (h .keys-known) e u (h .paid some);
+        paid = inr (round-keeps G old fresh new K ts past us (h .macros-known) (h .old-known) (h .fresh-known) (h .keys-known) e u (begins-paid w G old fresh K ts past h some));
       }
 
 -- ---- the first round
@@ -132,7 +141,7 @@ first-begins w A ts d k p s c i =
       macros-call = c;
       fresh-call = without-each (ItemCalls A) A c;
       within = without-each (ItemWithin false w ts) A i;
-      paid = paid-start (withoutMacros A) [];
+      paid = inl refl;
     }
 
 -- theorem: the call for macros alone: u was read, R is what resolving gives, and its stage is admitted

@@ -1,0 +1,81 @@
+-- The room that a round's tables need, from what holds where it begins and from its former stage's length. Assumes nothing.
+use mathlib.Core.Path.{_≡_, ap}
+use mathlib.Core.Logic.{_⊎_, inl, inr}
+use mathlib.Core.List.{List, [], _++_}
+use Prim.Native.Nat.{ℕ, _+_, _*_, _/_, _≤_}
+use native.Mathlib.Omega.{arith}
+use lib.ListN.{length, length-append}
+use Rattle.parse_tree.specs.plain.Tree.{Text, Item}
+use Rattle.parse_tree.specs.plain.WriteTape.{bytesOfEach}
+use Rattle.parse_tree.specs.working.Encode.{atomBytes, itemBytes, stageBytes}
+use Rattle.passes.specs.Outcome.{Tree}
+use Rattle.passes.specs.Macros.{withoutMacros}
+use Rattle.laws.specs.Counts.{heads, countExpandedAll}
+use Rattle.laws.proofs.Counts.{expanded-fit, straight-fit}
+use Rattle.laws.proofs.Room.{start-fits, settle-fits}
+use Rattle.replacing.proofs.ThereBytes.{bytes-both}
+use Rattle.rounds.specs.Paid.{Paid}
+use Rattle.rounds.proofs.PaidKeeps.{heads-both, texts-both}
+use Rattle.rounds.proofs.PaidStarts.{pile-few, pile-heads, without-less}
+use Rattle.rounds.proofs.RoundBegins.{Begins, piledOf, begins-paid}
+use Rattle.rounds.proofs.RoomNine.{append-nine}
+
+-- `is` are the items to be replaced, in the first round with the definitions of macros; `first` are the tape's texts
+module _ (W : ℕ) (G : Tree) (old is : List Item) (K first past : List Text) (h : Begins 2 G old (withoutMacros is) K (first ++ past) past) (some : 4 ≤ length (bytesOfEach (atomBytes 2) first))
+    (fits : length (stageBytes 2 (record { atoms = first ++ past; items = old ++ is })) ≤ W) where
+  abbrev ts : List Text
+  ts = first ++ past
+
+  abbrev f : ℕ
+  f = length (bytesOfEach (atomBytes 2) first)
+
+  abbrev fresh : ℕ
+  fresh = length (bytesOfEach (atomBytes 2) past)
+
+  abbrev d : ℕ
+  d = length (bytesOfEach (itemBytes 2 ts) old)
+
+  abbrev s : ℕ
+  s = length (bytesOfEach (itemBytes 2 ts) is)
+
+  abbrev c : ℕ
+  c = length (piledOf (withoutMacros is) K)
+
+  all-fit : f + fresh + d + s ≤ W
+  unfolding stageBytes
+  all-fit =
+      let i = bytesOfEach (itemBytes 2 ts) (old ++ is) in
+      omega (arith, fits, length-append (bytesOfEach (atomBytes 2) ts) i, texts-both first past, ap length (bytes-both (itemBytes 2 ts) old is), length-append (bytesOfEach (itemBytes 2 ts) old) (bytesOfEach (itemBytes 2 ts) is))
+
+  old-heads : heads old ≤ d
+  old-heads = omega (arith, expanded-fit ts old)
+
+  pushed-fit : 9 * c + heads (withoutMacros is) ≤ s
+  pushed-fit = let x = without-less countExpandedAll is in omega (arith, expanded-fit ts is, pile-few (withoutMacros is) K, x .0, x .1)
+
+  texts-paid : 24 * length past ≤ heads old + heads (withoutMacros is) + 4 * fresh
+  texts-paid = go (h .paid)
+    where
+      go : (past ≡ []) ⊎ Paid past (old ++ withoutMacros is) → 24 * length past ≤ heads old + heads (withoutMacros is) + 4 * length (bytesOfEach (atomBytes 2) past)
+      go (inl e) = omega (arith, ap (λ (us : List Text). length us) e)
+      go (inr p) = omega (arith, p .0, heads-both old (withoutMacros is))
+
+  -- theorem: replacing: records of new texts, the list of new texts, heads, records of pushed symbols and slots
+  pub start-room : 24 * length past + 8 * c + 8 * (s / 64 + 1) + 32 * (s / 9) + 2 * (W / 9) ≤ 5 * W
+  start-room = start-fits W f fresh d s (length past) c (heads old) (heads (withoutMacros is)) all-fit some texts-paid old-heads pushed-fit
+
+  -- theorem: appending, where a symbol was pushed
+  pub append-room : 1 ≤ c → 24 * length past + 8 * (c + 9) + 32 * (s / 9) + 2 * (W / 9) ≤ 5 * W + 8
+  append-room z =
+      let p = begins-paid 2 G old (withoutMacros is) K ts past h z in
+      append-nine W f fresh d s (length past) c (heads old) (heads (withoutMacros is)) all-fit some (omega (arith, p .0, heads-both old (withoutMacros is))) old-heads (pile-heads (withoutMacros is) K z) pushed-fit z
+
+  -- theorem: settling, where the stage with the appended items is admitted; all of them are paid, and the items to be replaced still stand
+  pub settle-room : (past′ : List Text) (items : List Item) → Paid past′ items → length (stageBytes 2 (record { atoms = first ++ past′; items = items })) ≤ W → 24 * length past′ + 32 * (s / 9) + 2 * (W / 9) ≤ 5 * W
+  unfolding stageBytes
+  settle-room past′ items p l =
+      let ts′ = first ++ past′ in
+      let n = length (bytesOfEach (atomBytes 2) past′) in
+      let i = length (bytesOfEach (itemBytes 2 ts′) items) in
+      settle-fits W f fresh d s (length past′) n 0 i all-fit (omega (arith, l, length-append (bytesOfEach (atomBytes 2) ts′) (bytesOfEach (itemBytes 2 ts′) items), texts-both first past′)) some
+      (omega (arith, p .1, straight-fit ts′ items))
