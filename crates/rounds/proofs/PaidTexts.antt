@@ -108,3 +108,22 @@ pub records-20 : (us : List Text) → 20 * length us ≤ weigh cost20 us + lengt
 unfolding weigh bytesOfEach
 records-20 [] = omega arith
 records-20 (t ∷ us) = omega (arith, records-20 us, atom-size 2 t, length-append (atomBytes 2 t) (bytesOfEach (atomBytes 2) us))
+
+-- three bytes for each command
+texts-three : (us : List Text) → 3 * length us ≤ length (bytesOfEach (atomBytes 2) us)
+unfolding bytesOfEach
+texts-three [] = omega arith
+texts-three (t ∷ us) = omega (arith, texts-three us, atom-size 2 t, length-append (atomBytes 2 t) (bytesOfEach (atomBytes 2) us))
+
+-- theorem: and one more where a text has a byte
+pub texts-leave : (us : List Text) (t : Text) → has t us ≡ true → 1 ≤ length t → 3 * length us + 1 ≤ length (bytesOfEach (atomBytes 2) us)
+unfolding bytesOfEach has
+texts-leave [] t h l = absurd (false≢true h)
+texts-leave (u ∷ us) t h l = go (has-cases t u us h) (texts-leave us t)
+  where
+    size : length (bytesOfEach (atomBytes 2) (u ∷ us)) ≡ 3 + length u + length (bytesOfEach (atomBytes 2) us)
+    size = omega (arith, atom-size 2 u, length-append (atomBytes 2 u) (bytesOfEach (atomBytes 2) us))
+
+    go : (u ≡ t) ⊎ (has t us ≡ true) → (has t us ≡ true → 1 ≤ length t → 3 * length us + 1 ≤ length (bytesOfEach (atomBytes 2) us)) → 3 * length (u ∷ us) + 1 ≤ length (bytesOfEach (atomBytes 2) (u ∷ us))
+    go (inl e) r = omega (arith, size, l, ap (λ (v : Text). length v) e, texts-three us)
+    go (inr k) r = omega (arith, size, r k l)

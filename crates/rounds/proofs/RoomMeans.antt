@@ -1,11 +1,13 @@
 -- The room that a round's tables need, from what holds where it begins and from its former stage's length. Assumes nothing.
 use mathlib.Core.Path.{_≡_, ap}
+use mathlib.Core.Bool.{true}
 use mathlib.Core.Logic.{_⊎_, inl, inr}
 use mathlib.Core.List.{List, [], _++_}
-use Prim.Native.Nat.{ℕ, _+_, _*_, _/_, _≤_}
+use Prim.Native.Nat.{ℕ, _+_, _-_, _*_, _/_, _≤_}
 use native.Mathlib.Omega.{arith}
 use lib.ListN.{length, length-append}
 use Rattle.parse_tree.specs.plain.Tree.{Text, Item}
+use Rattle.parse_tree.specs.plain.Texts.{has}
 use Rattle.parse_tree.specs.plain.WriteTape.{bytesOfEach}
 use Rattle.parse_tree.specs.working.Encode.{atomBytes, itemBytes, stageBytes}
 use Rattle.passes.specs.Outcome.{Tree}
@@ -15,6 +17,7 @@ use Rattle.laws.proofs.Counts.{expanded-fit, straight-fit}
 use Rattle.laws.proofs.Room.{start-fits, settle-fits}
 use Rattle.replacing.proofs.ThereBytes.{bytes-both}
 use Rattle.rounds.specs.Paid.{Paid}
+use Rattle.rounds.proofs.PaidTexts.{texts-leave}
 use Rattle.rounds.proofs.PaidKeeps.{heads-both, texts-both}
 use Rattle.rounds.proofs.PaidStarts.{pile-few, pile-heads, without-less}
 use Rattle.rounds.proofs.RoundBegins.{Begins, piledOf, begins-paid}
@@ -79,3 +82,24 @@ module _ (W : ℕ) (G : Tree) (old is : List Item) (K first past : List Text) (h
       let i = length (bytesOfEach (itemBytes 2 ts′) items) in
       settle-fits W f fresh d s (length past′) n 0 i all-fit (omega (arith, l, length-append (bytesOfEach (atomBytes 2) ts′) (bytesOfEach (itemBytes 2 ts′) items), texts-both first past′)) some
       (omega (arith, p .1, straight-fit ts′ items))
+
+  -- ---- the same by places: the records of texts stand from 8 n on, n bytes of items are on the tape, and new records and a round's tables end at x; slots and records of pushed symbols are the last of these
+  module _ (n : ℕ) (t : Text) (among : has t first ≡ true) (long : 1 ≤ length t) where
+    abbrev x : ℕ
+    x = 8 * (f + n) + (5 * W - 2 * (W / 9))
+
+    leave : 24 * length first + 8 ≤ 8 * f
+    leave = omega (arith, texts-leave first t among long)
+
+    -- theorem: where a round begins
+    pub ground-place : 8 * n + 24 * length (first ++ past) + 32 * (s / 9) ≤ x
+    ground-place = omega (arith, start-room, leave, length-append first past)
+
+    -- theorem: the list of new texts, as long as appending may make it
+    pub list-place : 1 ≤ c → 8 * n + 24 * length (first ++ past) + 8 * (c + 9) + 32 * (s / 9) ≤ x
+    list-place z = omega (arith, append-room z, leave, length-append first past)
+
+    -- theorem: the records of all new texts
+    pub settle-place : (past′ : List Text) (items : List Item) → Paid past′ items → length (stageBytes 2 (record { atoms = first ++ past′; items = items })) ≤ W
+        → 8 * n + 24 * length (first ++ past′) + 32 * (s / 9) ≤ x
+    settle-place past′ items p l = omega (arith, settle-room past′ items p l, leave, length-append first past′)
