@@ -2,13 +2,15 @@
 use mathlib.Core.Path.{_≡_, sym, ap, _∙_}
 use mathlib.Core.Logic.{_⊎_, inl, inr}
 use mathlib.Core.List.{List}
-use Prim.Native.Nat.{ℕ, _+_, _-_, _*_, _<_, _≤_}
+use Prim.Native.Nat.{ℕ, _+_, _-_, _*_, _%_, _<_, _≤_}
 use native.Mathlib.Omega.{arith}
 use mir.Syntax.{w64}
 use mir.Val.{Fits}
 use borrow.Author.Needs.{needs}
+use borrow.Author.Tests.{ne-eqb}
 use lib.ListN.{length, getD}
 use Rattle.octets.specs.plain.Runs.{Lies}
+use Rattle.octets.specs.working.Choice.{pick}
 use Rattle.octets.specs.working.Stores.{store}
 use Rattle.octets.proofs.LiesLaws.{lies-to}
 use Rattle.octets.proofs.StoreLaws.{lies-store, length-store, getD-store-before, getD-store-after}
@@ -24,11 +26,22 @@ use Rattle.expander.specs.declared.Ground.{Ground}
 use Rattle.expander.specs.Ground.{topOf, listPlace, listAt, Grounded}
 use Rattle.expander.specs.Names.{describedBy}
 use Rattle.expander.proofs.GroundLaws.{keys-slots, slots-top}
-use Rattle.settling.specs.One.{TextPut, Entry, Puttable, TextReady, Written}
+use Rattle.settling.specs.One.{newCell, TextPut, Entry, Puttable, TextReady, Written}
 use Rattle.settling.proofs.OneCode.{stop-less}
 
 pub hash-fits : (w : List ℕ) (t : Text) (end x : ℕ) (w1 : List ℕ) → TextPut w t end x w1 → x < 4294967296
 hash-fits w t end x w1 p = omega (arith, p .hash, hash-small t)
+
+-- ---- new_cell
+pub cell-print : (v : ℕ) → v % 2 ≡ 0 → 2147483648 ≡ newCell v
+unfolding newCell pick
+cell-print v e = cc e
+
+pub cell-built : (v : ℕ) → (v % 2 ≡ 0 → ⊥) → 0 ≡ newCell v
+unfolding newCell pick
+cell-built v h = cc (ne-eqb (v % 2) 0 h)
+
+pub ruleset celling = (needs, cell-print, cell-built)
 
 module _ (s w : List ℕ) (g : Ground) (i end : ℕ) (h : TextReady s w g i end) where
   abbrev t : Text
@@ -103,14 +116,14 @@ module _ (s w : List ℕ) (g : Ground) (i end : ℕ) (h : TextReady s w g i end)
         low : g .m .base + 24 * (g .m .count + i) + 24 ≤ to
         low = omega (arith, h .record-place, keys-top, h .top, to-end)
 
-        pub text-written : (w2 : List ℕ) → RecordWritten w1 (g .m .base) (g .m .count + i) (to - 4 * length s) x 2147483648 w2 → Written s w g i t end to w2
-        text-written w2 r = record {
+        pub text-written : (u : ℕ) → u ≡ newCell v → (w2 : List ℕ) → RecordWritten w1 (g .m .base) (g .m .count + i) (to - 4 * length s) x u w2 → Written s w g i t end to w2
+        text-written u y w2 r = record {
           long = r .long ∙ put-long;
           place = to-end;
           lies = lies-agree w1 w2 to end (atomBytes 2 t) (r .long) (omega (arith, put-long, h .inside)) (λ j a b. r .after j (omega (arith, low))) put-lies;
           mark = r .mark;
           hash = r .hash ∙ p .hash ∙ ap hashOf text-is;
-          cell = r .cell;
+          cell = r .cell ∙ y ∙ ap newCell e;
           others = go;
         }
           where

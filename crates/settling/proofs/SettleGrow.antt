@@ -22,6 +22,7 @@ use Rattle.expander.specs.Names.{describedBy, listedTexts, namedIn}
 use Rattle.settling.specs.Settle.{newBytes, Settling, Settles}
 use Rattle.settling.proofs.NewLaws.{bytes-none}
 use Rattle.settling.proofs.SettleStays.{placed-texts, placed-cells, placed-above}
+use Rattle.settling.specs.One.{newCell}
 use Rattle.settling.proofs.SettleLaws.{Told, Going, keys-top, going-top, going-items, going-ground, going-upto}
 
 module _ (s w : List ℕ) (g : Ground) (n c end : ℕ) (h : Settling s w g n c end) (q : ℕ) (w1 : List ℕ) (x : Going s w g c end 0 q w1) where
@@ -48,7 +49,7 @@ module _ (s w : List ℕ) (g : Ground) (n c end : ℕ) (h : Settling s w g n c e
           let z : g .m .count + (i - g .m .count) ≡ i = omega arith in
           subst P z (d (i - g .m .count) (omega arith))
 
-  told : (k : ℕ) → k < c → Told s w1 g k (describedBy s w g (listAt w g k)) q
+  told : (k : ℕ) → k < c → Told s w1 g k (describedBy s w g (listAt w g k)) (newCell (listAt w g k)) q
   told k l = x .told k (omega arith) l
 
   all-behind : (i : ℕ) → i < g .m .count + c → Behind s q (markAt w1 (g .m .base) i)

@@ -14,18 +14,18 @@ use Rattle.expander.specs.declared.Ground.{Ground}
 use Rattle.expander.specs.Ground.{topOf, listPlace, listAt, Grounded}
 use Rattle.expander.specs.Names.{describedBy}
 use Rattle.expander.proofs.GroundLaws.{keys-slots, slots-top}
-use Rattle.settling.specs.One.{Entry, TextReady}
+use Rattle.settling.specs.One.{newCell, Entry, TextReady}
 use Rattle.settling.specs.Settle.{newBytes, Settling}
 use Rattle.settling.proofs.NewLaws.{size-next, each-short, names-entry}
 use Rattle.settling.proofs.SettleStays.{PlacedText, placed-ground, placed-above, placed-list, placed-entry, placed-text}
 
--- record k of the new ones says the text t, which stands from z on
-pub record Told (s w : List ℕ) (g : Ground) (k : ℕ) (t : Text) (z : ℕ) : Type 0 where
+-- record k of the new ones says the text t, which stands from z on, and its cell u
+pub record Told (s w : List ℕ) (g : Ground) (k : ℕ) (t : Text) (u z : ℕ) : Type 0 where
   pub whole : Whole s w (markAt w (g .m .base) (g .m .count + k))
   pub behind : Behind s z (markAt w (g .m .base) (g .m .count + k))
   pub text : markedText s w (markAt w (g .m .base) (g .m .count + k)) ≡ t
   pub hash : hashAt w (g .m .base) (g .m .count + k) ≡ hashOf t
-  pub cell : cellAt w (g .m .base) (g .m .count + k) ≡ 2147483648
+  pub cell : cellAt w (g .m .base) (g .m .count + k) ≡ u
 
 -- the texts from the i-th on stand from q up to `end` in w′
 pub record Going (s w : List ℕ) (g : Ground) (c end i q : ℕ) (w′ : List ℕ) : Type 0 where
@@ -35,7 +35,7 @@ pub record Going (s w : List ℕ) (g : Ground) (c end i q : ℕ) (w′ : List �
   pub split : newBytes s w g c ≡ newBytes s w g i ++ rest
   pub lies : Lies w′ q rest end
   pub placed : PlacedText g (g .m .count + i) q end w w′
-  pub told : (k : ℕ) → i ≤ k → k < c → Told s w′ g k (describedBy s w g (listAt w g k)) q
+  pub told : (k : ℕ) → i ≤ k → k < c → Told s w′ g k (describedBy s w g (listAt w g k)) (newCell (listAt w g k)) q
 
 module _ (s w : List ℕ) (g : Ground) (n c end : ℕ) (h : Settling s w g n c end) where
   -- theorem: none yet

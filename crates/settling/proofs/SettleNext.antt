@@ -22,11 +22,11 @@ use Rattle.texts.proofs.TableMarks.{atom-lies-text, atom-lies-inside, work-mark
 use Rattle.expander.specs.declared.Ground.{Ground}
 use Rattle.expander.specs.Ground.{topOf, listAt}
 use Rattle.expander.specs.Names.{describedBy}
-use Rattle.settling.specs.One.{Written}
+use Rattle.settling.specs.One.{newCell, Written}
 use Rattle.settling.specs.Settle.{newBytes, Settling}
 use Rattle.settling.proofs.NewLaws.{bytes-next}
 use Rattle.settling.proofs.SettleStays.{PlacedText}
-use Rattle.settling.proofs.SettleLaws.{Told, Going, keys-top, going-upto, text-old, going-short, going-size}
+use Rattle.settling.proofs.SettleLaws.{Told, Going, keys-top, going-upto, list-old, text-old, going-short, going-size}
 
 -- a bound may be lower
 behind-lower : (s : List ℕ) (z y x : ℕ) → y ≤ z → Behind s z x → Behind s y x
@@ -35,7 +35,7 @@ behind-lower s z y x h (inr p) = inr (omega arith)
 
 -- ---- the record that was written says its text
 module _ (s w : List ℕ) (g : Ground) (j : ℕ) (t : Text) (q r : ℕ) (w1 : List ℕ) (k : Written s w g j t q r w1) (short : length t < 65536) (far : 8 * length s ≤ r) where
-  pub written-told : Told s w1 g j t r
+  pub written-told : Told s w1 g j t (newCell (listAt w g j)) r
   unfolding atomBytes nodeBytes
   written-told = record {
     whole = rw (k .mark) (work-mark-whole s w1 r far (atom-lies-inside w1 r q t short (k .lies)));
@@ -46,7 +46,7 @@ module _ (s w : List ℕ) (g : Ground) (j : ℕ) (t : Text) (q r : ℕ) (w1 : Li
   }
 
 -- ---- and the others say theirs
-module _ (s w : List ℕ) (g : Ground) (j : ℕ) (t : Text) (q r : ℕ) (w1 : List ℕ) (k : Written s w g j t q r w1) (i : ℕ) (u : Text) (o : Told s w g i u q) (behind : j < i) (low : g .m .base + 24 * (g .m .count + i) + 24 ≤ r) where
+module _ (s w : List ℕ) (g : Ground) (j : ℕ) (t : Text) (q r : ℕ) (w1 : List ℕ) (k : Written s w g j t q r w1) (i : ℕ) (u : Text) (v : ℕ) (o : Told s w g i u v q) (behind : j < i) (low : g .m .base + 24 * (g .m .count + i) + 24 ≤ r) where
   field : (n a : ℕ) → g .m .base + 24 * (g .m .count + i) ≤ a → a + n ≤ g .m .base + 24 * (g .m .count + i) + 24 → leAt n w1 a ≡ leAt n w a
   field n a h l = leAt-agree n w w1 a (λ d x y. k .others d (inr (inl (omega arith, omega arith))))
 
@@ -65,7 +65,7 @@ module _ (s w : List ℕ) (g : Ground) (j : ℕ) (t : Text) (q r : ℕ) (w1 : Li
   beyond : (d : ℕ) → q ≤ d → d < length w → getD w1 d 0 ≡ getD w d 0
   beyond d a b = k .others d (inr (inr a))
 
-  pub told-next : Told s w1 g i u r
+  pub told-next : Told s w1 g i u v r
   told-next =
       let m = markAt w (g .m .base) (g .m .count + i) in
       record {
@@ -112,17 +112,18 @@ module _ (s w : List ℕ) (g : Ground) (n c end : ℕ) (h : Settling s w g n c e
           written .others d (inr (inl (omega (arith, p .0, h .records, x .upto), p .1))) ∙ x .placed .others d (inr (inl (p .0, omega (arith, p .1, written .place))))
       go d (inr (inr p)) = written .others d (inr (inr (omega (arith, going-upto s w g n c end h i q w1 x)))) ∙ x .placed .others d (inr (inr p))
 
-  next-told : (d : ℕ) → j ≤ d → d < c → Told s w2 g d (describedBy s w g (listAt w g d)) r
+  next-told : (d : ℕ) → j ≤ d → d < c → Told s w2 g d (describedBy s w g (listAt w g d)) (newCell (listAt w g d)) r
   next-told d a b = go (eqb j d) refl
     where
-      go : (f : Bool) → eqb j d ≡ f → Told s w2 g d (describedBy s w g (listAt w g d)) r
+      go : (f : Bool) → eqb j d ≡ f → Told s w2 g d (describedBy s w g (listAt w g d)) (newCell (listAt w g d)) r
       go true z =
-          subst (λ (y : ℕ). Told s w2 g y (describedBy s w g (listAt w g y)) r) (eqb-true j d z)
-          (written-told s w1 g j t q r w2 written (going-short s w g n c end h i q w1 x j e) r-far)
+          subst (λ (y : ℕ). Told s w2 g y (describedBy s w g (listAt w g y)) (newCell (listAt w g y)) r) (eqb-true j d z)
+          (subst (λ (v : ℕ). Told s w2 g j t (newCell v) r) (list-old s w g n c end h i q w1 x j e)
+          (written-told s w1 g j t q r w2 written (going-short s w g n c end h i q w1 x j e) r-far))
       go false z =
           let y = eqb-false j d z in
           let l : i ≤ d = omega arith in
-          told-next s w1 g j t q r w2 written d (describedBy s w g (listAt w g d)) (x .told d l b) (omega arith) (omega (arith, h .records, keys-top s w g n c end h, r-top))
+          told-next s w1 g j t q r w2 written d (describedBy s w g (listAt w g d)) (newCell (listAt w g d)) (x .told d l b) (omega arith) (omega (arith, h .records, keys-top s w g n c end h, r-top))
 
   -- theorem: the texts from the one before on stand there
   pub going-next : Going s w g c end j r w2

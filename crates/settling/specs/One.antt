@@ -4,8 +4,10 @@ use mathlib.Core.Path.{_≡_}
 use mathlib.Core.Logic.{_⊎_}
 use mathlib.Core.List.{List}
 use Prim.Native.Nat.{ℕ, _+_, _-_, _*_, _/_, _%_, _≤_, _<_}
+use lib.Dec.{eqb}
 use lib.ListN.{length, getD}
 use Rattle.octets.specs.plain.Runs.{Lies}
+use Rattle.octets.specs.working.Choice.{pick}
 use Rattle.octets.specs.working.Stores.{store}
 use Rattle.parse_tree.specs.plain.Tree.{Text}
 use Rattle.parse_tree.specs.working.Encode.{atomBytes}
@@ -54,6 +56,10 @@ pub record TextReady (s w : List ℕ) (g : Ground) (i end : ℕ) : Type 0 where
   pub inside : end ≤ length w
   pub above : Above s w (g .m) end
 
+-- the cell of the text that an entry v describes: a print counts as pushed, a built-in text doesn't
+unfoldable pub newCell : ℕ → ℕ
+newCell v = pick (eqb (v % 2) 0) 2147483648 0
+
 -- t was put so, from r on, and its record says so; nothing else changed
 pub record Written (s w : List ℕ) (g : Ground) (i : ℕ) (t : Text) (end r : ℕ) (w′ : List ℕ) : Type 0 where
   pub long : length w′ ≡ length w
@@ -61,5 +67,5 @@ pub record Written (s w : List ℕ) (g : Ground) (i : ℕ) (t : Text) (end r : �
   pub lies : Lies w′ r (atomBytes 2 t) end
   pub mark : markAt w′ (g .m .base) (g .m .count + i) ≡ r - 4 * length s
   pub hash : hashAt w′ (g .m .base) (g .m .count + i) ≡ hashOf t
-  pub cell : cellAt w′ (g .m .base) (g .m .count + i) ≡ 2147483648
+  pub cell : cellAt w′ (g .m .base) (g .m .count + i) ≡ newCell (listAt w g i)
   pub others : (j : ℕ) → (j < g .m .base + 24 * (g .m .count + i)) ⊎ ((g .m .base + 24 * (g .m .count + i) + 24 ≤ j) × (j < r)) ⊎ (end ≤ j) → getD w′ j 0 ≡ getD w j 0

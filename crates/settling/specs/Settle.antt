@@ -14,9 +14,10 @@ use Rattle.parse_tree.specs.working.Encode.{atomBytes}
 use Rattle.texts.specs.Fields.{markAt, cellAt}
 use Rattle.texts.specs.Table.{Table, Above, texts}
 use Rattle.expander.specs.declared.Ground.{Ground}
-use Rattle.expander.specs.Ground.{topOf, keyAt, pushedText, Grounded}
+use Rattle.expander.specs.Ground.{topOf, listAt, keyAt, pushedText, Grounded}
 use Rattle.expander.specs.Held.{down, anyOf, refIn, isText}
 use Rattle.expander.specs.Names.{listedTexts, namedIn, Names}
+use Rattle.settling.specs.One.{newCell}
 use Rattle.settling.specs.declared.settle.Fresh.{Fresh}
 use Rattle.settling.specs.declared.settle.Settled.{Settled}
 
@@ -68,9 +69,9 @@ pub record Settles (s w : List ℕ) (g : Ground) (c end : ℕ) (r : Settled) (w�
   pub first : r .at ≡ end - length (newBytes s w g c)
   pub lies : Lies w′ (r .at) (newBytes s w g c) end
   pub above : Above s w′ (r .m) (r .at)
-  -- the cells of the texts before stay, and the new ones count as pushed
+  -- the cells of the texts before stay, and of the new ones the prints count as pushed
   pub cells : (k : ℕ) → k < g .m .count → cellAt w′ (g .m .base) k ≡ cellAt w (g .m .base) k
-  pub new : (i : ℕ) → i < c → cellAt w′ (g .m .base) (g .m .count + i) ≡ 2147483648
+  pub new : (i : ℕ) → i < c → cellAt w′ (g .m .base) (g .m .count + i) ≡ newCell (listAt w g i)
   pub others : (i : ℕ) → (i < g .m .base) ⊎ ((g .keys ≤ i) × (i < r .at)) ⊎ (end ≤ i) → getD w′ i 0 ≡ getD w i 0
 
 -- ---- marked: the texts that pushed symbols have, of those that were there before

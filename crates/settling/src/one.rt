@@ -15,7 +15,7 @@ ghost use lib.ListN.{length};
 ghost use Rattle.texts.specs.Forms.{stop};
 ghost use Rattle.expander.specs.Ground.{listPlace, listAt, Grounded};
 ghost use Rattle.expander.specs.Names.{describedBy};
-ghost use Rattle.settling.specs.One.{TextPut, Entry, Puttable, TextReady, Written};
+ghost use Rattle.settling.specs.One.{newCell, TextPut, Entry, Puttable, TextReady, Written};
 
 // The i-th entry of the list of new texts.
 pub fn entry(work: &[u8], g: Ground, i: usize) -> usize
@@ -58,6 +58,16 @@ fn put_new(tape: &[u8], work: &mut [u8], g: Ground, v: usize, len: usize, end: u
     put_built(work, v / 2, end)
 }
 
+// The cell of the text that an entry describes: a print counts as pushed, a built-in text doesn't.
+fn new_cell(v: usize) -> u32
+    ensures { λ r. ⌜ r ≡ newCell v ⌝ }
+{
+    if v % 2 == 0 {
+        return 2147483648;
+    }
+    0
+}
+
 // The i-th new text as an atom that ends at `end`, and its record; says where it begins.
 pub fn write_text(tape: &[u8], work: &mut [u8], g: Ground, i: usize, end: usize) -> usize
     requires { ⌜ TextReady (now tape) (now work) g i end ⌝ }
@@ -73,7 +83,7 @@ pub fn write_text(tape: &[u8], work: &mut [u8], g: Ground, i: usize, end: usize)
         g.m.count + i,
         to - 4 * tape.len(),
         h,
-        2147483648,
+        new_cell(v),
     );
     to
 }

@@ -5,6 +5,7 @@ use Rattle.settling.proofs.one.write_text.Tie as tie
 use Rattle.settling.proofs.one.write_text.Reads as reads
 use Rattle.settling.proofs.one.write_text.Lts as lts
 use Rattle.settling.proofs.one.entry.Reads as entry-reads
+use Rattle.settling.proofs.one.new_cell.Reads as new-cell-reads
 use Rattle.settling.proofs.one.put_new.Reads as put-new-reads
 use Rattle.settling.proofs.one.text_length.Reads as text-length-reads
 use Rattle.texts.proofs.fields.write.Reads as write-reads
@@ -33,6 +34,9 @@ mul-write c = search needs
 sub-write : tie.Need-sub-write
 sub-write c = search writing
 
+new-cell-requires : tie.Need-new-cell-requires
+new-cell-requires c κs = search needs
+
 write-requires : tie.Need-write-requires
 write-requires c κs = search writing
 
@@ -54,6 +58,7 @@ write-text-spec =
     add-write
     mul-write
     sub-write
+    new-cell-requires
     write-requires
     same-length
     returns)
