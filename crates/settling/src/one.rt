@@ -62,10 +62,10 @@ fn put_new(tape: &[u8], work: &mut [u8], g: Ground, v: usize, len: usize, end: u
 fn new_cell(v: usize) -> u32
     ensures { λ r. ⌜ r ≡ newCell v ⌝ }
 {
-    if v % 2 == 0 {
-        return 2147483648;
+    if v % 2 != 0 {
+        return 0;
     }
-    0
+    2147483648
 }
 
 // The i-th new text as an atom that ends at `end`, and its record; says where it begins.
