@@ -1,5 +1,6 @@
 -- Laws of rounds: StartMeans has the pile between replacing and appending, CallsMean that macro calls stay as resolving left them, DefineMeans what the cells of macros' names say, PaidMeans
--- that the items of a round pay for its new texts, JudgeMeans 20 and 21 of a stage, ReadyMeans that items which stand can be replaced. Assumes nothing.
+-- that the items of a round pay for its new texts, JudgeMeans 20 and 21 of a stage, ReadyMeans that items which stand can be replaced, StepMeans that rounds are one round after another, RoundBegins what
+-- holds of the trees where one begins, RoomMeans the room of its tables. Assumes nothing.
 mod GroundCode
 pub mod CallsMean
 pub mod ResolvedCalls
