@@ -15,7 +15,7 @@ use Rattle.passes.specs.Calls.{sizes}
 use Rattle.passes.proofs.Outcomes.{yes-inj, after-yes}
 use Rattle.meaning.proofs.calls.Staged.{admitted}
 use Rattle.replacing.proofs.Going.{extends-trans, new-extends}
-use Rattle.rounds.specs.Step.{RoundInput, Step, done, more, appendItems, pendingRound, oneRound}
+use Rattle.rounds.specs.Step.{RoundInput, RoundOutput, done, more, appendItems, pendingRound, oneRound}
 use Rattle.rounds.proofs.PaidRounds.{after-round}
 use Rattle.rounds.proofs.RoundBegins.{Begins, round-carries}
 
@@ -24,7 +24,7 @@ module _ (admit : Stage → Outcome Stage) (G : Tree) where
   abbrev pub roundsFrom : ℕ → RoundInput → Outcome Stage
   roundsFrom limit p = rounds admit G limit (p .atoms) (p .old) (p .fresh) (p .keys)
 
-  abbrev pub goOn : ℕ → Step → Outcome Stage
+  abbrev pub goOn : ℕ → RoundOutput → Outcome Stage
   goOn limit (done g) = yes g
   goOn limit (more p) = roundsFrom limit p
 
@@ -33,7 +33,7 @@ module _ (admit : Stage → Outcome Stage) (G : Tree) where
   unfolding rounds oneRound
   rounds-last limit p = let q = replaceItems (p .fresh) (record { keys = p .keys; pile = [] }) in go (q .1 .pile) (stage admit (p .atoms) (p .old ++ q .0)) (appendItems admit G (p .old) q)
     where
-      go : (xs : List Pending) (r : Outcome Stage) (a : Stage → Outcome Step) → lastStage xs r ≡ after (pendingRound xs true r a) (goOn limit)
+      go : (xs : List Pending) (r : Outcome Stage) (a : Stage → Outcome RoundOutput) → lastStage xs r ≡ after (pendingRound xs true r a) (goOn limit)
       go [] (yes g) a = refl
       go [] (no n s) a = refl
       go (x ∷ xs) r a = refl
@@ -71,7 +71,7 @@ pub record Carries (w : ℕ) (G : Tree) (p p′ : RoundInput) (past : List Text)
   pub atoms : p′ .atoms ≡ p .atoms ++ new
   pub begins : BeginsWith w G p′ (past ++ new)
 
-abbrev IsDone : Step → Type 0
+abbrev IsDone : RoundOutput → Type 0
 IsDone (done g) = Unit {0}
 IsDone (more p) = ⊥
 
@@ -94,7 +94,7 @@ module _ (w cap : ℕ) (G : Tree) (p : RoundInput) (past : List Text) (h : Begin
       let x = extends-trans (new-extends (p .atoms) first) (new-extends (withNew (p .atoms) first) (textsOfEach itemTexts (p .old ++ q .0 ++ new))) in
       record { new = x .more; atoms = x .is; begins = round-carries w cap G (p .old) (p .fresh) new (p .keys) (p .atoms) past (x .more) h some e a (x .is) }
 
-  abbrev StepCarries : Step → Type 0
+  abbrev StepCarries : RoundOutput → Type 0
   StepCarries (done g) = Unit {0}
   StepCarries (more p′) = Carries w G p p′ past
 

@@ -13,21 +13,21 @@ pub record RoundInput : Type 0 where
   pub fresh : List Item
   pub keys : List Text
 
-pub data Step : Type 0 where
-  done : Stage → Step
-  more : RoundInput → Step
+pub data RoundOutput : Type 0 where
+  done : Stage → RoundOutput
+  more : RoundInput → RoundOutput
 
 -- the round's second half: q is what replacing gave
-abbrev pub appendItems : (Stage → Outcome Stage) → Tree → List Item → List Item × Expander → Stage → Outcome Step
+abbrev pub appendItems : (Stage → Outcome Stage) → Tree → List Item → List Item × Expander → Stage → Outcome RoundOutput
 appendItems admit G old q g =
     after (drain G (q .1 .pile)) (λ new. after (stage admit (g .atoms) (old ++ q .0 ++ new)) (λ h. yes (more (record { atoms = h .atoms; old = old ++ q .0; fresh = new; keys = q .1 .keys }))))
 
 -- with symbols pending: 18 where no round is left, before the stage's 20 and 21
-abbrev pub pendingRound : List Pending → Bool → Outcome Stage → (Stage → Outcome Step) → Outcome Step
+abbrev pub pendingRound : List Pending → Bool → Outcome Stage → (Stage → Outcome RoundOutput) → Outcome RoundOutput
 pendingRound [] over replaced append = after replaced (λ g. yes (done g))
 pendingRound (x ∷ xs) over replaced append = cond over (no 18 (spanOf x)) (after replaced append)
 
-unfoldable pub oneRound : (Stage → Outcome Stage) → Tree → Bool → RoundInput → Outcome Step
+unfoldable pub oneRound : (Stage → Outcome Stage) → Tree → Bool → RoundInput → Outcome RoundOutput
 oneRound admit G over p =
     let q = replaceItems (p .fresh) (record { keys = p .keys; pile = [] }) in
     pendingRound (q .1 .pile) over (stage admit (p .atoms) (p .old ++ q .0)) (appendItems admit G (p .old) q)
