@@ -21,7 +21,7 @@ use Rattle.settling.specs.Settle.{someLong}
 use Rattle.rounds.specs.Judge.{verdict, admitted}
 
 -- ---- lists
-each-two : {A : Type 0} (f : A → Bool) (xs ys : List A) → each f (xs ++ ys) ≡ each f xs && each f ys
+pub each-two : {A : Type 0} (f : A → Bool) (xs ys : List A) → each f (xs ++ ys) ≡ each f xs && each f ys
 each-two f [] ys = refl
 each-two f (x ∷ xs) ys = go (f x) (each-two f xs ys)
   where

@@ -1,6 +1,7 @@
 -- Laws of rounds: StartMeans has the pile between replacing and appending, CallsMean that macro calls stay as resolving left them, DefineMeans what the cells of macros' names say, PaidMeans
 -- that the items of a round pay for its new texts, JudgeMeans 20 and 21 of a stage, ReadyMeans that items which stand can be replaced, StepMeans that rounds are one round after another, RoundBegins what
--- holds of the trees where one begins, RoomMeans the room of its tables. Assumes nothing.
+-- holds of the trees where one begins, RoomMeans the room of its tables. Of a round in work: RoundPlaces, RoundGround and RoundHalf what stands there up to the replacing stage, RoundPile, RoundAppended and RoundBytes
+-- up to the appending stage, RoundNext that the next round begins with the same. Assumes nothing.
 mod GroundCode
 pub mod CallsMean
 pub mod ResolvedCalls
@@ -30,3 +31,21 @@ pub mod RoundBegins
 pub mod StepMeans
 pub mod RoomNine
 pub mod RoomMeans
+pub mod RoundPlaces
+pub mod RoundStages
+pub mod DefinesStay
+pub mod RoundSize
+pub mod MarksMean
+pub mod RoundGround
+pub mod LastPushed
+pub mod RoundHalf
+pub mod RoundJudged
+pub mod RoundPile
+pub mod RoundAppended
+pub mod RoundKeys
+pub mod RoundBytes
+pub mod RoundNext
+mod RoundCode
+mod RoundAnswers
+mod RoundWhole
+mod RoundsCode

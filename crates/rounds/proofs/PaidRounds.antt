@@ -31,7 +31,7 @@ use Rattle.rounds.proofs.PaidPile.{each-all, has-either, replaced-known
 use Rattle.rounds.proofs.PaidMeans.{own-paid, Told, known-own, all-known}
 
 -- ---- texts of items, one by one and together
-together : (P : Text → Type 0) (is : List Item) → Each (λ i. Each P (itemTexts i)) is → Each P (textsOfEach itemTexts is)
+pub together : (P : Text → Type 0) (is : List Item) → Each (λ i. Each P (itemTexts i)) is → Each P (textsOfEach itemTexts is)
 unfolding textsOfEach
 together P [] h = tt
 together P (i ∷ is) h = each-append P (itemTexts i) (textsOfEach itemTexts is) (h .0) (together P is (h .1))

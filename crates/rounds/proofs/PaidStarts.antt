@@ -57,7 +57,7 @@ unfolding expandedAlternatives overAlternatives
 alternatives-count [] = refl
 alternatives-count (a ∷ as′) = omega (arith, symbols-count (a .symbols), alternatives-count as′, length-append (expandedAll (a .symbols)) (expandedAlternatives as′))
 
-items-count : (is : List Item) → length (expandedItems is) ≡ overItems countExpandedAll is
+pub items-count : (is : List Item) → length (expandedItems is) ≡ overItems countExpandedAll is
 unfolding expandedItems expandedItem overItems
 items-count [] = refl
 items-count (item d ∷ is) = omega (arith, alternatives-count (d .alternatives), items-count is, length-append (expandedAlternatives (d .alternatives)) (expandedItems is))

@@ -15,16 +15,18 @@ use Rattle.passes.specs.Macros.{withoutMacros}
 use Rattle.laws.specs.Counts.{heads, countExpandedAll}
 use Rattle.laws.proofs.Counts.{expanded-fit, straight-fit}
 use Rattle.laws.proofs.Room.{start-fits, settle-fits}
+use Rattle.replacing.specs.Trees.{expandedItems}
 use Rattle.replacing.proofs.ThereBytes.{bytes-both}
 use Rattle.rounds.specs.Paid.{Paid}
+use Rattle.rounds.specs.Begins.{BeginsRound, piledOf}
 use Rattle.rounds.proofs.PaidTexts.{texts-leave}
 use Rattle.rounds.proofs.PaidKeeps.{heads-both, texts-both}
-use Rattle.rounds.proofs.PaidStarts.{pile-few, pile-heads, without-less}
-use Rattle.rounds.proofs.RoundBegins.{Begins, piledOf, begins-paid}
+use Rattle.rounds.proofs.PaidStarts.{items-count, pile-few, pile-heads, without-less}
+use Rattle.rounds.proofs.RoundBegins.{begins-paid}
 use Rattle.rounds.proofs.RoomNine.{append-nine}
 
 -- `is` are the items to be replaced, in the first round with the definitions of macros; `first` are the tape's texts
-module _ (W : ℕ) (G : Tree) (old is : List Item) (K first past : List Text) (h : Begins 2 G old (withoutMacros is) K (first ++ past) past) (some : 4 ≤ length (bytesOfEach (atomBytes 2) first))
+module _ (W : ℕ) (G : Tree) (old is : List Item) (K first past : List Text) (h : BeginsRound 2 G old (withoutMacros is) K (first ++ past) past) (some : 4 ≤ length (bytesOfEach (atomBytes 2) first))
     (fits : length (stageBytes 2 (record { atoms = first ++ past; items = old ++ is })) ≤ W) where
   abbrev ts : List Text
   ts = first ++ past
@@ -44,7 +46,11 @@ module _ (W : ℕ) (G : Tree) (old is : List Item) (K first past : List Text) (h
   abbrev c : ℕ
   c = length (piledOf (withoutMacros is) K)
 
-  all-fit : f + fresh + d + s ≤ W
+  -- how many symbols are expanded
+  abbrev e : ℕ
+  e = length (expandedItems (withoutMacros is))
+
+  pub all-fit : f + fresh + d + s ≤ W
   unfolding stageBytes
   all-fit =
       let i = bytesOfEach (itemBytes 2 ts) (old ++ is) in
@@ -52,6 +58,9 @@ module _ (W : ℕ) (G : Tree) (old is : List Item) (K first past : List Text) (h
 
   old-heads : heads old ≤ d
   old-heads = omega (arith, expanded-fit ts old)
+
+  expanded-less : 9 * e + heads (withoutMacros is) ≤ s
+  expanded-less = let x = without-less countExpandedAll is in omega (arith, expanded-fit ts is, items-count (withoutMacros is), x .0, x .1)
 
   pushed-fit : 9 * c + heads (withoutMacros is) ≤ s
   pushed-fit = let x = without-less countExpandedAll is in omega (arith, expanded-fit ts is, pile-few (withoutMacros is) K, x .0, x .1)
@@ -64,8 +73,8 @@ module _ (W : ℕ) (G : Tree) (old is : List Item) (K first past : List Text) (h
       go (inr p) = omega (arith, p .0, heads-both old (withoutMacros is))
 
   -- theorem: replacing: records of new texts, the list of new texts, heads, records of pushed symbols and slots
-  pub start-room : 24 * length past + 8 * c + 8 * (s / 64 + 1) + 32 * (s / 9) + 2 * (W / 9) ≤ 5 * W
-  start-room = start-fits W f fresh d s (length past) c (heads old) (heads (withoutMacros is)) all-fit some texts-paid old-heads pushed-fit
+  pub start-room : 24 * length past + 8 * e + 8 * (s / 64 + 1) + 32 * (s / 9) + 2 * (W / 9) ≤ 5 * W
+  start-room = start-fits W f fresh d s (length past) e (heads old) (heads (withoutMacros is)) all-fit some texts-paid old-heads expanded-less
 
   -- theorem: appending, where a symbol was pushed
   pub append-room : 1 ≤ c → 24 * length past + 8 * (c + 9) + 32 * (s / 9) + 2 * (W / 9) ≤ 5 * W + 8
@@ -91,8 +100,8 @@ module _ (W : ℕ) (G : Tree) (old is : List Item) (K first past : List Text) (h
     leave : 24 * length first + 8 ≤ 8 * f
     leave = omega (arith, texts-leave first t among long)
 
-    -- theorem: where a round begins
-    pub ground-place : 8 * n + 24 * length (first ++ past) + 32 * (s / 9) ≤ x
+    -- theorem: where a round begins, with the list of new texts as long as replacing may make it
+    pub ground-place : 8 * n + 24 * length (first ++ past) + 8 * e + 32 * (s / 9) ≤ x
     ground-place = omega (arith, start-room, leave, length-append first past)
 
     -- theorem: the list of new texts, as long as appending may make it

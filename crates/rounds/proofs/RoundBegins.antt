@@ -11,7 +11,7 @@ use Rattle.parse_tree.specs.plain.References.{textsOfEach, itemTexts, stageOf}
 use Rattle.parse_tree.specs.working.Within.{Each, SpanWithin, ItemWithin, StageWithin}
 use Rattle.parse_tree.proofs.ReadingLaws.{each-append}
 use Rattle.passes.specs.Outcome.{Tree, yes}
-use Rattle.passes.specs.Macros.{Pending, Expander, replaceItems, drain, withoutMacros}
+use Rattle.passes.specs.Macros.{Expander, replaceItems, drain, withoutMacros}
 use Rattle.passes.specs.Resolve.{resolve}
 use Rattle.passes.specs.Stages.{stage}
 use Rattle.passes.specs.Calls.{sizes}
@@ -24,8 +24,9 @@ use Rattle.laws.specs.Keys.{ItemSound, Piled}
 use Rattle.laws.proofs.Keys.{replace-items-sound, drain-sound}
 use Rattle.replacing.specs.Trees.{expandedItems}
 use Rattle.replacing.proofs.TreesMean.{replace-items-is}
+use Rattle.rounds.specs.Begins.{piledOf, BeginsRound}
 use Rattle.rounds.specs.Calls.{ItemCalls, PendingCalls}
-use Rattle.rounds.specs.Paid.{TreeKnown, KeysKnown, Paid}
+use Rattle.rounds.specs.Paid.{TreeKnown, Paid}
 use Rattle.rounds.proofs.CallsMean.{pile-calls, drain-calls}
 use Rattle.rounds.proofs.PaidPile.{each-all}
 use Rattle.rounds.proofs.PaidRounds.{apart, after-round, round-known}
@@ -34,31 +35,8 @@ use Rattle.rounds.proofs.PaidStarts.{paid-start}
 use Rattle.rounds.proofs.KeptMeans.{items-sound}
 use Rattle.rounds.proofs.ResolvedCalls.{resolved-calls}
 
--- what is on the pile after replacing
-abbrev pub piledOf : List Item → List Text → List Pending
-piledOf fresh K = replaceItems fresh (record { keys = K; pile = [] }) .1 .pile
-
--- G has the macros, ts are the former stage's texts, `past` those that no tape had; `old` are the items already replaced, `fresh` those added since, K the keys met so far
-pub record Begins (w : ℕ) (G : Tree) (old fresh : List Item) (K ts past : List Text) : Type 0 where
-  pub apart : distinct ts ≡ true
-  pub macros-known : TreeKnown ts G
-  pub old-known : TreeKnown ts old
-  pub fresh-known : TreeKnown ts fresh
-  pub keys-known : KeysKnown ts K
-  pub macros-spans : Each (ItemSpans SpanWithin) G
-  pub old-spans : Each (ItemSpans SpanWithin) old
-  pub fresh-spans : Each (ItemSpans SpanWithin) fresh
-  pub macros-sound : Each ItemSound G
-  pub fresh-sound : Each ItemSound fresh
-  pub piled : Piled (record { keys = K; pile = [] })
-  pub macros-call : Each (ItemCalls G) G
-  pub fresh-call : Each (ItemCalls G) fresh
-  pub within : Each (ItemWithin false w ts) (old ++ fresh)
-  -- before the first round nothing is owed
-  pub paid : (past ≡ []) ⊎ Paid past (old ++ fresh)
-
 -- theorem: where a symbol is pushed all is paid, in the first round too
-pub begins-paid : (w : ℕ) (G : Tree) (old fresh : List Item) (K ts past : List Text) → Begins w G old fresh K ts past → 1 ≤ length (piledOf fresh K) → Paid past (old ++ fresh)
+pub begins-paid : (w : ℕ) (G : Tree) (old fresh : List Item) (K ts past : List Text) → BeginsRound w G old fresh K ts past → 1 ≤ length (piledOf fresh K) → Paid past (old ++ fresh)
 begins-paid w G old fresh K ts past h some = go (h .paid)
   where
     go : (past ≡ []) ⊎ Paid past (old ++ fresh) → Paid past (old ++ fresh)
@@ -66,7 +44,7 @@ begins-paid w G old fresh K ts past h some = go (h .paid)
     go (inr p) = p
 
 -- ---- one round, whose appending stage is admitted
-module _ (w cap : ℕ) (G : Tree) (old fresh new : List Item) (K ts past us : List Text) (h : Begins w G old fresh K ts past) (some : 1 ≤ length (piledOf fresh K)) (e : drain G (piledOf fresh K) ≡ yes new)
+module _ (w cap : ℕ) (G : Tree) (old fresh new : List Item) (K ts past us : List Text) (h : BeginsRound w G old fresh K ts past) (some : 1 ≤ length (piledOf fresh K)) (e : drain G (piledOf fresh K) ≡ yes new)
     (a : stage (sizes w cap) (stageOf ts (old ++ replaceItems fresh (record { keys = K; pile = [] }) .0) .atoms) (old ++ replaceItems fresh (record { keys = K; pile = [] }) .0 ++ new)
     ≡ yes (stageOf (stageOf ts (old ++ replaceItems fresh (record { keys = K; pile = [] }) .0) .atoms) (old ++ replaceItems fresh (record { keys = K; pile = [] }) .0 ++ new)))
     (u : after-round G old fresh new K ts ≡ ts ++ us) where
@@ -99,7 +77,7 @@ module _ (w cap : ℕ) (G : Tree) (old fresh new : List Item) (K ts past us : Li
       stage-within w g (stage-stocked w cap (stageOf ts (old ++ q .0) .atoms) (old ++ q .0 ++ new) g replaced-apart a) (each-append (ItemSpans SpanWithin) (old ++ q .0) new old-spans-next new-spans) .items
 
   -- theorem: the next round begins with the same
-  pub round-carries : Begins w G (old ++ q .0) new (q .1 .keys) (after-round G old fresh new K ts) (past ++ us)
+  pub round-carries : BeginsRound w G (old ++ q .0) new (q .1 .keys) (after-round G old fresh new K ts) (past ++ us)
   round-carries =
       let known = round-known G old fresh new K ts (h .macros-known) (h .old-known) (h .fresh-known) (h .keys-known) e in
       let g = stageOf (stageOf ts (old ++ q .0) .atoms) (old ++ q .0 ++ new) in
@@ -124,7 +102,7 @@ module _ (w cap : ℕ) (G : Tree) (old fresh new : List Item) (K ts past us : Li
 -- ---- the first round
 -- theorem: ts are the texts of a tree A, whose items are within bounds
 pub first-begins : (w : ℕ) (A : Tree) (ts : List Text) → distinct ts ≡ true → TreeKnown ts A → Each (ItemSpans SpanWithin) A → Each ItemSound A → Each (ItemCalls A) A → Each (ItemWithin false w ts) A
-    → Begins w A [] (withoutMacros A) [] ts []
+    → BeginsRound w A [] (withoutMacros A) [] ts []
 first-begins w A ts d k p s c i =
     record {
       apart = d;
@@ -146,7 +124,7 @@ first-begins w A ts d k p s c i =
 
 -- theorem: the call for macros alone: u was read, R is what resolving gives, and its stage is admitted
 pub macros-begin : (w cap : ℕ) (u : Stage) (R : Tree) → StageWithin true w u → resolve (u .items) ≡ yes R → stage (sizes w cap) (u .atoms) R ≡ yes (stageOf (u .atoms) R)
-    → Begins w R [] (withoutMacros R) [] (stageOf (u .atoms) R .atoms) []
+    → BeginsRound w R [] (withoutMacros R) [] (stageOf (u .atoms) R .atoms) []
 unfolding stageOf
 macros-begin w cap u R h e a =
     let within = resolve-alike true w (u .atoms) (u .items) R e .within (h .items) in

@@ -60,21 +60,21 @@ each-at P f k (suc n) h j l = go (eqb j n) refl (each-at P f k n (h .1) j)
 
 module _ (s w : List ℕ) (g : Ground) (to : ℕ) (r : Replaced) (w′ : List ℕ) (is : List Item) (K : List Text) (ms : List ℕ) (G : Tree) (h : Replacing s w g to r w′ is K ms G) where
   -- ---- the run
-  abbrev slots : Slots
+  abbrev pub slots : Slots
   slots = replaced false (g .width) (stageIn w g) (texts s w (g .m)) ms .slots
 
-  round : RoundReplaced false (g .width) (stageIn w g) (texts s w (g .m)) K (replacedBy is K) (replaced false (g .width) (stageIn w g) (texts s w (g .m)) ms)
+  pub round : RoundReplaced false (g .width) (stageIn w g) (texts s w (g .m)) K (replacedBy is K) (replaced false (g .width) (stageIn w g) (texts s w (g .m)) ms)
   round =
       round-means false (g .width) (stageIn w g) (texts s w (g .m)) (h .bytes) (h .ground .distinct-texts) K ms (h .keys)
       (each-map (λ k l. omega (arith, l, count-texts s w g)) ms (h .marks .below)) (h .many) is (h .read)
 
-  held : Held s w′ g (r .pile) (r .count) slots
+  pub held : Held s w′ g (r .pile) (r .count) slots
   held = h .stages .each ms (h .marks) .held
 
-  abbrev places : List ℕ
+  abbrev pub places : List ℕ
   places = map (λ (v : ℕ × Ref). v .0) (slots .refs)
 
-  names : Names s w′ g (r .pile) (r .count) places
+  pub names : Names s w′ g (r .pile) (r .count) places
   names = held-names s w′ g (h .stages .ground) (r .pile) (r .count) slots held
 
   -- ---- items and texts are those that were read
@@ -84,10 +84,10 @@ module _ (s w : List ℕ) (g : Ground) (to : ℕ) (r : Replaced) (w′ : List �
   before : r .to ≤ h .stages .writable .lim
   before = omega (arith, h .stages .writable .room)
 
-  stage-read : stageIn w g ≡ stageIn w′ g
+  pub stage-read : stageIn w g ≡ stageIn w′ g
   stage-read = stage-wrote s w′ w g to (r .to) (h .stages .writable .lim) (h .stages .ground) (h .top) (h .items) before (h .stages .writable .above) back
 
-  texts-read : texts s w (g .m) ≡ texts s w′ (g .m)
+  pub texts-read : texts s w (g .m) ≡ texts s w′ (g .m)
   texts-read = texts-wrote s w′ w g to (r .to) (h .stages .writable .lim) (h .stages .ground) (h .top) (h .items) before (h .stages .writable .above) back
 
   -- the texts by number
@@ -95,7 +95,7 @@ module _ (s w : List ℕ) (g : Ground) (to : ℕ) (r : Replaced) (w′ : List �
   unfolding namedIn
   named-held = ap (λ (us : List Text). texts s w′ (g .m) ++ us) (new-prints s w′ g (r .count) (λ i l. held .entries i l .0) ∙ ap (map (λ p. printedAt s w′ g p)) (sym (held .news)))
 
-  named-is : namedIn s w′ g (r .count) ≡ stageOf (texts s w (g .m)) (replacedBy is K .0) .atoms
+  pub named-is : namedIn s w′ g (r .count) ≡ stageOf (texts s w (g .m)) (replacedBy is K .0) .atoms
   named-is =
       named-held
       ∙ sym (ap (λ (st : List ℕ). texts s w′ (g .m) ++ map (printAt false (g .width) st (texts s w′ (g .m))) (slots .news)) stage-read)

@@ -21,7 +21,7 @@ use Rattle.expander.proofs.NamedTexts.{named-same}
 use Rattle.appending.proofs.BuiltGround.{odd-one, followed-even, followed-odd, key-kept, records-kept}
 use Rattle.rounds.specs.Start.{Cleared}
 
-down-same : (f g : ℕ → ℕ) (n : ℕ) → ((i : ℕ) → i < n → f i ≡ g i) → down f n ≡ down g n
+pub down-same : (f g : ℕ → ℕ) (n : ℕ) → ((i : ℕ) → i < n → f i ≡ g i) → down f n ≡ down g n
 unfolding down
 down-same f g zero h = refl
 down-same f g (suc n) h = cc (h n (omega arith), down-same f g n (λ i k. h i (omega arith)))

@@ -16,8 +16,9 @@ use Rattle.passes.proofs.Outcomes.{yes-inj, after-yes}
 use Rattle.meaning.proofs.calls.Staged.{admitted}
 use Rattle.replacing.proofs.Going.{extends-trans, new-extends}
 use Rattle.rounds.specs.Step.{RoundInput, RoundOutput, done, more, appendItems, pendingRound, oneRound}
+use Rattle.rounds.specs.Begins.{BeginsRound}
 use Rattle.rounds.proofs.PaidRounds.{after-round}
-use Rattle.rounds.proofs.RoundBegins.{Begins, round-carries}
+use Rattle.rounds.proofs.RoundBegins.{round-carries}
 
 module _ (admit : Stage → Outcome Stage) (G : Tree) where
   -- the rounds from what one begins with
@@ -64,7 +65,7 @@ module _ (admit : Stage → Outcome Stage) (G : Tree) where
 
 -- ---- what a round carries
 abbrev pub BeginsWith : ℕ → Tree → RoundInput → List Text → Type 0
-BeginsWith w G p past = Begins w G (p .old) (p .fresh) (p .keys) (p .atoms) past
+BeginsWith w G p past = BeginsRound w G (p .old) (p .fresh) (p .keys) (p .atoms) past
 
 pub record Carries (w : ℕ) (G : Tree) (p p′ : RoundInput) (past : List Text) : Type 0 where
   pub new : List Text

@@ -5,4 +5,7 @@ pub mod Grounds
 pub mod Judge
 pub mod Define
 pub mod Paid
+pub mod Begins
 pub mod Step
+pub mod Standing
+pub mod Round
