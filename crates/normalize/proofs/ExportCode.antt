@@ -1,12 +1,14 @@
 -- The words of an answer. Assumes nothing.
-use mathlib.Core.Path.{_≡_, refl, ap, _∙_}
+use mathlib.Core.Path.{_≡_, refl, ap, _∙_, subst}
+use mathlib.Core.Bool.{true}
 use mathlib.Core.List.{List, [], _∷_}
 use Prim.Native.Nat.{ℕ}
 use borrow.Author.Needs.{needs}
+use lib.ListN.{length}
 use Rattle.parse_tree.specs.plain.Tree.{Stage}
 use Rattle.parse_tree.specs.declared.refusal.Refusal.{Refusal}
 use Rattle.passes.specs.Outcome.{Outcome, yes, no}
-use Rattle.passes.specs.Calls.{answerWords}
+use Rattle.passes.specs.Calls.{macrosCall, answerWords}
 use Rattle.normalize.specs.plain.Answers.{answerOf, Called, Exported, Checked, CheckedWords}
 use Rattle.normalize.specs.working.Handing.{wordsOf}
 use Rattle.normalize.specs.declared.Answer.{Answer}
@@ -35,4 +37,11 @@ exported x s o w r o′ w′ c ws e = record { answered = e ∙ ap wordsOf (c .a
 pub checked : (x : Outcome Stage) (s w : List ℕ) (r : Answer) (w′ : List ℕ) → Checked x s w r w′ → (ws : List ℕ) → ws ≡ wordsOf r → CheckedWords x s w ws w′
 checked x s w r w′ c ws e = record { answered = e ∙ ap wordsOf (c .answered) ∙ words-are x; zeroed = c .zeroed }
 
+-- the limit as a word
+pub exported-macros : (n x : ℕ) → x ≡ n → (s o w : List ℕ) (r : Answer) (o′ w′ : List ℕ) → Called (macrosCall true 2 s x (length o) (length w)) s o w r o′ w′ → (ws : List ℕ) → ws ≡ wordsOf r
+    → Exported (macrosCall true 2 s n (length o) (length w)) s o w ws o′ w′
+exported-macros n x e s o w r o′ w′ c ws f = exported (macrosCall true 2 s n (length o) (length w)) s o w r o′ w′ (subst (λ (k : ℕ). Called (macrosCall true 2 s k (length o) (length w)) s o w r o′ w′) e c) ws f
+
 pub ruleset exporting = (needs, exported, checked)
+
+pub ruleset exporting-macros = (needs, exported-macros)

@@ -63,7 +63,7 @@ none-of (x ∷ xs) e = absurd (omega arith)
 
 -- ---- where the resolved stage is admitted
 module _ (s : List ℕ) (cap : ℕ) (m : Map) (t : Grammar) (at : ℕ) (w : List ℕ) (a : SomeAdmitted s cap m t at w) where
-  abbrev admitted-stood : Stood s w m t at
+  abbrev pub admitted-stood : Stood s w m t at
   admitted-stood = record {
     tape = a .tape;
     end = a .end;

@@ -12,3 +12,7 @@ mod LevellingMeanStage
 mod LevellingMeanTexts
 mod LevellingMeanSize
 mod LevellingCode
+mod PuttingCode
+mod ExpandingStart
+mod ExpandedCode
+mod ExpandingCode

@@ -235,6 +235,7 @@ module _ (s w : List ℕ) (a : Atoms) (at n : ℕ) (v : Valid true 2 s w a at n)
               texts-are = texts-but-cells s w w₂ table g (v .above) l few record-kept ∙ v .ready .ready .same;
               on-tape = above-but-cells s w w₂ table g (v .above) l few record-kept;
               some = λ h. rw (v .buckets) (some-linked (a .count) (named (omega (arith, m))));
+              narrower = few;
               width = v .wide;
               row = row-start grammar ts w₂ R m (λ j h. rw (v .wide) (listed j h)) (k .lies);
               within = alike .within (within .items);

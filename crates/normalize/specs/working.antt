@@ -2,3 +2,5 @@
 pub mod Stages
 pub mod Handing
 pub mod Levelling
+pub mod Putting
+pub mod Expanding

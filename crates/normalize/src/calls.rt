@@ -1,6 +1,7 @@
 // The calls as Rattle has them: each for every tape, output and work.
 use crate::Answer;
 use crate::Resolved;
+use crate::expanding::expand_stage;
 use crate::handing::hand_over;
 use crate::levelling::level_stage;
 use crate::resolving::resolve_tape;
@@ -15,7 +16,7 @@ ghost use mathlib.Core.Path.{_≡_};
 ghost use mathlib.Core.Bool.{true};
 ghost use Prim.Native.Nat.{_+_, _*_, _≤_};
 ghost use lib.ListN.{length};
-ghost use Rattle.passes.specs.Calls.{validateCall, resolveCall, levelsCall};
+ghost use Rattle.passes.specs.Calls.{validateCall, resolveCall, levelsCall, macrosCall};
 ghost use Rattle.normalize.specs.plain.Answers.{Called, Checked};
 ghost use Rattle.normalize.specs.working.Stages.{TapeResolves, resolved, Staged};
 ghost use Rattle.normalize.specs.declared.Resolved.{Resolved};
@@ -74,6 +75,19 @@ pub fn levels(tape: &[u8], output: &mut [u8], work: &mut [u8]) -> Answer
 {
     if enough(tape.len(), output.len(), work.len()) {
         let r = level_stage(tape, output, work);
+        clear(work);
+        r
+    } else {
+        Answer::No(refusal::at(1, 0))
+    }
+}
+
+// Resolving and macro expansion, within so many rounds: questions 1 to 13 and 17 to 21.
+pub fn macros(tape: &[u8], limit: usize, output: &mut [u8], work: &mut [u8]) -> Answer
+    ensures { λ r. ⌜ Called (macrosCall true 2 (now (tape .entry)) limit (length (now (output .entry))) (length (now (work .entry)))) (now (tape .entry)) (now (output .entry)) (now (work .entry)) r (now (output .exit)) (now (work .exit)) ⌝ }
+{
+    if enough(tape.len(), output.len(), work.len()) {
+        let r = expand_stage(tape, output, work, limit);
         clear(work);
         r
     } else {

@@ -4,9 +4,12 @@ use resolve::Grammar;
 use texts::Map;
 
 pub mod calls;
+pub mod expanded;
+pub mod expanding;
 pub mod export;
 pub mod handing;
 pub mod levelling;
+pub mod putting;
 pub mod resolving;
 pub mod room;
 pub mod validating;
