@@ -1,4 +1,4 @@
-# run, test: README's two commands. compare: resolving and levels set against the Rust on some hundred thousand tapes. bench: the calls' time, beside LALRPOP's.
+# run, test: README's two commands. compare: resolving, levels and macros set against the Rust on some hundred thousand tapes. bench: the calls' time, beside LALRPOP's.
 # proofs-test: that tools/proofs makes two proofs again as they stand. trust: counts what a reader must believe, and holds docs/TRUST.md to the files.
 # They need the Rattle kit's rt, cargo and make.
 .PHONY: run test rust compare bench trust proofs-test clean need-rt

@@ -135,7 +135,7 @@ module _ (s : List ℕ) (m : Map) (t : Grammar) (room : Room) (w : List ℕ) (A 
 
   -- ---- the trees
   abbrev pub treesOf : RoundTrees
-  treesOf = record { definitions = R; first = ts; past = []; old = []; items = R; keys = [] }
+  treesOf = record { definitions = R; first = ts; past = []; old = []; items = R; keys = []; owed = 0 }
 
   all-atoms : roundAtoms treesOf ≡ ts
   all-atoms = append-nil ts
@@ -153,9 +153,9 @@ module _ (s : List ℕ) (m : Map) (t : Grammar) (room : Room) (w : List ℕ) (A 
   fine =
       sym (said s w m t at (admitted-stood s (room .cap) m t at w (A .admitted)) (room .cap)) ∙ admitted-is s (room .cap) m t at w (A .admitted) ∙ ap yes (sym stage-same)
 
-  begins : BeginsRound 2 R [] (withoutMacros R) [] (roundAtoms treesOf) []
+  begins : BeginsRound 2 R [] (withoutMacros R) [] (roundAtoms treesOf) [] 0
   begins =
-      subst (λ (us : List Text). BeginsRound 2 R [] (withoutMacros R) [] us []) (ap (λ (g : Stage). g .atoms) stage-same ∙ sym all-atoms)
+      subst (λ (us : List Text). BeginsRound 2 R [] (withoutMacros R) [] us [] 0) (ap (λ (g : Stage). g .atoms) stage-same ∙ sym all-atoms)
       (macros-begin 2 (room .cap) (A .admitted .tape) R (A .admitted .within) (A .admitted .is) fine)
 
   stage-items : Each (ItemWithin false 2 (stageOf ts R .atoms)) R
@@ -177,6 +177,7 @@ module _ (s : List ℕ) (m : Map) (t : Grammar) (room : Room) (w : List ℕ) (A 
         within = subst (λ (us : List Text). Each (ItemWithin false 2 us) R) (sym all-atoms) within-plain;
         fits = subst (λ (g : Stage). stageFits 2 g ≡ true) e (x .0);
         size = subst (λ (g : Stage). length (stageBytes 2 g) ≤ room .cap) e (x .1);
+        owed-cap = omega arith;
         name = n .0;
         named = n .1;
         long = n .2;

@@ -34,26 +34,26 @@ pub texts-both : (us vs : List Text) → length (bytesOfEach (atomBytes 2) (us +
 texts-both us vs = omega (arith, ap length (bytes-both (atomBytes 2) us vs), length-append (bytesOfEach (atomBytes 2) us) (bytesOfEach (atomBytes 2) vs))
 
 -- more items that pay for more texts
-pub paid-more : (past us : List Text) (is new : List Item) → Paid past is
-    → (24 * length us ≤ heads new + 4 * length (bytesOfEach (atomBytes 2) us)) × (20 * length us ≤ heads new + 9 * overItems count new + length (bytesOfEach (atomBytes 2) us)) → Paid (past ++ us) (is ++ new)
-paid-more past us is new (a, b) (c, d) = (
+pub paid-more : (owed : ℕ) (past us : List Text) (is new : List Item) → Paid owed past is
+    → (24 * length us ≤ heads new + 4 * length (bytesOfEach (atomBytes 2) us)) × (20 * length us ≤ heads new + 9 * overItems count new + length (bytesOfEach (atomBytes 2) us)) → Paid owed (past ++ us) (is ++ new)
+paid-more owed past us is new (a, b) (c, d) = (
   omega (arith, a, c, heads-both is new, texts-both past us, length-append past us),
   omega (arith, b, d, heads-both is new, over-both count is new, texts-both past us, length-append past us),
 )
 
 -- replaced items pay as much
-pub paid-replaced : (past : List Text) (old fresh : List Item) (K : List Text) → Paid past (old ++ fresh) → Paid past (old ++ replaceItems fresh (record { keys = K; pile = [] }) .0)
-paid-replaced past old fresh K (a, b) =
+pub paid-replaced : (owed : ℕ) (past : List Text) (old fresh : List Item) (K : List Text) → Paid owed past (old ++ fresh) → Paid owed past (old ++ replaceItems fresh (record { keys = K; pile = [] }) .0)
+paid-replaced owed past old fresh K (a, b) =
     let q = replaceItems fresh (record { keys = K; pile = [] }) .0 in
     let (h, o) = replaced-items fresh (record { keys = K; pile = [] }) in
     (omega (arith, a, h, heads-both old fresh, heads-both old q), omega (arith, b, h, o, heads-both old fresh, heads-both old q, over-both count old fresh, over-both count old q))
 
 -- theorem: `past` are the new texts before the round, us those that it brings
-pub round-keeps : (G : Tree) (old fresh new : List Item) (K ts past us : List Text) → TreeKnown ts G → TreeKnown ts old → TreeKnown ts fresh → KeysKnown ts K
-    → drain G (replaceItems fresh (record { keys = K; pile = [] }) .1 .pile) ≡ yes new → after-round G old fresh new K ts ≡ ts ++ us → Paid past (old ++ fresh)
-    → Paid (past ++ us) (old ++ replaceItems fresh (record { keys = K; pile = [] }) .0 ++ new)
-round-keeps G old fresh new K ts past us g a b f e w p =
-    paid-more past us (old ++ replaceItems fresh (record { keys = K; pile = [] }) .0) new (paid-replaced past old fresh K p) (round-pays G old fresh new K ts g a b f e us w)
+pub round-keeps : (owed : ℕ) (G : Tree) (old fresh new : List Item) (K ts past us : List Text) → TreeKnown ts G → TreeKnown ts old → TreeKnown ts fresh → KeysKnown ts K
+    → drain G (replaceItems fresh (record { keys = K; pile = [] }) .1 .pile) ≡ yes new → after-round G old fresh new K ts ≡ ts ++ us → Paid owed past (old ++ fresh)
+    → Paid owed (past ++ us) (old ++ replaceItems fresh (record { keys = K; pile = [] }) .0 ++ new)
+round-keeps owed G old fresh new K ts past us g a b f e w p =
+    paid-more owed past us (old ++ replaceItems fresh (record { keys = K; pile = [] }) .0) new (paid-replaced owed past old fresh K p) (round-pays G old fresh new K ts g a b f e us w)
 
 -- ---- the first round
 -- theorem: no keys were met, and what holds of each item holds of those that are no definitions of macros

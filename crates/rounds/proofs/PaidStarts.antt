@@ -118,9 +118,9 @@ module _ (is : List Item) (K : List Text) where
   pile-heads h = expanded-heads is (omega (arith, h, pile-few))
 
 -- theorem: before the first round nothing is owed
-pub paid-start : (old is : List Item) (K : List Text) → 1 ≤ pile is K → Paid [] (old ++ is)
+pub paid-start : (owed : ℕ) (old is : List Item) (K : List Text) → 1 ≤ pile is K → Paid owed [] (old ++ is)
 unfolding bytesOfEach
-paid-start old is K h = (omega (arith, pile-heads is K h, heads-both old is), omega arith)
+paid-start owed old is K h = (omega (arith, pile-heads is K h, heads-both old is), omega arith)
 
 -- ---- records of pushed symbols, and heads of buckets
 buckets-room : (s : ℕ) → 40 ≤ s → bucketsOf s + 3 ≤ s / 9

@@ -1,8 +1,7 @@
 -- The room that a round's tables need, from what holds where it begins and from its former stage's length. Assumes nothing.
 use mathlib.Core.Path.{_≡_, ap}
 use mathlib.Core.Bool.{true}
-use mathlib.Core.Logic.{_⊎_, inl, inr}
-use mathlib.Core.List.{List, [], _++_}
+use mathlib.Core.List.{List, _++_}
 use Prim.Native.Nat.{ℕ, _+_, _-_, _*_, _/_, _≤_}
 use native.Mathlib.Omega.{arith}
 use lib.ListN.{length, length-append}
@@ -14,7 +13,7 @@ use Rattle.passes.specs.Outcome.{Tree}
 use Rattle.passes.specs.Macros.{withoutMacros}
 use Rattle.laws.specs.Counts.{heads, countExpandedAll}
 use Rattle.laws.proofs.Counts.{expanded-fit, straight-fit}
-use Rattle.laws.proofs.Room.{start-fits, settle-fits}
+use Rattle.laws.proofs.Room.{start-fits-levels, settle-fits-levels}
 use Rattle.replacing.specs.Trees.{expandedItems}
 use Rattle.replacing.proofs.ThereBytes.{bytes-both}
 use Rattle.rounds.specs.Paid.{Paid}
@@ -22,12 +21,11 @@ use Rattle.rounds.specs.Begins.{BeginsRound, piledOf}
 use Rattle.rounds.proofs.PaidTexts.{texts-leave}
 use Rattle.rounds.proofs.PaidKeeps.{heads-both, texts-both}
 use Rattle.rounds.proofs.PaidStarts.{items-count, pile-few, pile-heads, without-less}
-use Rattle.rounds.proofs.RoundBegins.{begins-paid}
-use Rattle.rounds.proofs.RoomNine.{append-nine}
+use Rattle.rounds.proofs.RoomNine.{append-nine-levels}
 
 -- `is` are the items to be replaced, in the first round with the definitions of macros; `first` are the tape's texts
-module _ (W : ℕ) (G : Tree) (old is : List Item) (K first past : List Text) (h : BeginsRound 2 G old (withoutMacros is) K (first ++ past) past) (some : 4 ≤ length (bytesOfEach (atomBytes 2) first))
-    (fits : length (stageBytes 2 (record { atoms = first ++ past; items = old ++ is })) ≤ W) where
+module _ (W : ℕ) (G : Tree) (old is : List Item) (K first past : List Text) (owed : ℕ) (h : BeginsRound 2 G old (withoutMacros is) K (first ++ past) past owed) (some : 4 ≤ length (bytesOfEach (atomBytes 2) first))
+    (fits : length (stageBytes 2 (record { atoms = first ++ past; items = old ++ is })) ≤ W) (owed-cap : 36 * owed ≤ W) where
   abbrev ts : List Text
   ts = first ++ past
 
@@ -65,32 +63,28 @@ module _ (W : ℕ) (G : Tree) (old is : List Item) (K first past : List Text) (h
   pushed-fit : 9 * c + heads (withoutMacros is) ≤ s
   pushed-fit = let x = without-less countExpandedAll is in omega (arith, expanded-fit ts is, pile-few (withoutMacros is) K, x .0, x .1)
 
-  texts-paid : 24 * length past ≤ heads old + heads (withoutMacros is) + 4 * fresh
-  texts-paid = go (h .paid)
-    where
-      go : (past ≡ []) ⊎ Paid past (old ++ withoutMacros is) → 24 * length past ≤ heads old + heads (withoutMacros is) + 4 * length (bytesOfEach (atomBytes 2) past)
-      go (inl e) = omega (arith, ap (λ (us : List Text). length us) e)
-      go (inr p) = omega (arith, p .0, heads-both old (withoutMacros is))
+  texts-paid : 24 * length past ≤ heads old + heads (withoutMacros is) + 4 * fresh + 4 * owed
+  texts-paid = omega (arith, h .records-paid, heads-both old (withoutMacros is))
 
   -- theorem: replacing: records of new texts, the list of new texts, heads, records of pushed symbols and slots
   pub start-room : 24 * length past + 8 * e + 8 * (s / 64 + 1) + 32 * (s / 9) + 2 * (W / 9) ≤ 5 * W
-  start-room = start-fits W f fresh d s (length past) e (heads old) (heads (withoutMacros is)) all-fit some texts-paid old-heads expanded-less
+  start-room = start-fits-levels W f fresh d s (length past) e (heads old) (heads (withoutMacros is)) owed all-fit some texts-paid old-heads expanded-less (h .owed-few) owed-cap
 
   -- theorem: appending, where a symbol was pushed
   pub append-room : 1 ≤ c → 24 * length past + 8 * (c + 9) + 32 * (s / 9) + 2 * (W / 9) ≤ 5 * W + 8
   append-room z =
-      let p = begins-paid 2 G old (withoutMacros is) K ts past h z in
-      append-nine W f fresh d s (length past) c (heads old) (heads (withoutMacros is)) all-fit some (omega (arith, p .0, heads-both old (withoutMacros is))) old-heads (pile-heads (withoutMacros is) K z) pushed-fit z
+      let p = h .paid z in
+      append-nine-levels W f fresh d s (length past) c (heads old) (heads (withoutMacros is)) owed all-fit some (omega (arith, p .0, heads-both old (withoutMacros is))) old-heads (pile-heads (withoutMacros is) K z) pushed-fit z (h .owed-few) owed-cap
 
   -- theorem: settling, where the stage with the appended items is admitted; all of them are paid, and the items to be replaced still stand
-  pub settle-room : (past′ : List Text) (items : List Item) → Paid past′ items → length (stageBytes 2 (record { atoms = first ++ past′; items = items })) ≤ W → 24 * length past′ + 32 * (s / 9) + 2 * (W / 9) ≤ 5 * W
+  pub settle-room : (past′ : List Text) (items : List Item) → Paid owed past′ items → length (stageBytes 2 (record { atoms = first ++ past′; items = items })) ≤ W → 24 * length past′ + 32 * (s / 9) + 2 * (W / 9) ≤ 5 * W
   unfolding stageBytes
   settle-room past′ items p l =
       let ts′ = first ++ past′ in
       let n = length (bytesOfEach (atomBytes 2) past′) in
       let i = length (bytesOfEach (itemBytes 2 ts′) items) in
-      settle-fits W f fresh d s (length past′) n 0 i all-fit (omega (arith, l, length-append (bytesOfEach (atomBytes 2) ts′) (bytesOfEach (itemBytes 2 ts′) items), texts-both first past′)) some
-      (omega (arith, p .1, straight-fit ts′ items))
+      settle-fits-levels W f fresh d s (length past′) n 0 i owed all-fit (omega (arith, l, length-append (bytesOfEach (atomBytes 2) ts′) (bytesOfEach (itemBytes 2 ts′) items), texts-both first past′)) some
+      (omega (arith, p .1, straight-fit ts′ items)) (h .owed-few) owed-cap
 
   -- ---- the same by places: the records of texts stand from 8 n on, n bytes of items are on the tape, and new records and a round's tables end at x; slots and records of pushed symbols are the last of these
   module _ (n : ℕ) (t : Text) (among : has t first ≡ true) (long : 1 ≤ length t) where
@@ -109,6 +103,6 @@ module _ (W : ℕ) (G : Tree) (old is : List Item) (K first past : List Text) (h
     list-place z = omega (arith, append-room z, leave, length-append first past)
 
     -- theorem: the records of all new texts
-    pub settle-place : (past′ : List Text) (items : List Item) → Paid past′ items → length (stageBytes 2 (record { atoms = first ++ past′; items = items })) ≤ W
+    pub settle-place : (past′ : List Text) (items : List Item) → Paid owed past′ items → length (stageBytes 2 (record { atoms = first ++ past′; items = items })) ≤ W
         → 8 * n + 24 * length (first ++ past′) + 32 * (s / 9) ≤ x
     settle-place past′ items p l = omega (arith, settle-room past′ items p l, leave, length-append first past′)

@@ -40,7 +40,6 @@ use Rattle.rounds.specs.Standing.{RoundTrees, roundAtoms, RoundStands}
 use Rattle.rounds.specs.Round.{replacedOf, pendingOf, replacedStage, appendedStage, Halfway, Fine, limitOf, Drained}
 use Rattle.rounds.proofs.PaidKeeps.{texts-both, round-keeps}
 use Rattle.rounds.proofs.RoomMeans.{settle-place}
-use Rattle.rounds.proofs.RoundBegins.{begins-paid}
 use Rattle.rounds.proofs.RoundStages.{appended-stage, replaced-atoms, appended-atoms, judged, restIn, fine-parts, verdict-parts, admitted-no}
 use Rattle.rounds.proofs.RoundPlaces as places
 use Rattle.rounds.proofs.RoundGround as grounds
@@ -206,12 +205,12 @@ module _ (s w : List ℕ) (room : Room) (t : Grammar) (z : State) (T : RoundTree
         go true e = new-whole (leb-true (r .to + length newItems) lim e)
         go false e = absurd (omega (arith, new-over (leb-false (r .to + length newItems) lim e), piles.limit-is s w room t z T S h w′ H pushed F, all-fit))
 
-    pub all-paid : Paid (T .past ++ allTexts) allItems
+    pub all-paid : Paid (T .owed) (T .past ++ allTexts) allItems
     all-paid =
         let B = S .grown .begins in
         let k : 1 ≤ length (pendingOf T) = omega (arith, pushed, piles.pushed-is s w room t z T S h w′ H pushed F) in
-        round-keeps (T .definitions) (T .old) (withoutMacros (T .items)) new (T .keys) (roundAtoms T) (T .past) allTexts (B .macros-known) (B .old-known) (B .fresh-known) (B .keys-known) d atoms-are
-        (begins-paid 2 (T .definitions) (T .old) (withoutMacros (T .items)) (T .keys) (roundAtoms T) (T .past) B k)
+        round-keeps (T .owed) (T .definitions) (T .old) (withoutMacros (T .items)) new (T .keys) (roundAtoms T) (T .past) allTexts (B .macros-known) (B .old-known) (B .fresh-known) (B .keys-known) d atoms-are
+        (B .paid k)
 
     -- the stage's length, by its bytes
     stage-size : length (stageBytes 2 (record { atoms = T .first ++ (T .past ++ allTexts); items = allItems })) ≤ room .cap
@@ -225,7 +224,7 @@ module _ (s w : List ℕ) (room : Room) (t : Grammar) (z : State) (T : RoundTree
     records-fit =
         omega (
           arith,
-          settle-place (room .cap) (T .definitions) (T .old) (T .items) (T .keys) (T .first) (T .past) (S .grown .begins) (places.four-first s w room t z T S) (S .grown .size) (S .map .items) (S .grown .name)
+          settle-place (room .cap) (T .definitions) (T .old) (T .items) (T .keys) (T .first) (T .past) (T .owed) (S .grown .begins) (places.four-first s w room t z T S) (S .grown .size) (S .grown .owed-cap) (S .map .items) (S .grown .name)
               (S .grown .named) (S .grown .long) (T .past ++ allTexts) allItems all-paid stage-size,
           length-append (T .first) (T .past ++ allTexts),
           length-append (T .past) allTexts,

@@ -1,9 +1,9 @@
 -- What holds of the trees where a round begins, and that a round carries it to the next: texts, spans, soundness, calls, bounds, and what new texts cost. Assumes nothing.
-use mathlib.Core.Path.{_≡_, refl, sym, subst}
+use mathlib.Core.Path.{_≡_, sym, subst}
 use mathlib.Core.Bool.{true, false}
-use mathlib.Core.Logic.{_⊎_, inl, inr}
 use mathlib.Core.List.{List, [], _++_}
 use Prim.Native.Nat.{ℕ, _≤_}
+use native.Mathlib.Omega.{arith}
 use lib.ListN.{length}
 use Rattle.parse_tree.specs.plain.Tree.{Text, Item, Stage}
 use Rattle.parse_tree.specs.plain.Texts.{distinct, has}
@@ -26,25 +26,17 @@ use Rattle.replacing.specs.Trees.{expandedItems}
 use Rattle.replacing.proofs.TreesMean.{replace-items-is}
 use Rattle.rounds.specs.Begins.{piledOf, BeginsRound}
 use Rattle.rounds.specs.Calls.{ItemCalls, PendingCalls}
-use Rattle.rounds.specs.Paid.{TreeKnown, Paid}
+use Rattle.rounds.specs.Paid.{TreeKnown}
 use Rattle.rounds.proofs.CallsMean.{pile-calls, drain-calls}
 use Rattle.rounds.proofs.PaidPile.{each-all}
 use Rattle.rounds.proofs.PaidRounds.{apart, after-round, round-known}
-use Rattle.rounds.proofs.PaidKeeps.{round-keeps, keys-none, without-each}
+use Rattle.rounds.proofs.PaidKeeps.{texts-both, round-keeps, keys-none, without-each}
 use Rattle.rounds.proofs.PaidStarts.{paid-start}
 use Rattle.rounds.proofs.KeptMeans.{items-sound}
 use Rattle.rounds.proofs.ResolvedCalls.{resolved-calls}
 
--- theorem: where a symbol is pushed all is paid, in the first round too
-pub begins-paid : (w : ℕ) (G : Tree) (old fresh : List Item) (K ts past : List Text) → BeginsRound w G old fresh K ts past → 1 ≤ length (piledOf fresh K) → Paid past (old ++ fresh)
-begins-paid w G old fresh K ts past h some = go (h .paid)
-  where
-    go : (past ≡ []) ⊎ Paid past (old ++ fresh) → Paid past (old ++ fresh)
-    go (inl e) = subst (λ (us : List Text). Paid us (old ++ fresh)) (sym e) (paid-start old fresh K some)
-    go (inr p) = p
-
 -- ---- one round, whose appending stage is admitted
-module _ (w cap : ℕ) (G : Tree) (old fresh new : List Item) (K ts past us : List Text) (h : BeginsRound w G old fresh K ts past) (some : 1 ≤ length (piledOf fresh K)) (e : drain G (piledOf fresh K) ≡ yes new)
+module _ (w cap : ℕ) (G : Tree) (old fresh new : List Item) (K ts past us : List Text) (owed : ℕ) (h : BeginsRound w G old fresh K ts past owed) (some : 1 ≤ length (piledOf fresh K)) (e : drain G (piledOf fresh K) ≡ yes new)
     (a : stage (sizes w cap) (stageOf ts (old ++ replaceItems fresh (record { keys = K; pile = [] }) .0) .atoms) (old ++ replaceItems fresh (record { keys = K; pile = [] }) .0 ++ new)
     ≡ yes (stageOf (stageOf ts (old ++ replaceItems fresh (record { keys = K; pile = [] }) .0) .atoms) (old ++ replaceItems fresh (record { keys = K; pile = [] }) .0 ++ new)))
     (u : after-round G old fresh new K ts ≡ ts ++ us) where
@@ -77,8 +69,9 @@ module _ (w cap : ℕ) (G : Tree) (old fresh new : List Item) (K ts past us : Li
       stage-within w g (stage-stocked w cap (stageOf ts (old ++ q .0) .atoms) (old ++ q .0 ++ new) g replaced-apart a) (each-append (ItemSpans SpanWithin) (old ++ q .0) new old-spans-next new-spans) .items
 
   -- theorem: the next round begins with the same
-  pub round-carries : BeginsRound w G (old ++ q .0) new (q .1 .keys) (after-round G old fresh new K ts) (past ++ us)
+  pub round-carries : BeginsRound w G (old ++ q .0) new (q .1 .keys) (after-round G old fresh new K ts) (past ++ us) owed
   round-carries =
+      let kept = round-keeps owed G old fresh new K ts past us (h .macros-known) (h .old-known) (h .fresh-known) (h .keys-known) e u (h .paid some) in
       let known = round-known G old fresh new K ts (h .macros-known) (h .old-known) (h .fresh-known) (h .keys-known) e in
       let g = stageOf (stageOf ts (old ++ q .0) .atoms) (old ++ q .0 ++ new) in
       record {
@@ -96,13 +89,15 @@ module _ (w cap : ℕ) (G : Tree) (old fresh new : List Item) (K ts past us : Li
         macros-call = h .macros-call;
         fresh-call = drain-calls G (q .1 .pile) new (h .macros-call) pile-call e;
         within = within-next;
-        paid = inr (round-keeps G old fresh new K ts past us (h .macros-known) (h .old-known) (h .fresh-known) (h .keys-known) e u (begins-paid w G old fresh K ts past h some));
+        records-paid = omega (arith, kept .0);
+        paid = λ z. kept;
+        owed-few = omega (arith, h .owed-few, texts-both past us);
       }
 
 -- ---- the first round
 -- theorem: ts are the texts of a tree A, whose items are within bounds
 pub first-begins : (w : ℕ) (A : Tree) (ts : List Text) → distinct ts ≡ true → TreeKnown ts A → Each (ItemSpans SpanWithin) A → Each ItemSound A → Each (ItemCalls A) A → Each (ItemWithin false w ts) A
-    → BeginsRound w A [] (withoutMacros A) [] ts []
+    → BeginsRound w A [] (withoutMacros A) [] ts [] 0
 first-begins w A ts d k p s c i =
     record {
       apart = d;
@@ -119,12 +114,14 @@ first-begins w A ts d k p s c i =
       macros-call = c;
       fresh-call = without-each (ItemCalls A) A c;
       within = without-each (ItemWithin false w ts) A i;
-      paid = inl refl;
+      records-paid = omega arith;
+      paid = λ z. paid-start 0 [] (withoutMacros A) [] z;
+      owed-few = omega arith;
     }
 
 -- theorem: the call for macros alone: u was read, R is what resolving gives, and its stage is admitted
 pub macros-begin : (w cap : ℕ) (u : Stage) (R : Tree) → StageWithin true w u → resolve (u .items) ≡ yes R → stage (sizes w cap) (u .atoms) R ≡ yes (stageOf (u .atoms) R)
-    → BeginsRound w R [] (withoutMacros R) [] (stageOf (u .atoms) R .atoms) []
+    → BeginsRound w R [] (withoutMacros R) [] (stageOf (u .atoms) R .atoms) [] 0
 unfolding stageOf
 macros-begin w cap u R h e a =
     let within = resolve-alike true w (u .atoms) (u .items) R e .within (h .items) in

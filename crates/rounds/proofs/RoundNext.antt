@@ -98,11 +98,11 @@ module _ (s w : List ℕ) (room : Room) (t : Grammar) (z : State) (T : RoundTree
   stage-next : appendedStage T new .atoms ≡ roundAtoms next
   stage-next = appended.atoms-are s w room t z T S h w′ H pushed F new v w‴ D ∙ atoms-next
 
-  begins-next : BeginsRound 2 (T .definitions) (T .old ++ replacedOf T) new (replacedBy (T .items) (T .keys) .1 .keys) (roundAtoms next) (T .past ++ us)
+  begins-next : BeginsRound 2 (T .definitions) (T .old ++ replacedOf T) new (replacedBy (T .items) (T .keys) .1 .keys) (roundAtoms next) (T .past ++ us) (T .owed)
   begins-next =
       let k : 1 ≤ length (pendingOf T) = omega (arith, pushed, piles.pushed-is s w room t z T S h w′ H pushed F) in
-      subst (λ (ts : List Text). BeginsRound 2 (T .definitions) (T .old ++ replacedOf T) new (replacedBy (T .items) (T .keys) .1 .keys) ts (T .past ++ us)) stage-next
-      (round-carries 2 (room .cap) (T .definitions) (T .old) (withoutMacros (T .items)) new (T .keys) (roundAtoms T) (T .past) us (S .grown .begins) k d E (appended.atoms-are s w room t z T S h w′ H pushed F new v w‴ D))
+      subst (λ (ts : List Text). BeginsRound 2 (T .definitions) (T .old ++ replacedOf T) new (replacedBy (T .items) (T .keys) .1 .keys) ts (T .past ++ us) (T .owed)) stage-next
+      (round-carries 2 (room .cap) (T .definitions) (T .old) (withoutMacros (T .items)) new (T .keys) (roundAtoms T) (T .past) us (T .owed) (S .grown .begins) k d E (appended.atoms-are s w room t z T S h w′ H pushed F new v w‴ D))
 
   stage-is : appendedStage T new ≡ stageBefore next
   unfolding stageOf
@@ -112,10 +112,11 @@ module _ (s w : List ℕ) (room : Room) (t : Grammar) (z : State) (T : RoundTree
   grown-next =
       let x = fine-parts (room .cap) (appendedStage T new) E in
       record {
-        begins = subst (λ (is : List Item). BeginsRound 2 (T .definitions) (T .old ++ replacedOf T) is (replacedBy (T .items) (T .keys) .1 .keys) (roundAtoms next) (T .past ++ us)) (sym (drained-without (T .definitions) (pendingOf T) new d)) begins-next;
+        begins = subst (λ (is : List Item). BeginsRound 2 (T .definitions) (T .old ++ replacedOf T) is (replacedBy (T .items) (T .keys) .1 .keys) (roundAtoms next) (T .past ++ us) (T .owed)) (sym (drained-without (T .definitions) (pendingOf T) new d)) begins-next;
         within = symbols.each-parts (ItemWithin false 2 (roundAtoms next)) (T .old ++ replacedOf T) new (begins-next .within) .1;
         fits = subst (λ (k : Stage). stageFits 2 k ≡ true) stage-is (x .0);
         size = subst (λ (k : Stage). length (stageBytes 2 k) ≤ room .cap) stage-is (x .1);
+        owed-cap = S .grown .owed-cap;
         name = S .grown .name;
         named = S .grown .named;
         long = S .grown .long;

@@ -91,7 +91,7 @@ module _ (s w : List ℕ) (room : Room) (t : Grammar) (z : State) (T : RoundTree
         arith,
         grounds.list-is s w room t z T S g w₁ (H .grounds) (r .pile + 9),
         grounds.keys-is s w room t z T S g w₁ (H .grounds),
-        list-place (room .cap) (T .definitions) (T .old) (T .items) (T .keys) (T .first) (T .past) (S .grown .begins) (places.four-first s w room t z T S) (S .grown .size) (S .map .items) (S .grown .name)
+        list-place (room .cap) (T .definitions) (T .old) (T .items) (T .keys) (T .first) (T .past) (T .owed) (S .grown .begins) (places.four-first s w room t z T S) (S .grown .size) (S .grown .owed-cap) (S .map .items) (S .grown .name)
             (S .grown .named) (S .grown .long) k,
         places.texts-many s w room t z T S,
         S .map .base-is,

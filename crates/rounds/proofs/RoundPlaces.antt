@@ -45,7 +45,7 @@ module _ (s w : List ℕ) (room : Room) (t : Grammar) (z : State) (T : RoundTree
       go (u ∷ us) k h = omega (arith, h)
 
   pub sizes-fit : room .first + pastSize + oldSize + itemsSize ≤ room .cap
-  sizes-fit = omega (arith, S .first, all-fit (room .cap) (T .definitions) (T .old) (T .items) (T .keys) (T .first) (T .past) (S .grown .begins) four-first (S .grown .size))
+  sizes-fit = omega (arith, S .first, all-fit (room .cap) (T .definitions) (T .old) (T .items) (T .keys) (T .first) (T .past) (T .owed) (S .grown .begins) four-first (S .grown .size) (S .grown .owed-cap))
 
   pub texts-many : z .m .count ≡ length (roundAtoms T)
   unfolding texts
@@ -93,7 +93,7 @@ module _ (s w : List ℕ) (room : Room) (t : Grammar) (z : State) (T : RoundTree
   pub tables-fit : z .m .base + 24 * z .m .count + 8 * length (expandedItems (withoutMacros (T .items))) + 32 * (itemsSize / 9) ≤ room .x
   tables-fit = omega (
     arith,
-    ground-place (room .cap) (T .definitions) (T .old) (T .items) (T .keys) (T .first) (T .past) (S .grown .begins) four-first (S .grown .size) (S .map .items) (S .grown .name) (S .grown .named) (S .grown .long),
+    ground-place (room .cap) (T .definitions) (T .old) (T .items) (T .keys) (T .first) (T .past) (T .owed) (S .grown .begins) four-first (S .grown .size) (S .grown .owed-cap) (S .map .items) (S .grown .name) (S .grown .named) (S .grown .long),
     texts-many,
     S .map .base-is,
     S .map .x-is,

@@ -64,7 +64,7 @@ TreeKnown ts G = Each (λ i. Each (λ t. has t ts ≡ true) (itemTexts i)) G
 abbrev pub KeysKnown : List Text → List Text → Type 0
 KeysKnown ts K = (t : Text) → Key t → has t K ≡ true → has t ts ≡ true
 
--- the counts that room in work asks of the new texts us and the items
-abbrev pub Paid : List Text → List Item → Type 0
-Paid us is =
-    (24 * length us + 31 ≤ heads is + 4 * length (bytesOfEach (atomBytes 2) us)) × (20 * length us ≤ heads is + 9 * overItems count is + length (bytesOfEach (atomBytes 2) us))
+-- the counts that room in work asks of the new texts us and the items, where so many names of macros' levels are owed: their items are left out of a stage
+abbrev pub Paid : ℕ → List Text → List Item → Type 0
+Paid owed us is =
+    (24 * length us + 31 ≤ heads is + 4 * length (bytesOfEach (atomBytes 2) us) + 4 * owed) × (20 * length us ≤ heads is + 9 * overItems count is + length (bytesOfEach (atomBytes 2) us) + 15 * owed)

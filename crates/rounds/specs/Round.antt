@@ -118,7 +118,7 @@ DrainsPile s w room t z h r w′ = (work : List ℕ) (T : RoundTrees) → RoundS
 
 -- ---- the next round
 abbrev pub nextTrees : RoundTrees → List Item → List Text → RoundTrees
-nextTrees T new us = record { definitions = T .definitions; first = T .first; past = T .past ++ us; old = T .old ++ replacedOf T; items = new; keys = replacedBy (T .items) (T .keys) .1 .keys }
+nextTrees T new us = record { definitions = T .definitions; first = T .first; past = T .past ++ us; old = T .old ++ replacedOf T; items = new; keys = replacedBy (T .items) (T .keys) .1 .keys; owed = T .owed }
 
 -- items were appended
 pub record SomeAppended (s w : List ℕ) (room : Room) (t : Grammar) (z : State) (h : Half) (v : Appended) : Type 0 where

@@ -47,6 +47,8 @@ pub record RoundTrees : Type 0 where
   pub old : List Item
   pub items : List Item
   pub keys : List Text
+  -- how many names of macros' levels are among the texts that no tape had
+  pub owed : ℕ
 
 abbrev pub roundAtoms : RoundTrees → List Text
 roundAtoms T = T .first ++ T .past
@@ -61,10 +63,12 @@ stageBefore T = record { atoms = roundAtoms T; items = T .old ++ T .items }
 
 -- the trees of a round, whose stage before was admitted
 pub record GrownTrees (cap : ℕ) (T : RoundTrees) : Type 0 where
-  pub begins : BeginsRound 2 (T .definitions) (T .old) (withoutMacros (T .items)) (T .keys) (roundAtoms T) (T .past)
+  pub begins : BeginsRound 2 (T .definitions) (T .old) (withoutMacros (T .items)) (T .keys) (roundAtoms T) (T .past) (T .owed)
   pub within : Each (ItemWithin false 2 (roundAtoms T)) (T .items)
   pub fits : stageFits 2 (stageBefore T) ≡ true
   pub size : length (stageBytes 2 (stageBefore T)) ≤ cap
+  -- an item of a macro's level has 36 bytes at least
+  pub owed-cap : 36 * T .owed ≤ cap
   -- a name is among the tape's texts
   pub name : Text
   pub named : has name (T .first) ≡ true

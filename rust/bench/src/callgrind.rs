@@ -17,6 +17,9 @@ pub enum Call {
     LalrpopAgain,
     /// Its `expand_precedence` of the same.
     LalrpopLevels,
+    Macros,
+    /// Its `expand_macros` of the tree as it is read.
+    LalrpopMacros,
 }
 
 impl Call {
@@ -28,6 +31,8 @@ impl Call {
             Call::Levels => "levels",
             Call::LalrpopAgain => "lalrpop-again",
             Call::LalrpopLevels => "lalrpop-levels",
+            Call::Macros => "macros",
+            Call::LalrpopMacros => "lalrpop-macros",
         }
     }
 
@@ -38,6 +43,8 @@ impl Call {
             Call::Lalrpop | Call::LalrpopAgain => "*lalrpop_resolves*",
             Call::Levels => "normalize_levels",
             Call::LalrpopLevels => "*lalrpop_levels*",
+            Call::Macros => "normalize_macros",
+            Call::LalrpopMacros => "*lalrpop_expands*",
         }
     }
 }
@@ -59,7 +66,9 @@ pub fn once(arguments: &[String]) {
         "lalrpop" => drop(black_box(subject.ready.map(lalrpop_resolves))),
         "lalrpop-again" => drop(black_box(subject.ready.and_then(Ready::resolved).map(lalrpop_resolves))),
         "lalrpop-levels" => drop(black_box(subject.ready.and_then(Ready::resolved).map(lalrpop_levels))),
-        _ => panic!("CALL is validate, resolve, levels, lalrpop, lalrpop-again or lalrpop-levels"),
+        "macros" => assert!(subject.macros_once() > 0),
+        "lalrpop-macros" => drop(black_box(subject.ready.map(lalrpop_expands))),
+        _ => panic!("CALL is validate, resolve, levels, macros, lalrpop, lalrpop-again, lalrpop-levels or lalrpop-macros"),
     }
 }
 
@@ -72,6 +81,11 @@ fn lalrpop_resolves(ready: Ready) -> Option<Ready> {
 #[inline(never)]
 fn lalrpop_levels(ready: Ready) -> Option<Ready> {
     ready.levelled()
+}
+
+#[inline(never)]
+fn lalrpop_expands(ready: Ready) -> Option<Ready> {
+    ready.expanded()
 }
 
 /// The instructions of a call by function, the most first. Those of `memset`, which clears work and tables, are left out: callgrind counts one

@@ -4,6 +4,7 @@ mod callgrind;
 mod clock;
 mod grammars;
 mod levels;
+mod macros;
 mod measure;
 mod subject;
 mod tapes;
@@ -22,6 +23,10 @@ fn main() -> ExitCode {
         callgrind::once(&arguments[1..]);
         return ExitCode::SUCCESS;
     }
+    if arguments.first().is_some_and(|word| word == "--macros") {
+        macros::tell();
+        return ExitCode::SUCCESS;
+    }
     if arguments.first().is_some_and(|word| word == "--sizes") {
         sizes();
         return ExitCode::SUCCESS;
@@ -29,6 +34,7 @@ fn main() -> ExitCode {
     compare();
     count();
     levels::tell();
+    macros::tell();
     let is_linear = sizes();
     sizes_on_huge_pages();
     names();

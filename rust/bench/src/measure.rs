@@ -77,6 +77,12 @@ pub fn levelling(subject: &Subject) -> Run<'_> {
     Box::new(move |times| timed(times, || subject.levels(&mut output, &mut work)))
 }
 
+pub fn expanding(subject: &Subject) -> Run<'_> {
+    let mut output = subject.output_of_macros();
+    let mut work = vec![0; normalize::work_len(subject.tape.len(), output.len())];
+    Box::new(move |times| timed(times, || assert!(subject.macros(&mut output, &mut work) > 0)))
+}
+
 /// Copying the tape and the tree, and clearing as much work as resolving clears.
 fn copying<'a>(subject: &'a Subject, tree: &'a [u8]) -> Run<'a> {
     let (mut copy, mut output, mut work) = (subject.output(), subject.output(), subject.work_of_resolving());

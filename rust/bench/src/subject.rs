@@ -2,8 +2,7 @@
 use crate::grammars::grammar;
 use crate::tapes::symbols;
 use normalize::work_len;
-use oracle::Ready;
-use oracle::{staged, Call};
+use oracle::{staged, Call, Ready, ROUNDS};
 use reading::tree::Stage;
 use reading::{answer, write};
 use std::cell::OnceCell;
@@ -106,6 +105,31 @@ impl Subject {
 
     pub fn levels(&self, output: &mut [u8], work: &mut [u8]) {
         assert_eq!(normalize::levels(&self.tape, output, work), Ok(self.levelled()));
+    }
+
+    /// Macros with so long an output that each stage fits: the length of the tree.
+    pub fn macros_once(&self) -> usize {
+        let mut output = vec![0; 8 * self.tape.len() + 4_096];
+        let mut work = vec![0; work_len(self.tape.len(), output.len())];
+        normalize::macros(&self.tape, ROUNDS, &mut output, &mut work).expect("a grammar whose macros are expanded")
+    }
+
+    /// Just long enough for each stage of macros, found by halving: a stage before the last may be longer than it.
+    pub fn output_of_macros(&self) -> Vec<u8> {
+        let (mut short, mut long) = (self.tape.len() - 1, 8 * self.tape.len() + 4_096);
+        while short + 1 < long {
+            let (half, mut output) = ((short + long) / 2, vec![0; (short + long) / 2]);
+            let mut work = vec![0; work_len(self.tape.len(), half)];
+            match normalize::macros(&self.tape, ROUNDS, &mut output, &mut work) {
+                Ok(_) => long = half,
+                Err(_) => short = half,
+            }
+        }
+        vec![0; long]
+    }
+
+    pub fn macros(&self, output: &mut [u8], work: &mut [u8]) -> usize {
+        normalize::macros(&self.tape, ROUNDS, output, work).expect("a grammar whose macros are expanded")
     }
 
     pub fn resolve(&self, output: &mut [u8], work: &mut [u8]) {

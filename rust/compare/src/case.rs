@@ -1,6 +1,10 @@
-//! What one call is given: a tape, and how long its buffers are.
+//! What one call is given: a tape, a limit, and how long its buffers are.
+use crate::stages::deciding;
 use oracle::chance::Chance;
 use oracle::Call;
+
+/// Stages whose lengths a tape is tried at.
+const MOST_STAGES: usize = 4;
 
 /// Lengths told from the tape, so that they keep their sense when the tape shrinks. Below zero bytes they are zero.
 #[derive(Clone, Copy, Debug, Default, PartialEq, Eq)]
@@ -14,17 +18,28 @@ pub struct Room {
 #[derive(Clone, Debug, PartialEq, Eq)]
 pub struct Case {
     pub tape: Vec<u8>,
+    /// Rounds of macros; the other calls take none.
+    pub limit: u16,
     pub room: Room,
 }
 
 impl Case {
     pub fn fitting(tape: Vec<u8>) -> Case {
-        Case { tape, room: Room::default() }
+        Case { tape, limit: 0, room: Room::default() }
     }
 
     /// With an output that a few levels fit in.
     pub fn roomy(tape: Vec<u8>) -> Case {
-        Case { room: Room { output: tape.len() as isize / 2 + 200, work: 0 }, tape }
+        Case { room: Room { output: tape.len() as isize / 2 + 200, work: 0 }, limit: 0, tape }
+    }
+
+    /// With an output that a few rounds fit in.
+    pub fn expanding(tape: Vec<u8>, limit: u16) -> Case {
+        Case { room: Room { output: tape.len() as isize + 2_000, work: 0 }, limit, tape }
+    }
+
+    pub fn within(self, limit: u16) -> Case {
+        Case { limit, ..self }
     }
 
     pub fn output_len(&self) -> usize {
@@ -41,7 +56,7 @@ pub fn every_room(tape: &[u8], longest: usize) -> impl Iterator<Item = Case> + '
     let beyond = longest.max(tape.len()) - tape.len();
     let outputs = -(tape.len() as isize)..=beyond as isize + 3;
     let rooms = outputs.flat_map(|output| (-9..=9).map(move |work| Room { output, work }));
-    rooms.map(|room| Case { tape: tape.to_vec(), room })
+    rooms.map(|room| Case { tape: tape.to_vec(), limit: 0, room })
 }
 
 /// Mostly enough room; else at the boundary or far from it.
@@ -72,14 +87,37 @@ fn work(chance: &mut Chance, need: usize) -> isize {
 
 /// The lengths of the resolved stage and of the levelled one, as far as the Rust comes.
 pub fn level_lengths(tape: &[u8]) -> Vec<usize> {
+    lengths(tape, Call::Levels, 0, usize::MAX)
+}
+
+/// The lengths of the stages of macros, none over `longest`.
+pub fn macro_lengths(tape: &[u8], limit: u16, longest: usize) -> Vec<usize> {
+    let mut lengths = lengths(tape, Call::Macros, limit, longest);
+    lengths.retain(|length| *length <= longest);
+    lengths
+}
+
+fn lengths(tape: &[u8], call: Call, limit: u16, longest: usize) -> Vec<usize> {
     let Ok(stage) = reading::read(tape) else { return vec![] };
-    let steps = oracle::staged(&stage, Call::Levels, 0).unwrap_or_default();
+    let steps = deciding(&stage, call, limit, longest).unwrap_or_default();
     reading::stage_lengths(stage.atoms, &steps)
 }
 
 /// A tape with outputs as long as itself, as each stage of levels, one byte shorter than each, and much longer.
 pub fn at_level_lengths(chance: &mut Chance, tape: &[u8]) -> Vec<Case> {
-    let mut lengths = level_lengths(tape);
+    at_lengths(chance, tape, level_lengths(tape))
+}
+
+/// The same with macros; of many stages some are left out, the last one never.
+pub fn at_macro_lengths(chance: &mut Chance, tape: &[u8], limit: u16, longest: usize) -> Vec<Case> {
+    let mut lengths = macro_lengths(tape, limit, longest);
+    while lengths.len() > MOST_STAGES {
+        lengths.remove(chance.under(lengths.len() - 1));
+    }
+    at_lengths(chance, tape, lengths).into_iter().map(|case| case.within(limit)).collect()
+}
+
+fn at_lengths(chance: &mut Chance, tape: &[u8], mut lengths: Vec<usize>) -> Vec<Case> {
     lengths.push(tape.len());
     let longest = lengths.iter().copied().max().unwrap_or(0);
     lengths.extend(lengths.clone().iter().map(|length| length.saturating_sub(1)));
@@ -89,7 +127,7 @@ pub fn at_level_lengths(chance: &mut Chance, tape: &[u8]) -> Vec<Case> {
     let with_room = |length: usize| {
         let need = reading::work_needed(tape.len(), length);
         let room = Room { output: length as isize - tape.len() as isize, work: if chance.percent(80) { 0 } else { work(chance, need) } };
-        Case { tape: tape.to_vec(), room }
+        Case { tape: tape.to_vec(), limit: 0, room }
     };
     lengths.into_iter().map(with_room).collect()
 }

@@ -66,7 +66,7 @@ fn adds(same: &[(Case, Outcome)], case: &Case, outcome: &Outcome) -> bool {
 fn candidates() -> impl Iterator<Item = Case> {
     let known = RESOLVE.iter().chain(&MACRO_EXPAND).map(|known| Case::fitting(known.tape()));
     let cramped = [Room { output: 0, work: -1 }, Room { output: -1, work: 0 }, Room { output: 5, work: 3 }];
-    let room = cramped.into_iter().map(|room| Case { tape: vec![1, 1, 0, b'A'], room });
+    let room = cramped.into_iter().map(|room| Case { tape: vec![1, 1, 0, b'A'], limit: 0, room });
     let short = short::of_bytes(1).into_iter().take(4).chain(short::of_commands(1).into_iter().step_by(4)).map(Case::fitting);
     let mut chance = Chance(1);
     let random = std::iter::repeat_with(move || mix::case(&mut chance, Size::Few, 30));

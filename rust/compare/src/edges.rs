@@ -184,5 +184,5 @@ pub fn level_cases() -> Vec<Case> {
 pub fn cases() -> Vec<Case> {
     let tapes = [many_atoms(), full_operands(), many_items(), towers()].concat();
     let short = Room { output: -1, work: 0 };
-    tapes.into_iter().map(told_apart).flat_map(|tape| [Case::fitting(tape.clone()), Case { tape, room: short }]).collect()
+    tapes.into_iter().map(told_apart).flat_map(|tape| [Case::fitting(tape.clone()), Case { tape, limit: 0, room: short }]).collect()
 }

@@ -64,6 +64,12 @@ pub fn tree_so_wild(chance: &mut Chance, size: Size, wild: usize) -> Stage {
     Stage { atoms, items }
 }
 
+/// The texts of the items, by first use.
+pub fn texts(items: &[Item]) -> Vec<Vec<u8>> {
+    let tape = write(&Stage { atoms: vec![], items: items.to_vec() });
+    split(&tape).into_iter().filter(|range| tape[range.start] == 0x01).map(|range| tape[range][3..].to_vec()).collect()
+}
+
 impl Grower<'_> {
     /// `times` makes up for choices that are seldom made.
     fn goes_wild(&mut self, times: usize) -> bool {
@@ -306,9 +312,7 @@ impl Grower<'_> {
         if self.chance.percent(40) {
             return vec![];
         }
-        let tape = write(&Stage { atoms: vec![], items: items.to_vec() });
-        let texts = split(&tape).into_iter().filter(|range| tape[range.start] == 0x01).map(|range| tape[range][3..].to_vec());
-        let mut atoms: Vec<Vec<u8>> = texts.collect();
+        let mut atoms = texts(items);
         for _ in 0..self.chance.under(4) {
             let length = self.chance.under(9);
             atoms.push(self.chance.bytes(length));

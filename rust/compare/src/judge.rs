@@ -1,13 +1,15 @@
 //! One call of ours beside the expected outcome: answer, tree, bytes behind, work.
 use crate::case::Case;
+use crate::stages::{deciding, rounds_before};
 use normalize::Words;
 use oracle::chance::Chance;
 use oracle::Call;
 use reading::commands::hex;
 use reading::Outcome;
+use std::cell::Cell;
 
-/// Tape, output, work, and the words of the answer.
-pub type Made<'a> = &'a dyn Fn(&[u8], &mut [u8], &mut [u8], &mut Words);
+/// Tape, limit, output, work, and the words of the answer.
+pub type Made<'a> = &'a dyn Fn(&[u8], u16, &mut [u8], &mut [u8], &mut Words);
 
 /// Our call, and which one of document 01's it should be.
 #[derive(Clone, Copy)]
@@ -16,14 +18,17 @@ pub struct Ours<'a> {
     pub made: Made<'a>,
 }
 
-/// Resolving and levels, by the archive.
-pub const RESOLVE: Ours = Ours { call: Call::Resolve, made: &normalize::resolve_words };
-pub const LEVELS: Ours = Ours { call: Call::Levels, made: &normalize::levels_words };
+/// The archive's calls.
+pub const RESOLVE: Ours =
+    Ours { call: Call::Resolve, made: &|tape, _, output, work, answer| normalize::resolve_words(tape, output, work, answer) };
+pub const LEVELS: Ours =
+    Ours { call: Call::Levels, made: &|tape, _, output, work, answer| normalize::levels_words(tape, output, work, answer) };
+pub const MACROS: Ours = Ours { call: Call::Macros, made: &normalize::macros_words };
 
 #[derive(Clone, Debug, PartialEq, Eq)]
 pub enum Verdict {
-    /// The number of the refusal, 0 for a yes.
-    Agreed(u8),
+    /// The number of the refusal, 0 for a yes, and how many rounds of macros were over.
+    Agreed(u8, usize),
     /// The Rust would have to be asked, and isn't there.
     Skipped,
     Differs(String),
@@ -50,28 +55,38 @@ impl Fenced {
     }
 
     /// The first place where it isn't as it should be, told from the inside's first byte.
-    fn differing(&self, name: &str, right: &Fenced) -> Option<Verdict> {
+    fn differing(&self, name: &str, right: &Fenced) -> Option<String> {
         let at = self.bytes.iter().zip(&right.bytes).position(|(a, b)| a != b)?;
         let (end, place) = ((at + 8).min(self.bytes.len()), at as isize - self.front as isize);
         let (ours, right) = (hex(&self.bytes[at..end]), hex(&right.bytes[at..end]));
-        Some(Verdict::Differs(format!("{name} from byte {place} {ours}, expected {right}")))
+        Some(format!("{name} from byte {place} {ours}, expected {right}"))
     }
 }
 
 /// What document 01 and the Rust say to the case.
 pub fn expected(case: &Case, call: Call) -> Option<Outcome> {
-    reading::answer(&case.tape, case.output_len(), case.work_len(), |stage| oracle::staged(stage, call, 0))
+    outcome_and_rounds(case, call).map(|(outcome, _)| outcome)
+}
+
+/// The same, and how many rounds of macros were over.
+fn outcome_and_rounds(case: &Case, call: Call) -> Option<(Outcome, usize)> {
+    let (output, rounds) = (case.output_len(), Cell::new(0));
+    let outcome = reading::answer(&case.tape, output, case.work_len(), |stage| {
+        let steps = deciding(stage, call, case.limit, output)?;
+        rounds.set(rounds_before(stage, &steps, output));
+        Some(steps)
+    });
+    Some((outcome?, rounds.get()))
 }
 
 pub fn judge(case: &Case, dirt: u64, ours: Ours) -> Verdict {
-    match expected(case, ours.call) {
-        None => Verdict::Skipped,
-        Some(outcome) => against(case, dirt, &outcome, ours),
-    }
+    let Some((outcome, rounds)) = outcome_and_rounds(case, ours.call) else { return Verdict::Skipped };
+    let number = outcome.as_ref().err().map_or(0, |refusal| refusal.number);
+    difference(case, dirt, &outcome, ours).map_or(Verdict::Agreed(number, rounds), Verdict::Differs)
 }
 
 /// The old bytes of output, work and answer are any, as `dirt` fixes them.
-fn against(case: &Case, dirt: u64, outcome: &Outcome, ours: Ours) -> Verdict {
+fn difference(case: &Case, dirt: u64, outcome: &Outcome, ours: Ours) -> Option<String> {
     let mut chance = Chance(dirt);
     let mut output = Fenced::dirty(&mut chance, case.output_len());
     let mut work = Fenced::dirty(&mut chance, case.work_len());
@@ -83,14 +98,13 @@ fn against(case: &Case, dirt: u64, outcome: &Outcome, ours: Ours) -> Verdict {
     if case.work_len() >= reading::work_needed(case.tape.len(), case.output_len()) {
         right_work.inside().fill(0);
     }
-    (ours.made)(&case.tape, output.inside(), work.inside(), &mut answer);
+    (ours.made)(&case.tape, case.limit, output.inside(), work.inside(), &mut answer);
     let right_answer = words(outcome);
     if answer != right_answer {
-        return Verdict::Differs(format!("answer {answer:?}, expected {right_answer:?}"));
+        return Some(format!("answer {answer:?}, expected {right_answer:?}"));
     }
-    let agreed = Verdict::Agreed(outcome.as_ref().err().map_or(0, |refusal| refusal.number));
     let output = output.differing("output", &right_output);
-    output.or_else(|| work.differing("work", &right_work)).unwrap_or(agreed)
+    output.or_else(|| work.differing("work", &right_work))
 }
 
 /// The words of an answer; those behind the ones that say something are 0.

@@ -39,7 +39,7 @@ pub fn graded(chance: &mut Chance, size: Size) -> Stage {
     stage
 }
 
-fn nonterminals(items: &mut [Item]) -> impl Iterator<Item = &mut Nonterminal> {
+pub fn nonterminals(items: &mut [Item]) -> impl Iterator<Item = &mut Nonterminal> {
     items.iter_mut().filter_map(|item| match item {
         Item::Nonterminal(data) => Some(data),
         _ => None,

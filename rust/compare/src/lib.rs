@@ -9,10 +9,14 @@ pub mod grow;
 pub mod judge;
 pub mod ladders;
 pub mod levels;
+pub mod macro_edges;
+pub mod macros;
 pub mod mix;
+pub mod rounds;
 pub mod run;
 pub mod short;
 pub mod shrink;
+pub mod stages;
 pub mod tally;
 
 /// Whether the Rust is there for so many checks; says so if it isn't, past the harness, which keeps a passed test's text to itself.

@@ -23,8 +23,8 @@ pub fn run(cases: impl Iterator<Item = Case>, seed: u64, ours: Ours) -> Tally {
 /// The case, its difference, and its tape in hex and as commands.
 fn told(case: &Case, dirt: u64, ours: Ours) -> String {
     let Verdict::Differs(text) = judge(case, dirt, ours) else { unreachable!("only cases that differ are told") };
-    let (output, work) = (case.output_len(), case.work_len());
-    format!("differs: {text}\n  {} {output} {work}\n{}", hex(&case.tape), shown(&case.tape))
+    let (limit, output, work) = (case.limit, case.output_len(), case.work_len());
+    format!("differs: {text}\n  {} l{limit} o{output} w{work}\n{}", hex(&case.tape), shown(&case.tape))
 }
 
 /// A comparison in parts: each is printed as it ends, and all are counted together.

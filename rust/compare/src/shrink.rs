@@ -26,13 +26,15 @@ pub fn shrink(case: &Case, dirt: u64, ours: Ours) -> Case {
 
 type Several<'a, T> = Box<dyn Iterator<Item = T> + 'a>;
 
-/// Each is shorter than the case, or as long with less room or smaller numbers; those that take away most come first.
+/// Each is shorter than the case, or as long with less room, fewer rounds or smaller numbers; those that take away most come first.
 fn candidates<'a>(case: &'a Case, stage: Option<&'a Stage>, commands: &'a [Range<usize>]) -> Several<'a, Case> {
     let trees = stage.into_iter().flat_map(smaller_stages).map(|stage| write(&stage));
     let size = |tape: &[u8]| (tape.len(), tape.iter().map(|&byte| usize::from(byte)).sum::<usize>());
     let tapes = trees.chain(smaller_tapes(&case.tape, commands)).filter(move |tape| size(tape) < size(&case.tape));
-    let same_room = tapes.map(|tape| Case { tape, room: case.room });
-    Box::new(same_room.chain(smaller_rooms(case.room).map(|room| Case { tape: case.tape.clone(), room })))
+    let tapes = tapes.map(|tape| Case { tape, ..*case });
+    let rooms = smaller_rooms(case.room).map(|room| Case { room, ..case.clone() });
+    let limits = [0, case.limit / 2, case.limit.saturating_sub(1)].into_iter().filter(|limit| *limit < case.limit);
+    Box::new(tapes.chain(rooms).chain(limits.map(|limit| case.clone().within(limit))))
 }
 
 fn smaller_rooms(room: Room) -> impl Iterator<Item = Room> {

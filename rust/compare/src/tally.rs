@@ -7,6 +7,8 @@ use std::fmt;
 pub struct Tally {
     /// By number, 0 being a yes.
     pub answers: BTreeMap<u8, usize>,
+    /// By number and rounds of macros that were over.
+    pub rounds: BTreeMap<(u8, usize), usize>,
     pub skipped: usize,
     pub differences: usize,
     /// The first few, shrunk and told.
@@ -16,7 +18,10 @@ pub struct Tally {
 impl Tally {
     pub fn count(&mut self, verdict: &Verdict) {
         match verdict {
-            Verdict::Agreed(number) => *self.answers.entry(*number).or_default() += 1,
+            Verdict::Agreed(number, rounds) => {
+                *self.answers.entry(*number).or_default() += 1;
+                *self.rounds.entry((*number, *rounds)).or_default() += 1;
+            }
             Verdict::Skipped => self.skipped += 1,
             Verdict::Differs(_) => self.differences += 1,
         }
@@ -26,13 +31,30 @@ impl Tally {
         self.answers.values().sum()
     }
 
+    /// How often an answer came after so many rounds at least.
+    pub fn after(&self, number: u8, least: usize) -> usize {
+        self.rounds.range((number, least)..=(number, usize::MAX)).map(|(_, count)| count).sum()
+    }
+
     pub fn add(&mut self, other: Tally) {
         for (number, count) in other.answers {
             *self.answers.entry(number).or_default() += count;
         }
+        for (key, count) in other.rounds {
+            *self.rounds.entry(key).or_default() += count;
+        }
         self.skipped += other.skipped;
         self.differences += other.differences;
         self.told.extend(other.told);
+    }
+
+    /// How often after 1, 2, 3 and more rounds, where any.
+    fn by_rounds(&self, number: u8) -> String {
+        let [one, two, three, four] = [1, 2, 3, 4].map(|least| self.after(number, least));
+        match one {
+            0 => String::new(),
+            _ => format!(" (after 1, 2, 3, more rounds: {}, {}, {}, {four})", one - two, two - three, three - four),
+        }
     }
 }
 
@@ -47,6 +69,7 @@ impl fmt::Display for Tally {
                 0 => write!(f, "; yes: {count}")?,
                 _ => write!(f, ", {number}: {count}")?,
             }
+            f.write_str(&self.by_rounds(*number))?;
         }
         Ok(())
     }

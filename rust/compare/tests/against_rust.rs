@@ -1,10 +1,10 @@
 //! Our archive set against document 01's second reading and LALRPOP's Rust on a few thousand tapes.
 //! What needs the Rust is skipped where it isn't there, and the count of skipped tapes is printed.
 use compare::case::{at_level_lengths, every_room, level_lengths, Case};
-use compare::judge::{LEVELS, RESOLVE};
+use compare::judge::{LEVELS, MACROS, RESOLVE};
 use compare::run::Parts;
 use compare::tally::Tally;
-use compare::{edges, grammars, ladders, levels, mix, short};
+use compare::{edges, grammars, ladders, levels, macro_edges, macros, mix, rounds, short};
 use oracle::chance::Chance;
 use reading::write;
 
@@ -15,6 +15,9 @@ fn main() {
     oracle::panics_are_answers();
     has_all(resolving(), (0..=13).chain([20, 21]));
     has_all(levelling(), (0..=16).chain([20, 21]));
+    let total = expanding();
+    has_rounds(&total);
+    has_all(total, (0..=13).chain(17..=21));
 }
 
 fn resolving() -> Tally {
@@ -43,6 +46,28 @@ fn levelling() -> Tally {
     parts.part("at the limits", edges::level_cases().into_iter());
     parts.part("random", mix::level_cases(Chance(SEED), RANDOM));
     parts.end()
+}
+
+fn expanding() -> Tally {
+    let mut parts = Parts::new(MACROS, SEED);
+    parts.part("grammars of LALRPOP's unit tests, chosen ones", macros::cases(&mut Chance(SEED), 1_000).into_iter());
+    parts.part("every room", macros::star_in_every_room(2).into_iter());
+    parts.part("short, of bytes", short::of_bytes(1).into_iter().map(|tape| Case::expanding(tape, 1)));
+    parts.part("short, of commands", short::of_commands(2).into_iter().map(|tape| Case::expanding(tape, 2)));
+    parts.part("short, of symbols", rounds::every(1, 1).into_iter().map(|stage| Case::expanding(write(&stage), 4)));
+    parts.part("at the limits", macro_edges::cases().into_iter());
+    parts.part("random", mix::macro_cases(Chance(SEED), RANDOM / 2));
+    parts.end()
+}
+
+/// Each answer that macros may come to in any round: before the first is over, after one, two, three, and more.
+fn has_rounds(total: &Tally) {
+    if oracle::is_there() {
+        for number in [0, 17, 18, 19, 20, 21] {
+            let from = [0, 1, 2, 3, 4, usize::MAX].map(|least| total.after(number, least));
+            assert!(from.windows(2).all(|pair| pair[0] > pair[1]), "{number}: {from:?}");
+        }
+    }
 }
 
 /// No difference, and each of these answers, 0 being a yes.

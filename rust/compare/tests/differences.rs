@@ -1,8 +1,9 @@
 //! The smallest inputs of docs/DIFFERENCES.md: what the Rust does with each, and what of ours is in code.
 use compare::the_rust_is_there;
-use normalize::{levels, resolve, work_len};
+use normalize::{levels, macros, resolve, work_len};
 use oracle::{expand, Expanded};
 use reading::notation::parse;
+use reading::tree::Stage;
 use reading::{read, within_operands, write, Refusal};
 
 const TWO_LEVELS: &str = r#"E = #precedence(level="1") "n" | #precedence(level="2") E "+" E;"#;
@@ -18,6 +19,15 @@ fn refused(grammar: &str, limit: u16) -> (u8, &str) {
     let expanded = expand(&parse(grammar), limit).unwrap();
     let Expanded::Refused(Refusal { number, place }) = expanded else { panic!("{grammar}: {expanded:?}") };
     (number, &grammar[place.0 as usize..place.1 as usize])
+}
+
+/// What our call for macros makes of a tree, or its refusal.
+fn expanded(stage: &Stage, limit: u16, output: usize) -> Result<Vec<u8>, (u8, (u64, u64))> {
+    let (tape, mut output) = (write(stage), vec![0; output]);
+    let mut work = vec![0; work_len(tape.len(), output.len())];
+    let length = macros(&tape, limit, &mut output, &mut work).map_err(|refusal| (refusal.number, refusal.place))?;
+    output.truncate(length);
+    Ok(output)
 }
 
 #[test]
@@ -67,24 +77,25 @@ fn a_made_name_meets_another() {
 /// An atom that nothing used becomes the made name: it isn't written twice.
 #[test]
 fn an_unused_atom_becomes_a_made_name() {
-    if !the_rust_is_there(1) {
-        return;
-    }
     let mut stage = parse("L = n*; extern n;");
     stage.atoms = vec![b"n*".to_vec()];
-    let Some(Expanded::Tree(tree)) = expand(&stage, 2) else { panic!("a tree") };
-    let tape = write(&tree);
-    assert_eq!(tape[..5], *b"\x01\x02\x00n*");
-    assert_eq!(tape.windows(5).filter(|part| part == b"\x01\x02\x00n*").count(), 1);
+    let is_used_again = |tape: &[u8]| tape.windows(5).filter(|part| part == b"\x01\x02\x00n*").count() == 1 && tape[4] == b'*';
+    assert!(is_used_again(&expanded(&stage, 2, 999).unwrap()));
+    if the_rust_is_there(1) {
+        let Some(Expanded::Tree(tree)) = expand(&stage, 2) else { panic!("a tree") };
+        assert!(is_used_again(&write(&tree)));
+    }
 }
 
 #[test]
 fn the_star_needs_two_rounds() {
-    if !the_rust_is_there(2) {
-        return;
+    let star = parse("L = n*; extern n;");
+    assert_eq!(expanded(&star, 1, 999), Err((18, (4, 6))));
+    assert!(expanded(&star, 2, 999).is_ok());
+    if the_rust_is_there(2) {
+        assert_eq!(refused("L = n*; extern n;", 1), (18, "n*"));
+        assert!(matches!(expand(&star, 2), Some(Expanded::Tree(_))));
     }
-    assert_eq!(refused("L = n*; extern n;", 1), (18, "n*"));
-    assert!(matches!(expand(&parse("L = n*; extern n;"), 2), Some(Expanded::Tree(_))));
 }
 
 /// A counter of 16 bits in macros, one call for each bit that is looked at: some 131,000 rounds, all with short names.
@@ -119,6 +130,20 @@ fn the_count_of_rounds_overflows() {
     }
 }
 
+/// Ours doesn't overflow: the tape has 37 texts and each round makes one, so that there are 65,537 before the rounds are over.
+#[test]
+fn the_atoms_end_before_the_rounds() {
+    let (grammar, output) = (counter(), 12_000_000);
+    let stage = parse(&grammar);
+    let [fits, over, most] = [65_499, 65_500, u16::MAX].map(|limit| expanded(&stage, limit, output).unwrap_err());
+    assert_eq!((over, most), ((20, (0, 0)), (20, (0, 0))));
+    assert_eq!(fits.0, 18);
+    if the_rust_is_there(1) {
+        let (number, call) = refused(&grammar, 65_499);
+        assert_eq!((number, call), (18, &grammar[fits.1 .0 as usize..fits.1 .1 as usize]));
+    }
+}
+
 /// So many choices around `n`, and a star around them.
 fn starred(choices: usize) -> String {
     format!("L = {}n{}*; extern n;", "<".repeat(choices), ">".repeat(choices))
@@ -132,6 +157,8 @@ fn a_star_around_the_deepest_symbol_grows() {
     assert_eq!(read(&write(&parse(&starred(63)))).unwrap_err().number, 3);
     let item = parse(&starred(62).replace('*', "+").replace("L = ", "L = v:"));
     assert!(within_operands(&stage) && !within_operands(&item));
+    assert_eq!(expanded(&stage, 2, 9_999), Err((20, (0, 0))));
+    assert!(expanded(&parse(&starred(61)), 2, 9_999).is_ok());
     if the_rust_is_there(1) {
         assert!(matches!(expand(&stage, 2), Some(Expanded::Tree(tree)) if tree.items.len() == 4));
     }

@@ -305,7 +305,7 @@ fn steps(stage: &Stage, misreading: Misreading) -> Option<Vec<Step>> {
 /// How many cases differ from the Rust under this misreading.
 fn differing(cases: &[Case], misreading: Misreading) -> usize {
     oracle::panics_are_answers();
-    let made = |tape: &[u8], output: &mut [u8], work: &mut [u8], answer: &mut Words| {
+    let made = |tape: &[u8], _: u16, output: &mut [u8], work: &mut [u8], answer: &mut Words| {
         let outcome = reading::answer(tape, output.len(), work.len(), |stage| steps(stage, misreading)).unwrap();
         if let Ok(tree) = &outcome {
             output[..tree.len()].copy_from_slice(tree);

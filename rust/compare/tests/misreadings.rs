@@ -226,7 +226,7 @@ impl Model {
 
 /// How many cases differ from the Rust under this misreading.
 fn differing(cases: &[Case], misreading: Misreading) -> usize {
-    let made = |tape: &[u8], output: &mut [u8], work: &mut [u8], answer: &mut Words| {
+    let made = |tape: &[u8], _: u16, output: &mut [u8], work: &mut [u8], answer: &mut Words| {
         let model = |stage: &Stage| Some(resolve(stage, misreading));
         let outcome = reading::call(tape, output.len(), work.len(), model).unwrap();
         if let Ok(tree) = &outcome {

@@ -85,6 +85,46 @@ pub fn levels_words(tape: &[u8], output: &mut [u8], work: &mut [u8], answer: &mu
     }
 }
 
+/// Name resolution, then macros, without levels: questions 1 to 13, then 17 to 21 in at most `limit` rounds. At `Ok` the output begins with the
+/// tree, which has that length.
+///
+/// Each stage of each round must fit in the output, so that a macro that calls itself for ever is refused with 18 or 21, whatever the limit.
+///
+/// ```
+/// use normalize::{macros, work_len, Refusal};
+///
+/// // the atoms L and n; L at 0 to 9, whose alternative is `n?`, at 4 to 6; the extern terminal n
+/// let tape = [
+///     &[0x01, 1, 0, b'L', 0x01, 1, 0, b'n'][..],
+///     &[0x10, 0, 0, 0, 0, 9, 0, 0, 0, 0, 0, 0, 0, 1, 0],
+///     &[0x12, 4, 0, 0, 0, 6, 0, 0, 0, 0, 0, 0, 0, 0, 1, 0],
+///     &[0x26, 4, 0, 0, 0, 6, 0, 0, 0, 2, 0x20, 4, 0, 0, 0, 5, 0, 0, 0, 1, 0],
+///     &[0x30, 7, 0, 0, 0, 8, 0, 0, 0, 1, 0],
+/// ]
+/// .concat();
+/// let mut output = [0; 200];
+/// let mut work = vec![0; work_len(tape.len(), output.len())];
+/// // a nonterminal in place of the repeat; new atoms `n?`, `Some(<>)`, `None`; the item `n?`: the terminal n, or nothing
+/// let (atoms, item) = (5 + 11 + 7, 15 + (16 + 11) + 16);
+/// assert_eq!(macros(&tape, 1, &mut output, &mut work), Ok(tape.len() - 10 + atoms + item));
+/// // without a round there is no such item
+/// assert_eq!(macros(&tape, 0, &mut output, &mut work), Err(Refusal { number: 18, place: (4, 6) }));
+/// ```
+pub fn macros(tape: &[u8], limit: u16, output: &mut [u8], work: &mut [u8]) -> Result<usize, Refusal> {
+    let mut answer = Words::default();
+    macros_words(tape, limit, output, work, &mut answer);
+    answered(&answer)
+}
+
+/// The same, with the words as the archive writes them.
+pub fn macros_words(tape: &[u8], limit: u16, output: &mut [u8], work: &mut [u8], answer: &mut Words) {
+    let (tape, tape_len) = (tape.as_ptr(), tape.len());
+    // SAFETY: the export takes three slices, each by pointer and length, a number and an array, and asks nothing else of them.
+    unsafe {
+        archive::normalize_macros(tape, tape_len, limit, output.as_mut_ptr(), output.len(), work.as_mut_ptr(), work.len(), answer);
+    }
+}
+
 /// The answer that the words say.
 fn answered(words: &Words) -> Result<usize, Refusal> {
     match *words {
@@ -184,6 +224,11 @@ mod tests {
         assert_eq!(answer, [1, 4, 0, 0, 0]);
         levels_words(&[0x30], &mut [], &mut [0; 8], &mut answer);
         assert_eq!(answer, [0, 2, 0, 0, 0]);
+        answer = [7; WORDS];
+        macros_words(&ATOM_A, 0, &mut [0; 4], &mut [0; 64], &mut answer);
+        assert_eq!(answer, [1, 4, 0, 0, 0]);
+        macros_words(&[0x30], 0, &mut [], &mut [0; 8], &mut answer);
+        assert_eq!(answer, [0, 2, 0, 0, 0]);
     }
 
     /// As docs/TAPE.md says of it.
@@ -237,6 +282,37 @@ mod tests {
         let tape = sided(b"all");
         assert_eq!(level(&tape, tape.len() - 1).0, Err(Refusal { number: 21, place: (0, 0) }));
         assert_eq!(level(&sided(b"left"), tape.len()).0, Err(Refusal { number: 21, place: (0, 0) }));
+    }
+
+    /// The answer of macros, and both buffers, which held 0xaa before.
+    fn expand(tape: &[u8], limit: u16, output: usize) -> (Result<usize, Refusal>, Vec<u8>, Vec<u8>) {
+        let (mut output, mut work) = (vec![0xaa; output], vec![0xaa; work_len(tape.len(), output)]);
+        let answer = macros(tape, limit, &mut output, &mut work);
+        (answer, output, work)
+    }
+
+    /// Document 01's case: the star needs two rounds.
+    #[test]
+    fn the_example_is_expanded() {
+        let tape = include_bytes!("../../../docs/examples/listing.tape");
+        let work = vec![0; work_len(tape.len(), 400)];
+        let (answer, tree, left) = expand(tape, 2, 400);
+        let length = answer.expect("a tree");
+        assert!(tree[..length].starts_with(&tape[..8]) && tree[length..].iter().all(|&byte| byte == 0xaa) && left == work);
+        assert_eq!(expand(tape, 65_535, 400), (answer, tree, work.clone()));
+        for limit in [0, 1] {
+            assert_eq!(expand(tape, limit, 400), (Err(Refusal { number: 18, place: (4, 6) }), vec![0xaa; 400], work.clone()));
+        }
+        let no = Err(Refusal { number: 21, place: (0, 0) });
+        assert_eq!(expand(tape, 2, length - 1), (no, vec![0xaa; length - 1], vec![0; work_len(tape.len(), length - 1)]));
+    }
+
+    /// What is left without macros and repeats is the resolved tree.
+    #[test]
+    fn nothing_to_expand_needs_no_round() {
+        let tape = [&ATOM_A[..], &nonterminal_a(0x20)].concat();
+        let tree = [&ATOM_A[..], &nonterminal_a(0x24)].concat();
+        assert_eq!(expand(&tape, 0, tape.len()), (Ok(tape.len()), tree, vec![0; work_len(tape.len(), tape.len())]));
     }
 
     #[test]

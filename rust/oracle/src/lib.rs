@@ -22,7 +22,7 @@ mod stand_ins;
 
 pub use answers::{is_there, resolve, there_and_back, NOT_THERE};
 pub use expanding::{expand, panics_are_answers, Expanded};
-pub use ready::Ready;
+pub use ready::{Ready, ROUNDS};
 pub use staging::{staged, Call, CALLS};
 #[cfg(lalrpop)]
 pub use stand_ins::{lexer, message, session, tls, DefaultAtom, Regex};

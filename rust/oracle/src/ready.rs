@@ -1,11 +1,14 @@
-//! LALRPOP's name resolution and levels over a parse tree that is there already, for measuring them.
+//! LALRPOP's name resolution, levels and macros over a parse tree that is there already, for measuring them.
 #[cfg(lalrpop)]
 use crate::{
     convert::to_grammar,
     grammar::parse_tree::Grammar,
-    normalize::{precedence::expand_precedence, resolve::resolve},
+    normalize::{macro_expand::expand_macros, precedence::expand_precedence, resolve::resolve},
 };
 use reading::tree::Stage;
+
+/// Within so many rounds macros are expanded.
+pub const ROUNDS: u16 = 64;
 
 /// A tree in LALRPOP's own types.
 #[derive(Clone)]
@@ -27,6 +30,11 @@ impl Ready {
     pub fn levelled(self) -> Option<Ready> {
         expand_precedence(self.0).ok().map(Ready)
     }
+
+    /// The tree with its macros expanded, or nothing where it is refused. `expand_macros` resolves it first.
+    pub fn expanded(self) -> Option<Ready> {
+        expand_macros(self.0, ROUNDS).ok().map(Ready)
+    }
 }
 
 #[cfg(not(lalrpop))]
@@ -40,6 +48,10 @@ impl Ready {
     }
 
     pub fn levelled(self) -> Option<Ready> {
+        None
+    }
+
+    pub fn expanded(self) -> Option<Ready> {
         None
     }
 }

@@ -1,11 +1,11 @@
 //! `compare SEED COUNT`: tapes with every room, short tapes, tapes at the limits, and COUNT random tapes that SEED fixes, resolved by us and by the Rust;
-//! then the same for levels, each random tape at several lengths of output.
+//! then the same for levels and for macros, each random tape at several lengths of output.
 //! Prints how often each answer came. Exit status: 0 all agreed, 1 one differs, 2 bad usage.
 use compare::case::{every_room, level_lengths, Case};
-use compare::judge::{LEVELS, RESOLVE};
+use compare::judge::{LEVELS, MACROS, RESOLVE};
 use compare::run::Parts;
 use compare::tally::Tally;
-use compare::{edges, grammars, ladders, levels, mix, short};
+use compare::{edges, grammars, ladders, levels, macro_edges, macros, mix, rounds, short};
 use oracle::chance::Chance;
 use reading::write;
 
@@ -16,7 +16,8 @@ fn main() {
         std::process::exit(2);
     };
     oracle::panics_are_answers();
-    let differences = resolving(*seed, *count as usize).differences + levelling(*seed, *count as usize).differences;
+    let parts = [resolving, levelling, expanding].map(|part| part(*seed, *count as usize));
+    let differences: usize = parts.iter().map(|tally| tally.differences).sum();
     if differences > 0 {
         std::process::exit(1);
     }
@@ -43,5 +44,17 @@ fn levelling(seed: u64, count: usize) -> Tally {
     parts.part("short, of levels", ladders::every(4).into_iter().map(|stage| Case::roomy(write(&stage))));
     parts.part("at the limits", edges::level_cases().into_iter());
     parts.part("random", mix::level_cases(Chance(seed), count));
+    parts.end()
+}
+
+fn expanding(seed: u64, count: usize) -> Tally {
+    let mut parts = Parts::new(MACROS, seed);
+    parts.part("grammars of LALRPOP's unit tests, chosen ones", macros::cases(&mut Chance(seed), 3_000).into_iter());
+    parts.part("every room", (0..4).flat_map(macros::star_in_every_room));
+    parts.part("short, of bytes", short::of_bytes(2).into_iter().map(|tape| Case::expanding(tape, 1)));
+    parts.part("short, of commands", short::of_commands(4).into_iter().map(|tape| Case::expanding(tape, 2)));
+    parts.part("short, of symbols", rounds::every(2, 2).into_iter().map(|stage| Case::expanding(write(&stage), 4)));
+    parts.part("at the limits", macro_edges::cases().into_iter());
+    parts.part("random", mix::macro_cases(Chance(seed), count));
     parts.end()
 }
