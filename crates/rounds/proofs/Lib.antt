@@ -28,6 +28,7 @@ pub mod PaidRounds
 pub mod PaidKeeps
 pub mod PaidStarts
 pub mod RoundBegins
+pub mod LevelsSound
 pub mod ResolvedFew
 pub mod StepMeans
 pub mod RoomNine
