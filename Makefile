@@ -6,7 +6,7 @@
 cargo = cargo $(1) --quiet --offline --manifest-path rust/Cargo.toml --target-dir target/rust
 
 run: need-rt
-	@echo "run: proves the calls (12 minutes the first time, seconds afterwards), then asks it about docs/examples/listing.tape" >&2
+	@echo "run: proves the calls (12 minutes the first time, seconds afterwards), then asks the one for validating about docs/examples/listing.tape" >&2
 	@mkdir -p target
 	@rt check list > target/run.log 2>&1 || { cat target/run.log; exit 1; }
 	@target/bin/list < docs/examples/listing.tape
