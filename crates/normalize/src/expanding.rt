@@ -21,8 +21,8 @@ ghost use Rattle.normalize.specs.working.Stages.{TapeResolves, Staged};
 ghost use Rattle.normalize.specs.working.Levelling.{SomeAdmitted};
 ghost use Rattle.normalize.specs.working.Expanding.{macrosRoom, expandedOf, SomeStart, ExpandsRounds, SomeAnswer};
 
-// Where macros stand in work, for a tape of so many bytes of which `at` are its atoms': behind the tape's share of work a round's tables, its items twice, and what is
-// written.
+// Where macros stand in work, for a tape of so many bytes of which `at` are its atoms':
+// behind the tape's share of work a round's tables, its items twice, and what is written.
 fn macros_room(tape: usize, at: usize, output: usize) -> Room
     requires { ⌜ 8 * (tape + output) < 9223372036854775808 ⌝ }
     ensures { λ r. ⌜ r ≡ macrosRoom tape at output ⌝ }

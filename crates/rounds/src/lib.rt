@@ -17,7 +17,7 @@ pub struct Room {
     pub end: usize,
 }
 
-// What a round begins with: the texts, the unreplaced items, the end of the replaced ones, the place of the first new text.
+// What a round begins with: the texts, the unreplaced items, the end of the replaced ones, the place of the lowest new text.
 pub struct State {
     pub m: Map,
     pub from: usize,
