@@ -1,4 +1,4 @@
-# run, test: README's two commands. compare: resolving, levels and macros set against the Rust on some hundred thousand tapes. bench: the calls' time, beside LALRPOP's.
+# run, test: README's two commands; run TAPE=file lists that tape. compare: all calls set against the Rust on some hundred thousand tapes. bench: the calls' time, beside LALRPOP's.
 # proofs-test: that tools/proofs makes two proofs again as they stand. trust: counts what a reader must believe, and holds docs/TRUST.md to the files.
 # They need the Rattle kit's rt, cargo and make.
 .PHONY: run test rust compare bench trust proofs-test clean need-rt
@@ -6,10 +6,10 @@
 cargo = cargo $(1) --quiet --offline --manifest-path rust/Cargo.toml --target-dir target/rust
 
 run: need-rt
-	@echo "run: proves the calls (12 minutes the first time, seconds afterwards), then asks the one for validating about docs/examples/listing.tape" >&2
+	@echo "run: proves the calls (some 20 minutes the first time, seconds afterwards), then lists $(or $(TAPE),docs/examples/query.tape)" >&2
 	@mkdir -p target
 	@rt check list > target/run.log 2>&1 || { cat target/run.log; exit 1; }
-	@target/bin/list < docs/examples/listing.tape
+	@target/bin/list < $(or $(TAPE),docs/examples/query.tape)
 
 test: need-rt
 	@.ci/run

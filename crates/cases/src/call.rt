@@ -1,9 +1,9 @@
 // The calls that a line can name.
-use normalize::Answer;
 use normalize::calls::levels;
 use normalize::calls::resolve;
 use normalize::calls::validate;
 use octets::runs::equal;
+use output::Answer;
 
 pub enum Call {
     Validate,

@@ -3,11 +3,11 @@ use crate::call::Call;
 use crate::call::ask;
 use crate::call::handed;
 use libc::STDOUT_FILENO;
-use normalize::Answer;
-use normalize::room::enough;
 use notation::buffers::fill;
 use notation::buffers::is_all;
 use notation::bytes::put_digits;
+use output::Answer;
+use output::room::enough;
 
 // What the buffers hold before a case.
 const BEFORE: u8 = 0xAA;

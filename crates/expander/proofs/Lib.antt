@@ -30,6 +30,7 @@ pub mod HeldStays
 mod StageCode
 mod StageKeyCode
 mod StageMeets
+mod StageRunCode
 mod StageTurnCode
 mod StageNoteTurn
 mod StageStart

@@ -2,9 +2,9 @@
 use mathlib.Core.Path.{_≡_, refl, sym, ap, _∙_, subst}
 use mathlib.Core.Bool.{Bool, true, false}
 use mathlib.Core.Logic.{inl, inr}
-use mathlib.Core.List.{List, [], _++_, append-nil}
+use mathlib.Core.List.{List, [], _++_, append-nil, append-assoc}
 use mathlib.Core.Option.{Option}
-use Prim.Native.Nat.{ℕ, _+_, _-_, _*_, _<_, _≤_}
+use Prim.Native.Nat.{ℕ, zero, suc, _+_, _-_, _*_, _<_, _≤_}
 use native.Mathlib.Omega.{arith}
 use borrow.Author.Needs.{needs}
 use lib.Dec.{leb}
@@ -28,7 +28,7 @@ use Rattle.expander.specs.declared.Ground.{Ground}
 use Rattle.expander.specs.declared.stage.Replaced.{Replaced}
 use Rattle.expander.specs.Ground.{sizeIn, stageIn, topOf, listPlace, sameAt, textIn, Grounded}
 use Rattle.expander.specs.Held.{Held, AllBefore}
-use Rattle.expander.specs.Stage.{Writable, WroteOnly, SomeTurn, turned, Turns, SomeStage, MarksAre, StagedBy, Stages}
+use Rattle.expander.specs.Stage.{Writable, WroteOnly, SomeTurn, stepped, turned, Turns, SomeStage, MarksAre, StagedBy, Stages}
 use Rattle.expander.proofs.GroundLaws.{list-start}
 use Rattle.expander.proofs.HeldStays.{wrote-then, stage-wrote, texts-wrote, grounded-wrote}
 use Rattle.expander.proofs.StageReads.{stage-length}
@@ -58,6 +58,20 @@ module _ (same : ℕ → ℕ → Bool) (at : ℕ → Option ℕ) (wd base : ℕ)
   unfolding stepOn
   step-behind = by-behind (leb (length t) p) (isMacro (nodeAt wd t p)) (plain (nodeAt wd t p)) (places wd t 64 p)
 
+-- and so turns
+module _ (same : ℕ → ℕ → Bool) (at : ℕ → Option ℕ) (wd base : ℕ) (t : List ℕ) where
+  steps-behind : (n p : ℕ) (o : List ℕ) (x : Slots)
+      → steps same at wd base t n (run p o x) ≡ run (steps same at wd base t n (run p [] x) .at) (o ++ steps same at wd base t n (run p [] x) .out) (steps same at wd base t n (run p [] x) .slots)
+  unfolding steps
+  steps-behind zero p o x = ap (λ (l : List ℕ). run p l x) (sym (append-nil o))
+  steps-behind (suc n) p o x =
+      let r = stepOn same at wd base t (run p [] x) in
+      let z = steps same at wd base t n (run (r .at) [] (r .slots)) in
+      ap (steps same at wd base t n) (step-behind same at wd base t p o x)
+      ∙ steps-behind n (r .at) (o ++ r .out) (r .slots)
+      ∙ ap (λ (l : List ℕ). run (z .at) l (z .slots)) (append-assoc o (r .out) (z .out))
+      ∙ sym (ap (λ (v : Run). run (v .at) (o ++ v .out) (v .slots)) (steps-behind n (r .at) (r .out) (r .slots)))
+
 -- ---- what lies where nothing changed
 lies-agree : (w w′ : List ℕ) (a e : ℕ) (xs : List ℕ) → a ≤ e → e ≤ length w → length w′ ≡ length w → ((i : ℕ) → a ≤ i → i < e → getD w′ i 0 ≡ getD w i 0) → Lies w a xs e → Lies w′ a xs e
 lies-agree w w′ a e xs l h n f z =
@@ -72,8 +86,8 @@ above-back s w w′ g a e z k h = record { above = λ i l. subst (Behind s z) (m
     mark i l = leAt-agree 8 w w′ (g .m .base + 24 * i) (λ j x y. k .others j (inl (omega (arith, list-start g))))
 
 -- ---- the loop
-abbrev stepped : List ℕ → List ℕ → Ground → ℕ → List ℕ → Run
-stepped s w g n ms = steps (sameAt s w g) (textIn s w g) (g .width) (g .m .count) (stageIn w g) n (run 0 [] (started ms))
+abbrev begun : List ℕ → List ℕ → Ground → ℕ → List ℕ → Run
+begun s w g n ms = stepped s w g n (run 0 [] (started ms))
 
 -- of some marks: so many turns were done
 pub record Sofar (s w₀ : List ℕ) (g : Ground) (to : ℕ) (ms w : List ℕ) (r : Replaced) : Type 0 where
@@ -81,7 +95,7 @@ pub record Sofar (s w₀ : List ℕ) (g : Ground) (to : ℕ) (ms w : List ℕ) (
   pub few : turns ≤ r .at
   pub out : List ℕ
   pub slots : Slots
-  pub is : stepped s w₀ g turns ms ≡ run (r .at) out slots
+  pub is : begun s w₀ g turns ms ≡ run (r .at) out slots
   pub lies : Lies w to out (r .to)
   pub held : Held s w g (r .pile) (r .count) slots
   pub before : AllBefore (r .at) slots
@@ -152,25 +166,24 @@ module _ (s w₀ : List ℕ) (g : Ground) (to : ℕ) (w : List ℕ) (r : Replace
     low = room-upto (q .to) ((9 + g .width) * (sizeIn g - q .at)) lim (T .next .writable .room)
 
     -- the turn is that of the stage as it was
-    turn-is : (x : Slots) → turned s w g (r .at) x ≡ turned s w₀ g (r .at) x
+    turn-is : (x : Slots) → turned s w g (T .steps) (r .at) x ≡ turned s w₀ g (T .steps) (r .at) x
     turn-is x =
-        let by : List ℕ → List Text → Run = λ t ts. stepOn (samePrint false (g .width) t ts) (textIs false (g .width) t ts) (g .width) (g .m .count) t (run (r .at) [] x) in
+        let by : List ℕ → List Text → Run = λ t ts. steps (samePrint false (g .width) t ts) (textIs false (g .width) t ts) (g .width) (g .m .count) t (T .steps) (run (r .at) [] x) in
         ap (λ (t : List ℕ). by t (texts s w (g .m))) (c .stage) ∙ ap (λ (ts : List Text). by (stageIn w₀ g) ts) (c .names)
 
     more : (ms : List ℕ) → Sofar s w₀ g to ms w r → Sofar s w₀ g to ms w′ q
-    unfolding steps
     more ms f =
         let t = T .each (f .slots) (f .held) (f .before) in
-        let z = turned s w g (r .at) (f .slots) in
+        let z = turned s w g (T .steps) (r .at) (f .slots) in
         record {
-          turns = f .turns + 1;
-          few = omega (arith, f .few, T .on);
+          turns = f .turns + T .steps;
+          few = omega (arith, f .few, T .few);
           out = f .out ++ z .out;
           slots = z .slots;
           is =
-              steps-append (sameAt s w₀ g) (textIn s w₀ g) (g .width) (g .m .count) (stageIn w₀ g) (f .turns) 1 (run 0 [] (started ms))
-              ∙ ap (stepOn (sameAt s w₀ g) (textIn s w₀ g) (g .width) (g .m .count) (stageIn w₀ g)) (f .is)
-              ∙ step-behind (sameAt s w₀ g) (textIn s w₀ g) (g .width) (g .m .count) (stageIn w₀ g) (r .at) (f .out) (f .slots)
+              steps-append (sameAt s w₀ g) (textIn s w₀ g) (g .width) (g .m .count) (stageIn w₀ g) (f .turns) (T .steps) (run 0 [] (started ms))
+              ∙ ap (steps (sameAt s w₀ g) (textIn s w₀ g) (g .width) (g .m .count) (stageIn w₀ g) (T .steps)) (f .is)
+              ∙ steps-behind (sameAt s w₀ g) (textIn s w₀ g) (g .width) (g .m .count) (stageIn w₀ g) (T .steps) (r .at) (f .out) (f .slots)
               ∙ ap (λ (v : Run). run (v .at) (f .out ++ v .out) (v .slots)) (sym (turn-is (f .slots)))
               ∙ ap (λ (i : ℕ). run i (f .out ++ z .out) (z .slots)) (sym (t .at));
           lies =

@@ -21,7 +21,7 @@ use Rattle.parse_tree.specs.declared.syntax.SymbolKind.{SymbolKind}
 use Rattle.parse_tree.specs.declared.syntax.Node.{Node}
 use Rattle.texts.specs.Table.{Above, texts}
 use Rattle.texts.proofs.TableStays.{above-stays}
-use Rattle.replacing.specs.Runs.{plainKind, plain, keyBytes, Run, keyBy, stepOn}
+use Rattle.replacing.specs.Runs.{plainKind, plain, keyBytes, Run, keyBy, stepOn, steps}
 use Rattle.replacing.specs.Slots.{Ref, text, like, Slots, places, among, noteAll, refAt, placeIn, numberNew, numberBy, numbered}
 use Rattle.replacing.specs.Sound.{HasRef}
 use Rattle.replacing.proofs.Going.{own-last}
@@ -198,8 +198,8 @@ module _ (s w : List ℕ) (g : Ground) (r : Replaced) (G : Grounded s w g) (T : 
           slots = numbered (g .m .count) (r .at) (noted x) .1;
         }
 
-        key-step : (x : Slots) → turned s w g (r .at) x ≡ run x
-        unfolding stepOn keyBy pick
+        key-step : (x : Slots) → turned s w g 1 (r .at) x ≡ run x
+        unfolding steps stepOn keyBy pick
         key-step x =
             let i : leb (length t) (r .at) ≡ false = lt-leb (length t) (r .at) (stage-in s w g G (r .at) l) in
             rw (i, key-no-macro (nodeAt wd t (r .at)) (M .firm .key), M .firm .key, places-are) refl
@@ -212,15 +212,17 @@ module _ (s w : List ℕ) (g : Ground) (r : Replaced) (G : Grounded s w g) (T : 
             let z = noted-before x i p (subst (λ (v : List (ℕ × Ref)). among p (map (λ (u : ℕ × Ref). u .0) v) ≡ true) (numbered-keeps (g .m .count) (r .at) (noted x)) j) in
             omega (arith, at-is)
 
-        each : (x : Slots) → Held s w g (r .pile) (r .count) x → AllBefore (r .at) x → TurnedBy s w g r x q w2
+        each : (x : Slots) → Held s w g (r .pile) (r .count) x → AllBefore (r .at) x → TurnedBy s w g 1 r x q w2
         each x h i =
             let p = put x h i in
-            turned-by s w g r x q w2 (run x) (key-step x) at-is
+            turned-by s w g 1 r x q w2 (run x) (key-step x) at-is
             (subst (λ (v : List ℕ). Lies w2 (r .to) (keyBytes wd (nodeAt wd v (r .at)) (numbered (g .m .count) (r .at) (noted x) .0)) (q .to)) (stage-around s w w1 g G around) (p .lies))
             (p .held) (behind x i)
 
         pub turn-key : Turns s w g r q w2
         turn-key = record {
+          steps = 1;
+          few = omega (arith, at-is, nine);
           each = each;
           next = record {
             turns = M .turns;

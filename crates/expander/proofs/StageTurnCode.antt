@@ -1,4 +1,4 @@
--- Laws of `replace_next`: a command that is copied, and the definition of a macro. Assumes nothing.
+-- Laws of `replace_next`: commands that are copied, and the definition of a macro. Assumes nothing.
 use mathlib.Core.Path.{_≡_, refl, sym, ap, _∙_, subst}
 use mathlib.Core.Bool.{Bool, true, false}
 use mathlib.Core.List.{List, []}
@@ -17,26 +17,27 @@ use Rattle.octets.proofs.PartLaws.{part-length}
 use Rattle.octets.proofs.LiesLaws.{lies-none, lies-part, part-lies}
 use Rattle.parse_tree.specs.working.Nodes.{nodeAt, sizeOf}
 use Rattle.texts.specs.Table.{Above, texts}
-use Rattle.replacing.specs.Runs.{hops, Run, copyStep, skipStep, stepOn}
+use Rattle.replacing.specs.Runs.{hops, Run, skipStep, stepOn, steps}
 use Rattle.replacing.specs.Slots.{Slots}
 use Rattle.expander.specs.declared.Ground.{Ground}
 use Rattle.expander.specs.declared.stage.Replaced.{Replaced}
 use Rattle.expander.specs.Ground.{sizeIn, stageIn, topOf, listPlace, Grounded}
 use Rattle.expander.specs.Held.{Held, AllBefore}
 use Rattle.expander.specs.Replace.{expandedCode}
-use Rattle.expander.specs.Stage.{commandLong, macroAt, WholeAt, Walks, SomeHops, Skips, Writable, WroteOnly, SomeTurn, turned, TurnedBy, Turns}
+use Rattle.expander.specs.Stage.{commandLong, macroAt, WholeAt, Walks, SomeHops, Skips, Writable, WroteOnly, SomeWalk, Copies, SomeTurn, turned, TurnedBy, Turns}
 use Rattle.expander.proofs.GroundLaws.{list-keys, keys-slots, slots-top}
 use Rattle.expander.proofs.HeldStays.{Between, between-wrote, held-stays, said-wrote, above-wrote}
 use Rattle.expander.proofs.NodeCodes.{whole-long}
 use Rattle.expander.proofs.StageReads.{stage-length, lies-whole}
 use Rattle.expander.proofs.StageCode.{stage-room, stage-byte, stage-in}
 use Rattle.expander.proofs.StageKeyCode.{stored-between, stored-lies}
-use Rattle.expander.proofs.StageMeets.{room-less, room-copy, room-upto, macro-stage, MacroMeets, CopyMeets, meets-whole, meets-macro, meets-copy}
+use Rattle.expander.proofs.StageRunCode.{copies-one, copies-then}
+use Rattle.expander.proofs.StageMeets.{room-less, room-copy, room-upto, macro-stage, MacroMeets, meets-whole, meets-macro}
 
 -- a turn that is known
-pub turned-by : (s w : List ℕ) (g : Ground) (r : Replaced) (x : Slots) (q : Replaced) (w′ : List ℕ) (R : Run) → turned s w g (r .at) x ≡ R → q .at ≡ R .at → Lies w′ (r .to) (R .out) (q .to)
-    → Held s w′ g (q .pile) (q .count) (R .slots) → AllBefore (q .at) (R .slots) → TurnedBy s w g r x q w′
-turned-by s w g r x q w′ R e a l h b = record {
+pub turned-by : (s w : List ℕ) (g : Ground) (n : ℕ) (r : Replaced) (x : Slots) (q : Replaced) (w′ : List ℕ) (R : Run) → turned s w g n (r .at) x ≡ R → q .at ≡ R .at → Lies w′ (r .to) (R .out) (q .to)
+    → Held s w′ g (q .pile) (q .count) (R .slots) → AllBefore (q .at) (R .slots) → TurnedBy s w g n r x q w′
+turned-by s w g n r x q w′ R e a l h b = record {
   at = a ∙ sym (ap (λ (v : Run). v .at) e);
   lies = subst (λ (v : Run). Lies w′ (r .to) (v .out) (q .to)) (sym e) l;
   held = subst (λ (v : Run). Held s w′ g (q .pile) (q .count) (v .slots)) (sym e) h;
@@ -104,8 +105,8 @@ module _ (s w : List ℕ) (g : Ground) (r : Replaced) (G : Grounded s w g) (T : 
           next-is : q ≡ hops wd t (length t) (r .at + sizeOf wd (nodeAt wd t (r .at)))
           next-is = h .is ∙ ap (λ (i : ℕ). hops wd t (length t) (r .at + i)) size-is
 
-          skip-step : (x : Slots) → turned s w g (r .at) x ≡ record { at = hops wd t (length t) (r .at + sizeOf wd (nodeAt wd t (r .at))); out = []; slots = x }
-          unfolding stepOn skipStep pick
+          skip-step : (x : Slots) → turned s w g 1 (r .at) x ≡ record { at = hops wd t (length t) (r .at + sizeOf wd (nodeAt wd t (r .at))); out = []; slots = x }
+          unfolding steps stepOn skipStep pick
           skip-step x = let i : leb (length t) (r .at) ≡ false = lt-leb (length t) (r .at) (stage-in s w g G (r .at) l) in rw (i, M .macro) refl
 
           ahead : r .at < q
@@ -116,7 +117,9 @@ module _ (s w : List ℕ) (g : Ground) (r : Replaced) (G : Grounded s w g) (T : 
 
           pub turn-skip : Turns s w g r (record { at = q; to = r .to; pile = r .pile; count = r .count }) w
           turn-skip = record {
-            each = λ x i j. turned-by s w g r x (record { at = q; to = r .to; pile = r .pile; count = r .count }) w _ (skip-step x) next-is (lies-none w (r .to)) i (later x j);
+            steps = 1;
+            few = omega (arith, ahead);
+            each = λ x i j. turned-by s w g 1 r x (record { at = q; to = r .to; pile = r .pile; count = r .count }) w _ (skip-step x) next-is (lies-none w (r .to)) i (later x j);
             next = record {
               turns = M .turns;
               left = T .left;
@@ -137,93 +140,100 @@ module _ (s w : List ℕ) (g : Ground) (r : Replaced) (G : Grounded s w g) (T : 
           }
 
       -- ---- a command that is copied
-      module _ (v : b ≡ false) where
-        C : CopyMeets wd t (texts s w (g .m)) (T .left) (r .at)
-        C = meets-copy wd t (texts s w (g .m)) (T .turns) (T .left) (r .at) (T .walks) (stage-in s w g G (r .at) l) unexpanded (macro-is ∙ v)
+      pub turn-first : b ≡ false → Copies s w g (r .at) (r .at + n)
+      turn-first v = subst (λ (j : ℕ). Copies s w g (r .at) (r .at + j)) (sym size-is) (copies-one s w g G (r .at) l unexpanded (macro-is ∙ v) (T .turns) (T .left) (T .walks))
 
-        W : Writable s w g (r .to) (sizeIn g - r .at)
-        W = T .writable
+pub ruleset turning = (needs, turn-room, turn-macro-room, turn-skip, turn-first)
 
-        room : 9 * (r .to + n) + (9 + wd) * (sizeIn g - (r .at + n)) ≤ 9 * W .lim
-        room = room-copy (r .to) (sizeIn g - r .at) (sizeIn g - (r .at + n)) (W .lim) wd n (G .narrow) (G .wide) (W .room) (omega (arith, upto))
+-- ---- `copy_run`
+module _ (s w : List ℕ) (g : Ground) (r : Replaced) (n : ℕ) (G : Grounded s w g) (T : SomeTurn s w g r) (F : Copies s w g (r .at) (r .at + n)) (some : 0 < n) where
+  pub copy-walk : SomeWalk s w g (r .at + n)
+  copy-walk = let z = F .walks (T .turns) (T .left) (T .walks) in record { turns = z .0; left = T .left; walks = z .1; upto = F .upto }
 
-        low : r .to + n ≤ W .lim
-        low = room-upto (r .to + n) ((9 + wd) * (sizeIn g - (r .at + n))) (W .lim) room
+  module _ (stop : ℕ) (K : Copies s w g (r .at + n) stop) where
+    A : Copies s w g (r .at) stop
+    A = copies-then s w g G (r .at) (r .at + n) stop F K
 
-        pub copy-before : g .from + r .at + n ≤ r .to
-        unfolding sizeIn
-        copy-before = omega (arith, upto, W .items, G .ordered)
+    forth : r .at < stop
+    forth = omega (arith, K .few, some)
 
-        pub copy-room : r .to + (g .from + r .at + n - (g .from + r .at)) ≤ length w
-        copy-room = omega (arith, low, W .inside)
+    W : Writable s w g (r .to) (sizeIn g - r .at)
+    W = T .writable
 
-        pub copy-at-fits : Fits w64 (r .at + n)
-        unfolding sizeIn
-        copy-at-fits = record { fits = omega (arith, upto, G .inside, G .short) }
+    room : 9 * (r .to + (stop - r .at)) + (9 + g .width) * (sizeIn g - stop) ≤ 9 * W .lim
+    room = room-copy (r .to) (sizeIn g - r .at) (sizeIn g - stop) (W .lim) (g .width) (stop - r .at) (G .narrow) (G .wide) (W .room) (omega (arith, forth, K .upto))
 
-        pub copy-to-fits : Fits w64 (r .to + n)
-        copy-to-fits = record { fits = omega (arith, low, W .inside, G .short) }
+    low : r .to + (stop - r .at) ≤ W .lim
+    low = room-upto (r .to + (stop - r .at)) ((9 + g .width) * (sizeIn g - stop)) (W .lim) room
 
-        module _ (w2 : List ℕ) (o : w2 ≡ store w (r .to) (part (g .from + r .at) (g .from + r .at + n) w)) where
-          abbrev bytes : List ℕ
-          bytes = part (g .from + r .at) (g .from + r .at + n) w
+    pub copy-before : g .from + stop ≤ r .to
+    unfolding sizeIn
+    copy-before = omega (arith, K .upto, W .items, G .ordered)
 
-          bytes-are : bytes ≡ part (r .at) (r .at + n) t
-          unfolding stageIn
-          bytes-are =
-              let i : g .from + (r .at + n) ≡ g .from + r .at + n = omega arith in
-              let p = part-lies t (r .at) (r .at + n) (omega arith) (omega (arith, upto, stage-length s w g G)) in
-              ap (λ (j : ℕ). part (g .from + r .at) j w) (sym i)
-              ∙ lies-part w (g .from + r .at) (g .from + (r .at + n)) (part (r .at) (r .at + n) t)
-              (lies-whole w (g .from) (g .end) (G .ordered) (G .inside) (r .at) (part (r .at) (r .at + n) t) (r .at + n) p)
+    pub copy-room : r .to + (g .from + stop - (g .from + r .at)) ≤ length w
+    copy-room = omega (arith, low, forth, W .inside)
 
-          bytes-long : length bytes ≡ n
-          bytes-long =
-              let i = part-length (g .from + r .at) (g .from + r .at + n) w (omega (arith, copy-before, low, W .inside)) in
-              omega arith
+    pub copy-to-fits : Fits w64 (r .to + (stop - r .at))
+    copy-to-fits = record { fits = omega (arith, low, W .inside, G .short) }
 
-          between : Between (r .to) (r .to + n) w w2
-          between = stored-between w w2 (r .to) n bytes o bytes-long
+    module _ (w2 : List ℕ) (o : w2 ≡ store w (r .to) (part (g .from + r .at) (g .from + stop) w)) where
+      abbrev bytes : List ℕ
+      bytes = part (g .from + r .at) (g .from + stop) w
 
-          wrote : WroteOnly g (r .to) (r .to + n) w w2
-          wrote = between-wrote g (r .to) (r .to + n) w w2 (W .top) between (list-top s w g G)
+      bytes-are : bytes ≡ part (r .at) stop (stageIn w g)
+      unfolding stageIn
+      bytes-are =
+          let p = part-lies (stageIn w g) (r .at) stop (omega (arith, forth)) (omega (arith, K .upto, stage-length s w g G)) in
+          lies-part w (g .from + r .at) (g .from + stop) (part (r .at) stop (stageIn w g))
+          (lies-whole w (g .from) (g .end) (G .ordered) (G .inside) (r .at) (part (r .at) stop (stageIn w g)) stop p)
 
-          stays : (x : Slots) → Held s w g (r .pile) (r .count) x → Held s w2 g (r .pile) (r .count) x
-          stays x h = held-stays s w w2 g (r .to) (r .to + n) (W .lim) G (W .top) (W .items) low (W .above) between (r .pile) (r .count) x h
+      bytes-long : length bytes ≡ stop - r .at
+      bytes-long =
+          let i = part-length (g .from + r .at) (g .from + stop) w (omega (arith, copy-before, low, W .inside)) in
+          omega arith
 
-          copy-step : (x : Slots) → turned s w g (r .at) x ≡ record { at = r .at + n; out = part (r .at) (r .at + n) t; slots = x }
-          unfolding stepOn copyStep pick
-          copy-step x =
-              let i : leb (length t) (r .at) ≡ false = lt-leb (length t) (r .at) (stage-in s w g G (r .at) l) in
-              rw (i, C .macro, C .copied) (ap (λ (j : ℕ). record { at = r .at + j; out = part (r .at) (r .at + j) t; slots = x }) (sym size-is))
+      between : Between (r .to) (r .to + (stop - r .at)) w w2
+      between = stored-between w w2 (r .to) (stop - r .at) bytes o bytes-long
 
-          further : (x : Slots) → AllBefore (r .at) x → AllBefore (r .at + n) x
-          further x i p j = omega (arith, i p j)
+      wrote : WroteOnly g (r .to) (r .to + (stop - r .at)) w w2
+      wrote = between-wrote g (r .to) (r .to + (stop - r .at)) w w2 (W .top) between (list-top s w g G)
 
-          pub turn-copy : Turns s w g r (record { at = r .at + n; to = r .to + n; pile = r .pile; count = r .count }) w2
-          turn-copy = record {
-            each = λ x i j.
-                turned-by s w g r x (record { at = r .at + n; to = r .to + n; pile = r .pile; count = r .count }) w2 _ (copy-step x) refl
-                (subst (λ (u : List ℕ). Lies w2 (r .to) u (r .to + n)) bytes-are (stored-lies w w2 (r .to) n bytes o bytes-long (omega (arith, low, W .inside)))) (stays x i) (further x j);
-            next = record {
-              turns = C .turns;
-              left = T .left;
-              walks =
-                  said-wrote s w w2 g (r .to) (r .to + n) (W .lim) G (W .top) (W .items) low (W .above) wrote (λ st ts. Walks wd st ts (C .turns) (T .left) (r .at + n))
-                  (subst (λ (j : ℕ). Walks wd t (texts s w (g .m)) (C .turns) (T .left) (r .at + j)) (sym size-is) (C .next));
-              upto = upto;
-              list = T .list;
-              writable =
-                  writable-next s w w2 g (r .to) (sizeIn g - r .at) (r .to + n) (sizeIn g - (r .at + n)) W (wrote .long)
-                  (above-wrote s w w2 g (r .to) (r .to + n) (W .lim) G (W .top) (W .items) low (W .above) wrote) (omega arith) room;
-              few = omega (arith, T .few);
-              slots = T .slots;
-              held = stays (T .slots) (T .held);
-              before = further (T .slots) (T .before);
-            };
-            on = omega (arith, size-is, C .whole .some);
-            to = omega arith;
-            wrote = wrote;
-          }
+      stays : (x : Slots) → Held s w g (r .pile) (r .count) x → Held s w2 g (r .pile) (r .count) x
+      stays x h = held-stays s w w2 g (r .to) (r .to + (stop - r .at)) (W .lim) G (W .top) (W .items) low (W .above) between (r .pile) (r .count) x h
 
-pub ruleset turning = (needs, turn-room, turn-macro-room, turn-skip, copy-before, copy-room, copy-at-fits, copy-to-fits, turn-copy)
+      further : (x : Slots) → AllBefore (r .at) x → AllBefore stop x
+      further x i p j = omega (arith, i p j, forth)
+
+      onward : (m : ℕ) × Walks (g .width) (stageIn w g) (texts s w (g .m)) m (T .left) stop
+      onward = A .walks (T .turns) (T .left) (T .walks)
+
+      pub turn-copy : Turns s w g r (record { at = stop; to = r .to + (stop - r .at); pile = r .pile; count = r .count }) w2
+      turn-copy = record {
+        steps = A .turns;
+        few = A .few;
+        each = λ x i j.
+            turned-by s w g (A .turns) r x (record { at = stop; to = r .to + (stop - r .at); pile = r .pile; count = r .count }) w2 _ (A .is [] x) refl
+            (subst (λ (u : List ℕ). Lies w2 (r .to) u (r .to + (stop - r .at))) bytes-are (stored-lies w w2 (r .to) (stop - r .at) bytes o bytes-long (omega (arith, low, W .inside)))) (stays x i)
+            (further x j);
+        next = record {
+          turns = onward .0;
+          left = T .left;
+          walks =
+              said-wrote s w w2 g (r .to) (r .to + (stop - r .at)) (W .lim) G (W .top) (W .items) low (W .above) wrote (λ st ts. Walks (g .width) st ts (onward .0) (T .left) stop)
+              (onward .1);
+          upto = A .upto;
+          list = T .list;
+          writable =
+              writable-next s w w2 g (r .to) (sizeIn g - r .at) (r .to + (stop - r .at)) (sizeIn g - stop) W (wrote .long)
+              (above-wrote s w w2 g (r .to) (r .to + (stop - r .at)) (W .lim) G (W .top) (W .items) low (W .above) wrote) (omega arith) room;
+          few = omega (arith, T .few, forth);
+          slots = T .slots;
+          held = stays (T .slots) (T .held);
+          before = further (T .slots) (T .before);
+        };
+        on = forth;
+        to = omega arith;
+        wrote = wrote;
+      }
+
+pub ruleset copying = (needs, copy-walk, copy-before, copy-room, copy-to-fits, turn-copy)

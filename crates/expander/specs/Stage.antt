@@ -2,12 +2,12 @@
 use mathlib.Core.Path.{_≡_}
 use mathlib.Core.Bool.{Bool, true, false}
 use mathlib.Core.Logic.{_⊎_}
-use mathlib.Core.List.{List, []}
+use mathlib.Core.List.{List, [], _++_}
 use Prim.Native.Nat.{ℕ, zero, suc, _+_, _-_, _*_, _≤_, _<_}
-use lib.Dec.{eqb, ltb}
+use lib.Dec.{eqb, leb, ltb}
 use lib.ListN.{length, getD}
 use Rattle.octets.specs.working.Choice.{pick}
-use Rattle.octets.specs.plain.Runs.{Lies}
+use Rattle.octets.specs.plain.Runs.{part, Lies}
 use Rattle.parse_tree.specs.plain.Tree.{Text}
 use Rattle.parse_tree.specs.working.Nodes.{nodeAt, sizeOf}
 use Rattle.parse_tree.specs.working.Within.{Each}
@@ -15,13 +15,14 @@ use Rattle.texts.specs.Fields.{Chained}
 use Rattle.texts.specs.Table.{Above, texts}
 use Rattle.resolve.specs.Commands.{longOf}
 use Rattle.replacing.specs.Slots.{Slots, among, numbered}
-use Rattle.replacing.specs.Runs.{plain, isItem, isMacro, hops, keyBytes, Run, stepOn}
+use Rattle.replacing.specs.Runs.{plain, isItem, isMacro, hops, keyBytes, Run, steps}
 use Rattle.replacing.specs.Sound.{Firm, HasRef}
 use Rattle.replacing.specs.Round.{replaced}
 use Rattle.expander.specs.declared.Ground.{Ground}
 use Rattle.expander.specs.declared.replace.Keyed.{Keyed}
 use Rattle.expander.specs.declared.stage.Replaced.{Replaced}
 use Rattle.expander.specs.Ground.{sizeIn, stageIn, topOf, listPlace, pushedText, KeyAt, sameAt, textIn, Grounded}
+use Rattle.expander.specs.Replace.{expandedCode}
 use Rattle.expander.specs.Held.{Held, AllBefore}
 
 -- ---- commands by their codes
@@ -31,8 +32,19 @@ commandLong wd c = pick (eqb c 16) (13 + wd) (pick (eqb c 17) (1 + wd) (pick (eq
 unfoldable pub itemCode : ℕ → Bool
 itemCode c = pick (eqb c 16) true (pick (eqb c 48) true (eqb c 49))
 
+-- 20 to 24: a span and a name
+unfoldable pub nameCode : ℕ → Bool
+nameCode c = pick (ltb c 32) false (leb c 36)
+
 unfoldable pub macroAt : ℕ → List ℕ → ℕ → ℕ → Bool
 macroAt wd w at c = pick (eqb c 16) (ltb 0 (getD w (at + 10 + wd) 0)) false
+
+-- a symbol that is expanded, or the definition of a macro
+unfoldable pub leftAt : ℕ → List ℕ → ℕ → ℕ → Bool
+leftAt wd w at c = pick (expandedCode c) true (macroAt wd w at c)
+
+pub record RoomFor (wd : ℕ) (w : List ℕ) (at c : ℕ) : Type 0 where
+  pub room : expandedCode c ≡ false → at + commandLong wd c ≤ length w
 
 -- ---- what stands in a stage t, whose names are numbers in ts
 module _ (wd : ℕ) (t : List ℕ) where
@@ -119,19 +131,39 @@ module _ (s w : List ℕ) (g : Ground) where
     pub held : Held s w g (r .pile) (r .count) slots
     pub before : AllBefore (r .at) slots
 
-  -- a turn of the definition
-  abbrev pub turned : ℕ → Slots → Run
-  turned p x = stepOn (sameAt s w g) (textIn s w g) (g .width) (g .m .count) (stageIn w g) (record { at = p; out = []; slots = x })
+  -- n steps of the definition
+  abbrev pub stepped : ℕ → Run → Run
+  stepped n = steps (sameAt s w g) (textIn s w g) (g .width) (g .m .count) (stageIn w g) n
 
-  pub record TurnedBy (r : Replaced) (x : Slots) (q : Replaced) (w′ : List ℕ) : Type 0 where
-    pub at : q .at ≡ turned (r .at) x .at
-    pub lies : Lies w′ (r .to) (turned (r .at) x .out) (q .to)
-    pub held : Held s w′ g (q .pile) (q .count) (turned (r .at) x .slots)
-    pub before : AllBefore (q .at) (turned (r .at) x .slots)
+  abbrev pub turned : ℕ → ℕ → Slots → Run
+  turned n p x = stepped n (record { at = p; out = []; slots = x })
 
--- the turn is that of every x that is held; and another one can follow
+  pub record TurnedBy (n : ℕ) (r : Replaced) (x : Slots) (q : Replaced) (w′ : List ℕ) : Type 0 where
+    pub at : q .at ≡ turned n (r .at) x .at
+    pub lies : Lies w′ (r .to) (turned n (r .at) x .out) (q .to)
+    pub held : Held s w′ g (q .pile) (q .count) (turned n (r .at) x .slots)
+    pub before : AllBefore (q .at) (turned n (r .at) x .slots)
+
+  -- ---- commands that are copied, one behind another
+  pub record SomeWalk (p : ℕ) : Type 0 where
+    pub turns : ℕ
+    pub left : ℕ
+    pub walks : Walks (g .width) (stageIn w g) (texts s w (g .m)) turns left p
+    pub upto : p ≤ sizeIn g
+
+  -- steps of the definition from p to q copy what stands there; and what could follow still can
+  pub record Copies (p q : ℕ) : Type 0 where
+    pub turns : ℕ
+    pub few : turns + p ≤ q
+    pub upto : q ≤ sizeIn g
+    pub is : (o : List ℕ) (x : Slots) → stepped turns (record { at = p; out = o; slots = x }) ≡ record { at = q; out = o ++ part p q (stageIn w g); slots = x }
+    pub walks : (n k : ℕ) → Walks (g .width) (stageIn w g) (texts s w (g .m)) n k p → (m : ℕ) × Walks (g .width) (stageIn w g) (texts s w (g .m)) m k q
+
+-- the turn is so many steps for every x that is held; and another turn can follow
 pub record Turns (s w : List ℕ) (g : Ground) (r q : Replaced) (w′ : List ℕ) : Type 0 where
-  pub each : (x : Slots) → Held s w g (r .pile) (r .count) x → AllBefore (r .at) x → TurnedBy s w g r x q w′
+  pub steps : ℕ
+  pub few : steps + r .at ≤ q .at
+  pub each : (x : Slots) → Held s w g (r .pile) (r .count) x → AllBefore (r .at) x → TurnedBy s w g steps r x q w′
   pub next : SomeTurn s w′ g q
   pub on : r .at < q .at
   pub to : r .to ≤ q .to

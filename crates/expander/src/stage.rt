@@ -13,7 +13,7 @@ ghost use mathlib.Core.Path.{_≡_};
 ghost use Prim.Native.Nat.{_+_, _≤_, _<_};
 ghost use lib.ListN.{length};
 ghost use Rattle.expander.specs.Ground.{sizeIn, Grounded};
-ghost use Rattle.expander.specs.Stage.{commandLong, itemCode, macroAt, SomeHops, Skips, SomeKeyed, PutsKeyed, SomeTurn, Turns, SomeStage, Stages};
+ghost use Rattle.expander.specs.Stage.{commandLong, itemCode, macroAt, nameCode, leftAt, RoomFor, SomeHops, Skips, SomeKeyed, PutsKeyed, SomeWalk, Copies, SomeTurn, Turns, SomeStage, Stages};
 
 // Where the run stands: the place to read on at, the place to write on at, how many symbols are pushed, how many texts are new.
 pub struct Replaced {
@@ -38,7 +38,7 @@ pub fn command_long(c: u8, width: usize) -> usize
 }
 
 // Whether an item begins with this code.
-fn is_item(c: u8) -> bool
+pub fn is_item(c: u8) -> bool
     ensures { λ r. ⌜ r ≡ itemCode c ⌝ }
 {
     match c {
@@ -77,6 +77,48 @@ fn next_item<'a>(tape: &'a [u8], work: &'a [u8], g: Ground, p: usize) -> usize
     q
 }
 
+// Whether a command of this code is a span and a name: most are, so this is asked first. A `match` would be taken together with those behind it.
+fn is_name(c: u8) -> bool
+    ensures { λ r. ⌜ r ≡ nameCode c ⌝ }
+{
+    if c < 32 {
+        return false;
+    }
+    c <= 36
+}
+
+// Whether what begins at a place of work with the code c is not copied as it stands.
+fn is_left(work: &[u8], width: usize, at: usize, c: u8) -> bool
+    requires { ⌜ (2 ≤ width) × (width ≤ 3) × RoomFor width (now work) at c ⌝ }
+    ensures { λ r. ⌜ r ≡ leftAt width (now (work .entry)) at c ⌝ }
+{
+    if is_expanded(c) {
+        return true;
+    }
+    is_macro(work, width, at, c)
+}
+
+// The place behind the commands from p on that are copied: of a symbol that is expanded, of the definition of a macro, or the end.
+fn run_end<'a>(tape: &'a [u8], work: &'a [u8], g: Ground, p: usize) -> usize
+    requires { ⌜ Grounded (now tape) (now work) g × SomeWalk (now tape) (now work) g p ⌝ }
+    ensures { λ r. ⌜ Copies (now (tape .entry)) (now (work .entry)) g p r ⌝ }
+{
+    let end = g.end - g.from;
+    let mut q = p;
+    while q < end {
+        let c = work[g.from + q];
+        if is_name(c) {
+            q += 9 + g.width;
+        } else {
+            if is_left(work, g.width, g.from + q, c) {
+                return q;
+            }
+            q += command_long(c, g.width);
+        }
+    }
+    q
+}
+
 // The nonterminal of the symbol at r.at, behind which k says where to read on.
 fn put_key(tape: &[u8], work: &mut [u8], g: Ground, r: Replaced, k: Keyed) -> Replaced
     requires { ⌜ Grounded (now tape) (now work) g × SomeKeyed (now tape) (now work) g r k ⌝ }
@@ -93,7 +135,22 @@ fn put_key(tape: &[u8], work: &mut [u8], g: Ground, r: Replaced, k: Keyed) -> Re
     }
 }
 
-// One command, or one symbol that is expanded, or one definition of a macro.
+// The command at r.at, n bytes long, and those behind it that are copied as well.
+fn copy_run(tape: &[u8], work: &mut [u8], g: Ground, r: Replaced, n: usize) -> Replaced
+    requires { ⌜ Grounded (now tape) (now work) g × SomeTurn (now tape) (now work) g r × Copies (now tape) (now work) g (r .at) (r .at + n) × (0 < n) ⌝ }
+    ensures { λ q. ⌜ Turns (now (tape .entry)) (now (work .entry)) g r q (now (work .exit)) ⌝ }
+{
+    let e = run_end(tape, work, g, r.at + n);
+    copy_within(work, g.from + r.at, g.from + e, r.to);
+    Replaced {
+        at: e,
+        to: r.to + (e - r.at),
+        pile: r.pile,
+        count: r.count,
+    }
+}
+
+// Commands that are copied, or one symbol that is expanded, or one definition of a macro.
 fn replace_next(tape: &[u8], work: &mut [u8], g: Ground, r: Replaced) -> Replaced
     requires { ⌜ Grounded (now tape) (now work) g × SomeTurn (now tape) (now work) g r × (r .at < sizeIn g) ⌝ }
     ensures { λ q. ⌜ Turns (now (tape .entry)) (now (work .entry)) g r q (now (work .exit)) ⌝ }
@@ -113,13 +170,7 @@ fn replace_next(tape: &[u8], work: &mut [u8], g: Ground, r: Replaced) -> Replace
             count: r.count,
         };
     }
-    copy_within(work, at, at + n, r.to);
-    Replaced {
-        at: r.at + n,
-        to: r.to + n,
-        pile: r.pile,
-        count: r.count,
-    }
+    copy_run(tape, work, g, r, n)
 }
 
 // The items, written from `to` on.

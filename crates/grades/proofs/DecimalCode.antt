@@ -56,14 +56,14 @@ pub record Putting (w : List ℕ) (to v : ℕ) (out : List ℕ) (at q : ℕ) : T
   pub room : at ≤ length w
 
 module _ (w : List ℕ) (to v s : ℕ) (e : s ≡ length (levelDigits v)) where
-  pub put-start : s ≤ 10 → to + 10 ≤ length w → Putting w to v w (to + s) v
-  put-start h k = record {
+  pub put-start : to + length (levelDigits v) ≤ length w → Putting w to v w (to + s) v
+  put-start k = record {
     behind = [];
     left = s;
     place = refl;
     rest = ap (λ (n : ℕ). front n v []) (e ∙ size-is v) ∙ sym (digits-front v);
     bytes = sym (store-none w (to + s));
-    room = omega arith;
+    room = omega (arith, e);
   }
 
   pub put-done : (out : List ℕ) (at q : ℕ) → Putting w to v out at q → at ≤ to → PutsDecimal w to v (to + s) out

@@ -89,7 +89,7 @@ pub fn digit(x: usize) -> u8
 
 // A level in plain decimal, from the last digit to the first; says the place behind.
 pub fn put_decimal(out: &mut [u8], to: usize, v: usize) -> usize
-    requires { ⌜ (v < 4294967296) × (to + 10 ≤ length (now out)) ⌝ }
+    requires { ⌜ (v < 4294967296) × (to + length (levelDigits v) ≤ length (now out)) ⌝ }
     ensures { λ r. ⌜ PutsDecimal (now (out .entry)) to v r (now (out .exit)) ⌝ }
 {
     let end = to + decimal_size(v);

@@ -33,6 +33,7 @@ use Rattle.precedence.proofs.NamesMean.{naming-worded}
 use Rattle.levels.specs.declared.Room.{Room}
 use Rattle.levels.specs.declared.Written.{Written}
 use Rattle.levels.specs.Expand.{LevelsFit, NamesAt, Kept, Wrote, Stood, placesOf, alternativesAt, itemsLeft, Left, Finishes, Expandable}
+use Rattle.levels.proofs.WroteLaws.{marks-stay}
 use Rattle.levels.proofs.Few.{graded-length, levels-few}
 use Rattle.levels.proofs.ExpandMean.{keysPlace, stands-before}
 use Rattle.levels.proofs.ExpandMeanSorted.{Ordered}
@@ -147,6 +148,7 @@ module _ (s : List ℕ) (m : Map) (room : Room) (wd : ℕ) (ids : Ids) (p e : �
       most = omega (arith, f .most, fewer);
       names = f .names;
       same = f .same ∙ texts-same;
+      marks = λ i h. f .marks i h ∙ marks-stay w w2 m table i h;
       whole = f .whole;
       over = f .over;
       kept = λ i h. f .kept i h ∙ O .others i (kept-beside i h);

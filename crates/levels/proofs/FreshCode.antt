@@ -1,4 +1,4 @@
--- The names' bytes, counted and put: name_length, count_bytes, put_name, put_names. Assumes nothing.
+-- The names' bytes, counted and put: name_length, count_bytes, put_level, put_name, put_names. Assumes nothing.
 use mathlib.Core.Path.{_≡_, refl, sym, ap, _∙_}
 use mathlib.Core.Bool.{Bool, true, false, _||_, true≢false}
 use mathlib.Core.List.{List, [], _∷_, _++_, append-assoc}
@@ -7,9 +7,9 @@ use native.Mathlib.Omega.{arith}
 use borrow.Author.Needs.{needs}
 use borrow.Author.Tests.{ltb-true, ltb-false, lt-ltb, le-ltb}
 use lib.Dec.{ltb}
-use lib.ListN.{length, set, length-set, length-append}
+use lib.ListN.{length, getD, set, length-set, length-append}
 use lib.Seq.{take-all}
-use mir.Syntax.{w16, w64}
+use mir.Syntax.{w64}
 use mir.Val.{Fits}
 use Rattle.octets.specs.plain.Numbers.{le}
 use Rattle.octets.specs.plain.Runs.{part}
@@ -24,6 +24,7 @@ use Rattle.parse_tree.proofs.ReadingLaws.{bytes-more}
 use Rattle.parse_tree.proofs.ReadBack.{atom-size}
 use Rattle.texts.specs.declared.Map.{Map}
 use Rattle.texts.specs.Fields.{markAt}
+use Rattle.texts.specs.Table.{texts}
 use Rattle.grades.specs.Grade.{levelDigits, PutsDecimal}
 use Rattle.precedence.specs.Names.{Naming, Based, BaseText, levelText, describedText, describedTexts, namedText}
 use Rattle.precedence.proofs.NamesHashCode.{named-described}
@@ -37,17 +38,18 @@ module _ (s w : List ℕ) (m : Map) (n k : ℕ) (g : Naming s w m n) (l : m .cou
   pub name-based : (x : ℕ) → x ≡ markAt w (m .base) k → Based s w m (x / 4294967296)
   name-based x e = naming-based s w m n g (x / 4294967296) (rw e (g .bases k l h))
 
-module _ (s w : List ℕ) (m : Map) (k : ℕ) (l : m .count ≤ k) (x : ℕ) (e : x ≡ markAt w (m .base) k) (t : Text) (c : BaseText s w m (x / 4294967296) t) where
+module _ (s w : List ℕ) (m : Map) (k : ℕ) (l : m .count ≤ k) (x : ℕ) (e : x ≡ markAt w (m .base) k) (t : Text) (c : t ≡ getD (texts s w m) (x / 4294967296) []) where
   -- a described name is that text and the level's digits
-  name-is : namedText s w m k ≡ t ++ levelDigits (x % 4294967296)
+  pub name-is : namedText s w m k ≡ t ++ levelDigits (x % 4294967296)
   unfolding levelText describedText
-  name-is = named-described s w m k l ∙ ap (describedText s w m) (sym e) ∙ ap (λ (u : Text). u ++ levelDigits (x % 4294967296)) (sym (c .text))
+  name-is = named-described s w m k l ∙ ap (describedText s w m) (sym e) ∙ ap (λ (u : Text). u ++ levelDigits (x % 4294967296)) (sym c)
 
-  name-size : length (namedText s w m k) ≡ length t + length (levelDigits (x % 4294967296))
+  pub name-size : length (namedText s w m k) ≡ length t + length (levelDigits (x % 4294967296))
   name-size = ap length name-is ∙ length-append t (levelDigits (x % 4294967296))
 
-  pub length-done : (z : ℕ) → z ≡ length (levelDigits (x % 4294967296)) → z ≤ 10 → NameLong s w m k (length t + z)
-  length-done z p q = record { is = omega (arith, name-size); small = omega (arith, c .short) }
+pub length-done : (s w : List ℕ) (m : Map) (k : ℕ) → m .count ≤ k → (x : ℕ) → x ≡ markAt w (m .base) k → (t : Text) → BaseText s w m (x / 4294967296) t
+    → (z : ℕ) → z ≡ length (levelDigits (x % 4294967296)) → z ≤ 10 → NameLong s w m k (length t + z)
+length-done s w m k l x e t c z p q = record { is = omega (arith, name-size s w m k l x e t (c .text)); small = omega (arith, c .short) }
 
 pub ruleset lengthening = (needs, name-based, length-done)
 
@@ -76,12 +78,12 @@ long-last ts t e = go (ltb 65535 (length t)) refl
 
 -- ---- one described name more
 module _ (s w : List ℕ) (m : Map) where
-  new-none : newTexts s w m (m .count) ≡ []
+  pub new-none : newTexts s w m (m .count) ≡ []
   unfolding describedTexts
   new-none = let z : m .count - m .count ≡ 0 = omega arith in ap (describedTexts s w m) z
 
   module _ (k : ℕ) (h : m .count ≤ k) where
-    new-more : newTexts s w m (k + 1) ≡ newTexts s w m k ++ (namedText s w m k ∷ [])
+    pub new-more : newTexts s w m (k + 1) ≡ newTexts s w m k ++ (namedText s w m k ∷ [])
     unfolding describedTexts
     new-more =
         let z : k + 1 - m .count ≡ suc (k - m .count) = omega arith in
@@ -89,27 +91,27 @@ module _ (s w : List ℕ) (m : Map) where
         ap (describedTexts s w m) z ∙ ap (λ (i : ℕ). newTexts s w m k ++ (describedText s w m (markAt w (m .base) i) ∷ [])) y
         ∙ ap (λ (t : Text). newTexts s w m k ++ (t ∷ [])) (sym (named-described s w m k h))
 
-    new-bytes : bytesOfEach (atomBytes 2) (newTexts s w m (k + 1)) ≡ bytesOfEach (atomBytes 2) (newTexts s w m k) ++ atomBytes 2 (namedText s w m k)
+    pub new-bytes : bytesOfEach (atomBytes 2) (newTexts s w m (k + 1)) ≡ bytesOfEach (atomBytes 2) (newTexts s w m k) ++ atomBytes 2 (namedText s w m k)
     new-bytes = ap (bytesOfEach (atomBytes 2)) new-more ∙ bytes-more (atomBytes 2) (newTexts s w m k) (namedText s w m k)
 
-    new-size : length (bytesOfEach (atomBytes 2) (newTexts s w m (k + 1))) ≡ length (bytesOfEach (atomBytes 2) (newTexts s w m k)) + (3 + length (namedText s w m k))
+    pub new-size : length (bytesOfEach (atomBytes 2) (newTexts s w m (k + 1))) ≡ length (bytesOfEach (atomBytes 2) (newTexts s w m k)) + (3 + length (namedText s w m k))
     new-size =
         ap length new-bytes ∙ length-append (bytesOfEach (atomBytes 2) (newTexts s w m k)) (atomBytes 2 (namedText s w m k))
         ∙ ap (λ (i : ℕ). length (bytesOfEach (atomBytes 2) (newTexts s w m k)) + i) (atom-size 2 (namedText s w m k))
 
-    new-short : tooLong (newTexts s w m (k + 1)) ≡ false → length (namedText s w m k) ≤ 65535
+    pub new-short : tooLong (newTexts s w m (k + 1)) ≡ false → length (namedText s w m k) ≤ 65535
     new-short e = long-last (newTexts s w m k) (namedText s w m k) (ap tooLong (sym new-more) ∙ e)
 
-    new-rest : tooLong (newTexts s w m (k + 1)) ≡ false → tooLong (newTexts s w m k) ≡ false
+    pub new-rest : tooLong (newTexts s w m (k + 1)) ≡ false → tooLong (newTexts s w m k) ≡ false
     new-rest e = sym (long-no (newTexts s w m k) (namedText s w m k) (new-short e)) ∙ ap tooLong (sym new-more) ∙ e
 
   -- those before a record are no more bytes than all
-  size-grows : (k d : ℕ) → m .count ≤ k → length (bytesOfEach (atomBytes 2) (newTexts s w m k)) ≤ length (bytesOfEach (atomBytes 2) (newTexts s w m (k + d)))
+  pub size-grows : (k d : ℕ) → m .count ≤ k → length (bytesOfEach (atomBytes 2) (newTexts s w m k)) ≤ length (bytesOfEach (atomBytes 2) (newTexts s w m (k + d)))
   size-grows k zero h = let z : k + 0 ≡ k = omega arith in rw z (omega arith)
   size-grows k (suc d) h = let z : k + suc d ≡ k + d + 1 = omega arith in rw z (omega (arith, size-grows k d h, new-size (k + d) (omega arith)))
 
   -- and none of them is too long if none of all is
-  short-before : (k d : ℕ) → m .count ≤ k → tooLong (newTexts s w m (k + d)) ≡ false → tooLong (newTexts s w m k) ≡ false
+  pub short-before : (k d : ℕ) → m .count ≤ k → tooLong (newTexts s w m (k + d)) ≡ false → tooLong (newTexts s w m k) ≡ false
   short-before k zero h e = let z : k + 0 ≡ k = omega arith in rw z at e
   short-before k (suc d) h e = let z : k + suc d ≡ k + d + 1 = omega arith in short-before k d h (new-rest (k + d) (omega arith) (rw z at e))
 
@@ -164,11 +166,11 @@ module _ (s w : List ℕ) (m : Map) (n k bytes : ℕ) (long : Bool) (c : Countin
 
 pub ruleset counting = (needs, count-start, count-fits, count-long, count-short, count-done)
 
--- ---- put_name: a byte, the length, the text and the digits, each behind the one before
+-- ---- put_level: a byte, the length, the text and the digits, each behind the one before
 pub put-kept : (o a b r : List ℕ) (to v : ℕ) → length a ≡ length (set o to v) → length b ≡ length a → length r ≡ length b → length r ≡ length o
 put-kept o a b r to v p q u = omega (arith, p, q, u, length-set o to v)
 
-pub put-head : (o : List ℕ) (to n : ℕ) → to + 3 + n + 10 ≤ length o → to + 1 + 2 ≤ length (set o to 1)
+pub put-head : (o : List ℕ) (to n : ℕ) → to + 3 + n ≤ length o → to + 1 + 2 ≤ length (set o to 1)
 put-head o to n h = omega (arith, length-set o to 1)
 
 store-one : (o : List ℕ) (at v : ℕ) → set o at v ≡ store o at (v ∷ [])
@@ -183,40 +185,50 @@ command-text o a b to n t f g =
     let i : a ≡ store o to (1 ∷ le 2 n) = f ∙ ap (λ (l : List ℕ). store l (to + 1) (le 2 n)) (store-one o to 1) ∙ store-append o to (to + 1) (1 ∷ []) (le 2 n) refl in
     g ∙ ap (store a (to + 3)) (take-all (length t - 0) t (omega arith)) ∙ ap (λ (l : List ℕ). store l (to + 3) t) i ∙ store-append o to (to + 3) (1 ∷ le 2 n) t (omega (arith, length-le 2 n))
 
-module _ (s w : List ℕ) (m : Map) (k : ℕ) (l : m .count ≤ k) (x : ℕ) (e : x ≡ markAt w (m .base) k) (t : Text) (c : BaseText s w m (x / 4294967296) t) where
-  module _ (o : List ℕ) (to : ℕ) (h : to + 3 + length (namedText s w m k) + 10 ≤ length o) (a : List ℕ) (p : length a ≡ length (set o to 1)) where
+module _ (t : Text) (v : ℕ) where
+  module _ (o : List ℕ) (to : ℕ) (h : to + 3 + (length t + length (levelDigits v)) ≤ length o) (a : List ℕ) (p : length a ≡ length (set o to 1)) where
     pub put-base : to + 3 + (length t - 0) ≤ length a
-    put-base = omega (arith, p, length-set o to 1, name-size s w m k l x e t c)
+    put-base = omega (arith, p, length-set o to 1)
 
-    pub put-digits : (b : List ℕ) → length b ≡ length a → to + 3 + length t + 10 ≤ length b
-    put-digits b q = omega (arith, p, q, length-set o to 1, name-size s w m k l x e t c)
+    pub put-digits : (b : List ℕ) → length b ≡ length a → to + 3 + length t + length (levelDigits v) ≤ length b
+    put-digits b q = omega (arith, p, q, length-set o to 1)
 
-  module _ (z : ℕ) (p : z ≡ length (levelDigits (x % 4294967296))) where
-    pub put-cast : length (namedText s w m k) < 65536 → Fits w16 (length t + z)
-    put-cast h = record { fits = omega (arith, name-size s w m k l x e t c) }
-
-    -- a name as an atom: its command, the text that it begins with, the level's digits
-    atom-is : atomBytes 2 (namedText s w m k) ≡ ((1 ∷ le 2 (length t + z)) ++ t) ++ levelDigits (x % 4294967296)
+  module _ (z : ℕ) (p : z ≡ length (levelDigits v)) where
+    -- the atom: its command, the text, the digits
+    atom-is : atomBytes 2 (t ++ levelDigits v) ≡ ((1 ∷ le 2 (length t + z)) ++ t) ++ levelDigits v
     unfolding atomBytes nodeBytes
     atom-is =
-        let d = levelDigits (x % 4294967296) in
+        let d = levelDigits v in
         let n : length (t ++ d) ≡ length t + z = omega (arith, length-append t d) in
-        ap (λ (u : Text). (1 ∷ le 2 (length u)) ++ u) (name-is s w m k l x e t c) ∙ ap (λ (i : ℕ). (1 ∷ le 2 i) ++ (t ++ d)) n ∙ sym (append-assoc (1 ∷ le 2 (length t + z)) t d)
+        ap (λ (i : ℕ). (1 ∷ le 2 i) ++ (t ++ d)) n ∙ sym (append-assoc (1 ∷ le 2 (length t + z)) t d)
 
-    pub put-name-done : (o a b r : List ℕ) (to q : ℕ) → a ≡ store (set o to 1) (to + 1) (le 2 (length t + z)) → b ≡ store a (to + 3) (part 0 (length t) t)
-        → PutsDecimal b (to + 3 + length t) (x % 4294967296) q r → PutsNames o to (atomBytes 2 (namedText s w m k)) q r
-    put-name-done o a b r to q f g u =
-        let d = levelDigits (x % 4294967296) in
+    pub put-level-done : (o a b r : List ℕ) (to q : ℕ) → a ≡ store (set o to 1) (to + 1) (le 2 (length t + z)) → b ≡ store a (to + 3) (part 0 (length t) t)
+        → PutsDecimal b (to + 3 + length t) v q r → PutsNames o to (atomBytes 2 (t ++ levelDigits v)) q r
+    put-level-done o a b r to q f g u =
+        let d = levelDigits v in
         let y : List ℕ = 1 ∷ le 2 (length t + z) in
         let i : b ≡ store o to (y ++ t) = command-text o a b to (length t + z) t f g in
-        let v : to + 3 + length t ≡ to + length (y ++ t) = omega (arith, length-append y t, length-le 2 (length t + z)) in
-        let j : r ≡ store o to ((y ++ t) ++ d) = u .bytes ∙ ap (λ (l : List ℕ). store l (to + 3 + length t) d) i ∙ store-append o to (to + 3 + length t) (y ++ t) d v in
+        let x : to + 3 + length t ≡ to + length (y ++ t) = omega (arith, length-append y t, length-le 2 (length t + z)) in
+        let j : r ≡ store o to ((y ++ t) ++ d) = u .bytes ∙ ap (λ (l : List ℕ). store l (to + 3 + length t) d) i ∙ store-append o to (to + 3 + length t) (y ++ t) d x in
         record {
           bytes = j ∙ ap (store o to) (sym atom-is);
-          after = omega (arith, u .after, atom-size 2 (namedText s w m k), name-size s w m k l x e t c);
+          after = omega (arith, u .after, atom-size 2 (t ++ d), length-append t d);
         }
 
-pub ruleset namePutting = (needs, name-based, put-kept, put-head, put-base, put-digits, put-cast, put-name-done)
+pub ruleset levelPutting = (needs, put-kept, put-head, put-base, put-digits, put-level-done)
+
+-- ---- put_name
+module _ (s w : List ℕ) (m : Map) (k : ℕ) (l : m .count ≤ k) (x : ℕ) (e : x ≡ markAt w (m .base) k) (t : Text) (c : BaseText s w m (x / 4294967296) t) where
+  pub name-short : length (namedText s w m k) < 65536 → length t + length (levelDigits (x % 4294967296)) < 65536
+  name-short h = omega (arith, name-size s w m k l x e t (c .text))
+
+  pub name-room : (to n : ℕ) → to + 3 + length (namedText s w m k) ≤ n → to + 3 + (length t + length (levelDigits (x % 4294967296))) ≤ n
+  name-room to n h = omega (arith, name-size s w m k l x e t (c .text))
+
+  pub put-name-done : (o r : List ℕ) (to q : ℕ) → PutsNames o to (atomBytes 2 (t ++ levelDigits (x % 4294967296))) q r → PutsNames o to (atomBytes 2 (namedText s w m k)) q r
+  put-name-done o r to q u = let z = name-is s w m k l x e t (c .text) in rw z u
+
+pub ruleset namePutting = (needs, name-based, name-short, name-room, put-name-done)
 
 -- ---- put_names: those before k stand in o′ from `to` on, and end at q
 pub record NamesPut (s w : List ℕ) (m : Map) (n to : ℕ) (o o′ : List ℕ) (k q : ℕ) : Type 0 where
@@ -224,12 +236,12 @@ pub record NamesPut (s w : List ℕ) (m : Map) (n to : ℕ) (o o′ : List ℕ) 
   pub upto : k ≤ n
   pub few : n ≤ 4294967295
   pub short : tooLong (newTexts s w m n) ≡ false
-  pub room : to + length (bytesOfEach (atomBytes 2) (newTexts s w m n)) + 10 ≤ length o
+  pub room : to + length (bytesOfEach (atomBytes 2) (newTexts s w m n)) ≤ length o
   pub bytes : o′ ≡ store o to (bytesOfEach (atomBytes 2) (newTexts s w m k))
   pub place : q ≡ to + length (bytesOfEach (atomBytes 2) (newTexts s w m k))
 
 pub names-start : (s w : List ℕ) (m : Map) (n to : ℕ) (o : List ℕ) → Naming s w m n → tooLong (newTexts s w m n) ≡ false
-    → to + length (bytesOfEach (atomBytes 2) (newTexts s w m n)) + 10 ≤ length o → NamesPut s w m n to o o (m .count) to
+    → to + length (bytesOfEach (atomBytes 2) (newTexts s w m n)) ≤ length o → NamesPut s w m n to o o (m .count) to
 unfolding bytesOfEach
 names-start s w m n to o g e h = record {
   from = omega arith;
@@ -252,7 +264,7 @@ module _ (s w : List ℕ) (m : Map) (n to : ℕ) (o o′ : List ℕ) (k q : ℕ)
         let e : tooLong (newTexts s w m (k + 1 + (n - (k + 1)))) ≡ false = ap (λ (i : ℕ). tooLong (newTexts s w m i)) (sym z) ∙ c .short in
         omega (arith, new-short s w m k (c .from) (short-before s w m (k + 1) (n - (k + 1)) (omega (arith, c .from)) e))
 
-    pub names-room : q + 3 + length (namedText s w m k) + 10 ≤ length o′
+    pub names-room : q + 3 + length (namedText s w m k) ≤ length o′
     names-room =
         let z : k + 1 + (n - (k + 1)) ≡ n = omega arith in
         let g = rw z at (size-grows s w m (k + 1) (n - (k + 1)) (omega (arith, c .from))) in

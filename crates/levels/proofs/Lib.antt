@@ -7,6 +7,11 @@ pub mod Digits
 pub mod Few
 pub mod Fits
 mod FreshCode
+mod SettleNameCode
+mod SettleLaws
+mod SettleNext
+mod SettleTable
+mod SettleCode
 pub mod ExpandMean
 pub mod ExpandMeanSorted
 pub mod ExpandMeanLeft

@@ -11,6 +11,7 @@ use Rattle.parse_tree.specs.plain.Tree.{Text}
 use Rattle.parse_tree.specs.plain.Texts.{has, number, withNew}
 use Rattle.parse_tree.proofs.TextLaws.{number-below, text-number}
 use Rattle.texts.specs.declared.Map.{Map}
+use Rattle.texts.specs.Fields.{markAt}
 use Rattle.texts.specs.Table.{texts}
 use Rattle.texts.proofs.TextCode.{length-texts}
 use Rattle.passes.specs.Grades.{precedence, assoc}
@@ -60,6 +61,7 @@ pub record LevelKnown (s : List ℕ) (m : Map) (room : Room) (ids : Ids) (w : Li
   pub most : x .count ≤ n + 1
   pub names : NamesAt s w1 m room ids (x .count)
   pub same : texts s w1 m ≡ texts s w m
+  pub marks : (i : ℕ) → i < m .count → markAt w1 (m .base) i ≡ markAt w (m .base) i
   pub name : x .name ≡ number (namedTexts s w1 m (x .count)) t
   pub before : (i : ℕ) → i < m .base → getD w1 i 0 ≡ getD w i 0
   pub after : (i : ℕ) → room .arrays ≤ i → getD w1 i 0 ≡ getD w i 0
@@ -76,6 +78,7 @@ module _ (s : List ℕ) (m : Map) (room : Room) (ids : Ids) (w : List ℕ) (n : 
         most = omega arith;
         names = g;
         same = refl;
+        marks = λ i h. refl;
         name = is ∙ sym (extends-number (texts s w m) (namedTexts s w m n) E x there);
         before = λ i h. refl;
         after = λ i h. refl;
@@ -101,6 +104,7 @@ module _ (s : List ℕ) (m : Map) (room : Room) (ids : Ids) (w : List ℕ) (n : 
           ids-table = g .ids-table ∙ ap idsIn (sym (f .kept .same));
         };
         same = f .kept .same;
+        marks = λ i h. f .kept .marks i (omega (arith, g .naming .upto));
         name = f .number (g .apart) ∙ ap (number (namedTexts s w1 m (x .count))) t;
         before = f .kept .before;
         after = λ i h. f .kept .after i (omega arith) (omega arith);

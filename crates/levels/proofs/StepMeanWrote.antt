@@ -16,6 +16,7 @@ use Rattle.parse_tree.specs.plain.References.{textsOfEach, itemTexts}
 use Rattle.parse_tree.specs.plain.WriteTape.{bytesOfEach}
 use Rattle.parse_tree.specs.working.Encode.{itemBytes}
 use Rattle.texts.specs.declared.Map.{Map}
+use Rattle.texts.specs.Fields.{markAt}
 use Rattle.texts.specs.Table.{Above, Agree, texts}
 use Rattle.passes.specs.Grades.{Graded, graded}
 use Rattle.passes.specs.Levels.{Group, levelName, ofLevel}
@@ -38,6 +39,7 @@ use Rattle.levels.proofs.Graded.{GradedWithin, graded-within, of-level-
 use Rattle.levels.proofs.There.{LowerIn}
 use Rattle.levels.proofs.Texts.{level-texts}
 use Rattle.levels.proofs.StepMeanNames.{named-extends, LevelKnown, name-has, name-small}
+use Rattle.levels.proofs.WroteLaws.{marks-stay}
 use Rattle.levels.proofs.StepMean.{keys-agree, before-arrays, group-is}
 
 -- ---- what is put behind the records leaves the names
@@ -53,12 +55,18 @@ module _ (s : List ℕ) (m : Map) (room : Room) (ids : Ids) (w : List ℕ) (n : 
   pub put-named : namedTexts s w1 m n ≡ namedTexts s w m n
   put-named = names-same s w w1 m n (room .lim + 16) (g .naming) (g .above) (q .long) far (below-to (m .base) (m .base + 24 * n) records) (below-to (m .base) (m .base + 24 * m .buckets) heads)
 
+  table : Agree w w1 (m .base) (m .base + 24 * m .count)
+  table = below-to (m .base) (m .base + 24 * m .count) (omega (arith, g .naming .upto))
+
   worded : Worded s w1 m × (texts s w1 m ≡ texts s w m) × Above s w1 m (room .lim + 16)
   worded =
-      worded-stays s w w1 m (room .lim + 16) (naming-worded s w m n (g .naming)) (g .above) (q .long) far (below-to (m .base) (m .base + 24 * m .count) (omega (arith, g .naming .upto)))
+      worded-stays s w w1 m (room .lim + 16) (naming-worded s w m n (g .naming)) (g .above) (q .long) far table
 
   pub put-texts : texts s w1 m ≡ texts s w m
   put-texts = worded .1
+
+  pub put-marks : (i : ℕ) → i < m .count → markAt w1 (m .base) i ≡ markAt w (m .base) i
+  put-marks = marks-stay w w1 m table
 
   -- theorem: and can be found
   pub put-names : NamesAt s w1 m room ids n
@@ -120,6 +128,9 @@ module _ (s : List ℕ) (m : Map) (room : Room) (wd : ℕ) (ids : Ids) (p e plac
   same-texts : texts s w2 m ≡ texts s w m
   same-texts = put-texts s m room ids w1 (x .count) (k .names) (v .to) Bytes1 r w2 q records-in heads-in ∙ k .same
 
+  same-marks : (h : ℕ) → h < m .count → markAt w2 (m .base) h ≡ markAt w (m .base) h
+  same-marks h a = put-marks s m room ids w1 (x .count) (k .names) (v .to) Bytes1 r w2 q records-in heads-in h a ∙ k .marks h a
+
   names : NamesAt s w2 m room ids (x .count)
   names = put-names s m room ids w1 (x .count) (k .names) (v .to) Bytes1 r w2 q records-in heads-in
 
@@ -163,6 +174,7 @@ module _ (s : List ℕ) (m : Map) (room : Room) (wd : ℕ) (ids : Ids) (p e plac
         most = k .most;
         names = names;
         same = same-texts;
+        marks = same-marks;
         whole = λ h. rw z (put-lies w1 w2 (room .lim) (v .to) Bytes1 r q (omega (arith, L .laid .inside)) (rw z at h));
         over = λ h. q .over (rw z at h);
         kept = kept;

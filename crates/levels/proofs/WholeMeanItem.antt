@@ -41,7 +41,7 @@ use Rattle.levels.specs.Expand.{LevelsFit, NamesAt, Kept, Wrote, Expande
 use Rattle.levels.specs.Whole.{alternativesIn, ItemsLeft, SteppedBy, ItemSteps}
 use Rattle.levels.proofs.Extend.{bytes-extend}
 use Rattle.levels.proofs.Texts.{plain-texts}
-use Rattle.levels.proofs.WroteLaws.{wrote-on, wrote-upto, wrote-more}
+use Rattle.levels.proofs.WroteLaws.{wrote-on, wrote-upto, wrote-more, marks-stay}
 use Rattle.levels.proofs.WholeMean.{hasLevels, alternatives-split, laid-fewer, base-before, next-place, first-lies, first-annotated, first-stands, items-head, items-forward, items-behind}
 
 -- ---- bytes put to the room for the items
@@ -59,10 +59,12 @@ module _ (s : List ℕ) (m : Map) (room : Room) (wd : ℕ) (ids : Ids) (w : List
   heads : Agree w w1 (m .base) (m .base + 24 * m .buckets)
   heads = record { agree = λ i h k. beside i (inl (omega (arith, laid .heads, laid .arrays))) }
 
+  table : Agree w w1 (m .base) (m .base + 24 * m .count)
+  table = record { agree = λ i h k. records .agree i h (omega (arith, names .naming .upto)) }
+
   words : Worded s w1 m × (texts s w1 m ≡ texts s w m) × Above s w1 m (room .lim + 16)
   words =
-      worded-stays s w w1 m (room .lim + 16) (naming-worded s w m (v .count) (names .naming)) (names .above) (p .long) far
-      (record { agree = λ i h k. records .agree i h (omega (arith, names .naming .upto)) })
+      worded-stays s w w1 m (room .lim + 16) (naming-worded s w m (v .count) (names .naming)) (names .above) (p .long) far table
 
   named-put : namedTexts s w1 m (v .count) ≡ namedTexts s w m (v .count)
   named-put = names-same s w w1 m (v .count) (room .lim + 16) (names .naming) (names .above) (p .long) far records heads
@@ -93,6 +95,7 @@ module _ (s : List ℕ) (m : Map) (room : Room) (wd : ℕ) (ids : Ids) (w : List
         most = omega arith;
         names = names-put;
         same = words .1;
+        marks = marks-stay w w1 m table;
         whole = λ h. rw b (lies (rw b at h));
         over = λ h. p .over (rw b at h);
         kept = kept-put (omega (arith, laid .heads, laid .arrays));

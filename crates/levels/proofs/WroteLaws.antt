@@ -2,7 +2,7 @@
 use mathlib.Core.Path.{_≡_, refl, sym, ap, _∙_}
 use mathlib.Core.Logic.{_⊎_, inl, inr}
 use mathlib.Core.List.{List, [], _∷_, _++_}
-use Prim.Native.Nat.{ℕ, _+_, _≤_, _<_}
+use Prim.Native.Nat.{ℕ, _+_, _*_, _≤_, _<_}
 use native.Mathlib.Omega.{arith}
 use lib.ListN.{length, length-append, getD}
 use Rattle.octets.specs.plain.Runs.{Lies}
@@ -13,6 +13,9 @@ use Rattle.parse_tree.specs.plain.References.{textsOfEach, itemTexts}
 use Rattle.parse_tree.specs.plain.WriteTape.{bytesOfEach}
 use Rattle.parse_tree.specs.working.Encode.{itemBytes}
 use Rattle.texts.specs.declared.Map.{Map}
+use Rattle.texts.specs.Fields.{markAt}
+use Rattle.texts.specs.Table.{Agree}
+use Rattle.texts.proofs.TableStays.{leAt-agree}
 use Rattle.grades.specs.declared.Ids.{Ids}
 use Rattle.precedence.proofs.WriteLaws.{fits-or-not}
 use Rattle.resolve.proofs.CellsLaws.{lies-agree}
@@ -24,10 +27,15 @@ use Rattle.levels.specs.Expand.{NamesAt, Kept, Wrote}
 use Rattle.levels.proofs.There.{texts-append}
 use Rattle.replacing.proofs.ThereBytes.{bytes-both, new-all, there-bytes-each}
 
--- a run stays where its bytes do; an empty one lies anywhere
-lies-stay : (w w′ : List ℕ) (a e : ℕ) (xs : List ℕ) → length w′ ≡ length w → ((i : ℕ) → a ≤ i → i < e → getD w′ i 0 ≡ getD w i 0) → Lies w a xs e → Lies w′ a xs e
+-- theorem: a run stays where its bytes do; an empty one lies anywhere
+pub lies-stay : (w w′ : List ℕ) (a e : ℕ) (xs : List ℕ) → length w′ ≡ length w → ((i : ℕ) → a ≤ i → i < e → getD w′ i 0 ≡ getD w i 0) → Lies w a xs e → Lies w′ a xs e
 lies-stay w w′ a e [] n f l = lies-to (omega (arith, l .end)) (lies-none w′ a)
 lies-stay w w′ a e (x ∷ xs) n f l = lies-agree w w′ a e (x ∷ xs) n (lies-inside w a e (x ∷ xs) (omega arith) l) f l
+
+-- theorem: marks stay where the bytes of the records do
+pub marks-stay : (w w1 : List ℕ) (m : Map) → Agree w w1 (m .base) (m .base + 24 * m .count) → (i : ℕ) → i < m .count → markAt w1 (m .base) i ≡ markAt w (m .base) i
+unfolding markAt
+marks-stay w w1 m f i h = leAt-agree 8 w w1 (m .base + 24 * i) (λ j a b. f .agree j (omega arith) (omega arith))
 
 module _ (s : List ℕ) (m : Map) (room : Room) (wd : ℕ) (ids : Ids) where
   -- theorem: nothing is written
@@ -40,6 +48,7 @@ module _ (s : List ℕ) (m : Map) (room : Room) (wd : ℕ) (ids : Ids) where
     most = omega arith;
     names = g;
     same = refl;
+    marks = λ i h. refl;
     whole = λ h. lies-none w (v .to);
     over = λ h. omega arith;
     kept = λ i h. refl;
@@ -54,6 +63,7 @@ module _ (s : List ℕ) (m : Map) (room : Room) (wd : ℕ) (ids : Ids) where
     most = omega (arith, x .most);
     names = x .names;
     same = x .same;
+    marks = x .marks;
     whole = x .whole;
     over = x .over;
     kept = x .kept;
@@ -140,6 +150,7 @@ module _ (s : List ℕ) (m : Map) (room : Room) (wd : ℕ) (ids : Ids) where
         most = omega (arith, x .most, y .most);
         names = y .names;
         same = y .same ∙ x .same;
+        marks = λ i h. y .marks i h ∙ x .marks i h;
         whole = λ h. rw both (whole-both (omega (arith, both-long)));
         over = λ h. over-both (omega (arith, both-long));
         kept = λ i h. y .kept i (kept-later i h) ∙ x .kept i h;

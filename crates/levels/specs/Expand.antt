@@ -18,6 +18,7 @@ use Rattle.parse_tree.specs.working.Encode.{itemBytes, argumentBytes, alternati
 use Rattle.parse_tree.specs.working.Refusals.{refusalOver}
 use Rattle.parse_tree.specs.working.Within.{Each, NonterminalWithin}
 use Rattle.texts.specs.declared.Map.{Map}
+use Rattle.texts.specs.Fields.{markAt}
 use Rattle.texts.specs.Table.{Above, texts}
 use Rattle.passes.specs.Outcome.{Outcome, yes, no, after}
 use Rattle.passes.specs.Grades.{graded}
@@ -83,6 +84,7 @@ pub record Wrote (s : List ℕ) (m : Map) (room : Room) (wd : ℕ) (ids : Ids) (
   pub most : v′ .count ≤ v .count + k
   pub names : NamesAt s w′ m room ids (v′ .count)
   pub same : texts s w′ m ≡ texts s w m
+  pub marks : (i : ℕ) → i < m .count → markAt w′ (m .base) i ≡ markAt w (m .base) i
   pub whole : v .to + length (bytesOfEach (itemBytes wd (namedTexts s w′ m (v′ .count))) is) ≤ room .lim
       → Lies w′ (v .to) (bytesOfEach (itemBytes wd (namedTexts s w′ m (v′ .count))) is) (v′ .to)
   pub over : room .lim < v .to + length (bytesOfEach (itemBytes wd (namedTexts s w′ m (v′ .count))) is) → v′ .to ≡ room .lim + 1

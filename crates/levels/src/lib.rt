@@ -1,9 +1,10 @@
 // Precedence levels of a whole grammar: the items that stand resolved in work, written again level by level. Touches nothing but the slices
-// that it is handed: of work the records behind the table's, the arrays, and the room for the items.
+// that it is handed: of work the records behind the table's, the arrays, the room for the items, and that for the bytes of names.
 use parse_tree::refusal::Refusal;
 
 pub mod expand;
 pub mod fresh;
+pub mod settle;
 pub mod whole;
 
 // Where the pass writes: the arrays of the nonterminal at hand, and the items from `at` up to `lim`.

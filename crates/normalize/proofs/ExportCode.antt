@@ -8,10 +8,10 @@ use lib.ListN.{length}
 use Rattle.parse_tree.specs.plain.Tree.{Stage}
 use Rattle.parse_tree.specs.declared.refusal.Refusal.{Refusal}
 use Rattle.passes.specs.Outcome.{Outcome, yes, no}
-use Rattle.passes.specs.Calls.{macrosCall, answerWords}
-use Rattle.normalize.specs.plain.Answers.{answerOf, Called, Exported, Checked, CheckedWords}
-use Rattle.normalize.specs.working.Handing.{wordsOf}
-use Rattle.normalize.specs.declared.Answer.{Answer}
+use Rattle.passes.specs.Calls.{macrosCall, whole, answerWords}
+use Rattle.output.specs.plain.Answers.{answerOf, Called, Exported, Checked, CheckedWords}
+use Rattle.output.specs.declared.Answer.{Answer}
+use Rattle.output.specs.working.Handing.{wordsOf}
 
 -- ---- `words`
 module _ (r : Answer) where
@@ -38,10 +38,17 @@ pub checked : (x : Outcome Stage) (s w : List ℕ) (r : Answer) (w′ : List ℕ
 checked x s w r w′ c ws e = record { answered = e ∙ ap wordsOf (c .answered) ∙ words-are x; zeroed = c .zeroed }
 
 -- the limit as a word
+limited : (call : ℕ → Outcome Stage) (n x : ℕ) → x ≡ n → (s o w : List ℕ) (r : Answer) (o′ w′ : List ℕ) → Called (call x) s o w r o′ w′ → (ws : List ℕ) → ws ≡ wordsOf r → Exported (call n) s o w ws o′ w′
+limited call n x e s o w r o′ w′ c ws f = exported (call n) s o w r o′ w′ (subst (λ (k : ℕ). Called (call k) s o w r o′ w′) e c) ws f
+
 pub exported-macros : (n x : ℕ) → x ≡ n → (s o w : List ℕ) (r : Answer) (o′ w′ : List ℕ) → Called (macrosCall true 2 s x (length o) (length w)) s o w r o′ w′ → (ws : List ℕ) → ws ≡ wordsOf r
     → Exported (macrosCall true 2 s n (length o) (length w)) s o w ws o′ w′
-exported-macros n x e s o w r o′ w′ c ws f = exported (macrosCall true 2 s n (length o) (length w)) s o w r o′ w′ (subst (λ (k : ℕ). Called (macrosCall true 2 s k (length o) (length w)) s o w r o′ w′) e c) ws f
+exported-macros n x e s o w = limited (λ (k : ℕ). macrosCall true 2 s k (length o) (length w)) n x e s o w
+
+pub exported-whole : (n x : ℕ) → x ≡ n → (s o w : List ℕ) (r : Answer) (o′ w′ : List ℕ) → Called (whole true 2 s x (length o) (length w)) s o w r o′ w′ → (ws : List ℕ) → ws ≡ wordsOf r
+    → Exported (whole true 2 s n (length o) (length w)) s o w ws o′ w′
+exported-whole n x e s o w = limited (λ (k : ℕ). whole true 2 s k (length o) (length w)) n x e s o w
 
 pub ruleset exporting = (needs, exported, checked)
 
-pub ruleset exporting-macros = (needs, exported-macros)
+pub ruleset exporting-limited = (needs, exported-macros, exported-whole)

@@ -1,18 +1,4 @@
--- Laws of the calls.
-mod RoomCode
-mod HandOverCode
+-- Laws of the calls; EntryMeans has what the contract of normalize_whole says of the bytes handed in and written.
 mod CallsCode
 mod ExportCode
-mod ResolvingMean
-mod LevelableMean
-mod ResolvingCode
-mod ValidatingCode
-mod LevellingMeanFew
-mod LevellingMeanStage
-mod LevellingMeanTexts
-mod LevellingMeanSize
-mod LevellingCode
-mod PuttingCode
-mod ExpandingStart
-mod ExpandedCode
-mod ExpandingCode
+pub mod EntryMeans

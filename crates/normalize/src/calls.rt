@@ -1,25 +1,26 @@
 // The calls as Rattle has them: each for every tape, output and work.
-use crate::Answer;
-use crate::Resolved;
-use crate::expanding::expand_stage;
-use crate::handing::hand_over;
-use crate::levelling::level_stage;
-use crate::resolving::resolve_tape;
-use crate::room::enough;
-use crate::room::judge;
-use crate::validating::validate_tape;
 use octets::runs::clear;
+use output::Answer;
+use output::handing::hand_over;
+use output::room::enough;
+use output::room::judge;
 use parse_tree::refusal;
 use resolve::Grammar;
+use stages::Resolved;
+use stages::expanding::expand_stage;
+use stages::levelling::level_stage;
+use stages::resolving::resolve_tape;
+use stages::validating::validate_tape;
+use stages::whole::whole_stage;
 use texts::Map;
-ghost use mathlib.Core.Path.{_≡_};
 ghost use mathlib.Core.Bool.{true};
 ghost use Prim.Native.Nat.{_+_, _*_, _≤_};
 ghost use lib.ListN.{length};
-ghost use Rattle.passes.specs.Calls.{validateCall, resolveCall, levelsCall, macrosCall};
-ghost use Rattle.normalize.specs.plain.Answers.{Called, Checked};
-ghost use Rattle.normalize.specs.working.Stages.{TapeResolves, resolved, Staged};
-ghost use Rattle.normalize.specs.declared.Resolved.{Resolved};
+ghost use Rattle.passes.specs.Calls.{validateCall, resolveCall, levelsCall, macrosCall, whole};
+ghost use Rattle.output.specs.plain.Answers.{Called, Checked};
+ghost use Rattle.output.specs.working.Handing.{Staged};
+ghost use Rattle.stages.specs.declared.Resolved.{Resolved};
+ghost use Rattle.stages.specs.Stages.{TapeResolves, resolved};
 
 // The tree of a tape that was resolved, handed over if its size is admitted.
 fn admit(tape: &[u8], output: &mut [u8], work: &[u8], m: Map, t: Grammar, at: usize) -> Answer
@@ -88,6 +89,19 @@ pub fn macros(tape: &[u8], limit: usize, output: &mut [u8], work: &mut [u8]) -> 
 {
     if enough(tape.len(), output.len(), work.len()) {
         let r = expand_stage(tape, output, work, limit);
+        clear(work);
+        r
+    } else {
+        Answer::No(refusal::at(1, 0))
+    }
+}
+
+// Resolving, precedence levels and macro expansion, within so many rounds: all questions.
+pub fn whole(tape: &[u8], limit: usize, output: &mut [u8], work: &mut [u8]) -> Answer
+    ensures { λ r. ⌜ Called (whole true 2 (now (tape .entry)) limit (length (now (output .entry))) (length (now (work .entry)))) (now (tape .entry)) (now (output .entry)) (now (work .entry)) r (now (output .exit)) (now (work .exit)) ⌝ }
+{
+    if enough(tape.len(), output.len(), work.len()) {
+        let r = whole_stage(tape, output, work, limit);
         clear(work);
         r
     } else {

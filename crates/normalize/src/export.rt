@@ -1,16 +1,17 @@
 // The entries for Rust: byte slices in, five words out.
-use crate::Answer;
 use crate::calls::levels;
 use crate::calls::macros;
 use crate::calls::resolve;
 use crate::calls::validate;
+use crate::calls::whole;
 use octets::wide::from16;
+use output::Answer;
 ghost use mathlib.Core.Path.{_≡_};
 ghost use mathlib.Core.Bool.{true};
 ghost use lib.ListN.{length};
-ghost use Rattle.passes.specs.Calls.{validateCall, resolveCall, levelsCall, macrosCall};
-ghost use Rattle.normalize.specs.plain.Answers.{Exported, CheckedWords};
-ghost use Rattle.normalize.specs.working.Handing.{wordsOf};
+ghost use Rattle.passes.specs.Calls.{validateCall, resolveCall, levelsCall, macrosCall, whole};
+ghost use Rattle.output.specs.plain.Answers.{Exported, CheckedWords};
+ghost use Rattle.output.specs.working.Handing.{wordsOf};
 
 fn word(x: usize) -> u64
     ensures { λ r. ⌜ r ≡ x ⌝ }
@@ -74,4 +75,18 @@ pub extern "C" fn normalize_macros(
     ensures { λ _. ⌜ Exported (macrosCall true 2 (now (tape .entry)) limit (length (now (output .entry))) (length (now (work .entry)))) (now (tape .entry)) (now (output .entry)) (now (work .entry)) (now (answer .exit)) (now (output .exit)) (now (work .exit)) ⌝ }
 {
     *answer = words(macros(tape, from16(limit), output, work));
+}
+
+// Resolving, precedence levels and macro expansion, within so many rounds; answer becomes the words of the answer.
+#[no_mangle]
+pub extern "C" fn normalize_whole(
+    tape: &[u8],
+    limit: u16,
+    output: &mut [u8],
+    work: &mut [u8],
+    answer: &mut [u64; 5],
+)
+    ensures { λ _. ⌜ Exported (whole true 2 (now (tape .entry)) limit (length (now (output .entry))) (length (now (work .entry)))) (now (tape .entry)) (now (output .entry)) (now (work .entry)) (now (answer .exit)) (now (output .exit)) (now (work .exit)) ⌝ }
+{
+    *answer = words(whole(tape, from16(limit), output, work));
 }

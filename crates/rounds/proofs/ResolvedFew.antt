@@ -70,23 +70,23 @@ globals-many (Item.terminal s match x ∷ is) = omega (arith, globals-many is)
 globals-length : (is : Tree) → length (globals is) ≡ length is
 globals-length is = omega (arith, globals-many is, length-append (nonterminals is) (externs is ++ matches is), length-append (externs is) (matches is))
 
-module _ (ts : List Text) where
+module _ (four : Bool) (ts : List Text) where
   -- the name of a global is an atom
   abbrev Named : List Global → Type 0
   Named gs = Each (λ (g : Global). has (g .name) ts ≡ true) gs
 
-  nonterminals-named : (is : Tree) → Each (ItemWithin true 2 ts) is → Named (nonterminals is)
+  nonterminals-named : (is : Tree) → Each (ItemWithin four 2 ts) is → Named (nonterminals is)
   nonterminals-named [] h = tt
   nonterminals-named (item d ∷ is) h = (h .0 .name .0, nonterminals-named is (h .1))
   nonterminals-named (Item.terminal s o x ∷ is) h = nonterminals-named is (h .1)
 
-  externs-named : (is : Tree) → Each (ItemWithin true 2 ts) is → Named (externs is)
+  externs-named : (is : Tree) → Each (ItemWithin four 2 ts) is → Named (externs is)
   externs-named [] h = tt
   externs-named (item d ∷ is) h = externs-named is (h .1)
   externs-named (Item.terminal s extern x ∷ is) h = (h .0 .1 .0, externs-named is (h .1))
   externs-named (Item.terminal s match x ∷ is) h = externs-named is (h .1)
 
-  matches-named : (is : Tree) → Each (ItemWithin true 2 ts) is → Named (matches is)
+  matches-named : (is : Tree) → Each (ItemWithin four 2 ts) is → Named (matches is)
   matches-named [] h = tt
   matches-named (item d ∷ is) h = matches-named is (h .1)
   matches-named (Item.terminal s extern x ∷ is) h = matches-named is (h .1)
@@ -96,17 +96,17 @@ module _ (ts : List Text) where
   named-there [] h = tt
   named-there (g ∷ gs) h = (h .0, named-there gs (h .1))
 
-  globals-there : (is : Tree) → Each (ItemWithin true 2 ts) is → There ts (names (globals is))
+  globals-there : (is : Tree) → Each (ItemWithin four 2 ts) is → There ts (names (globals is))
   globals-there is h =
       let P : Global → Type 0 = λ (g : Global). has (g .name) ts ≡ true in
       named-there (globals is)
       (each-append P (nonterminals is) (externs is ++ matches is) (nonterminals-named is h) (each-append P (externs is) (matches is) (externs-named is h) (matches-named is h)))
 
 -- theorem: questions 5 and 6 leave no more items than atoms
-pub resolved-few : (g : Stage) (R : Tree) → StageWithin true 2 g → resolve (g .items) ≡ yes R → length R ≤ length (g .atoms)
+pub resolved-few : (four : Bool) (g : Stage) (R : Tree) → StageWithin four 2 g → resolve (g .items) ≡ yes R → length R ≤ length (g .atoms)
 unfolding resolve distinct
-resolved-few g R k p =
+resolved-few four g R k p =
     let a = after-yes (checkGlobals [] (globals (g .items))) _ R p in
     let d = check-distinct [] (globals (g .items)) (a .1) in
-    let n : 0 + length (globals (g .items)) ≤ length (g .atoms) = globals-few (g .atoms) [] (globals (g .items)) d refl tt (globals-there (g .atoms) (g .items) (k .items)) in
-    omega (arith, n, globals-length (g .items), resolve-alike true 2 (g .atoms) (g .items) R p .many)
+    let n : 0 + length (globals (g .items)) ≤ length (g .atoms) = globals-few (g .atoms) [] (globals (g .items)) d refl tt (globals-there four (g .atoms) (g .items) (k .items)) in
+    omega (arith, n, globals-length (g .items), resolve-alike four 2 (g .atoms) (g .items) R p .many)

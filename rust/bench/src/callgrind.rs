@@ -1,5 +1,5 @@
 //! Instructions, by valgrind's tool callgrind, which counts those of one call and nothing else: the same number on every run.
-//! `bench --once CALL SUBJECT` is what it runs: one call. The subject is a number of nonterminals, or `symbols-SIZE`.
+//! `bench --once CALL SUBJECT` is what it runs: one call. The subject is a number of nonterminals, `symbols-SIZE`, or a hostile grammar's name and count.
 use crate::subject::Subject;
 use oracle::Ready;
 use std::collections::HashMap;
@@ -20,6 +20,9 @@ pub enum Call {
     Macros,
     /// Its `expand_macros` of the tree as it is read.
     LalrpopMacros,
+    Whole,
+    /// Its `expand_macros` over its `expand_precedence`.
+    LalrpopWhole,
 }
 
 impl Call {
@@ -33,6 +36,8 @@ impl Call {
             Call::LalrpopLevels => "lalrpop-levels",
             Call::Macros => "macros",
             Call::LalrpopMacros => "lalrpop-macros",
+            Call::Whole => "whole",
+            Call::LalrpopWhole => "lalrpop-whole",
         }
     }
 
@@ -45,6 +50,8 @@ impl Call {
             Call::LalrpopLevels => "*lalrpop_levels*",
             Call::Macros => "normalize_macros",
             Call::LalrpopMacros => "*lalrpop_expands*",
+            Call::Whole => "normalize_whole",
+            Call::LalrpopWhole => "*lalrpop_passes*",
         }
     }
 }
@@ -66,9 +73,11 @@ pub fn once(arguments: &[String]) {
         "lalrpop" => drop(black_box(subject.ready.map(lalrpop_resolves))),
         "lalrpop-again" => drop(black_box(subject.ready.and_then(Ready::resolved).map(lalrpop_resolves))),
         "lalrpop-levels" => drop(black_box(subject.ready.and_then(Ready::resolved).map(lalrpop_levels))),
-        "macros" => assert!(subject.macros_once() > 0),
+        "macros" => assert!(subject.once(normalize::macros) > 0),
+        "whole" => assert!(subject.once(normalize::whole) > 0),
+        "lalrpop-whole" => drop(black_box(subject.ready.map(lalrpop_passes))),
         "lalrpop-macros" => drop(black_box(subject.ready.map(lalrpop_expands))),
-        _ => panic!("CALL is validate, resolve, levels, macros, lalrpop, lalrpop-again, lalrpop-levels or lalrpop-macros"),
+        _ => panic!("CALL is validate, resolve, levels, macros, whole, lalrpop, or lalrpop- with again, levels, macros or whole"),
     }
 }
 
@@ -86,6 +95,11 @@ fn lalrpop_levels(ready: Ready) -> Option<Ready> {
 #[inline(never)]
 fn lalrpop_expands(ready: Ready) -> Option<Ready> {
     ready.expanded()
+}
+
+#[inline(never)]
+fn lalrpop_passes(ready: Ready) -> Option<Ready> {
+    ready.passed()
 }
 
 /// The instructions of a call by function, the most first. Those of `memset`, which clears work and tables, are left out: callgrind counts one

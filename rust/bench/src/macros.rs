@@ -18,8 +18,8 @@ pub fn tell() {
 
 /// One line of the table.
 fn line(name: &str, subject: &Subject) {
-    let (tape, tree) = (subject.tape.len(), subject.macros_once());
-    let mut runs = vec![expanding(subject)];
+    let (tape, tree) = (subject.tape.len(), subject.once(normalize::macros));
+    let mut runs = vec![expanding(subject, normalize::macros)];
     runs.extend(subject.ready.as_ref().map(|ready| theirs(ready, tape, Ready::expanded)));
     let all = turns(runs, tape + tree);
     let ours = median(all[0].clone());
@@ -38,7 +38,7 @@ fn count() {
     println!("\nInstructions for each byte of the tape and the tree, by callgrind, without clearing: the call, and LALRPOP's.\n");
     for size in SIZES {
         let (word, subject) = (size.to_string(), Subject::of_grammar(size));
-        let bytes = (subject.tape.len() + subject.macros_once()) as f64;
+        let bytes = (subject.tape.len() + subject.once(normalize::macros)) as f64;
         let sum = |call| instructions(call, &word).iter().map(|(count, _)| count).sum::<u64>() as f64 / bytes;
         let theirs = subject.ready.is_some().then(|| format!(", {:.1}", sum(Call::LalrpopMacros))).unwrap_or_default();
         println!("{size} nonterminals: {:.1}{theirs}", sum(Call::Macros));

@@ -1,13 +1,16 @@
-//! What the calls cost: beside LALRPOP's own name resolution and levels on grammars like grammar files, in instructions, and at sizes up to 4 MiB.
+//! What the calls cost: beside LALRPOP's own passes on grammars like grammar files and on hostile ones, in instructions, and at sizes up to 4 MiB.
+//! `--macros`, `--whole` and `--sizes` print those tables alone.
 //! Ends with status 1 where a byte takes more than half as long again at 4 MiB as at 64 KiB.
 mod callgrind;
 mod clock;
 mod grammars;
+mod hostile;
 mod levels;
 mod macros;
 mod measure;
 mod subject;
 mod tapes;
+mod whole;
 
 use callgrind::Call;
 use grammars::SIZES;
@@ -27,6 +30,10 @@ fn main() -> ExitCode {
         macros::tell();
         return ExitCode::SUCCESS;
     }
+    if arguments.first().is_some_and(|word| word == "--whole") {
+        whole::tell();
+        return ExitCode::SUCCESS;
+    }
     if arguments.first().is_some_and(|word| word == "--sizes") {
         sizes();
         return ExitCode::SUCCESS;
@@ -35,6 +42,7 @@ fn main() -> ExitCode {
     count();
     levels::tell();
     macros::tell();
+    whole::tell();
     let is_linear = sizes();
     sizes_on_huge_pages();
     names();
@@ -100,7 +108,9 @@ fn functions(call: Call, name: &str, word: &str) {
 /// Large tapes: whether a byte takes as long in those of 4 MiB.
 fn sizes() -> bool {
     println!("\nNanoseconds for each byte of the tape, the least of several runs.\n");
-    println!("| tape | bytes | validating | of it clearing | resolving | of it clearing | copying and clearing |\n|---|---|---|---|---|---|---|");
+    println!(
+        "| tape | bytes | validating | of it clearing | resolving | of it clearing | copying and clearing |\n|---|---|---|---|---|---|---|"
+    );
     let all = [4usize << 10, 64 << 10, 1 << 20, 4 << 20].map(|size| line("symbols", &tapes::symbols(size)));
     line("65,536 atoms", &tapes::atoms(65_536));
     line("60,000 items", &tapes::items(60_000, 0));
@@ -132,8 +142,9 @@ fn sizes_on_huge_pages() {
 /// One line: nanoseconds for each byte.
 fn line(name: &str, tape: &[u8]) -> Figures {
     let it = measure::least(tape).over(tape.len());
-    let all =
-        [it.validating, it.clearing_of_validating, it.resolving, it.clearing_of_resolving, it.copying].map(|figure| format!("{figure:.2}")).join(" | ");
+    let all = [it.validating, it.clearing_of_validating, it.resolving, it.clearing_of_resolving, it.copying]
+        .map(|figure| format!("{figure:.2}"))
+        .join(" | ");
     println!("| {name} | {} | {all} |", tape.len());
     it
 }

@@ -1,6 +1,6 @@
 //! Time: turns one after the other, each long enough to be read from a clock, and their medians.
 use crate::clock::took;
-use crate::subject::Subject;
+use crate::subject::{Expand, Subject};
 use oracle::Ready;
 use std::hint::black_box;
 use std::time::Duration;
@@ -32,10 +32,14 @@ pub fn figures(subject: &Subject, tree: &[u8]) -> Figures {
 }
 
 /// Nanoseconds for each of so many bytes, turn by turn, of each run.
-pub fn turns(mut runs: Vec<Run>, bytes: usize) -> Vec<Vec<f64>> {
+pub fn turns(runs: Vec<Run>, bytes: usize) -> Vec<Vec<f64>> {
+    so_many_turns(TURNS, runs, bytes)
+}
+
+pub fn so_many_turns(count: usize, mut runs: Vec<Run>, bytes: usize) -> Vec<Vec<f64>> {
     let counts: Vec<u32> = runs.iter_mut().map(times_for_a_turn).collect();
     let mut turns: Vec<Vec<f64>> = vec![vec![]; runs.len()];
-    for _ in 0..TURNS {
+    for _ in 0..count {
         for (k, run) in runs.iter_mut().enumerate() {
             let nanoseconds = run(counts[k]).as_nanos() as f64 / f64::from(counts[k]);
             turns[k].push(nanoseconds / bytes as f64);
@@ -77,10 +81,11 @@ pub fn levelling(subject: &Subject) -> Run<'_> {
     Box::new(move |times| timed(times, || subject.levels(&mut output, &mut work)))
 }
 
-pub fn expanding(subject: &Subject) -> Run<'_> {
-    let mut output = subject.output_of_macros();
+/// Our call for macros or for the whole, with buffers just long enough.
+pub fn expanding(subject: &Subject, call: Expand) -> Run<'_> {
+    let mut output = subject.output_of(call);
     let mut work = vec![0; normalize::work_len(subject.tape.len(), output.len())];
-    Box::new(move |times| timed(times, || assert!(subject.macros(&mut output, &mut work) > 0)))
+    Box::new(move |times| timed(times, || assert!(subject.expanded(call, &mut output, &mut work) > 0)))
 }
 
 /// Copying the tape and the tree, and clearing as much work as resolving clears.

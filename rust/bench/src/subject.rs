@@ -1,14 +1,18 @@
 //! What is measured: a tape, and its tree for LALRPOP.
 use crate::grammars::grammar;
+use crate::hostile;
 use crate::tapes::symbols;
-use normalize::work_len;
-use oracle::{staged, Call, Ready, ROUNDS};
+use normalize::{work_len, Refusal};
+use oracle::{expand, staged, Call, Expanded, Ready, ROUNDS};
 use reading::tree::Stage;
-use reading::{answer, write};
+use reading::{answer, read, read_made, write};
 use std::cell::OnceCell;
 
 /// What stands before the size of a tape of symbols.
 pub const SYMBOLS: &str = "symbols-";
+
+/// Our call for macros, or for the whole.
+pub type Expand = fn(&[u8], u16, &mut [u8], &mut [u8]) -> Result<usize, Refusal>;
 
 pub struct Subject {
     pub tape: Vec<u8>,
@@ -32,12 +36,14 @@ impl Subject {
         Subject { tape: write(stage), ready: Ready::of(stage), levelled: OnceCell::new() }
     }
 
-    /// By what stands on the command line: a number of nonterminals, or `symbols-SIZE` for a tape of symbols of about that many bytes.
+    /// By what stands on the command line: a number of nonterminals, `symbols-SIZE` for a tape of symbols of about that many bytes, or a hostile
+    /// grammar's name and its count.
     pub fn of_word(word: &str) -> Subject {
-        let number = |text: &str| text.parse().expect("a number, or symbols- and a number");
-        match word.strip_prefix(SYMBOLS) {
-            Some(size) => Subject::of_tape(symbols(number(size))),
-            None => Subject::of_grammar(number(word)),
+        let number = |text: &str| text.parse().expect("a number, or symbols- and a number, or a hostile grammar's name and a number");
+        match (word.strip_prefix(SYMBOLS), hostile::of_word(word)) {
+            (Some(size), _) => Subject::of_tape(symbols(number(size))),
+            (None, Some(stage)) => Subject::of_stage(&stage),
+            (None, None) => Subject::of_grammar(number(word)),
         }
     }
 
@@ -107,20 +113,25 @@ impl Subject {
         assert_eq!(normalize::levels(&self.tape, output, work), Ok(self.levelled()));
     }
 
-    /// Macros with so long an output that each stage fits: the length of the tree.
-    pub fn macros_once(&self) -> usize {
-        let mut output = vec![0; 8 * self.tape.len() + 4_096];
+    /// Macros or the whole with so long an output that each stage fits: the length of the tree.
+    pub fn once(&self, call: Expand) -> usize {
+        let mut output = vec![0; self.ample()];
         let mut work = vec![0; work_len(self.tape.len(), output.len())];
-        normalize::macros(&self.tape, ROUNDS, &mut output, &mut work).expect("a grammar whose macros are expanded")
+        self.expanded(call, &mut output, &mut work)
     }
 
-    /// Just long enough for each stage of macros, found by halving: a stage before the last may be longer than it.
-    pub fn output_of_macros(&self) -> Vec<u8> {
-        let (mut short, mut long) = (self.tape.len() - 1, 8 * self.tape.len() + 4_096);
+    /// An output's length that suffices for each of these grammars.
+    fn ample(&self) -> usize {
+        16 * self.tape.len() + 4_096
+    }
+
+    /// Just long enough for each stage of a call, found by halving: a stage before the last may be longer than it.
+    pub fn output_of(&self, call: Expand) -> Vec<u8> {
+        let (mut short, mut long) = (self.tape.len() - 1, self.ample());
         while short + 1 < long {
             let (half, mut output) = ((short + long) / 2, vec![0; (short + long) / 2]);
             let mut work = vec![0; work_len(self.tape.len(), half)];
-            match normalize::macros(&self.tape, ROUNDS, &mut output, &mut work) {
+            match call(&self.tape, ROUNDS, &mut output, &mut work) {
                 Ok(_) => long = half,
                 Err(_) => short = half,
             }
@@ -128,8 +139,21 @@ impl Subject {
         vec![0; long]
     }
 
-    pub fn macros(&self, output: &mut [u8], work: &mut [u8]) -> usize {
-        normalize::macros(&self.tape, ROUNDS, output, work).expect("a grammar whose macros are expanded")
+    pub fn expanded(&self, call: Expand, output: &mut [u8], work: &mut [u8]) -> usize {
+        call(&self.tape, ROUNDS, output, work).expect("a grammar whose macros are expanded")
+    }
+
+    /// The length of the tree behind all passes, once LALRPOP's, if it is there, was the same.
+    pub fn passed(&self) -> usize {
+        let mut tree = vec![0; self.ample()];
+        let mut work = vec![0; work_len(self.tape.len(), tree.len())];
+        let length = self.expanded(normalize::whole, &mut tree, &mut work);
+        tree.truncate(length);
+        if let Some(theirs) = expand(&read(&self.tape).expect("a tape that is read"), ROUNDS) {
+            let Expanded::Tree(theirs) = theirs else { panic!("a grammar that LALRPOP expands: {theirs:?}") };
+            assert!(theirs.items == read_made(&tree).expect("a tree that is read").items, "LALRPOP's tree is another");
+        }
+        tree.len()
     }
 
     pub fn resolve(&self, output: &mut [u8], work: &mut [u8]) {

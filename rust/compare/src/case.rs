@@ -1,10 +1,18 @@
 //! What one call is given: a tape, a limit, and how long its buffers are.
-use crate::stages::deciding;
+use crate::stages;
 use oracle::chance::Chance;
 use oracle::Call;
 
-/// Stages whose lengths a tape is tried at.
+/// Stages whose lengths a random tape is tried at.
 const MOST_STAGES: usize = 4;
+
+/// A call with rounds: which one, within which limit, and how long an output may be.
+#[derive(Clone, Copy, Debug)]
+pub struct Rounds {
+    pub call: Call,
+    pub limit: u16,
+    pub longest: usize,
+}
 
 /// Lengths told from the tape, so that they keep their sense when the tape shrinks. Below zero bytes they are zero.
 #[derive(Clone, Copy, Debug, Default, PartialEq, Eq)]
@@ -90,17 +98,15 @@ pub fn level_lengths(tape: &[u8]) -> Vec<usize> {
     lengths(tape, Call::Levels, 0, usize::MAX)
 }
 
-/// The lengths of the stages of macros, none over `longest`.
-pub fn macro_lengths(tape: &[u8], limit: u16, longest: usize) -> Vec<usize> {
-    let mut lengths = lengths(tape, Call::Macros, limit, longest);
-    lengths.retain(|length| *length <= longest);
+/// The lengths of the stages of a call with rounds, none over the longest.
+pub fn round_lengths(tape: &[u8], rounds: Rounds) -> Vec<usize> {
+    let mut lengths = lengths(tape, rounds.call, rounds.limit, rounds.longest);
+    lengths.retain(|length| *length <= rounds.longest);
     lengths
 }
 
 fn lengths(tape: &[u8], call: Call, limit: u16, longest: usize) -> Vec<usize> {
-    let Ok(stage) = reading::read(tape) else { return vec![] };
-    let steps = deciding(&stage, call, limit, longest).unwrap_or_default();
-    reading::stage_lengths(stage.atoms, &steps)
+    reading::read(tape).ok().and_then(|stage| stages::lengths(&stage, call, limit, longest)).unwrap_or_default()
 }
 
 /// A tape with outputs as long as itself, as each stage of levels, one byte shorter than each, and much longer.
@@ -108,13 +114,18 @@ pub fn at_level_lengths(chance: &mut Chance, tape: &[u8]) -> Vec<Case> {
     at_lengths(chance, tape, level_lengths(tape))
 }
 
-/// The same with macros; of many stages some are left out, the last one never.
-pub fn at_macro_lengths(chance: &mut Chance, tape: &[u8], limit: u16, longest: usize) -> Vec<Case> {
-    let mut lengths = macro_lengths(tape, limit, longest);
+/// The same of a call with rounds; of many stages some are left out, the last one never.
+pub fn at_round_lengths(chance: &mut Chance, tape: &[u8], rounds: Rounds) -> Vec<Case> {
+    let mut lengths = round_lengths(tape, rounds);
     while lengths.len() > MOST_STAGES {
         lengths.remove(chance.under(lengths.len() - 1));
     }
-    at_lengths(chance, tape, lengths).into_iter().map(|case| case.within(limit)).collect()
+    at_lengths(chance, tape, lengths).into_iter().map(|case| case.within(rounds.limit)).collect()
+}
+
+/// The same at every stage.
+pub fn at_every_length(chance: &mut Chance, tape: &[u8], rounds: Rounds) -> Vec<Case> {
+    at_lengths(chance, tape, round_lengths(tape, rounds)).into_iter().map(|case| case.within(rounds.limit)).collect()
 }
 
 fn at_lengths(chance: &mut Chance, tape: &[u8], mut lengths: Vec<usize>) -> Vec<Case> {

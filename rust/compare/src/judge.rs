@@ -1,12 +1,11 @@
 //! One call of ours beside the expected outcome: answer, tree, bytes behind, work.
 use crate::case::Case;
-use crate::stages::{deciding, rounds_before};
+use crate::stages::decided;
 use normalize::Words;
 use oracle::chance::Chance;
 use oracle::Call;
 use reading::commands::hex;
 use reading::Outcome;
-use std::cell::Cell;
 
 /// Tape, limit, output, work, and the words of the answer.
 pub type Made<'a> = &'a dyn Fn(&[u8], u16, &mut [u8], &mut [u8], &mut Words);
@@ -24,6 +23,7 @@ pub const RESOLVE: Ours =
 pub const LEVELS: Ours =
     Ours { call: Call::Levels, made: &|tape, _, output, work, answer| normalize::levels_words(tape, output, work, answer) };
 pub const MACROS: Ours = Ours { call: Call::Macros, made: &normalize::macros_words };
+pub const WHOLE: Ours = Ours { call: Call::Whole, made: &normalize::whole_words };
 
 #[derive(Clone, Debug, PartialEq, Eq)]
 pub enum Verdict {
@@ -70,13 +70,10 @@ pub fn expected(case: &Case, call: Call) -> Option<Outcome> {
 
 /// The same, and how many rounds of macros were over.
 fn outcome_and_rounds(case: &Case, call: Call) -> Option<(Outcome, usize)> {
-    let (output, rounds) = (case.output_len(), Cell::new(0));
-    let outcome = reading::answer(&case.tape, output, case.work_len(), |stage| {
-        let steps = deciding(stage, call, case.limit, output)?;
-        rounds.set(rounds_before(stage, &steps, output));
-        Some(steps)
-    });
-    Some((outcome?, rounds.get()))
+    match reading::asked(&case.tape, case.output_len(), case.work_len()) {
+        Ok(stage) => decided(&stage, call, case.limit, case.output_len()),
+        Err(refusal) => Some((Err(refusal), 0)),
+    }
 }
 
 pub fn judge(case: &Case, dirt: u64, ours: Ours) -> Verdict {

@@ -25,13 +25,26 @@ const KEYS: [&str; 5] = ["level", "side", "lvl", "", "A"];
 pub const LEVEL: &str = "precedence";
 pub const SIDE: &str = "assoc";
 
+/// How often, in a hundred, two names are alike, a macro is annotated, and no level is refused.
+#[derive(Clone, Copy)]
+pub struct Often {
+    pub alike: usize,
+    pub macros: usize,
+    pub fine: usize,
+}
+
 /// A grown tree with levels: mostly one that is resolved, and whose levels can be read.
 pub fn graded(chance: &mut Chance, size: Size) -> Stage {
-    let mut stage = if chance.percent(85) { tree_so_wild(chance, size, 0) } else { tree(chance, size) };
-    let alike = if chance.percent(50) { name_alike(chance, &mut stage.items) } else { None };
-    let (is_fine, bad) = (chance.percent(50), chance.one_of(&[0, 3, 20]));
+    let stage = if chance.percent(85) { tree_so_wild(chance, size, 0) } else { tree(chance, size) };
+    with_levels(chance, stage, Often { alike: 50, macros: 30, fine: 50 })
+}
+
+/// The tree with levels on some of its nonterminals.
+pub fn with_levels(chance: &mut Chance, mut stage: Stage, often: Often) -> Stage {
+    let alike = if chance.percent(often.alike) { name_alike(chance, &mut stage.items) } else { None };
+    let (is_fine, bad) = (chance.percent(often.fine), chance.one_of(&[0, 3, 20]));
     let macros = macros(&stage.items);
-    let mut grader = Grader { chance, bad, macros, alike };
+    let mut grader = Grader { chance, bad, macros, of_macros: often.macros, alike };
     nonterminals(&mut stage.items).for_each(|data| *data = grader.one_of_many(data, is_fine));
     if chance.percent(30) {
         made_names(chance, &mut stage);
@@ -127,6 +140,8 @@ struct Grader<'a> {
     /// How often, in a hundred, a level or a side can't be read, or has no value.
     bad: usize,
     macros: Vec<(String, usize)>,
+    /// How often, in a hundred, a macro is annotated.
+    of_macros: usize,
     /// A name, and the same with a digit behind.
     alike: Option<(String, String)>,
 }
@@ -152,7 +167,7 @@ impl Grader<'_> {
         let often = match data.args.len() {
             _ if is_alike => 95,
             0 => 60,
-            _ => 30,
+            _ => self.of_macros,
         };
         if data.alternatives.is_empty() || !self.chance.percent(often) {
             return self.not_annotated(data);

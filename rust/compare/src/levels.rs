@@ -41,7 +41,8 @@ impl Refused {
     }
 }
 
-fn spelled(text: &str) -> String {
+/// A text with the short forms written out.
+pub fn spelled(text: &str) -> String {
     let text = ["left", "right", "none", "all"]
         .iter()
         .fold(text.to_string(), |text, side| text.replace(&format!("#{side} "), &format!("#assoc(side=\"{side}\") ")));

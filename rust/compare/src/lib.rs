@@ -18,6 +18,7 @@ pub mod short;
 pub mod shrink;
 pub mod stages;
 pub mod tally;
+pub mod whole;
 
 /// Whether the Rust is there for so many checks; says so if it isn't, past the harness, which keeps a passed test's text to itself.
 pub fn the_rust_is_there(checks: usize) -> bool {

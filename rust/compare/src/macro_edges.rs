@@ -1,13 +1,14 @@
 //! Tapes at the limits for macros: printed forms of 65,535 bytes and more, as many atoms as there can be, the deepest nesting, long lists and piles.
-use crate::case::{at_macro_lengths, Case, Room};
+use crate::case::{at_round_lengths, Case, Room, Rounds};
 use crate::ladders::{each_symbol, nonterminals};
 use oracle::chance::Chance;
+use oracle::Call;
 use reading::notation::parse;
 use reading::tree::*;
 use reading::write;
 
 /// A tape, its limit, and how long an output may be.
-type Edge = (Vec<u8>, u16, usize);
+pub type Edge = (Vec<u8>, u16, usize);
 
 fn tape(grammar: &str) -> Vec<u8> {
     write(&parse(grammar))
@@ -107,13 +108,17 @@ fn long_lists() -> Vec<Edge> {
     tapes.iter().zip([3, 1, 1, 1, 4]).map(|(grammar, limit)| (tape(grammar), limit, 4_000_000)).collect()
 }
 
-/// Each at the lengths of its stages, with work just long enough; very long tapes, which take time, only with an ample output.
-pub fn cases() -> Vec<Case> {
+pub fn all() -> Vec<Edge> {
+    [long_forms(), doubling(), many_atoms(), deep(), towers(), long_lists()].concat()
+}
+
+/// Each for this call at the lengths of its stages, with work just long enough; very long tapes, which take time, only with an ample output.
+pub fn cases(call: Call, edges: Vec<Edge>) -> Vec<Case> {
     let mut chance = Chance(21);
     let at_lengths = |(tape, limit, longest): Edge| {
-        let cases = at_macro_lengths(&mut chance, &tape, limit, longest).into_iter().rev();
+        let cases = at_round_lengths(&mut chance, &tape, Rounds { call, limit, longest }).into_iter().rev();
         cases.enumerate().filter(move |(index, _)| tape.len() < 500_000 || *index == 0).map(|(_, case)| case)
     };
-    let cases = [long_forms(), doubling(), many_atoms(), deep(), towers(), long_lists()].concat().into_iter().flat_map(at_lengths);
+    let cases = edges.into_iter().flat_map(at_lengths);
     cases.map(|case| Case { room: Room { work: 0, ..case.room }, ..case }).collect()
 }

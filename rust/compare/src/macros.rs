@@ -1,7 +1,8 @@
 //! Grammars for macros on which readings of document 01 part. What each becomes is the Rust's to say.
-use crate::case::{at_macro_lengths, every_room, macro_lengths, Case};
+use crate::case::{at_round_lengths, every_room, round_lengths, Case, Rounds};
 use crate::grammars;
 use oracle::chance::Chance;
+use oracle::Call;
 use reading::notation::parse;
 use reading::write;
 
@@ -12,7 +13,8 @@ pub const LIMITS: [u16; 7] = [0, 1, 2, 3, 7, 64, 65_535];
 pub fn cases(chance: &mut Chance, more: usize) -> Vec<Case> {
     let tapes = grammars::all().map(|known| known.tape()).chain(GRAMMARS.iter().map(|(_, grammar)| write(&parse(grammar))));
     let within_each = tapes.flat_map(|tape| LIMITS.map(|limit| (tape.clone(), limit)));
-    within_each.flat_map(|(tape, limit)| at_macro_lengths(chance, &tape, limit, tape.len() + more)).collect()
+    let rounds = |tape: &[u8], limit| Rounds { call: Call::Macros, limit, longest: tape.len() + more };
+    within_each.flat_map(|(tape, limit)| at_round_lengths(chance, &tape, rounds(&tape, limit))).collect()
 }
 
 /// Document 01's case: two rounds.
@@ -21,7 +23,8 @@ const STAR: &str = "L = n*; extern n;";
 /// The star within a limit, with every length of output and work around the boundary.
 pub fn star_in_every_room(limit: u16) -> Vec<Case> {
     let tape = write(&parse(STAR));
-    let longest = macro_lengths(&tape, limit, usize::MAX).into_iter().max().unwrap_or(0);
+    let rounds = Rounds { call: Call::Macros, limit, longest: usize::MAX };
+    let longest = round_lengths(&tape, rounds).into_iter().max().unwrap_or(0);
     every_room(&tape, longest).map(|case| case.within(limit)).collect()
 }
 

@@ -1,11 +1,14 @@
 //! The random cases: trees of all sizes, good and damaged, with any room.
-use crate::case::{at_level_lengths, at_macro_lengths, room, Case};
+use crate::case::{at_level_lengths, at_round_lengths, room, Case, Rounds};
 use crate::grow::{tree, Size};
 use crate::ladders::graded;
 use crate::macros::LIMITS;
 use crate::rounds::{alike, calling, chain, counting};
+use crate::whole;
 use oracle::chance::Chance;
 use oracle::damage::damaged;
+use oracle::Call;
+use reading::tree::Stage;
 
 /// Cases without end, fixed by the chance's seed.
 pub fn cases(mut chance: Chance) -> impl Iterator<Item = Case> {
@@ -36,24 +39,44 @@ pub fn level_cases(mut chance: Chance, tapes: usize) -> impl Iterator<Item = Cas
     (0..tapes).flat_map(at_lengths)
 }
 
-/// The same for macros, each tape within one limit. Outputs are short: macros may go on for ever.
+/// The same for macros, each tape within one limit.
 pub fn macro_cases(mut chance: Chance, tapes: usize) -> impl Iterator<Item = Case> {
     let at_lengths = move |_| {
-        let size = if chance.percent(80) { Size::Few } else { size(&mut chance) };
-        let stage = match chance.under(10) {
-            0..=5 => calling(&mut chance, size),
-            6 | 7 => chain(&mut chance),
-            8 => counting(&mut chance),
-            _ => alike(&mut chance),
-        };
-        let mut tape = reading::write(&stage);
-        if chance.percent(10) {
-            tape = damaged(&mut chance, &tape);
-        }
-        let (limit, more) = (chance.one_of(&LIMITS), chance.one_of(&[500, 3_000, 3_000, 3_000, 3_000, 3_000, 3_000, 30_000]));
-        at_macro_lengths(&mut chance, &tape, limit, 2 * tape.len() + more)
+        let stage = expanding(&mut chance);
+        in_rounds(&mut chance, Call::Macros, &stage)
     };
     (0..tapes).flat_map(at_lengths)
+}
+
+fn expanding(chance: &mut Chance) -> Stage {
+    let size = if chance.percent(80) { Size::Few } else { size(chance) };
+    match chance.under(10) {
+        0..=5 => calling(chance, size),
+        6 | 7 => chain(chance),
+        8 => counting(chance),
+        _ => alike(chance),
+    }
+}
+
+/// The same for the whole call.
+pub fn whole_cases(mut chance: Chance, tapes: usize) -> impl Iterator<Item = Case> {
+    let at_lengths = move |_| {
+        let size = if chance.percent(90) { Size::Few } else { Size::Some };
+        let stage = whole::random(&mut chance, size);
+        in_rounds(&mut chance, Call::Whole, &stage)
+    };
+    (0..tapes).flat_map(at_lengths)
+}
+
+/// The tree's tape, now and then damaged, within some limit. Outputs are short: macros may go on for ever.
+fn in_rounds(chance: &mut Chance, call: Call, stage: &Stage) -> Vec<Case> {
+    let mut tape = reading::write(stage);
+    if chance.percent(10) {
+        tape = damaged(chance, &tape);
+    }
+    let (limit, more) = (chance.one_of(&LIMITS), chance.one_of(&[500, 3_000, 3_000, 3_000, 3_000, 3_000, 3_000, 30_000]));
+    let longest = 2 * tape.len() + more;
+    at_round_lengths(chance, &tape, Rounds { call, limit, longest })
 }
 
 /// A tree's tape, damaged so many times in a hundred.

@@ -31,13 +31,18 @@ struct Caller<'a> {
 
 /// A grown tree: mostly one that is resolved and expanded in a few rounds.
 pub fn calling(chance: &mut Chance, size: Size) -> Stage {
-    let mut stage = if chance.percent(90) { tree_so_wild(chance, size, 0) } else { tree(chance, size) };
+    let stage = if chance.percent(90) { tree_so_wild(chance, size, 0) } else { tree(chance, size) };
+    with_calls(chance, stage, Call::Macros)
+}
+
+/// The tree with more calls, for this call of ours.
+pub fn with_calls(chance: &mut Chance, mut stage: Stage, call: Call) -> Stage {
     let macros = nonterminals(&mut stage.items).filter(|data| !data.args.is_empty()).map(|data| asking(data)).collect();
     let (ends, literals, unnamed) = (chance.percent(80), chance.percent(85), chance.percent(85));
     let mut caller = Caller { chance, macros, ends, literals, unnamed };
     nonterminals(&mut stage.items).for_each(|data| caller.nonterminal(data));
     if chance.percent(25) {
-        made_texts(chance, &mut stage);
+        made_texts(chance, &mut stage, call);
     }
     stage
 }
@@ -48,9 +53,9 @@ fn asking(data: &Nonterminal) -> Macro {
     Macro { name: data.name.clone(), asked: data.args.iter().map(asked).collect() }
 }
 
-/// Some of the texts that expanding makes, or some much like them, become atoms that stand in front or behind, unless they are there already.
-fn made_texts(chance: &mut Chance, stage: &mut Stage) {
-    let steps = deciding(stage, Call::Macros, 3, usize::MAX).unwrap_or_default();
+/// Some of the texts that a call makes, or some much like them, become atoms that stand in front or behind, unless they are there already.
+pub fn made_texts(chance: &mut Chance, stage: &mut Stage, call: Call) {
+    let steps = deciding(stage, call, 3, usize::MAX).unwrap_or_default();
     let Some(Step::Finished(items)) = steps.iter().rfind(|step| matches!(step, Step::Finished(_))) else { return };
     let made = texts(items);
     for _ in 0..(1 + chance.under(4)).min(made.len()) {
@@ -213,7 +218,7 @@ pub fn alike(chance: &mut Chance) -> Stage {
     let declared: String = declared.iter().map(|name| format!("extern {name}; ")).collect();
     let mut stage = parse(&format!("S = {}; M0<P> = P+ K<P>?; K<P> = P; {declared}", symbols.join(" ")));
     if chance.percent(50) {
-        made_texts(chance, &mut stage);
+        made_texts(chance, &mut stage, Call::Macros);
     }
     stage
 }

@@ -1,11 +1,12 @@
 //! Our archive set against document 01's second reading and LALRPOP's Rust on a few thousand tapes.
 //! What needs the Rust is skipped where it isn't there, and the count of skipped tapes is printed.
 use compare::case::{at_level_lengths, every_room, level_lengths, Case};
-use compare::judge::{LEVELS, MACROS, RESOLVE};
+use compare::judge::{LEVELS, MACROS, RESOLVE, WHOLE};
 use compare::run::Parts;
 use compare::tally::Tally;
-use compare::{edges, grammars, ladders, levels, macro_edges, macros, mix, rounds, short};
+use compare::{edges, grammars, ladders, levels, macro_edges, macros, mix, rounds, short, whole};
 use oracle::chance::Chance;
+use oracle::Call;
 use reading::write;
 
 const SEED: u64 = 20_261_116;
@@ -18,6 +19,9 @@ fn main() {
     let total = expanding();
     has_rounds(&total);
     has_all(total, (0..=13).chain(17..=21));
+    let total = passing();
+    has_rounds(&total);
+    has_all(total, 0..=21);
 }
 
 fn resolving() -> Tally {
@@ -55,8 +59,21 @@ fn expanding() -> Tally {
     parts.part("short, of bytes", short::of_bytes(1).into_iter().map(|tape| Case::expanding(tape, 1)));
     parts.part("short, of commands", short::of_commands(2).into_iter().map(|tape| Case::expanding(tape, 2)));
     parts.part("short, of symbols", rounds::every(1, 1).into_iter().map(|stage| Case::expanding(write(&stage), 4)));
-    parts.part("at the limits", macro_edges::cases().into_iter());
+    parts.part("at the limits", macro_edges::cases(Call::Macros, macro_edges::all()).into_iter());
     parts.part("random", mix::macro_cases(Chance(SEED), RANDOM / 2));
+    parts.end()
+}
+
+fn passing() -> Tally {
+    let mut parts = Parts::new(WHOLE, SEED);
+    parts.part("grammars of LALRPOP's unit tests, chosen ones", whole::cases(&mut Chance(SEED), 1_000).into_iter());
+    parts.part("every room", whole::in_every_room(1).into_iter());
+    parts.part("short, of bytes", short::of_bytes(1).into_iter().map(|tape| Case::expanding(tape, 1)));
+    parts.part("short, of commands", short::of_commands(2).into_iter().map(|tape| Case::expanding(tape, 2)));
+    parts.part("short, of levels", ladders::every(2).into_iter().map(|stage| Case::expanding(write(&stage), 4)));
+    parts.part("short, of symbols", rounds::every(1, 1).into_iter().map(|stage| Case::expanding(write(&stage), 4)));
+    parts.part("at the limits", macro_edges::cases(Call::Whole, whole::few_edges()).into_iter());
+    parts.part("random", mix::whole_cases(Chance(SEED), RANDOM / 2));
     parts.end()
 }
 

@@ -46,6 +46,7 @@ fn refused(outcome: &Outcome, number: u8) -> bool {
 const RESOLVED: usize = 1_500;
 const LEVELLED: usize = 800;
 const EXPANDED: usize = 600;
+const PASSED: usize = 600;
 
 fn cases() -> impl Iterator<Item = Case> {
     mix::cases(Chance(7)).take(RESOLVED)
@@ -59,6 +60,10 @@ fn macro_cases() -> impl Iterator<Item = Case> {
     mix::macro_cases(Chance(7), usize::MAX).take(EXPANDED)
 }
 
+fn whole_cases() -> impl Iterator<Item = Case> {
+    mix::whole_cases(Chance(7), usize::MAX).take(PASSED)
+}
+
 /// The stand-in with this fault beside the Rust.
 fn tally(call: Call, fault: Fault) -> Tally {
     let made = stand_in(call, fault);
@@ -66,7 +71,8 @@ fn tally(call: Call, fault: Fault) -> Tally {
     match call {
         Call::Levels => run(level_cases(), 7, ours),
         Call::Macros => run(macro_cases(), 7, ours),
-        _ => run(cases(), 7, ours),
+        Call::Whole => run(whole_cases(), 7, ours),
+        Call::Resolve => run(cases(), 7, ours),
     }
 }
 
@@ -78,7 +84,7 @@ fn turn(byte: Option<&mut u8>) {
 
 #[test]
 fn without_a_fault_all_agree() {
-    for (call, all) in [(Call::Resolve, RESOLVED), (Call::Levels, LEVELLED), (Call::Macros, EXPANDED)] {
+    for (call, all) in [(Call::Resolve, RESOLVED), (Call::Levels, LEVELLED), (Call::Macros, EXPANDED), (Call::Whole, PASSED)] {
         let tally = tally(call, |_, _| {});
         println!("{call:?}: {tally}");
         assert_eq!((tally.differences, tally.agreed() + tally.skipped), (0, all));
@@ -124,6 +130,13 @@ const OF_MACROS: [Fault; 6] = [
     |outcome, left| turn(left.work.first_mut().filter(|_| refused(outcome, 18))),
 ];
 
+/// The same of the whole call: the byte behind its tree, 10 for 5, 18 at another place.
+const OF_WHOLE: [Fault; 3] = [
+    |outcome, left| turn(outcome.as_ref().ok().and_then(|tree| left.output.get_mut(tree.len()))),
+    |outcome, left| left.answer[1] += 5 * u64::from(refused(outcome, 5)),
+    |outcome, left| left.answer[3] ^= u64::from(refused(outcome, 18)),
+];
+
 fn shows(call: Call, faults: &[Fault]) {
     for (index, fault) in faults.iter().enumerate() {
         let tally = tally(call, *fault);
@@ -135,10 +148,11 @@ fn shows(call: Call, faults: &[Fault]) {
 #[test]
 fn every_fault_shows() {
     shows(Call::Resolve, &PLAIN);
-    if the_rust_is_there(OF_RESOLVING.len() + OF_LEVELS.len() + OF_MACROS.len()) {
+    if the_rust_is_there(OF_RESOLVING.len() + OF_LEVELS.len() + OF_MACROS.len() + OF_WHOLE.len()) {
         shows(Call::Resolve, &OF_RESOLVING);
         shows(Call::Levels, &OF_LEVELS);
         shows(Call::Macros, &OF_MACROS);
+        shows(Call::Whole, &OF_WHOLE);
     }
 }
 

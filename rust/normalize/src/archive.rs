@@ -39,4 +39,15 @@ extern "C" {
         work_len: usize,
         answer: *mut Words,
     );
+
+    pub fn normalize_whole(
+        tape: *const u8,
+        tape_len: usize,
+        limit: u16,
+        output: *mut u8,
+        output_len: usize,
+        work: *mut u8,
+        work_len: usize,
+        answer: *mut Words,
+    );
 }

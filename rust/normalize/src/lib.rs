@@ -125,6 +125,54 @@ pub fn macros_words(tape: &[u8], limit: u16, output: &mut [u8], work: &mut [u8],
     }
 }
 
+/// All three passes, as `expand_macros` over `expand_precedence`: name resolution, precedence levels, name resolution once more, then macros in at
+/// most `limit` rounds: questions 1 to 21. At `Ok` the output begins with the tree, which has that length.
+///
+/// Each stage must fit in the output: the resolved tree, which is as long as the tape, the levelled one, and both stages of each round.
+///
+/// ```
+/// use normalize::{whole, work_len, Refusal};
+///
+/// /// The atoms E, precedence, l, 1, 2, n, +, E1; E at 0 to 9: `"n"` at level 1, then `E "+"?` at level 2, the question mark's symbol at 4 to 6.
+/// fn sums() -> Vec<u8> {
+///     let texts: [&[u8]; 8] = [b"E", b"precedence", b"l", b"1", b"2", b"n", b"+", b"E1"];
+///     let mut tape: Vec<u8> = texts.iter().flat_map(|text| [&[0x01, text.len() as u8, 0][..], text].concat()).collect();
+///     tape.extend([0x10, 0, 0, 0, 0, 9, 0, 0, 0, 0, 0, 0, 0, 2, 0]);
+///     tape.extend([0x12, 1, 0, 0, 0, 1, 0, 0, 0, 1, 0, 0, 0, 0, 1, 0, 0x13, 1, 0, 1, 2, 0, 3, 0]);
+///     tape.extend([0x22, 1, 0, 0, 0, 1, 0, 0, 0, 5, 0]);
+///     tape.extend([0x12, 2, 0, 0, 0, 6, 0, 0, 0, 1, 0, 0, 0, 0, 2, 0, 0x13, 1, 0, 1, 2, 0, 4, 0]);
+///     tape.extend([0x20, 2, 0, 0, 0, 3, 0, 0, 0, 0, 0]);
+///     tape.extend([0x26, 4, 0, 0, 0, 6, 0, 0, 0, 2, 0x22, 4, 0, 0, 0, 5, 0, 0, 0, 6, 0]);
+///     tape
+/// }
+///
+/// let (mut tape, mut output, mut work) = (sums(), [0; 400], vec![0; work_len(300, 400)]);
+/// // levels: the item E1, whose name is an atom already, and a fall-through to it; no attributes
+/// let levelled = 15 + 27 - 2 * 8;
+/// // macros: a nonterminal in place of the repeat; the atoms `"+"?`, `Some(<>)`, `None`; the item: the literal, or nothing
+/// let expanded = (7 + 11 + 7) + 15 + 27 + 16 - 10;
+/// assert_eq!(whole(&tape, 1, &mut output, &mut work), Ok(tape.len() + levelled + expanded));
+/// // without a round there is no such item
+/// assert_eq!(whole(&tape, 0, &mut output, &mut work), Err(Refusal { number: 18, place: (4, 6) }));
+/// // the name E1 meets a terminal at 8 to 9
+/// tape.extend([0x30, 8, 0, 0, 0, 9, 0, 0, 0, 7, 0]);
+/// assert_eq!(whole(&tape, 1, &mut output, &mut work), Err(Refusal { number: 6, place: (8, 9) }));
+/// ```
+pub fn whole(tape: &[u8], limit: u16, output: &mut [u8], work: &mut [u8]) -> Result<usize, Refusal> {
+    let mut answer = Words::default();
+    whole_words(tape, limit, output, work, &mut answer);
+    answered(&answer)
+}
+
+/// The same, with the words as the archive writes them.
+pub fn whole_words(tape: &[u8], limit: u16, output: &mut [u8], work: &mut [u8], answer: &mut Words) {
+    let (tape, tape_len) = (tape.as_ptr(), tape.len());
+    // SAFETY: the export takes three slices, each by pointer and length, a number and an array, and asks nothing else of them.
+    unsafe {
+        archive::normalize_whole(tape, tape_len, limit, output.as_mut_ptr(), output.len(), work.as_mut_ptr(), work.len(), answer);
+    }
+}
+
 /// The answer that the words say.
 fn answered(words: &Words) -> Result<usize, Refusal> {
     match *words {
@@ -229,6 +277,11 @@ mod tests {
         assert_eq!(answer, [1, 4, 0, 0, 0]);
         macros_words(&[0x30], 0, &mut [], &mut [0; 8], &mut answer);
         assert_eq!(answer, [0, 2, 0, 0, 0]);
+        answer = [7; WORDS];
+        whole_words(&ATOM_A, 0, &mut [0; 4], &mut [0; 64], &mut answer);
+        assert_eq!(answer, [1, 4, 0, 0, 0]);
+        whole_words(&[0x30], 0, &mut [], &mut [0; 8], &mut answer);
+        assert_eq!(answer, [0, 2, 0, 0, 0]);
     }
 
     /// As docs/TAPE.md says of it.
@@ -284,10 +337,15 @@ mod tests {
         assert_eq!(level(&sided(b"left"), tape.len()).0, Err(Refusal { number: 21, place: (0, 0) }));
     }
 
-    /// The answer of macros, and both buffers, which held 0xaa before.
-    fn expand(tape: &[u8], limit: u16, output: usize) -> (Result<usize, Refusal>, Vec<u8>, Vec<u8>) {
+    type Call = fn(&[u8], u16, &mut [u8], &mut [u8]) -> Result<usize, Refusal>;
+
+    /// The calls that expand macros.
+    const EXPANDING: [Call; 2] = [macros, whole];
+
+    /// The answer of such a call, and both buffers, which held 0xaa before.
+    fn expand(call: Call, tape: &[u8], limit: u16, output: usize) -> (Result<usize, Refusal>, Vec<u8>, Vec<u8>) {
         let (mut output, mut work) = (vec![0xaa; output], vec![0xaa; work_len(tape.len(), output)]);
-        let answer = macros(tape, limit, &mut output, &mut work);
+        let answer = call(tape, limit, &mut output, &mut work);
         (answer, output, work)
     }
 
@@ -296,15 +354,17 @@ mod tests {
     fn the_example_is_expanded() {
         let tape = include_bytes!("../../../docs/examples/listing.tape");
         let work = vec![0; work_len(tape.len(), 400)];
-        let (answer, tree, left) = expand(tape, 2, 400);
-        let length = answer.expect("a tree");
-        assert!(tree[..length].starts_with(&tape[..8]) && tree[length..].iter().all(|&byte| byte == 0xaa) && left == work);
-        assert_eq!(expand(tape, 65_535, 400), (answer, tree, work.clone()));
-        for limit in [0, 1] {
-            assert_eq!(expand(tape, limit, 400), (Err(Refusal { number: 18, place: (4, 6) }), vec![0xaa; 400], work.clone()));
+        for call in EXPANDING {
+            let (answer, tree, left) = expand(call, tape, 2, 400);
+            let length = answer.expect("a tree");
+            assert!(tree[..length].starts_with(&tape[..8]) && tree[length..].iter().all(|&byte| byte == 0xaa) && left == work);
+            assert_eq!(expand(call, tape, 65_535, 400), (answer, tree, work.clone()));
+            for limit in [0, 1] {
+                assert_eq!(expand(call, tape, limit, 400), (Err(Refusal { number: 18, place: (4, 6) }), vec![0xaa; 400], work.clone()));
+            }
+            let no = Err(Refusal { number: 21, place: (0, 0) });
+            assert_eq!(expand(call, tape, 2, length - 1), (no, vec![0xaa; length - 1], vec![0; work_len(tape.len(), length - 1)]));
         }
-        let no = Err(Refusal { number: 21, place: (0, 0) });
-        assert_eq!(expand(tape, 2, length - 1), (no, vec![0xaa; length - 1], vec![0; work_len(tape.len(), length - 1)]));
     }
 
     /// What is left without macros and repeats is the resolved tree.
@@ -312,7 +372,19 @@ mod tests {
     fn nothing_to_expand_needs_no_round() {
         let tape = [&ATOM_A[..], &nonterminal_a(0x20)].concat();
         let tree = [&ATOM_A[..], &nonterminal_a(0x24)].concat();
-        assert_eq!(expand(&tape, 0, tape.len()), (Ok(tape.len()), tree, vec![0; work_len(tape.len(), tape.len())]));
+        for call in EXPANDING {
+            assert_eq!(expand(call, &tape, 0, tape.len()), (Ok(tape.len()), tree.clone(), vec![0; work_len(tape.len(), tape.len())]));
+        }
+    }
+
+    /// The whole call asks for levels, the call for macros alone doesn't.
+    #[test]
+    fn the_whole_makes_levels() {
+        let (fine, wrong) = (sided(b"all"), sided(b"left"));
+        assert_eq!(expand(whole, &fine, 0, fine.len()), level(&fine, fine.len()));
+        assert_eq!(expand(whole, &wrong, 0, wrong.len()), level(&wrong, wrong.len()));
+        assert_eq!(expand(macros, &wrong, 0, wrong.len()).0, Ok(wrong.len()));
+        assert_eq!(expand(whole, &fine, 0, fine.len() - 1).0, Err(Refusal { number: 21, place: (0, 0) }));
     }
 
     #[test]

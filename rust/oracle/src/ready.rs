@@ -7,8 +7,8 @@ use crate::{
 };
 use reading::tree::Stage;
 
-/// Within so many rounds macros are expanded.
-pub const ROUNDS: u16 = 64;
+/// Within so many rounds macros are expanded: more than any tape that is measured takes.
+pub const ROUNDS: u16 = 20_000;
 
 /// A tree in LALRPOP's own types.
 #[derive(Clone)]
@@ -35,6 +35,11 @@ impl Ready {
     pub fn expanded(self) -> Option<Ready> {
         expand_macros(self.0, ROUNDS).ok().map(Ready)
     }
+
+    /// The tree behind both passes, or nothing where it is refused. Each resolves it first.
+    pub fn passed(self) -> Option<Ready> {
+        expand_macros(expand_precedence(self.0).ok()?, ROUNDS).ok().map(Ready)
+    }
 }
 
 #[cfg(not(lalrpop))]
@@ -52,6 +57,10 @@ impl Ready {
     }
 
     pub fn expanded(self) -> Option<Ready> {
+        None
+    }
+
+    pub fn passed(self) -> Option<Ready> {
         None
     }
 }

@@ -40,50 +40,60 @@ pub fn answer_and_stage(
     work: usize,
     steps: impl Fn(&Stage) -> Option<Vec<Step>>,
 ) -> Option<(Outcome, Vec<u8>)> {
-    if work < work_needed(tape.len(), output) {
-        return Some((Err(nowhere(1)), vec![]));
-    }
-    let stage = match read(tape) {
+    let stage = match asked(tape, output, work) {
         Ok(stage) => stage,
         Err(refusal) => return Some((Err(refusal), vec![])),
     };
-    let mut last = vec![];
-    let answer = measured(stage.atoms.clone(), steps(&stage)?, output, &mut last);
-    Some((answer.map(|()| last.clone()), last))
+    let stages = measured(stage.atoms.clone(), &steps(&stage)?);
+    let mut trees = stages.iter().flatten();
+    let last = trees.clone().find(|tree| tree.len() > output).or(trees.next_back());
+    Some((with_output(&stages, output), last.cloned().unwrap_or_default()))
 }
 
-/// 20, then 21, of each stage as it finishes; its atoms are the former stage's, then its new texts.
-fn measured(mut atoms: Vec<Vec<u8>>, steps: Vec<Step>, output: usize, last: &mut Vec<u8>) -> Result<(), Refusal> {
+/// Questions 1 to 4: the tape's tree.
+pub fn asked(tape: &[u8], output: usize, work: usize) -> Result<Stage, Refusal> {
+    if work < work_needed(tape.len(), output) {
+        return Err(nowhere(1));
+    }
+    read(tape)
+}
+
+/// The tape of each stage, its atoms being the former stage's, then its new texts; in the end a refusal, if there is one: the pass's own, or 20.
+pub fn measured(mut atoms: Vec<Vec<u8>>, steps: &[Step]) -> Vec<Outcome> {
+    let mut stages = vec![];
     for step in steps {
         let stage = match step {
-            Step::Finished(items) => Stage { atoms, items },
-            Step::Refused(refusal) => return Err(refusal),
+            Step::Finished(items) => Stage { atoms, items: items.clone() },
+            Step::Refused(refusal) => return with(stages, Err(*refusal)),
         };
         if !within_operands(&stage) {
-            return Err(nowhere(20));
-        }
-        (atoms, *last) = write_over(&stage);
-        if last.len() > output {
-            return Err(nowhere(21));
-        }
-    }
-    Ok(())
-}
-
-/// The length of each stage, as far as they are within their operands.
-pub fn stage_lengths(mut atoms: Vec<Vec<u8>>, steps: &[Step]) -> Vec<usize> {
-    let mut lengths = vec![];
-    for step in steps {
-        let Step::Finished(items) = step else { break };
-        let stage = Stage { atoms, items: items.clone() };
-        if !within_operands(&stage) {
-            break;
+            return with(stages, Err(nowhere(20)));
         }
         let tree;
         (atoms, tree) = write_over(&stage);
-        lengths.push(tree.len());
+        stages.push(Ok(tree));
     }
-    lengths
+    stages
+}
+
+fn with(mut stages: Vec<Outcome>, last: Outcome) -> Vec<Outcome> {
+    stages.push(last);
+    stages
+}
+
+/// The answer that these stages come to with an output so long: 21 at the first that is longer.
+pub fn with_output(stages: &[Outcome], output: usize) -> Outcome {
+    let too_long = |stage: &Outcome| stage.as_ref().is_ok_and(|tree| tree.len() > output);
+    match stages.iter().find(|stage| stage.is_err() || too_long(stage)) {
+        Some(Err(refusal)) => Err(*refusal),
+        Some(Ok(_)) => Err(nowhere(21)),
+        None => stages.last().cloned().unwrap_or_else(|| Ok(vec![])),
+    }
+}
+
+/// The length of each stage, as far as they are within their operands.
+pub fn stage_lengths(atoms: Vec<Vec<u8>>, steps: &[Step]) -> Vec<usize> {
+    measured(atoms, steps).iter().flatten().map(Vec::len).collect()
 }
 
 fn nowhere(number: u8) -> Refusal {

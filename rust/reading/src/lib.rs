@@ -2,6 +2,7 @@
 //! What the passes answer is LALRPOP's to say.
 mod call;
 pub mod commands;
+mod display;
 mod levels;
 pub mod notation;
 mod read;
@@ -10,9 +11,10 @@ mod texts;
 pub mod tree;
 mod write;
 
-pub use call::{answer, answer_and_stage, call, stage_lengths, work_needed, Outcome, Step};
+pub use call::{answer, answer_and_stage, asked, call, measured, stage_lengths, with_output, work_needed, Outcome, Step};
+pub use display::{listing, printed};
 pub use levels::level_refusal;
-pub use read::{operand_bytes, read, Refusal};
+pub use read::{operand_bytes, read, read_made, Refusal};
 pub use sizes::within_operands;
 pub use write::write;
 

@@ -14,7 +14,16 @@ pub struct Refusal {
 
 /// The tape's tree, or its first refusal out of 2, 3, 4.
 pub fn read(tape: &[u8]) -> Result<Stage, Refusal> {
-    let mut reader = Reader { tape, at: 0, atoms: vec![], seen: HashSet::new() };
+    read_with(tape, true)
+}
+
+/// A tree that a call wrote: its names may be printed forms, so question 4 is not asked.
+pub fn read_made(tree: &[u8]) -> Result<Stage, Refusal> {
+    read_with(tree, false)
+}
+
+fn read_with(tape: &[u8], asks_texts: bool) -> Result<Stage, Refusal> {
+    let mut reader = Reader { tape, at: 0, atoms: vec![], seen: HashSet::new(), asks_texts };
     let mut items = vec![];
     while reader.at < tape.len() {
         let command = reader.take(|code| matches!(code, 0x10 | 0x30 | 0x31) || (code == 0x01 && items.is_empty()))?;
@@ -84,6 +93,8 @@ struct Reader<'a> {
     at: usize,
     atoms: Vec<&'a [u8]>,
     seen: HashSet<&'a [u8]>,
+    /// Whether question 4 is asked.
+    asks_texts: bool,
 }
 
 impl<'a> Reader<'a> {
@@ -111,7 +122,7 @@ impl<'a> Reader<'a> {
 
     /// Question 4 of a text that passed question 3 with its whole command.
     fn suited(&self, command: &Command, text: &[u8], suits: fn(&[u8]) -> bool) -> Result<String, Refusal> {
-        command.ask(4, suits(text))?;
+        command.ask(4, !self.asks_texts || suits(text))?;
         Ok(String::from_utf8(text.to_vec()).expect("a text that suits its use is ASCII"))
     }
 

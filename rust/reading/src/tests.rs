@@ -1,7 +1,7 @@
 //! Tapes written out by hand, with the document's answers.
 use crate::notation::parse;
 use crate::tree::*;
-use crate::{answer, answer_and_stage, call, level_refusal, read, stage_lengths, work_needed, write, Refusal, Step};
+use crate::{answer, answer_and_stage, call, level_refusal, listing, read, read_made, stage_lengths, work_needed, write, Refusal, Step};
 
 fn atom(text: &[u8]) -> Vec<u8> {
     [&[0x01, text.len() as u8, 0][..], text].concat()
@@ -148,4 +148,29 @@ fn stages_keep_the_atoms_before() {
     assert_eq!((outgrown.unwrap_err().number, too_long.len()), (21, lengths[1]));
     assert_eq!(ask(tape.len(), vec![steps[0].clone(), Step::Refused(refused)]).0, Err(refused));
     assert_eq!(answer(&tape, 9, work_needed(tape.len(), 9) - 1, |_| None), Some(Err(Refusal { number: 1, place: (0, 0) })));
+}
+
+/// Document 01's printed forms and the listing's lines.
+#[test]
+fn a_tree_is_listed() {
+    let grammar =
+        r#"pub inline S = M<n, "a\b"> (r"z" <n>) v:n* mut w:@L @R ! => { t } | =>? { f } | ; M<P, Q> = P => @L | => @R; extern n;"#;
+    let lines = [
+        "S 11-12 pub inline",
+        r##"  M<n, "a\\b"> (r#"z"# <n>) v:n* mut w:@L @R error => t"##,
+        "   =>? f",
+        "  ",
+        "M 82-89",
+        "  P => @L",
+        "   => @R",
+    ];
+    assert_eq!(listing(&parse(grammar).items).lines().collect::<Vec<_>>(), lines);
+}
+
+/// A name that question 4 refuses is read where a call made it.
+#[test]
+fn a_made_name_is_read() {
+    let tree = write(&Stage { atoms: vec![], items: vec![Item::Extern(Span(0, 0), "n*".into())] });
+    assert_eq!(read(&tree).unwrap_err().number, 4);
+    assert_eq!(read_made(&tree).unwrap().items, [Item::Extern(Span(0, 0), "n*".into())]);
 }

@@ -1,5 +1,5 @@
 use Rattle.expander.proofs.StageNoteTurn.{noting}
-use Rattle.expander.proofs.StageTurnCode.{turn-hops, turning}
+use Rattle.expander.proofs.StageTurnCode.{turn-first, turn-hops, turning}
 use borrow.Author.Needs.{needs}
 use Rattle.expander.proofs.stage.replace_next.Statement.{statement}
 use Rattle.expander.proofs.stage.replace_next.Tie as tie
@@ -11,7 +11,7 @@ use Rattle.expander.proofs.stage.command_long.Reads as command-long-rea
 use Rattle.expander.proofs.stage.is_macro.Reads as is-macro-reads
 use Rattle.expander.proofs.stage.next_item.Reads as next-item-reads
 use Rattle.expander.proofs.stage.put_key.Reads as put-key-reads
-use Rattle.precedence.proofs.write.copy_within.Reads as copy-within-reads
+use Rattle.expander.proofs.stage.copy_run.Reads as copy-run-reads
 
 add-at : tie.Need-add-at
 add-at c = search needs
@@ -52,17 +52,8 @@ same-length-2 c = search needs
 returns-2 : tie.Need-returns-2
 returns-2 c = search turning
 
-add-copy-within : tie.Need-add-copy-within
-add-copy-within c = search needs
-
-copy-within-requires : tie.Need-copy-within-requires
-copy-within-requires c κs = search turning
-
-add-t26 : tie.Need-add-t26
-add-t26 c = search turning
-
-add-t27 : tie.Need-add-t27
-add-t27 c = search needs
+copy-run-requires : tie.Need-copy-run-requires
+copy-run-requires c κs = let a = c .before .before .before .before .before .before .before .before .before .before .before .before .args in (search needs, search needs, search (turn-first (a .tape .now) (a .work .now) (a .g) (a .r)), search needs)
 
 same-length-3 : tie.Need-same-length-3
 same-length-3 c = search needs
@@ -87,9 +78,6 @@ replace-next-spec =
     next-item-requires
     same-length-2
     returns-2
-    add-copy-within
-    copy-within-requires
-    add-t26
-    add-t27
+    copy-run-requires
     same-length-3
     returns-3)

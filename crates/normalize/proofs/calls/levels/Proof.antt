@@ -1,11 +1,11 @@
-use Rattle.normalize.proofs.LevellingCode.{calling-levels}
+use Rattle.normalize.proofs.CallsCode.{calling-levels}
 use borrow.Author.Needs.{needs}
 use Rattle.normalize.proofs.calls.levels.Statement.{statement}
 use Rattle.normalize.proofs.calls.levels.Tie as tie
 use Rattle.normalize.proofs.calls.levels.Reads as reads
 use Rattle.normalize.proofs.calls.levels.Lts as lts
-use Rattle.normalize.proofs.levelling.level_stage.Reads as level-stage-reads
-use Rattle.normalize.proofs.room.enough.Reads as enough-reads
+use Rattle.stages.proofs.levelling.level_stage.Reads as level-stage-reads
+use Rattle.output.proofs.room.enough.Reads as enough-reads
 use Rattle.octets.proofs.runs.clear.Reads as clear-reads
 use Rattle.parse_tree.proofs.refusal.at.Reads as at-reads
 

@@ -1,10 +1,10 @@
-use Rattle.normalize.proofs.ExpandingCode.{calling-macros}
+use Rattle.normalize.proofs.CallsCode.{calling-macros}
 use Rattle.normalize.proofs.calls.macros.Statement.{statement}
 use Rattle.normalize.proofs.calls.macros.Tie as tie
 use Rattle.normalize.proofs.calls.macros.Reads as reads
 use Rattle.normalize.proofs.calls.macros.Lts as lts
-use Rattle.normalize.proofs.expanding.expand_stage.Reads as expand-stage-reads
-use Rattle.normalize.proofs.room.enough.Reads as enough-reads
+use Rattle.stages.proofs.expanding.expand_stage.Reads as expand-stage-reads
+use Rattle.output.proofs.room.enough.Reads as enough-reads
 use Rattle.octets.proofs.runs.clear.Reads as clear-reads
 use Rattle.parse_tree.proofs.refusal.at.Reads as at-reads
 

@@ -5,7 +5,7 @@ use Rattle.normalize.proofs.calls.resolve.Tie as tie
 use Rattle.normalize.proofs.calls.resolve.Reads as reads
 use Rattle.normalize.proofs.calls.resolve.Lts as lts
 use Rattle.normalize.proofs.calls.resolve_stage.Reads as resolve-stage-reads
-use Rattle.normalize.proofs.room.enough.Reads as enough-reads
+use Rattle.output.proofs.room.enough.Reads as enough-reads
 use Rattle.octets.proofs.runs.clear.Reads as clear-reads
 use Rattle.parse_tree.proofs.refusal.at.Reads as at-reads
 

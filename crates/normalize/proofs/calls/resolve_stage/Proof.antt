@@ -5,7 +5,7 @@ use Rattle.normalize.proofs.calls.resolve_stage.Tie as tie
 use Rattle.normalize.proofs.calls.resolve_stage.Reads as reads
 use Rattle.normalize.proofs.calls.resolve_stage.Lts as lts
 use Rattle.normalize.proofs.calls.admit.Reads as admit-reads
-use Rattle.normalize.proofs.resolving.resolve_tape.Reads as resolve-tape-reads
+use Rattle.stages.proofs.resolving.resolve_tape.Reads as resolve-tape-reads
 
 resolve-tape-requires : tie.Need-resolve-tape-requires
 resolve-tape-requires c κs = search needs

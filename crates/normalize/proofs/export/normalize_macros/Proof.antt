@@ -1,4 +1,4 @@
-use Rattle.normalize.proofs.ExportCode.{exporting-macros}
+use Rattle.normalize.proofs.ExportCode.{exporting-limited}
 use Rattle.normalize.proofs.export.normalize_macros.Statement.{statement}
 use Rattle.normalize.proofs.export.normalize_macros.Tie as tie
 use Rattle.normalize.proofs.export.normalize_macros.Reads as reads
@@ -8,22 +8,22 @@ use Rattle.normalize.proofs.export.words.Reads as words-reads
 use Rattle.octets.proofs.wide.from16.Reads as from16-reads
 
 from16-requires : tie.Need-from16-requires
-from16-requires c κs = search exporting-macros
+from16-requires c κs = search exporting-limited
 
 macros-requires : tie.Need-macros-requires
-macros-requires c κs = search exporting-macros
+macros-requires c κs = search exporting-limited
 
 words-requires : tie.Need-words-requires
-words-requires c κs = search exporting-macros
+words-requires c κs = search exporting-limited
 
 same-length : tie.Need-same-length
-same-length c = search exporting-macros
+same-length c = search exporting-limited
 
 same-length-2 : tie.Need-same-length-2
-same-length-2 c = search exporting-macros
+same-length-2 c = search exporting-limited
 
 returns : tie.Need-returns
-returns c = search exporting-macros
+returns c = search exporting-limited
 
 pub normalize-macros-spec : {M : Type 1} → statement M
 normalize-macros-spec =

@@ -1,0 +1,1 @@
+// What the first round begins with behind levels: specs and proofs only. No code.
