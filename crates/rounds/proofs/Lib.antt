@@ -41,6 +41,7 @@ pub mod MarksMean
 pub mod RoundGround
 pub mod LastPushed
 pub mod RoundHalf
+pub mod Tally
 pub mod RoundJudged
 pub mod RoundPile
 pub mod RoundAppended

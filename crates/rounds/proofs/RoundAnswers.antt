@@ -30,9 +30,9 @@ use Rattle.rounds.specs.Step.{RoundOutput, done, more, appendItems, pend
 use Rattle.rounds.specs.Standing.{RoundTrees, RoundStands}
 use Rattle.rounds.specs.Round.{pendingOf, replacedStage, appendedStage, nextTrees, Halfway, SomeHalf, SomePending, Fine, Drained, DrainedTo, DrainsPile, SomeAppended, treesIn, replacedVerdict, appendedVerdict, SomeDrained, Next, SettlesRound, Further, RoundTo, nextInput, AnswersItems, AppendsRound, AnswersHalf}
 use Rattle.rounds.proofs.RoundStages.{drained-without, admitted-fine, admitted-no}
-use Rattle.rounds.proofs.LastPushed as lasts
 use Rattle.rounds.proofs.RoundPlaces as places
 use Rattle.rounds.proofs.RoundHalf as halves
+use Rattle.rounds.proofs.Tally as tally
 use Rattle.rounds.proofs.RoundJudged as judges
 use Rattle.rounds.proofs.RoundPile as piles
 use Rattle.rounds.proofs.RoundAppended as appended
@@ -112,6 +112,7 @@ module _ (s w : List ℕ) (room : Room) (t : Grammar) (z : State) (h : Half) (v 
           trees = nextTrees T (I .new) (n .more);
           definitions = refl;
           first = refl;
+          rounds = refl;
           input = rw (drained-without (T .definitions) (pendingOf T) (I .new) (I .is), n .atoms, append-assoc (T .first) (T .past) (n .more)) refl;
           standing = n .standing;
         }
@@ -184,7 +185,7 @@ module _ (s w : List ℕ) (room : Room) (t : Grammar) (z : State) (h : Half) whe
     judged-half = judges.judged-half s work room t z T S h w H
 
     count-is : length (pendingOf T) ≡ h .r .pile
-    count-is = lasts.pile-count s (H .middle) (h .g) (z .done) (h .r) w (T .items) (T .keys) (halves.found s work room t z T S h w H .0) (T .definitions) (halves.replacing s work room t z T S h w H)
+    count-is = tally.count-is s work room t z h w H T S
 
     half-fine : (q : ℕ) → q ≡ verdictHalf → q ≤ 0 → Fine room (replacedStage T)
     half-fine q i l = judged-half ∙ admitted-fine verdictHalf (replacedStage T) (sym i ∙ (omega arith))
@@ -212,25 +213,26 @@ module _ (s w : List ℕ) (room : Room) (t : Grammar) (z : State) (h : Half) whe
         let k : sizes 2 (room .cap) (replacedStage T) ≡ no q nowhere = judged-half work T S H ∙ ap (λ (n : ℕ). admitted n (replacedStage T)) (sym i) ∙ admitted-no q (replacedStage T) l in
         rw (k, refused-either work T S H (pendingOf T) q nowhere) (ap Rounded.Refused (j ∙ at-nowhere q))
 
-    pub on-done : q ≤ 0 → h .r .pile ≡ 0 → AnswersHalf s w room t z h (Rounded.Done (record { m = z .m; from = z .from; end = z .end; done = h .r .to; low = z .low })) w
+    pub on-done : q ≤ 0 → h .expander .height ≡ 0 → AnswersHalf s w room t z h (Rounded.Done (record { expander = h .expander; m = z .m; from = z .from; end = z .end; done = h .r .to; low = z .low })) w
     unfolding AnswersHalf RoundTo
     on-done l e work T S H =
         let f = half-fine work T S H q i l in
-        rw (f, none-pending work T S H (pendingOf T) (count-is work T S H ∙ e)) (record { m = z .m; from = z .from; end = z .end; done = h .r .to; low = z .low }, refl, judges.last-stands s work room t z T S h w H e f)
+        let n : h .r .pile ≡ 0 = sym (tally.height-is s work room t z h w H) ∙ e in
+        rw (f, none-pending work T S H (pendingOf T) (count-is work T S H ∙ n)) (record { expander = h .expander; m = z .m; from = z .from; end = z .end; done = h .r .to; low = z .low }, refl, judges.last-stands s work room t z T S h w H n f)
 
-    pub on-append : SomeHalf s w room t z h → q ≤ 0 → (h .r .pile ≡ 0 → ⊥) → SomePending s w room t z h
-    on-append K l e = record { half = K; pushed = go (h .r .pile) e; admitted = half-fine (K .work) (K .trees) (K .standing) (K .halfway) q i l }
+    pub on-append : SomeHalf s w room t z h → q ≤ 0 → (h .expander .height ≡ 0 → ⊥) → SomePending s w room t z h
+    on-append K l e = record { half = K; pushed = go (h .r .pile) (λ n. e (tally.height-is s (K .work) room t z h w (K .halfway) ∙ n)); admitted = half-fine (K .work) (K .trees) (K .standing) (K .halfway) q i l }
       where
         go : (n : ℕ) → (n ≡ 0 → ⊥) → 0 < n
         go zero f = absurd (f refl)
         go (suc n) f = omega arith
 
-    pub on-more : q ≤ 0 → (h .r .pile ≡ 0 → ⊥) → (x : Rounded) (w2 : List ℕ) → AppendsRound s w room t z h x w2 → AnswersHalf s w room t z h x w2
+    pub on-more : q ≤ 0 → (h .expander .height ≡ 0 → ⊥) → (x : Rounded) (w2 : List ℕ) → AppendsRound s w room t z h x w2 → AnswersHalf s w room t z h x w2
     unfolding AnswersHalf AppendsRound
     on-more l e x w2 a work T S H =
         let f = half-fine work T S H q i l in
         let p = on-append (record { work = work; trees = T; standing = S; halfway = H }) l e .pushed in
-        rw (f, some-pending work T S H (pendingOf T) (λ k. e (sym (count-is work T S H) ∙ k))) (a work T S H p f)
+        rw (f, some-pending work T S H (pendingOf T) (λ k. e (tally.height-is s work room t z h w H ∙ sym (count-is work T S H) ∙ k))) (a work T S H p f)
 
   pub on-verdict : (q : ℕ) → q ≡ verdict (h .g .m .count + h .r .count) (someLong (listedTexts s w (h .g) (h .r .count))) false (room .first + (room .end - z .low) + (h .r .to - room .y) + length (newBytes s w (h .g) (h .r .count))) (room .cap)
       → q ≡ replacedVerdict s w room z h

@@ -2,7 +2,7 @@
 use mathlib.Core.Path.{_≡_, refl, _∙_}
 use mathlib.Core.Bool.{Bool, true, false, _&&_}
 use mathlib.Core.List.{List}
-use Prim.Native.Nat.{ℕ, _+_, _-_, _≤_}
+use Prim.Native.Nat.{ℕ, _+_, _-_, _≤_, _<_}
 use native.Mathlib.Omega.{arith}
 use borrow.Author.Needs.{needs}
 use mir.Syntax.{w8, w64}
@@ -23,9 +23,11 @@ use Rattle.macro_expand.specs.Drain.{SomePile, Drains}
 use Rattle.settling.specs.declared.settle.Settled.{Settled}
 use Rattle.settling.specs.Settle.{SomePushed, MarkedPushed, Settling, Settles}
 use Rattle.settling.proofs.PushedMean.{marked-settling}
+use Rattle.rounds.specs.declared.Expander.{Expander}
 use Rattle.rounds.specs.declared.Room.{Room}
 use Rattle.rounds.specs.declared.State.{State}
 use Rattle.rounds.specs.declared.round.Half.{Half}
+use Rattle.rounds.specs.Steps.{pending, expanded}
 use Rattle.rounds.specs.Grounds.{Groundable, Grounds}
 use Rattle.rounds.specs.Start.{Cleared}
 use Rattle.rounds.specs.Standing.{RoundTrees, RoundStands}
@@ -34,6 +36,7 @@ use Rattle.rounds.proofs.ReadyMeans.{stage-bytes}
 use Rattle.rounds.proofs.RoundPlaces as places
 use Rattle.rounds.proofs.RoundGround as grounds
 use Rattle.rounds.proofs.RoundHalf as halves
+use Rattle.rounds.proofs.Tally as tally
 use Rattle.rounds.proofs.RoundPile as piles
 use Rattle.rounds.proofs.RoundAppended as appended
 use Rattle.rounds.proofs.RoundBytes as bytes
@@ -51,8 +54,8 @@ module _ (s w : List ℕ) (room : Room) (t : Grammar) (z : State) (K : SomeRound
     pub replace-some : SomeStage s w1 g (z .done)
     replace-some = grounds.can-replace s w room t z (K .trees) (K .standing) g w1 L bytes-in
 
-    pub replace-done : (r : Replaced) (w2 : List ℕ) → Stages s w1 g (z .done) r w2 → Halfway s w room t z (record { g = g; r = r }) w2
-    replace-done r w2 k = record { middle = w1; grounds = L; bytes = bytes-in; stages = k }
+    pub replace-done : (r : Replaced) (w2 : List ℕ) → Stages s w1 g (z .done) r w2 → (e : Expander) → e ≡ pending (z .expander) (r .pile) → Halfway s w room t z (record { g = g; r = r; expander = e }) w2
+    replace-done r w2 k e i = record { middle = w1; grounds = L; bytes = bytes-in; stages = k; numbers = i }
 
 pub ruleset replacing = (needs, replace-ground, replace-some, replace-done)
 
@@ -135,6 +138,9 @@ module _ (s w : List ℕ) (room : Room) (t : Grammar) (z : State) (h : Half) (v 
     );
   }
 
+  pub settle-tally : (h .expander .round ≤ h .expander .items) × (h .expander .items + h .expander .height < 18446744073709551615)
+  settle-tally = tally.tally-fits s (A .work) room t z h (I .before) (A .halfway) (A .trees) (A .standing)
+
   pub settle-inside : (q : Settled) (w2 : List ℕ) → SettlesTexts s w z h v q w2 → v .to ≤ length w2
   settle-inside q w2 k =
       bytes.can-move s (A .work) room t z (A .trees) (A .standing) h (I .before) (A .halfway) (P .pushed) (P .admitted) (I .new) v w (I .drained) (I .is) (K .admitted) (k .middle) (k .marked) q w2 (k .settles) .2
@@ -144,17 +150,18 @@ pub settle-both : (s w : List ℕ) (z : State) (h : Half) (v : Appended) (w1 : L
 settle-both s w z h v w1 M q w2 Z = record { middle = w1; marked = M; settles = Z }
 
 pub settle-done : (s w : List ℕ) (room : Room) (t : Grammar) (z : State) (h : Half) (v : Appended) (q : Settled) (w2 : List ℕ) → SettlesTexts s w z h v q w2 → (w3 : List ℕ)
-    → w3 ≡ store w2 (room .x) (part (h .r .to) (v .to) w2) → SettlesRound s w room t z h v (record { m = q .m; from = room .x; end = room .x + (v .to - h .r .to); done = h .r .to; low = q .at }) w3
+    → w3 ≡ store w2 (room .x) (part (h .r .to) (v .to) w2) → (x : Expander) → x ≡ expanded (h .expander)
+    → SettlesRound s w room t z h v (record { expander = x; m = q .m; from = room .x; end = room .x + (v .to - h .r .to); done = h .r .to; low = q .at }) w3
 unfolding SettlesRound
-settle-done s w room t z h v q w2 k w3 e K =
+settle-done s w room t z h v q w2 k w3 e x i K =
     let I = K .items in
     let P = I .pending in
     let A = P .half in
-    nexts.next-stands s (A .work) room t z (A .trees) (A .standing) h (I .before) (A .halfway) (P .pushed) (P .admitted) (I .new) v w (I .drained) (I .is) (K .admitted) (k .middle) (k .marked) q w2 (k .settles) w3 e
+    nexts.next-stands s (A .work) room t z (A .trees) (A .standing) h (I .before) (A .halfway) (P .pushed) (P .admitted) (I .new) v w (I .drained) (I .is) (K .admitted) (k .middle) (k .marked) q w2 (k .settles) w3 e x i
 
 pub ruleset settlingTexts = (needs, settle-pushed, settle-can, settle-both)
 
-pub ruleset settling = (needs, settle-x, settle-ordered, settle-end, settle-inside, settle-done)
+pub ruleset settling = (needs, settle-x, settle-ordered, settle-end, settle-tally, settle-inside, settle-done)
 
 -- ---- too_many
 module _ (over : Bool) (n : ℕ) where

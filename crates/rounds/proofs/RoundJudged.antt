@@ -129,7 +129,7 @@ module _ (s w : List ℕ) (room : Room) (t : Grammar) (z : State) (T : RoundTree
   no-texts e = ap (listedTexts s w′ g) (none-new e)
 
   -- theorem: with nothing pending it stands in work as it is handed over
-  pub last-stands : r .pile ≡ 0 → Fine room (replacedStage T) → Finished s w′ room (record { m = z .m; from = z .from; end = z .end; done = r .to; low = z .low }) (T .first) (replacedStage T)
+  pub last-stands : r .pile ≡ 0 → Fine room (replacedStage T) → Finished s w′ room (record { expander = h .expander; m = z .m; from = z .from; end = z .end; done = r .to; low = z .low }) (T .first) (replacedStage T)
   unfolding stageOf
   last-stands e f =
       let a : replacedStage T .atoms ≡ roundAtoms T = halves.atoms-are s w room t z T S h w′ H ∙ ap (λ (us : List Text). roundAtoms T ++ us) (no-texts e) ∙ append-nil (roundAtoms T) in

@@ -19,7 +19,8 @@ use Rattle.texts.specs.Fields.{cellAt}
 use Rattle.texts.specs.Table.{texts}
 use Rattle.texts.proofs.TableStays.{above-stays}
 use Rattle.passes.specs.Outcome.{Tree, yes}
-use Rattle.passes.specs.Macros.{Pending, Expander, expandSymbol, drain, withoutMacros}
+use Rattle.passes.specs.Macros as macros
+use Rattle.passes.specs.Macros.{Pending, expandSymbol, drain, withoutMacros}
 use Rattle.passes.specs.Sizes.{stageFits}
 use Rattle.passes.proofs.Outcomes.{after-yes}
 use Rattle.meaning.proofs.calls.Spans.{yes-as}
@@ -40,10 +41,12 @@ use Rattle.settling.specs.Settle.{newBytes, MarkedPushed, Settles}
 use Rattle.settling.proofs.PushedMean.{marked-named}
 use Rattle.appending.specs.declared.Appended.{Appended}
 use Rattle.appending.proofs.SymbolsTrees as symbols
+use Rattle.rounds.specs.declared.Expander.{Expander}
 use Rattle.rounds.specs.declared.Room.{Room}
 use Rattle.rounds.specs.declared.State.{State}
 use Rattle.rounds.specs.declared.round.Half.{Half}
 use Rattle.rounds.specs.Begins.{BeginsRound}
+use Rattle.rounds.specs.Steps.{expanded}
 use Rattle.rounds.specs.Start.{replacedBy}
 use Rattle.rounds.specs.Standing.{RoundTrees, roundAtoms, stageBefore, Mapped, GrownTrees, Tabled, DefinesMacros, RoundStands}
 use Rattle.rounds.specs.Round.{replacedOf, pendingOf, replacedStage, appendedStage, nextTrees, Halfway, Fine, Drained, Next}
@@ -56,6 +59,7 @@ use Rattle.rounds.proofs.RoundStages.{drained-without, fine-parts}
 use Rattle.rounds.proofs.RoundPlaces as places
 use Rattle.rounds.proofs.RoundGround as grounds
 use Rattle.rounds.proofs.RoundHalf as halves
+use Rattle.rounds.proofs.Tally as tally
 use Rattle.rounds.proofs.RoundPile as piles
 use Rattle.rounds.proofs.RoundAppended as appended
 use Rattle.rounds.proofs.RoundBytes as bytes
@@ -72,7 +76,7 @@ drain-heads G (x ∷ xs) new l e =
 module _ (s w : List ℕ) (room : Room) (t : Grammar) (z : State) (T : RoundTrees) (S : RoundStands s w room t z T) (h : Half) (w′ : List ℕ) (H : Halfway s w room t z h w′) (pushed : 0 < h .r .pile)
     (F : Fine room (replacedStage T)) (new : List Item) (v : Appended) (w‴ : List ℕ) (D : Drained s w′ room t z T h (H .middle) new v w‴) (d : drain (T .definitions) (pendingOf T) ≡ yes new)
     (E : Fine room (appendedStage T new)) (w4 : List ℕ) (M : MarkedPushed s w‴ (h .g) (h .r .pile) w4) (q : Settled) (w5 : List ℕ) (Z : Settles s w4 (h .g) (v .count) (z .low) q w5)
-    (w6 : List ℕ) (moved : w6 ≡ store w5 (room .x) (part (h .r .to) (v .to) w5)) where
+    (w6 : List ℕ) (moved : w6 ≡ store w5 (room .x) (part (h .r .to) (v .to) w5)) (x : Expander) (told : x ≡ expanded (h .expander)) where
   abbrev g : Ground
   g = h .g
 
@@ -89,7 +93,7 @@ module _ (s w : List ℕ) (room : Room) (t : Grammar) (z : State) (T : RoundTree
   newItems = appended.newItems s w room t z T S h w′ H pushed F new v w‴ D
 
   abbrev after : State
-  after = record { m = q .m; from = room .x; end = room .x + (v .to - r .to); done = r .to; low = q .at }
+  after = record { expander = x; m = q .m; from = room .x; end = room .x + (v .to - r .to); done = r .to; low = q .at }
 
   -- ---- the trees
   atoms-next : roundAtoms T ++ us ≡ roundAtoms next
@@ -147,7 +151,7 @@ module _ (s w : List ℕ) (room : Room) (t : Grammar) (z : State) (T : RoundTree
 
   none-built : Each (λ (u : Text). has u builtIns ≡ false) (prints ++ T .keys)
   none-built =
-      let σ : Expander = record { keys = T .keys; pile = [] } in
+      let σ : macros.Expander = record { keys = T .keys; pile = [] } in
       subst (Each (λ (u : Text). has u builtIns ≡ false)) keys-next (replace-items-sound (withoutMacros (T .items)) σ (S .grown .begins .fresh-sound) (S .grown .begins .piled) .1 .keys)
 
   marks-before : (k : ℕ) → k < g .m .count → Key (getD (texts s w‴ (g .m)) k []) → leb 2147483648 (cellAt w‴ (g .m .base) k) ≡ has (getD (texts s w‴ (g .m)) k []) (T .keys)
@@ -228,6 +232,7 @@ module _ (s w : List ℕ) (room : Room) (t : Grammar) (z : State) (T : RoundTree
     more = us;
     atoms = appended.atoms-are s w room t z T S h w′ H pushed F new v w‴ D;
     standing = record {
+      numbers = rw told (tally.tally-next s w room t z h w′ H T S new d pushed us);
       map = map-next;
       first = S .first;
       grown = grown-next;

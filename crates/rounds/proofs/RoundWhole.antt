@@ -32,6 +32,7 @@ use Rattle.rounds.specs.Standing.{RoundTrees, RoundStands}
 use Rattle.rounds.specs.Round.{SomeRound, pendingOf, replacedStage, Halfway, SomeLast, RoundTo, AnswersHalf, OneRound}
 use Rattle.rounds.proofs.LastPushed as lasts
 use Rattle.rounds.proofs.RoundHalf as halves
+use Rattle.rounds.proofs.Tally as tally
 
 -- ---- last_pushed
 module _ (w : List ℕ) (g : Ground) (n : ℕ) (L : SomeLast w g n) (p : ℕ) (e : p ≡ markAt w (g .keys) (n - 1)) where
@@ -60,12 +61,15 @@ both : (a b : Bool) → a && b ≡ true → (a ≡ true) × (b ≡ true)
 both true b e = (refl, e)
 both false b e = absurd (false≢true e)
 
-module _ (s w : List ℕ) (room : Room) (t : Grammar) (z : State) (over : Bool) (h : Half) (w1 : List ℕ) (H : Halfway s w room t z h w1) (b : Bool) (e : b ≡ over && ltb 0 (h .r .pile)) where
+module _ (s w : List ℕ) (room : Room) (t : Grammar) (z : State) (over : Bool) (h : Half) (w1 : List ℕ) (H : Halfway s w room t z h w1) (b : Bool) (asked : b ≡ over && ltb 0 (h .expander .height)) where
+  e : b ≡ over && ltb 0 (h .r .pile)
+  e = asked ∙ ap (λ (n : ℕ). over && ltb 0 n) (tally.height-is s w room t z h w1 H)
+
   pushed : b ≡ true → 0 < h .r .pile
   pushed f = ltb-true 0 (h .r .pile) (both over (ltb 0 (h .r .pile)) (sym e ∙ f) .1)
 
-  pub round-last : SomeRound s w room t z → b ≡ true → SomeLast w1 (h .g) (h .r .pile)
-  round-last K f =
+  some-last : SomeRound s w room t z → b ≡ true → SomeLast w1 (h .g) (h .r .pile)
+  some-last K f =
       let T = K .trees in
       let R = halves.replacing s w room t z T (K .standing) h w1 H in
       let ms = halves.found s w room t z T (K .standing) h w1 H .0 in
@@ -76,12 +80,15 @@ module _ (s w : List ℕ) (room : Room) (t : Grammar) (z : State) (over : Bool) 
         short = omega (arith, H .stages .ground .short);
       }
 
+  pub round-last : SomeRound s w room t z → b ≡ true → SomeLast w1 (h .g) (h .expander .height)
+  round-last K f = rw (tally.height-is s w room t z h w1 H) (some-last K f)
+
   module _ (T : RoundTrees) (S : RoundStands s w room t z T) where
     abbrev append : Stage → Outcome RoundOutput
     append = appendItems (sizes 2 (room .cap)) (T .definitions) (T .old) (replacedBy (T .items) (T .keys))
 
     count-is : length (pendingOf T) ≡ h .r .pile
-    count-is = lasts.pile-count s (H .middle) (h .g) (z .done) (h .r) w1 (T .items) (T .keys) (halves.found s w room t z T S h w1 H .0) (T .definitions) (halves.replacing s w room t z T S h w1 H)
+    count-is = tally.count-is s w room t z h w1 H T S
 
     last-is : (xs : List Pending) → pendingOf T ≡ xs → b ≡ true → (why : Refusal) → why ≡ refusalOver 18 (spanIn w1 (h .g .from + keyAt w1 (h .g) (h .r .pile - 1) + 1))
         → RoundTo s room t T (pendingRound xs over (sizes 2 (room .cap) (replacedStage T)) append) (Rounded.Refused why) w1
@@ -100,9 +107,10 @@ module _ (s w : List ℕ) (room : Room) (t : Grammar) (z : State) (over : Bool) 
         go true y = absurd (omega (arith, ltb-false 0 (h .r .pile) (sym y ∙ f), count-is, ap length i))
         go false y = refl
 
-  pub round-refused : b ≡ true → (why : Refusal) → why ≡ refusalOver 18 (spanIn w1 (h .g .from + keyAt w1 (h .g) (h .r .pile - 1) + 1)) → OneRound s w room t z over (Rounded.Refused why) w1
+  pub round-refused : b ≡ true → (why : Refusal) → why ≡ refusalOver 18 (spanIn w1 (h .g .from + keyAt w1 (h .g) (h .expander .height - 1) + 1)) → OneRound s w room t z over (Rounded.Refused why) w1
   unfolding OneRound oneRound
-  round-refused f why j T S = last-is T S (pendingOf T) refl f why j
+  round-refused f why j T S =
+      last-is T S (pendingOf T) refl f why (j ∙ ap (λ (n : ℕ). refusalOver 18 (spanIn w1 (h .g .from + keyAt w1 (h .g) (n - 1) + 1))) (tally.height-is s w room t z h w1 H))
 
   pub round-on : b ≡ false → (x : Rounded) (w2 : List ℕ) → AnswersHalf s w1 room t z h x w2 → OneRound s w room t z over x w2
   unfolding OneRound oneRound AnswersHalf

@@ -2,7 +2,7 @@
 use mathlib.Core.Path.{_≡_, refl, sym, ap, _∙_, subst}
 use mathlib.Core.Bool.{Bool, true, false}
 use mathlib.Core.List.{List, [], _∷_, _++_}
-use Prim.Native.Nat.{ℕ, suc, _-_, _<_, _≤_}
+use Prim.Native.Nat.{ℕ, suc, _+_, _-_, _<_, _≤_}
 use native.Mathlib.Omega.{arith}
 use borrow.Author.Needs.{needs}
 use lib.ListN.{length}
@@ -86,48 +86,58 @@ module _ (s : List ℕ) (room : Room) (t : Grammar) where
   abbrev allFrom : ℕ → RoundTrees → Outcome Stage
   allFrom n T = roundsFrom admits (T .definitions) n (inputOf T)
 
-  pub record Onward (T : RoundTrees) (limit : ℕ) (w : List ℕ) (x : State) (left : ℕ) : Type 0 where
+  pub record Onward (T : RoundTrees) (all : ℕ) (w : List ℕ) (x : State) (left : ℕ) : Type 0 where
     pub trees : RoundTrees
     pub standing : RoundStands s w room t x trees
     pub first : trees .first ≡ T .first
-    pub same : allFrom limit T ≡ allFrom left trees
+    pub same : allFrom all T ≡ allFrom left trees
 
-  pub record Turning (w₀ : List ℕ) (z : State) (limit : ℕ) (w : List ℕ) (x : State) (left : ℕ) : Type 0 where
+  -- of so many rounds in all, those that are not done
+  abbrev leftOf : ℕ → State → ℕ
+  leftOf limit x = limit - x .expander .round
+
+  pub record Turning (w₀ : List ℕ) (z : State) (limit : ℕ) (w : List ℕ) (x : State) : Type 0 where
     pub some : SomeRound s w room t x
     pub long : length w ≡ length w₀
-    pub each : (T : RoundTrees) → RoundStands s w₀ room t z T → Onward T limit w x left
+    pub each : (T : RoundTrees) → RoundStands s w₀ room t z T → Onward T (leftOf limit z) w x (leftOf limit x)
 
-  pub turning-start : (w : List ℕ) (z : State) (limit : ℕ) → SomeRound s w room t z → Turning w z limit w z limit
+  pub turning-start : (w : List ℕ) (z : State) (limit : ℕ) → SomeRound s w room t z → Turning w z limit w z
   turning-start w z limit h = record { some = h; long = refl; each = λ T i. record { trees = T; standing = i; first = refl; same = refl } }
 
-  module _ (w₀ : List ℕ) (z : State) (limit : ℕ) (w : List ℕ) (x : State) (left : ℕ) (D : Turning w₀ z limit w x left) where
+  module _ (w₀ : List ℕ) (z : State) (limit : ℕ) (w : List ℕ) (x : State) (D : Turning w₀ z limit w x) where
+    abbrev all : ℕ
+    all = leftOf limit z
+
+    abbrev left : ℕ
+    left = leftOf limit x
+
     module _ (T : RoundTrees) (i : RoundStands s w₀ room t z T) where
-      abbrev o : Onward T limit w x left
+      abbrev o : Onward T all w x left
       o = D .each T i
 
       abbrev T′ : RoundTrees
       T′ = o .trees
 
       -- a round is left
-      another : (n : ℕ) → left ≡ suc n → allFrom limit T ≡ after (oneRound admits (T′ .definitions) false (inputOf T′)) (goOn admits (T′ .definitions) n)
+      another : (n : ℕ) → left ≡ suc n → allFrom all T ≡ after (oneRound admits (T′ .definitions) false (inputOf T′)) (goOn admits (T′ .definitions) n)
       another n e = o .same ∙ ap (λ (k : ℕ). allFrom k T′) e ∙ rounds-next admits (T′ .definitions) n (inputOf T′)
 
       -- none is left
-      none : left ≡ 0 → allFrom limit T ≡ after (oneRound admits (T′ .definitions) true (inputOf T′)) (goOn admits (T′ .definitions) 0)
+      none : left ≡ 0 → allFrom all T ≡ after (oneRound admits (T′ .definitions) true (inputOf T′)) (goOn admits (T′ .definitions) 0)
       none e = o .same ∙ ap (λ (k : ℕ). allFrom k T′) e ∙ rounds-last admits (T′ .definitions) 0 (inputOf T′)
 
       -- an outcome of the trees that stand now is one of all
-      whole : (u : Outcome Stage) → allFrom limit T ≡ u → (r : Rounded) (w′ : List ℕ) → RoundsTo s room (T′ .first) u r w′ → RoundsTo s room (T .first) (allFrom limit T) r w′
+      whole : (u : Outcome Stage) → allFrom all T ≡ u → (r : Rounded) (w′ : List ℕ) → RoundsTo s room (T′ .first) u r w′ → RoundsTo s room (T .first) (allFrom all T) r w′
       whole u e r w′ h = subst (λ (k : Outcome Stage). RoundsTo s room (T .first) k r w′) (sym e) (subst (λ (k : List Text). RoundsTo s room k u r w′) (o .first) h)
 
       told : (over : Bool) (r : Rounded) (w′ : List ℕ) → OneRound s w room t x over r w′ → RoundTo s room t T′ (oneRound admits (T′ .definitions) over (inputOf T′)) r w′
       unfolding OneRound
       told over r w′ h = h T′ (o .standing)
 
-      onward : (n : ℕ) → left ≡ suc n → (y : State) (w′ : List ℕ) → OneRound s w room t x false (Rounded.More y) w′ → Onward T limit w′ y n
+      onward : (n : ℕ) → left ≡ suc n → (y : State) (w′ : List ℕ) → OneRound s w room t x false (Rounded.More y) w′ → Onward T all w′ y n
       onward n e y w′ h =
           let (p, i, f) = more-is T′ w′ (oneRound admits (T′ .definitions) false (inputOf T′)) y (told false (Rounded.More y) w′ h) in
-          let a : allFrom limit T ≡ roundsFrom admits (T′ .definitions) n p = another n e ∙ ap (λ (k : Outcome RoundOutput). after k (goOn admits (T′ .definitions) n)) i in
+          let a : allFrom all T ≡ roundsFrom admits (T′ .definitions) n p = another n e ∙ ap (λ (k : Outcome RoundOutput). after k (goOn admits (T′ .definitions) n)) i in
           record {
             trees = f .trees;
             standing = f .standing;
@@ -135,11 +145,18 @@ module _ (s : List ℕ) (room : Room) (t : Grammar) where
             same = a ∙ ap (λ (k : RoundInput). roundsFrom admits (T′ .definitions) n k) (sym (f .input)) ∙ ap (λ (G : Tree). roundsFrom admits G n (inputOf (f .trees))) (sym (f .definitions));
           }
 
+    -- a round more is done
+    next-round : (T′ : RoundTrees) → RoundStands s w room t x T′ → (y : State) (w′ : List ℕ) → OneRound s w room t x false (Rounded.More y) w′ → y .expander .round ≡ x .expander .round + 1
+    unfolding OneRound
+    next-round T′ S y w′ h =
+        let (p, i, f) = more-is T′ w′ (oneRound admits (T′ .definitions) false (inputOf T′)) y (h T′ S) in
+        f .standing .numbers .round ∙ f .rounds ∙ ap (λ (n : ℕ). n + 1) (sym (S .numbers .round))
+
     -- ---- as the code has it
     pub turning-same : length w ≡ length w₀
     turning-same = D .long
 
-    pub turning-refused : 0 < left → (r : Rounded) (w′ : List ℕ) → OneRound s w room t x false r w′ → (why : Refusal) → r ≡ Rounded.Refused why → AllRounds s w₀ room t limit z (Rounded.Refused why) w′
+    pub turning-refused : x .expander .round < limit → (r : Rounded) (w′ : List ℕ) → OneRound s w room t x false r w′ → (why : Refusal) → r ≡ Rounded.Refused why → AllRounds s w₀ room t limit z (Rounded.Refused why) w′
     unfolding AllRounds
     turning-refused l r w′ h why e T i =
         let n = left - 1 in
@@ -148,7 +165,7 @@ module _ (s : List ℕ) (room : Room) (t : Grammar) where
         whole T i (after u (goOn admits (T′ T i .definitions) n)) (another T i n (omega arith)) (Rounded.Refused why) w′
         (refused-is (T′ T i) admits (T′ T i .definitions) n w′ u why (told T i false (Rounded.Refused why) w′ a))
 
-    pub turning-done : 0 < left → (r : Rounded) (w′ : List ℕ) → OneRound s w room t x false r w′ → (y : State) → r ≡ Rounded.Done y → AllRounds s w₀ room t limit z (Rounded.Done y) w′
+    pub turning-done : x .expander .round < limit → (r : Rounded) (w′ : List ℕ) → OneRound s w room t x false r w′ → (y : State) → r ≡ Rounded.Done y → AllRounds s w₀ room t limit z (Rounded.Done y) w′
     unfolding AllRounds
     turning-done l r w′ h y e T i =
         let n = left - 1 in
@@ -157,17 +174,23 @@ module _ (s : List ℕ) (room : Room) (t : Grammar) where
         whole T i (after u (goOn admits (T′ T i .definitions) n)) (another T i n (omega arith)) (Rounded.Done y) w′
         (done-is (T′ T i) admits (T′ T i .definitions) n w′ u y (told T i false (Rounded.Done y) w′ a))
 
-    pub turning-next : 0 < left → (r : Rounded) (w′ : List ℕ) → length w′ ≡ length w → OneRound s w room t x false r w′ → (y : State) → r ≡ Rounded.More y → Turning w₀ z limit w′ y (left - 1)
-    turning-next l r w′ b k y e = record { some = another-some w x (D .some) y w′ h; long = b ∙ D .long; each = λ T i. onward T i (left - 1) (omega arith) y w′ h }
+    pub turning-next : x .expander .round < limit → (r : Rounded) (w′ : List ℕ) → length w′ ≡ length w → OneRound s w room t x false r w′ → (y : State) → r ≡ Rounded.More y → Turning w₀ z limit w′ y
+    turning-next l r w′ b k y e = record { some = another-some w x (D .some) y w′ h; long = b ∙ D .long; each = λ T i. subst (Onward T all w′ y) fewer (onward T i (left - 1) (omega arith) y w′ h) }
       where
         h : OneRound s w room t x false (Rounded.More y) w′
         h = subst (λ (q : Rounded). OneRound s w room t x false q w′) e k
 
-    pub turning-last : left ≤ 0 → (r : Rounded) (w′ : List ℕ) → OneRound s w room t x true r w′ → AllRounds s w₀ room t limit z r w′
+        fewer : left - 1 ≡ leftOf limit y
+        fewer = omega (arith, next-round (D .some .trees) (D .some .standing) y w′ h)
+
+    pub turning-less : x .expander .round < limit → (r : Rounded) (w′ : List ℕ) → OneRound s w room t x false r w′ → (y : State) → r ≡ Rounded.More y → limit - y .expander .round < limit - x .expander .round
+    turning-less l r w′ k y e = omega (arith, next-round (D .some .trees) (D .some .standing) y w′ (subst (λ (q : Rounded). OneRound s w room t x false q w′) e k))
+
+    pub turning-last : limit ≤ x .expander .round → (r : Rounded) (w′ : List ℕ) → OneRound s w room t x true r w′ → AllRounds s w₀ room t limit z r w′
     unfolding AllRounds
     turning-last l r w′ h T i =
         let G = T′ T i .definitions in
         let u = oneRound admits G true (inputOf (T′ T i)) in
         whole T i (after u (goOn admits G 0)) (none T i (omega arith)) r w′ (last-is (T′ T i) admits G 0 w′ u r (last-ends admits G (inputOf (T′ T i))) (told T i true r w′ h))
 
-pub ruleset turning = (needs, turning-start, turning-same, turning-refused, turning-done, turning-next, turning-last)
+pub ruleset turning = (needs, turning-start, turning-same, turning-refused, turning-done, turning-next, turning-less, turning-last)

@@ -7,5 +7,6 @@ pub mod Define
 pub mod Paid
 pub mod Begins
 pub mod Step
+pub mod Steps
 pub mod Standing
 pub mod Round

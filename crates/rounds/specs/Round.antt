@@ -31,6 +31,7 @@ use Rattle.rounds.specs.declared.Room.{Room}
 use Rattle.rounds.specs.declared.State.{State}
 use Rattle.rounds.specs.declared.round.Half.{Half}
 use Rattle.rounds.specs.declared.Rounded.{Rounded}
+use Rattle.rounds.specs.Steps.{pending}
 use Rattle.rounds.specs.Judge.{verdict}
 use Rattle.rounds.specs.Start.{Cleared, StartsAppending, atStart, replacedBy}
 use Rattle.rounds.specs.Grounds.{Grounds}
@@ -60,6 +61,7 @@ pub record Halfway (s w : List ℕ) (room : Room) (t : Grammar) (z : State) (h :
   pub grounds : Grounds s w (z .m) (t .width) (z .from) (z .end) (room .x) (h .g) middle
   pub bytes : Bytes (stageIn middle (h .g))
   pub stages : Stages s middle (h .g) (z .done) (h .r) w′
+  pub numbers : h .expander ≡ pending (z .expander) (h .r .pile)
 
 -- of some trees
 pub record SomeHalf (s w : List ℕ) (room : Room) (t : Grammar) (z : State) (h : Half) : Type 0 where
@@ -118,7 +120,7 @@ DrainsPile s w room t z h r w′ = (work : List ℕ) (T : RoundTrees) → RoundS
 
 -- ---- the next round
 abbrev pub nextTrees : RoundTrees → List Item → List Text → RoundTrees
-nextTrees T new us = record { definitions = T .definitions; first = T .first; past = T .past ++ us; old = T .old ++ replacedOf T; items = new; keys = replacedBy (T .items) (T .keys) .1 .keys; owed = T .owed }
+nextTrees T new us = record { definitions = T .definitions; first = T .first; past = T .past ++ us; old = T .old ++ replacedOf T; items = new; keys = replacedBy (T .items) (T .keys) .1 .keys; owed = T .owed; rounds = T .rounds + 1 }
 
 -- items were appended
 pub record SomeAppended (s w : List ℕ) (room : Room) (t : Grammar) (z : State) (h : Half) (v : Appended) : Type 0 where
@@ -174,6 +176,7 @@ pub record Further (s w : List ℕ) (room : Room) (t : Grammar) (z : State) (T :
   pub trees : RoundTrees
   pub definitions : trees .definitions ≡ T .definitions
   pub first : trees .first ≡ T .first
+  pub rounds : trees .rounds ≡ T .rounds + 1
   pub input : inputOf trees ≡ p
   pub standing : RoundStands s w room t z trees
 
@@ -205,11 +208,11 @@ AnswersHalf s w room t z h r w′ = (work : List ℕ) (T : RoundTrees) → Round
 unfoldable pub OneRound : List ℕ → List ℕ → Room → Grammar → State → Bool → Rounded → List ℕ → Type 0
 OneRound s w room t z over r w′ = (T : RoundTrees) → RoundStands s w room t z T → RoundTo s room t T (oneRound (sizes 2 (room .cap)) (T .definitions) over (inputOf T)) r w′
 
--- ---- all of them
+-- ---- all of them: of so many in all those that are not done
 unfoldable pub RoundsTo : List ℕ → Room → List Text → Outcome Stage → Rounded → List ℕ → Type 0
 RoundsTo s room first (yes g) r w′ = (z : State) × (r ≡ Rounded.Done z) × Finished s w′ room z first g
 RoundsTo s room first (no k sp) r w′ = r ≡ Rounded.Refused (refusalOver k sp)
 
 unfoldable pub AllRounds : List ℕ → List ℕ → Room → Grammar → ℕ → State → Rounded → List ℕ → Type 0
 AllRounds s w room t limit z r w′ = (T : RoundTrees) → RoundStands s w room t z T
-    → RoundsTo s room (T .first) (rounds (sizes 2 (room .cap)) (T .definitions) limit (roundAtoms T) (T .old) (withoutMacros (T .items)) (T .keys)) r w′
+    → RoundsTo s room (T .first) (rounds (sizes 2 (room .cap)) (T .definitions) (limit - z .expander .round) (roundAtoms T) (T .old) (withoutMacros (T .items)) (T .keys)) r w′

@@ -23,6 +23,7 @@ use Rattle.resolve.specs.declared.Grammar.{Grammar}
 use Rattle.resolve.proofs.GrammarLaws.{Row}
 use Rattle.replacing.specs.Sound.{Key}
 use Rattle.macro_expand.specs.Drain.{itemOf}
+use Rattle.rounds.specs.declared.Expander.{Expander}
 use Rattle.rounds.specs.declared.Room.{Room}
 use Rattle.rounds.specs.declared.State.{State}
 use Rattle.rounds.specs.Begins.{BeginsRound}
@@ -49,6 +50,8 @@ pub record RoundTrees : Type 0 where
   pub keys : List Text
   -- how many names of macros' levels are among the texts that no tape had
   pub owed : ℕ
+  -- how many rounds are done
+  pub rounds : ℕ
 
 abbrev pub roundAtoms : RoundTrees → List Text
 roundAtoms T = T .first ++ T .past
@@ -99,8 +102,17 @@ pub record Stored (w : List ℕ) (room : Room) (z : State) (ts past : List Text)
   pub old-lie : Lies w (room .y) (bytesOfEach (itemBytes 2 ts) old) (z .done)
   pub past-size : room .end ≡ z .low + length (bytesOfEach (atomBytes 2) past)
 
+-- the expander's numbers: nothing is pending; the items are those that the rounds began with, the definitions of macros among them, and those appended
+pub record Tallied (e : Expander) (T : RoundTrees) : Type 0 where
+  pub height : e .height ≡ 0
+  pub round : e .round ≡ T .rounds
+  pub items : e .items + length (withoutMacros (T .definitions)) ≡ length (T .definitions) + (length (T .old) + length (withoutMacros (T .items)))
+  -- each round appended one at least
+  pub few : e .round ≤ e .items
+
 -- THE INVARIANT of rounds
 pub record RoundStands (s w : List ℕ) (room : Room) (t : Grammar) (z : State) (T : RoundTrees) : Type 0 where
+  pub numbers : Tallied (z .expander) T
   pub map : Mapped s (length w) room (z .m .base)
   pub first : room .first ≡ length (bytesOfEach (atomBytes 2) (T .first))
   pub grown : GrownTrees (room .cap) T

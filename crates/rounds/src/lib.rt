@@ -6,6 +6,7 @@ pub mod define;
 pub mod ground;
 pub mod judge;
 pub mod round;
+pub mod steps;
 pub mod whole;
 
 // Where things stand in work: the bytes of the tape's atoms, the output's length, the place of unreplaced items from the second round on, the place of replaced ones, the end of new texts.
@@ -17,8 +18,16 @@ pub struct Room {
     pub end: usize,
 }
 
-// What a round begins with: the texts, the unreplaced items, the end of the replaced ones, the place of the lowest new text.
+// The expander's numbers: the height of the pile of pending symbols, how many rounds are done, how many items there are, the definitions of macros among them.
+pub struct Expander {
+    pub height: usize,
+    pub round: usize,
+    pub items: usize,
+}
+
+// What a round begins with: the expander's numbers, the texts, the unreplaced items, the end of the replaced ones, the place of the lowest new text.
 pub struct State {
+    pub expander: Expander,
     pub m: Map,
     pub from: usize,
     pub end: usize,

@@ -1,10 +1,13 @@
 // One round: symbols replaced, 18, sizes, the pile drained, sizes, the new texts settled.
+use crate::Expander;
 use crate::Room;
 use crate::Rounded;
 use crate::State;
 use crate::ground::clear_built;
 use crate::ground::ground;
 use crate::judge::sizes;
+use crate::steps::drained;
+use crate::steps::push;
 use appending::Appended;
 use expander::Ground;
 use expander::stage::Replaced;
@@ -33,6 +36,7 @@ ghost use Rattle.rounds.specs.Round.{SomeRound, Halfway, SomeHalf, repla
 pub struct Half {
     pub g: Ground,
     pub r: Replaced,
+    pub expander: Expander,
 }
 
 // The unreplaced items, replaced behind those that are.
@@ -42,7 +46,12 @@ fn replace(tape: &[u8], work: &mut [u8], room: Room, t: Grammar, z: State) -> Ha
 {
     let g = ground(tape, work, z.m, t.width, z.from, z.end, room.x);
     let r = replace_items(tape, work, g, z.done);
-    Half { g: g, r: r }
+    let e = push(z.expander, r.pile);
+    Half {
+        g: g,
+        r: r,
+        expander: e,
+    }
 }
 
 // The items of the pile, behind the replaced ones, as far as the output's length allows.
@@ -95,6 +104,7 @@ fn settle_round(
     copy_down(work, h.r.to, v.to, room.x);
     let m = q.m;
     State {
+        expander: drained(h.expander),
         m: m,
         from: room.x,
         end: end,
@@ -169,9 +179,11 @@ fn go_on(tape: &[u8], work: &mut [u8], room: Room, t: Grammar, z: State, h: Half
     if 0 < q {
         return Rounded::Refused(refusal::at(q, 0));
     }
-    if h.r.pile == 0 {
+    if h.expander.height == 0 {
         let m = z.m;
+        let e = h.expander;
         return Rounded::Done(State {
+            expander: e,
             m: m,
             from: z.from,
             end: z.end,
@@ -207,8 +219,8 @@ pub fn round(tape: &[u8], work: &mut [u8], room: Room, t: Grammar, z: State, ove
     ensures { λ r. ⌜ OneRound (now (tape .entry)) (now (work .entry)) room t z over r (now (work .exit)) ⌝ }
 {
     let h = replace(tape, work, room, t, z);
-    if too_many(over, h.r.pile) {
-        return Rounded::Refused(last_pushed(work, h.g, h.r.pile));
+    if too_many(over, h.expander.height) {
+        return Rounded::Refused(last_pushed(work, h.g, h.expander.height));
     }
     go_on(tape, work, room, t, z, h)
 }

@@ -1,4 +1,4 @@
-// All rounds: one after another, as many as are left, and the last.
+// All rounds: one after another, as many as the limit allows, and the last.
 use crate::Room;
 use crate::Rounded;
 use crate::State;
@@ -19,14 +19,12 @@ pub fn rounds(
     ensures { λ r. ⌜ AllRounds (now (tape .entry)) (now (work .entry)) room t limit z r (now (work .exit)) ⌝ }
 {
     let mut x = z;
-    let mut left = limit;
-    while 0 < left {
+    while x.expander.round < limit {
         match round(tape, work, room, t, x, false) {
             Rounded::Refused(why) => return Rounded::Refused(why),
             Rounded::Done(y) => return Rounded::Done(y),
             Rounded::More(y) => x = y,
         }
-        left -= 1;
     }
     round(tape, work, room, t, x, true)
 }

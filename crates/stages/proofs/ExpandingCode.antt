@@ -12,13 +12,16 @@ use Rattle.parse_tree.specs.working.Refusals.{refusalOver}
 use Rattle.parse_tree.specs.declared.refusal.Refusal.{Refusal}
 use Rattle.texts.specs.declared.Map.{Map}
 use Rattle.passes.specs.Outcome.{Tree, Outcome, yes, no}
-use Rattle.passes.specs.Macros.{replaceItems}
+use Rattle.passes.specs.Macros.{replaceItems, withoutMacros}
 use Rattle.passes.specs.Stages.{rounds, macroStages}
 use Rattle.passes.specs.Calls.{sizes, written}
 use Rattle.resolve.specs.declared.Grammar.{Grammar}
+use Rattle.rounds.specs.declared.Expander.{Expander}
 use Rattle.rounds.specs.declared.Room.{Room}
 use Rattle.rounds.specs.declared.State.{State}
 use Rattle.rounds.specs.declared.Rounded.{Rounded}
+use Rattle.rounds.specs.Steps.{started}
+use Rattle.rounds.specs.Standing.{RoundStands}
 use Rattle.rounds.specs.Define.{SomeDeclared, Defined}
 use Rattle.rounds.specs.Round.{SomeRound, Finished, RoundsTo, AllRounds}
 use Rattle.output.specs.plain.Answers.{answerOf}
@@ -52,21 +55,24 @@ pub ruleset macros-rooms = (needs, room-is)
 
 -- ---- `expand_rounds`
 module _ (s w : List ℕ) (m : Map) (t : Grammar) (room : Room) (low : ℕ) where
-  abbrev firstState : State
-  firstState = record { m = m; from = t .at; end = t .end; done = room .y; low = low }
+  abbrev firstState : Expander → State
+  firstState e = record { expander = e; m = m; from = t .at; end = t .end; done = room .y; low = low }
 
   pub rounds-declared : SomeFirst s w m t room low → SomeDeclared s w m t
   rounds-declared A = first-declared s w m t room low (A .four) (A .tree) (A .first) (A .past) (A .owed) (A .stands)
 
-  pub rounds-some : SomeFirst s w m t room low → (w₁ : List ℕ) → Defined s w m t w₁ → SomeRound s w₁ room t firstState
-  rounds-some A w₁ d = record {
+  pub rounds-some : SomeFirst s w m t room low → (w₁ : List ℕ) → Defined s w m t w₁ → (e : Expander) → e ≡ started (t .count) → SomeRound s w₁ room t (firstState e)
+  rounds-some A w₁ d e i = rw i (record {
     trees = firstTrees (A .tree) (A .first) (A .past) (A .owed);
     standing = first-stands s w m t room low (A .four) (A .tree) (A .first) (A .past) (A .owed) (A .stands) w₁ d;
-  }
+  })
 
-  pub rounds-done : (limit : ℕ) (w₁ : List ℕ) → Defined s w m t w₁ → (r : Rounded) (w₂ : List ℕ) → AllRounds s w₁ room t limit firstState r w₂ → FirstRounds s w m t room low limit r w₂
+  pub rounds-done : (limit : ℕ) (w₁ : List ℕ) → Defined s w m t w₁ → (e : Expander) → e ≡ started (t .count) → (r : Rounded) (w₂ : List ℕ) → AllRounds s w₁ room t limit (firstState e) r w₂ → FirstRounds s w m t room low limit r w₂
   unfolding FirstRounds AllRounds macroStages
-  rounds-done limit w₁ d r w₂ a four G first past owed F = a (firstTrees G first past owed) (first-stands s w m t room low four G first past owed F w₁ d)
+  rounds-done limit w₁ d e i r w₂ a four G first past owed F =
+      let n : limit - e .round ≡ limit = omega (arith, ap (λ (x : Expander). x .round) i) in
+      subst (λ (k : ℕ). RoundsTo s room first (rounds (sizes 2 (room .cap)) G k (first ++ past) [] (withoutMacros G) []) r w₂) n
+      (a (firstTrees G first past owed) (subst (λ (x : Expander). RoundStands s w₁ room t (firstState x) (firstTrees G first past owed)) (sym i) (first-stands s w m t room low four G first past owed F w₁ d)))
 
 pub ruleset macros-rounds = (needs, rounds-declared, rounds-some, rounds-done)
 

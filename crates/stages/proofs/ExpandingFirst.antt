@@ -1,5 +1,5 @@
 -- What stands in work where the first round begins: an admitted stage, its macros told in the cells of their names. Assumes nothing.
-use mathlib.Core.Path.{_≡_, sym, _∙_, subst}
+use mathlib.Core.Path.{_≡_, refl, sym, _∙_, subst}
 use mathlib.Core.Bool.{Bool}
 use mathlib.Core.Logic.{_⊎_, inl, inr}
 use mathlib.Core.List.{List, [], _∷_, _++_}
@@ -24,6 +24,7 @@ use Rattle.resolve.proofs.GrammarLaws.{Row}
 use Rattle.macro_expand.specs.Drain.{itemOf}
 use Rattle.rounds.specs.declared.Room.{Room}
 use Rattle.rounds.specs.Define.{Items, SomeDeclared, Defined}
+use Rattle.rounds.specs.Steps.{started}
 use Rattle.rounds.specs.Standing.{DefinesMacros, Tabled, RoundStands}
 use Rattle.rounds.proofs.DefineMeans.{defined-items, defined-found}
 use Rattle.stages.specs.Expanding.{firstTrees, FirstStands}
@@ -90,9 +91,10 @@ module _ (s w : List ℕ) (m : Map) (t : Grammar) (room : Room) (low : ℕ) (fou
         go (inr h) = inr (omega (arith, h .0), h .1)
 
     -- theorem: the first round begins
-    pub first-stands : RoundStands s w′ room t (record { m = m; from = t .at; end = t .end; done = room .y; low = low }) (firstTrees G first past owed)
+    pub first-stands : RoundStands s w′ room t (record { expander = started (t .count); m = m; from = t .at; end = t .end; done = room .y; low = low }) (firstTrees G first past owed)
     unfolding bytesOfEach
     first-stands = record {
+      numbers = record { height = refl; round = refl; items = omega (arith, defines .many); few = omega arith };
       map = rw (d .cells .long) (F .map);
       first = F .atoms;
       grown = F .grown;

@@ -38,7 +38,7 @@ expandedOf s limit cap = after (resolved s cap) (macroStages (sizes 2 cap) limit
 
 -- the trees of a grammar G: of its texts the tape has `first`, and no tape had `past`, among which so many names of macros' levels are owed
 abbrev pub firstTrees : Tree → List Text → List Text → ℕ → RoundTrees
-firstTrees G first past owed = record { definitions = G; first = first; past = past; old = []; items = G; keys = []; owed = owed }
+firstTrees G first past owed = record { definitions = G; first = first; past = past; old = []; items = G; keys = []; owed = owed; rounds = 0 }
 
 -- an admitted stage that stands in work, its new texts from `low` on: all that the first round begins with, but for the cells
 pub record FirstStands (s w : List ℕ) (m : Map) (t : Grammar) (room : Room) (low : ℕ) (four : Bool) (G : Tree) (first past : List Text) (owed : ℕ) : Type 0 where

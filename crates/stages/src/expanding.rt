@@ -11,6 +11,7 @@ use rounds::Room;
 use rounds::Rounded;
 use rounds::State;
 use rounds::define::define;
+use rounds::steps::start;
 use rounds::whole::rounds;
 use texts::Map;
 ghost use mathlib.Core.Path.{_≡_};
@@ -55,6 +56,7 @@ fn expand_rounds(
 {
     define(tape, work, m, t);
     let z = State {
+        expander: start(t.count),
         m: m,
         from: t.at,
         end: t.end,

@@ -1,16 +1,16 @@
 use Rattle.rounds.proofs.RoundCode.{replacing}
+use borrow.Author.Needs.{needs}
 use Rattle.rounds.proofs.round.replace.Statement.{statement}
 use Rattle.rounds.proofs.round.replace.Tie as tie
-use Rattle.rounds.proofs.round.replace.Reads as reads
-use Rattle.rounds.proofs.round.replace.Lts as lts
-use Rattle.expander.proofs.stage.replace_items.Reads as replace-items-reads
-use Rattle.rounds.proofs.ground.ground.Reads as ground-reads
 
 ground-requires : tie.Need-ground-requires
 ground-requires c κs = search replacing
 
 replace-items-requires : tie.Need-replace-items-requires
 replace-items-requires c κs = search replacing
+
+push-requires : tie.Need-push-requires
+push-requires c κs = search replacing
 
 same-length : tie.Need-same-length
 same-length c = search replacing
@@ -19,4 +19,5 @@ returns : tie.Need-returns
 returns c = search replacing
 
 pub replace-spec : {M : Type 1} → statement M
-replace-spec = tie.close (tie.spec ground-requires replace-items-requires same-length returns)
+replace-spec =
+    tie.close (tie.spec ground-requires replace-items-requires push-requires same-length returns)

@@ -1,10 +1,7 @@
 use Rattle.rounds.proofs.RoundCode.{settling}
+use borrow.Author.Needs.{needs}
 use Rattle.rounds.proofs.round.settle_round.Statement.{statement}
 use Rattle.rounds.proofs.round.settle_round.Tie as tie
-use Rattle.rounds.proofs.round.settle_round.Reads as reads
-use Rattle.rounds.proofs.round.settle_round.Lts as lts
-use Rattle.rounds.proofs.round.settle_texts.Reads as settle-texts-reads
-use Rattle.settling.proofs.put.copy_down.Reads as copy-down-reads
 
 sub-end : tie.Need-sub-end
 sub-end c = search settling
@@ -18,6 +15,9 @@ settle-texts-requires c κs = search settling
 copy-down-requires : tie.Need-copy-down-requires
 copy-down-requires c κs = search settling
 
+drained-requires : tie.Need-drained-requires
+drained-requires c κs = search settling
+
 same-length : tie.Need-same-length
 same-length c = search settling
 
@@ -27,4 +27,11 @@ returns c = search settling
 pub settle-round-spec : {M : Type 1} → statement M
 settle-round-spec =
     tie.close
-    (tie.spec sub-end add-end settle-texts-requires copy-down-requires same-length returns)
+    (tie.spec
+    sub-end
+    add-end
+    settle-texts-requires
+    copy-down-requires
+    drained-requires
+    same-length
+    returns)

@@ -1,3 +1,4 @@
+use Prim.Native.Nat.{_-_}
 use Rattle.rounds.proofs.RoundsCode.{Turning, turning}
 use Rattle.rounds.proofs.whole.rounds.Statement.{statement}
 use Rattle.rounds.proofs.whole.rounds.Tie as tie
@@ -6,10 +7,10 @@ use Rattle.rounds.proofs.whole.rounds.Lts as lts
 use Rattle.rounds.proofs.round.round.Reads as round-reads
 
 abbrev Inv-loop : tie.InvT-loop
-Inv-loop tape work₀ room t limit x₀ left₀ work x left = Turning tape room t work₀ x₀ limit work x left
+Inv-loop tape work₀ room t limit x₀ work x = Turning tape room t work₀ x₀ limit work x
 
 abbrev μ-loop : tie.MeasureT-loop
-μ-loop tape work₀ room t limit x₀ left₀ work x left = left
+μ-loop tape work₀ room t limit x₀ work x = limit - x .expander .round
 
 loop-holds : tie.Need-loop-holds Inv-loop μ-loop
 loop-holds c = search turning
@@ -37,9 +38,6 @@ returns-2 c = search turning
 
 enum-known-y-2 : tie.Need-enum-known-y-2 Inv-loop μ-loop
 enum-known-y-2 c = search turning
-
-sub-left : tie.Need-sub-left Inv-loop μ-loop
-sub-left c = search turning
 
 loop-less : tie.Need-loop-less Inv-loop μ-loop
 loop-less c = search turning
@@ -71,7 +69,6 @@ rounds-spec =
     same-length-2
     returns-2
     enum-known-y-2
-    sub-left
     loop-less
     loop-again
     round-requires-2

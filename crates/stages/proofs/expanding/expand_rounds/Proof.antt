@@ -1,13 +1,13 @@
 use Rattle.stages.proofs.ExpandingCode.{macros-rounds}
+use borrow.Author.Needs.{needs}
 use Rattle.stages.proofs.expanding.expand_rounds.Statement.{statement}
 use Rattle.stages.proofs.expanding.expand_rounds.Tie as tie
-use Rattle.stages.proofs.expanding.expand_rounds.Reads as reads
-use Rattle.stages.proofs.expanding.expand_rounds.Lts as lts
-use Rattle.rounds.proofs.define.define.Reads as define-reads
-use Rattle.rounds.proofs.whole.rounds.Reads as rounds-reads
 
 define-requires : tie.Need-define-requires
 define-requires c κs = search macros-rounds
+
+start-requires : tie.Need-start-requires
+start-requires c κs = search macros-rounds
 
 rounds-requires : tie.Need-rounds-requires
 rounds-requires c κs = search macros-rounds
@@ -19,4 +19,5 @@ returns : tie.Need-returns
 returns c = search macros-rounds
 
 pub expand-rounds-spec : {M : Type 1} → statement M
-expand-rounds-spec = tie.close (tie.spec define-requires rounds-requires same-length returns)
+expand-rounds-spec =
+    tie.close (tie.spec define-requires start-requires rounds-requires same-length returns)

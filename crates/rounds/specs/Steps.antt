@@ -1,0 +1,15 @@
+-- The expander's numbers from step to step. Assumes nothing: these are definitions.
+use Prim.Native.Nat.{ℕ, _+_}
+use Rattle.rounds.specs.declared.Expander.{Expander}
+
+-- so many items, and nothing is pending
+abbrev pub started : ℕ → Expander
+started n = record { height = 0; round = 0; items = n }
+
+-- n symbols are pending
+abbrev pub pending : Expander → ℕ → Expander
+pending e n = record { height = n; round = e .round; items = e .items }
+
+-- each of them became an item, in a round more
+abbrev pub expanded : Expander → Expander
+expanded e = record { height = 0; round = e .round + 1; items = e .items + e .height }
