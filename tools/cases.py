@@ -609,11 +609,12 @@ def spans():
 
 
 def lines_that_are_none():
-    for line in ["", " ", "validate", "validate ", "validate  00", " validate none", "valid none", "Validate none", "level none", "levels", "whole none", "resolve", "resolve "]:
+    for line in ["", " ", "validate", "validate ", "validate  00", " validate none", "valid none", "Validate none", "level none", "levels",
+                 "macro none", "macros", "wholes none", "whole", "whole ", "resolve", "resolve "]:
         malformed(line)
-    for words in ["odd 0", "odd3 000", "letter 0G", "low aa", "two  00", "behind 00 ", "no-number a", "no-length w", "no-output o", "no-times x41",
-                  "word-in a1b", "times-in 1x2x41", "odd-times 2x4", "too-many a70305", "too-far 400001x00", "too-far2 400000x00 00",
-                  "too-much w3200001", "too-much-output o16385", "large w10000000", "larger w99999999999999999999", "stray -"]:
+    for words in ["odd 0", "odd3 000", "letter 0G", "low aa", "two  00", "behind 00 ", "no-number a", "no-length w", "no-output o",
+                  "no-limit l", "limit l1A", "no-times x41", "word-in a1b", "times-in 1x2x41", "odd-times 2x4", "too-many a70305",
+                  "too-far 400001x00", "too-far2 400000x00 00", "too-much w3200001", "too-much-output o16385", "large w10000000", "larger w99999999999999999999", "stray -"]:
         malformed(f"validate {words}")
 
 

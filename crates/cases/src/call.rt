@@ -1,14 +1,22 @@
 // The calls that a line can name.
 use normalize::calls::levels;
+use normalize::calls::macros;
 use normalize::calls::resolve;
 use normalize::calls::validate;
+use normalize::calls::whole;
 use octets::runs::equal;
 use output::Answer;
 
+// The rounds of macros where no word says how many.
+pub const ROUNDS: usize = 64;
+
+// Macros and the whole within so many rounds.
 pub enum Call {
     Validate,
     Resolve,
     Levels,
+    Macros(usize),
+    Whole(usize),
 }
 
 pub enum Named {
@@ -26,15 +34,29 @@ pub fn call_of(word: &[u8]) -> Named {
     if equal(word, b"levels") {
         return Named::Is(Call::Levels);
     }
+    if equal(word, b"macros") {
+        return Named::Is(Call::Macros(ROUNDS));
+    }
+    if equal(word, b"whole") {
+        return Named::Is(Call::Whole(ROUNDS));
+    }
     Named::Nothing
+}
+
+// The call within another limit, if it takes one.
+pub fn within(call: Call, limit: usize) -> Call {
+    match call {
+        Call::Macros(_) => Call::Macros(limit),
+        Call::Whole(_) => Call::Whole(limit),
+        _ => call,
+    }
 }
 
 // How long the output is where no word says it.
 pub fn usual_output(call: Call, tape: usize) -> usize {
     match call {
         Call::Validate => 0,
-        Call::Resolve => tape,
-        Call::Levels => tape,
+        _ => tape,
     }
 }
 
@@ -42,8 +64,7 @@ pub fn usual_output(call: Call, tape: usize) -> usize {
 pub fn handed(call: Call, output: usize) -> usize {
     match call {
         Call::Validate => 0,
-        Call::Resolve => output,
-        Call::Levels => output,
+        _ => output,
     }
 }
 
@@ -52,5 +73,7 @@ pub fn ask(call: Call, tape: &[u8], output: &mut [u8], work: &mut [u8]) -> Answe
         Call::Validate => validate(tape, work),
         Call::Resolve => resolve(tape, output, work),
         Call::Levels => levels(tape, output, work),
+        Call::Macros(limit) => macros(tape, limit, output, work),
+        Call::Whole(limit) => whole(tape, limit, output, work),
     }
 }

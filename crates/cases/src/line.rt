@@ -1,8 +1,10 @@
 // One line: its case built and run.
 use crate::call::Call;
 use crate::call::Named;
+use crate::call::ROUNDS;
 use crate::call::call_of;
 use crate::call::usual_output;
+use crate::call::within;
 use crate::report::run_case;
 use crate::tape::put_word;
 use libc::STDOUT_FILENO;
@@ -13,9 +15,10 @@ use notation::words::find;
 ghost use Prim.Native.Nat.{_≤_};
 ghost use lib.ListN.{length};
 
-// A case so far: the length of its tape, and those of the buffers where a word gave one.
+// A case so far: the length of its tape, its limit, and the lengths of the buffers where a word gave one.
 struct Case {
     tape: usize,
+    limit: usize,
     has_output: bool,
     output: usize,
     has_work: bool,
@@ -30,6 +33,7 @@ enum Read {
 fn with_output(c: Case, n: usize) -> Case {
     Case {
         tape: c.tape,
+        limit: c.limit,
         has_output: true,
         output: n,
         has_work: c.has_work,
@@ -40,6 +44,7 @@ fn with_output(c: Case, n: usize) -> Case {
 fn with_work(c: Case, n: usize) -> Case {
     Case {
         tape: c.tape,
+        limit: c.limit,
         has_output: c.has_output,
         output: c.output,
         has_work: true,
@@ -47,9 +52,21 @@ fn with_work(c: Case, n: usize) -> Case {
     }
 }
 
+fn with_limit(c: Case, n: usize) -> Case {
+    Case {
+        tape: c.tape,
+        limit: n,
+        has_output: c.has_output,
+        output: c.output,
+        has_work: c.has_work,
+        work: c.work,
+    }
+}
+
 fn with_tape(c: Case, n: usize) -> Case {
     Case {
         tape: n,
+        limit: c.limit,
         has_output: c.has_output,
         output: c.output,
         has_work: c.has_work,
@@ -74,6 +91,12 @@ fn read_word(word: &[u8], tape: &mut [u8], c: Case) -> Read {
         };
         return Read::Case(with_work(c, n));
     }
+    if word[0] == b'l' {
+        let Number::Is(n) = decimal(&word[1..]) else {
+            return Read::Bad;
+        };
+        return Read::Case(with_limit(c, n));
+    }
     match put_word(word, tape, c.tape) {
         Written::Bad => Read::Bad,
         Written::To(e) => Read::Case(with_tape(c, e)),
@@ -84,6 +107,7 @@ fn read_word(word: &[u8], tape: &mut [u8], c: Case) -> Read {
 fn read_words(line: &[u8], from: usize, tape: &mut [u8]) -> Read {
     let mut c = Case {
         tape: 0,
+        limit: ROUNDS,
         has_output: false,
         output: 0,
         has_work: false,
@@ -173,6 +197,7 @@ fn run_named(
     };
     let o = output_length(c, call);
     let w = work_length(c, o);
+    let call = within(call, c.limit);
     run_sized(&line[..end], call, c.tape, o, w, tape, output, work);
 }
 

@@ -54,8 +54,7 @@ fn print_untouched(output: &[u8]) {
 fn print_output(call: Call, output: &[u8], n: usize) {
     match call {
         Call::Validate => print_untouched(output),
-        Call::Resolve => print_tree(output, n),
-        Call::Levels => print_tree(output, n),
+        _ => print_tree(output, n),
     }
 }
 

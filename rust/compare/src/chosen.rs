@@ -1,12 +1,12 @@
-//! The stored lists: short cases of a call, as many of each answer, answered by the second reading and the Rust.
-//! 20 is not among them: it takes more than 65,536 atoms, or a name of 65,535 bytes.
+//! The stored lists: short cases of a call, answered by the second reading and the Rust. Of resolving and of levels as many of each answer; 20 is not
+//! among them: it takes more than 65,536 atoms, or a name of 65,535 bytes. Those of macros and of the whole are in `chosen_rounds`.
 use crate::case::{at_level_lengths, Case, Room};
 use crate::grammars::{MACRO_EXPAND, PRECEDENCE, RESOLVE};
 use crate::grow::Size;
 use crate::judge::expected;
 use crate::ladders::graded;
 use crate::levels::{CASES, OTHERS, REFUSED};
-use crate::{mix, short};
+use crate::{chosen_rounds, mix, short};
 use oracle::chance::Chance;
 use oracle::Call;
 use reading::commands::hex;
@@ -16,22 +16,33 @@ use std::collections::BTreeMap;
 pub const OF_EACH: usize = 20;
 const MOST_UNCHANGED: usize = 6;
 pub const LONGEST: usize = 399;
-/// Of levels: what crates/cases reads at once has 524,288 bytes.
+/// Of levels: the file is to stay short.
 const LONGEST_OF_LEVELS: usize = 250;
 pub const MOST_OUTPUT: usize = 512;
 pub const MOST_WORK: usize = 8_192;
 
 /// The answers of a call that are stored, 0 being a yes. Of levels only its own: 1 to 13 are resolving's, which the same code answers.
 pub fn numbers(call: Call) -> Vec<u8> {
-    let own = if call == Call::Levels { 14..=16 } else { 1..=13 };
-    [0].into_iter().chain(own).chain([21]).collect()
+    match call {
+        Call::Resolve => (0..=13).chain([21]).collect(),
+        Call::Levels => vec![0, 14, 15, 16, 21],
+        Call::Macros => [0, 1].into_iter().chain(5..=13).chain(17..=21).collect(),
+        Call::Whole => [0, 1, 5, 6, 7, 8, 10].into_iter().chain(14..=21).collect(),
+    }
 }
 
-/// The cases by answer, or nothing where the Rust isn't there.
+/// The cases of a call, or nothing where the Rust isn't there.
 pub fn stored(call: Call) -> Option<Vec<(Case, Outcome)>> {
     oracle::panics_are_answers();
-    let candidates: Box<dyn Iterator<Item = Case>> =
-        if call == Call::Levels { Box::new(level_candidates()) } else { Box::new(candidates()) };
+    match call {
+        Call::Resolve => by_answer(call, candidates()),
+        Call::Levels => by_answer(call, level_candidates()),
+        Call::Macros | Call::Whole => chosen_rounds::stored(call),
+    }
+}
+
+/// As many cases of each answer.
+fn by_answer(call: Call, candidates: impl Iterator<Item = Case>) -> Option<Vec<(Case, Outcome)>> {
     let mut found: BTreeMap<u8, Vec<(Case, Outcome)>> = BTreeMap::new();
     for case in candidates.filter(|case| is_small(case, call)).take_while(|_| oracle::is_there()) {
         let outcome = expected(&case, call)?;
@@ -102,19 +113,32 @@ pub fn word(call: Call) -> &'static str {
     }
 }
 
+/// Whether the call takes a limit.
+pub fn has_rounds(call: Call) -> bool {
+    matches!(call, Call::Macros | Call::Whole)
+}
+
 /// The lines of crates/cases for the list of a call, each with its answer.
 pub fn lines(call: Call, list: &[(Case, Outcome)]) -> Vec<(String, String)> {
-    let line = |(index, (case, outcome)): (usize, &(Case, Outcome))| {
-        let name = format!("{} stored-{index}", word(call));
-        (case_line(&name, case), answer_line(&name, outcome))
-    };
+    let line = |(index, (case, outcome)): (usize, &(Case, Outcome))| line(call, &format!("stored-{index}"), case, outcome);
     list.iter().enumerate().map(line).collect()
 }
 
-/// The call and the name, the tape in hex if it has a byte, the output's length, work's length.
-fn case_line(name: &str, case: &Case) -> String {
+/// The line of one case, and that of its answer.
+pub fn line(call: Call, name: &str, case: &Case, outcome: &Outcome) -> (String, String) {
+    let name = format!("{} {name}", word(call));
+    (case_line(&name, call, case), answer_line(&name, outcome))
+}
+
+/// The limit where a line doesn't say it.
+pub const USUAL_LIMIT: u16 = 64;
+
+/// The call and the name, the tape in hex if it has a byte, the limit of a call that takes one if it isn't the usual one, the output's length, work's
+/// length.
+fn case_line(name: &str, call: Call, case: &Case) -> String {
     let tape = if case.tape.is_empty() { String::new() } else { format!(" {}", hex(&case.tape)) };
-    format!("{name}{tape} o{} w{}", case.output_len(), case.work_len())
+    let limit = if has_rounds(call) && case.limit != USUAL_LIMIT { format!(" l{}", case.limit) } else { String::new() };
+    format!("{name}{tape}{limit} o{} w{}", case.output_len(), case.work_len())
 }
 
 /// `yes LENGTH TREE` or `refused NUMBER PLACE PLACE`, behind the call and the name.

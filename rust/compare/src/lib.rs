@@ -3,6 +3,7 @@ use std::io::Write;
 
 pub mod case;
 pub mod chosen;
+pub mod chosen_rounds;
 pub mod edges;
 pub mod grammars;
 pub mod grow;
@@ -17,6 +18,7 @@ pub mod run;
 pub mod short;
 pub mod shrink;
 pub mod stages;
+pub mod stated;
 pub mod tally;
 pub mod whole;
 

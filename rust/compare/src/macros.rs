@@ -11,10 +11,15 @@ pub const LIMITS: [u16; 7] = [0, 1, 2, 3, 7, 64, 65_535];
 
 /// The grammars of LALRPOP's unit tests and these, within each limit, with outputs up to so many bytes longer than the tape.
 pub fn cases(chance: &mut Chance, more: usize) -> Vec<Case> {
-    let tapes = grammars::all().map(|known| known.tape()).chain(GRAMMARS.iter().map(|(_, grammar)| write(&parse(grammar))));
+    let tapes = grammars::all().map(|known| known.tape()).chain(chosen());
     let within_each = tapes.flat_map(|tape| LIMITS.map(|limit| (tape.clone(), limit)));
     let rounds = |tape: &[u8], limit| Rounds { call: Call::Macros, limit, longest: tape.len() + more };
     within_each.flat_map(|(tape, limit)| at_round_lengths(chance, &tape, rounds(&tape, limit))).collect()
+}
+
+/// The tapes of the chosen grammars.
+pub fn chosen() -> impl Iterator<Item = Vec<u8>> {
+    GRAMMARS.iter().map(|(_, grammar)| write(&parse(grammar)))
 }
 
 /// Document 01's case: two rounds.

@@ -1,7 +1,7 @@
-//! Of the Rust's side alone: what goes in comes back, the unit tests' refusals are its own, the stored list has every answer.
-use compare::chosen::{lines, numbers, stored, word, LONGEST, OF_EACH};
+//! Of the Rust's side alone: what goes in comes back, the unit tests' refusals are its own, the stored lists have every answer.
+use compare::chosen::{has_rounds, lines, numbers, stored, word, LONGEST, OF_EACH};
 use compare::grow::{tree, Size};
-use compare::{grammars, the_rust_is_there};
+use compare::{grammars, stated, the_rust_is_there};
 use oracle::chance::Chance;
 use oracle::Call;
 
@@ -29,37 +29,43 @@ fn the_unit_tests_answers_are_the_rusts() {
     }
 }
 
+/// The calls that crates/cases makes with stored cases.
+const STORED: [Call; 4] = [Call::Resolve, Call::Levels, Call::Macros, Call::Whole];
+
+/// As many of each answer of resolving and levels, some of each of the calls with rounds.
 #[test]
 fn the_stored_lists_have_each_answer() {
-    for call in [Call::Resolve, Call::Levels] {
+    for call in STORED {
         let numbers = numbers(call);
-        if !the_rust_is_there(numbers.len() * OF_EACH) {
+        if !the_rust_is_there(numbers.len()) {
             continue;
         }
         let list = stored(call).unwrap();
-        assert_eq!(list.len(), numbers.len() * OF_EACH);
-        assert!(list.iter().all(|(case, _)| case.tape.len() <= LONGEST));
-        for number in numbers {
-            let of_number = |outcome: &reading::Outcome| outcome.as_ref().err().map_or(0, |refusal| refusal.number) == number;
-            assert_eq!(list.iter().filter(|(_, outcome)| of_number(outcome)).count(), OF_EACH);
+        let of =
+            |number: u8| list.iter().filter(|(_, outcome)| outcome.as_ref().err().map_or(0, |refusal| refusal.number) == number).count();
+        assert_eq!(numbers.iter().map(|number| of(*number)).sum::<usize>(), list.len());
+        if has_rounds(call) {
+            assert!(numbers.iter().all(|number| of(*number) > 0) && (60..=150).contains(&list.len()));
+        } else {
+            assert!(numbers.iter().all(|number| of(*number) == OF_EACH));
+            assert!(list.iter().all(|(case, _)| case.tape.len() <= LONGEST));
         }
     }
 }
 
-/// The calls that crates/cases makes with stored cases.
-const STORED: [Call; 2] = [Call::Resolve, Call::Levels];
-
-/// What crates/cases puts to them is what these lists say.
+/// What crates/cases puts to them is what these lists and the stated cases say.
 #[test]
 fn the_stored_files_are_these_lists() {
     let file = |name: &str| std::fs::read_to_string(format!("{}/../../crates/cases/{name}", env!("CARGO_MANIFEST_DIR"))).unwrap();
     for call in STORED {
-        if !the_rust_is_there(numbers(call).len() * OF_EACH) {
+        if !the_rust_is_there(numbers(call).len()) {
             continue;
         }
-        let start = format!("{} stored-", word(call));
-        let of_call = |text: &str| text.lines().filter(|line| line.starts_with(&start)).map(str::to_string).collect::<Vec<_>>();
-        let (cases, answers): (Vec<String>, Vec<String>) = lines(call, &stored(call).unwrap()).into_iter().unzip();
+        let starts = ["stored", "reading"].map(|start| format!("{} {start}-", word(call)));
+        let is_stored = |line: &&str| starts.iter().any(|start| line.starts_with(start));
+        let of_call = |text: &str| text.lines().filter(is_stored).map(str::to_string).collect::<Vec<_>>();
+        let all = lines(call, &stored(call).unwrap()).into_iter().chain(stated::lines(call).unwrap());
+        let (cases, answers): (Vec<String>, Vec<String>) = all.unzip();
         assert_eq!(of_call(&file("stdin")), cases);
         assert_eq!(of_call(&file("stdout")), answers);
     }

@@ -4,6 +4,7 @@ use Rattle.cases.proofs.line.run_named.Statement.{statement}
 use Rattle.cases.proofs.line.run_named.Tie as tie
 use Rattle.cases.proofs.line.run_named.Reads as reads
 use Rattle.cases.proofs.line.run_named.Lts as lts
+use Rattle.cases.proofs.call.within.Reads as within-reads
 use Rattle.cases.proofs.line.output_length.Reads as output-length-reads
 use Rattle.cases.proofs.line.print_bad.Reads as print-bad-reads
 use Rattle.cases.proofs.line.read_words.Reads as read-words-reads
@@ -33,6 +34,9 @@ output-length-requires c κs = search needs
 
 work-length-requires : tie.Need-work-length-requires
 work-length-requires c κs = search needs
+
+within-requires : tie.Need-within-requires
+within-requires c κs = search needs
 
 slice-aggregate-run-sized : tie.Need-slice-aggregate-run-sized
 slice-aggregate-run-sized c = search parts
@@ -64,6 +68,7 @@ run-named-spec =
     returns
     output-length-requires
     work-length-requires
+    within-requires
     slice-aggregate-run-sized
     run-sized-requires
     same-length-2
