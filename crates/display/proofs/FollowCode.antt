@@ -1,4 +1,4 @@
--- A printed form held against a text: the loop of `follow`, and the ways out. Assumes nothing.
+-- A printed form held against a text: a loop through the symbols straight inside, for crate expander, and its ways out. Assumes nothing.
 use mathlib.Core.Path.{_≡_, refl, sym, ap, _∙_}
 use mathlib.Core.Bool.{Bool}
 use mathlib.Core.List.{List, _++_}
@@ -22,8 +22,8 @@ use Rattle.resolve.specs.Commands.{longOf}
 use Rattle.grades.specs.Skip.{insideBy}
 use Rattle.display.specs.declared.Met.{Met}
 use Rattle.display.specs.Standing.{Readable, SymStands, SymsStand, SomeSym}
-use Rattle.display.specs.Follow.{metBy, beforeBy, behindBy, betweenBy, Follows, IsForm}
-use Rattle.display.proofs.MetLaws.{met-append, met-is}
+use Rattle.display.specs.Follow.{metBy, beforeBy, behindBy, betweenBy, Follows}
+use Rattle.display.proofs.MetLaws.{met-append}
 use Rattle.display.proofs.StandsLaws.{beforeText, betweenText, behindText, print-parts, standing, first-stands, none-stand}
 
 -- the symbols that are left, k stand before them
@@ -150,9 +150,3 @@ going-done s w m wd left t p c n b q k i g l a d =
     }
 
 pub ruleset following = (needs, some-room, some-within, some-high, some-fits, going-start, going-some, going-next, going-done)
-
--- ---- is_form
-pub form-is : (s w : List ℕ) (m : Map) (wd left at : ℕ) (t : Text) (q : Met) → Follows s w m wd left t (record { at = at; i = 0 }) q → IsForm s w m wd left at t (eqb (q .i) (length t))
-form-is s w m wd left at t q f = record { says = λ four e x h. ap (λ (z : ℕ). eqb z (length t)) (f .met four e x h) ∙ sym (met-is t 0 (print x) (omega arith)) }
-
-pub ruleset forming = (needs, form-is)
