@@ -4,7 +4,6 @@ use mathlib.Core.Bool.{Bool}
 use mathlib.Core.List.{List, _++_}
 use Prim.Native.Nat.{ℕ, zero, suc, _+_, _-_, _*_, _^_, _<_, _≤_}
 use native.Mathlib.Omega.{arith}
-use borrow.Author.Needs.{needs}
 use borrow.Author.Tests.{ne-eqb}
 use mir.Val.{Fits}
 use mir.Syntax.{w64}
@@ -96,14 +95,6 @@ module _ (s w : List ℕ) (m : Map) (wd left : ℕ) (t : Text) (at : ℕ) where
     held : (four : Bool) (e : ℕ) (x : Sym) → SymStands s w m wd four left at e x → n ≡ count (children x)
     held four e x h = g .number ∙ ap (insideBy wd w at) (g .code) ∙ standing s w m wd four left at e x h .reads .held
 
-    pub going-some : k < n → SomeSym s w m wd (left - 1) (q .at)
-    unfolding count
-    going-some l = let b = g .some in let r = g .carry (b .four) (b .end) (b .symbol) (b .stands) in go (r .rest) (r .many) (r .stand)
-      where
-        go : (xs : Syms) → k + count xs ≡ count (children (g .some .symbol)) → SymsStand s w m wd (g .some .four) (left - 1) (q .at) (g .some .end) xs → SomeSym s w m wd (left - 1) (q .at)
-        go nil j h = let z = held (g .some .four) (g .some .end) (g .some .symbol) (g .some .stands) in absurd (omega arith)
-        go (cons y ys) j h = record { four = g .some .four; end = _; symbol = y; stands = first-stands s w m wd (g .some .four) (left - 1) (q .at) (g .some .end) y ys h .0 }
-
     pub going-next : (i : ℕ) (r : Met) → k < n → i ≡ metBy t (q .i) (betweenBy c k) → Follows s w m wd (left - 1) t (record { at = q .at; i = i }) r → Going c n b r (k + 1)
     unfolding count
     going-next i r l d f =
@@ -148,5 +139,3 @@ going-done s w m wd left t p c n b q k i g l a d =
       place = λ four e x h. place s w m wd left t (p .at) c n b q k g four e x l h (g .carry four e x h .rest) (g .carry four e x h .many) (g .carry four e x h .stand);
       met = λ four e x h. all-met s w m wd left t (p .at) c n b q k g i (p .i) l a d four e x h (g .carry four e x h .rest) (g .carry four e x h .many) (g .carry four e x h .met);
     }
-
-pub ruleset following = (needs, some-room, some-within, some-high, some-fits, going-start, going-some, going-next, going-done)

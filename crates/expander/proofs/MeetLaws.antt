@@ -2,41 +2,33 @@
 use mathlib.Core.Path.{_≡_, refl, sym, ap, _∙_, subst}
 use mathlib.Core.Bool.{Bool, true, false}
 use mathlib.Core.List.{List, [], _∷_, _++_}
-use Prim.Native.Nat.{ℕ, _+_, _-_, _*_, _/_, _%_, _<_, _≤_}
+use Prim.Native.Nat.{ℕ, _+_, _-_, _/_, _%_, _<_}
 use native.Mathlib.Omega.{arith}
-use borrow.Author.Tests.{eqb-true, ltb-false}
-use lib.Dec.{eqb, ltb}
-use lib.ListN.{length, getD}
+use borrow.Author.Tests.{eqb-true}
+use lib.Dec.{eqb}
+use lib.ListN.{getD}
 use Rattle.octets.specs.working.Choice.{pick}
-use Rattle.parse_tree.specs.plain.Tree.{Text, Sym, nil, cons, count}
+use Rattle.parse_tree.specs.plain.Tree.{Text, Sym, count}
 use Rattle.parse_tree.specs.plain.Display.{print}
-use Rattle.parse_tree.specs.plain.Reading.{got}
-use Rattle.parse_tree.specs.working.Decode.{readSym}
 use Rattle.parse_tree.specs.working.Within.{Each}
-use Rattle.parse_tree.specs.working.Encode.{symBytes}
 use Rattle.parse_tree.proofs.ReadingLaws.{got-as}
 use Rattle.parse_tree.proofs.ItemBack.{sym-reads}
-use Rattle.laws.specs.Flat.{symNode, children}
-use Rattle.laws.proofs.Flat.{syms-fit, node-size}
 use Rattle.texts.specs.declared.Map.{Map}
 use Rattle.texts.specs.Table.{texts}
-use Rattle.grades.specs.Skip.{skipOut}
-use Rattle.grades.proofs.SkipMean.{skip-means}
 use Rattle.replacing.specs.Trees.{isKey}
 use Rattle.replacing.specs.Slots.{Ref, text, Slots}
 use Rattle.replacing.specs.Sound.{HasRef, Good}
 use Rattle.replacing.proofs.NumbersMean.{ref-good}
 use Rattle.display.specs.declared.Met.{Met}
-use Rattle.display.specs.Standing.{SymStands, SymsStand}
+use Rattle.display.specs.Standing.{SymStands}
 use Rattle.display.specs.Follow.{metBy, Follows}
-use Rattle.display.proofs.StandsLaws.{one-stands}
 use Rattle.expander.specs.declared.Ground.{Ground}
-use Rattle.expander.specs.Ground.{sizeIn, slotAt, symbolIn, KeyAt, Grounded}
+use Rattle.expander.specs.Ground.{slotAt, symbolIn, KeyAt, Grounded}
 use Rattle.expander.specs.Held.{refBy, refIn, followed, Held}
-use Rattle.expander.specs.Replace.{expandedCode, keysOf}
-use Rattle.expander.specs.Meet.{slotText, knownAt, innerKeys, NotedAt, SomeKnown, SomeInner}
+use Rattle.expander.specs.Replace.{expandedCode}
+use Rattle.expander.specs.Meet.{SomeEnd, EndsAt, knownAt, innerKeys, NotedAt, SomeKnown, SomeInner}
 use Rattle.expander.proofs.SlotsCode.{followed-even, ref-text}
-use Rattle.expander.proofs.KeysLaws.{ownKeys, keys-parts, sym-any, sym-length, stands-code, stands-symbol}
+use Rattle.expander.proofs.KeysLaws.{ownKeys, keys-parts, sym-any, stands-code, stands-symbol}
 
 -- ---- what holds of each of two lists
 pub each-parts : {A : Type 0} (P : A → Type 0) (xs ys : List A) → Each P (xs ++ ys) → Each P xs × Each P ys
@@ -58,21 +50,18 @@ one-symbol s w m wd left at four e x other d y h k =
 
 -- ---- a text that a slot tells of
 pub record Tells (w : List ℕ) (g : Ground) (at k : ℕ) : Type 0 where
-  pub far : 16 ≤ length w - g .end
   pub code : expandedCode (getD w at 0) ≡ true
   pub even : slotAt w g (at - g .from) % 2 ≡ 0
   pub is : k ≡ slotAt w g (at - g .from) / 2
 
 tells : (w : List ℕ) (g : Ground) (at k : ℕ) → k ≡ knownAt w g at → k < g .m .count → Tells w g at k
-unfolding knownAt slotText pick
-tells w g at k e l = go (ltb (length w - g .end) 16) (expandedCode (getD w at 0)) (eqb (slotAt w g (at - g .from) % 2) 0) refl refl refl e
+unfolding knownAt pick
+tells w g at k e l = go (expandedCode (getD w at 0)) (eqb (slotAt w g (at - g .from) % 2) 0) refl refl e
   where
-    go : (a b c : Bool) → ltb (length w - g .end) 16 ≡ a → expandedCode (getD w at 0) ≡ b → eqb (slotAt w g (at - g .from) % 2) 0 ≡ c
-        → k ≡ pick a (g .m .count) (pick b (pick c (slotAt w g (at - g .from) / 2) (g .m .count)) (g .m .count)) → Tells w g at k
-    go true b c i j o z = absurd (omega arith)
-    go false false c i j o z = absurd (omega arith)
-    go false true false i j o z = absurd (omega arith)
-    go false true true i j o z = record { far = ltb-false (length w - g .end) 16 i; code = j; even = eqb-true (slotAt w g (at - g .from) % 2) 0 o; is = z }
+    go : (b c : Bool) → expandedCode (getD w at 0) ≡ b → eqb (slotAt w g (at - g .from) % 2) 0 ≡ c → k ≡ pick b (pick c (slotAt w g (at - g .from) / 2) (g .m .count)) (g .m .count) → Tells w g at k
+    go false c j o z = absurd (omega arith)
+    go true false j o z = absurd (omega arith)
+    go true true j o z = record { code = j; even = eqb-true (slotAt w g (at - g .from) % 2) 0 o; is = z }
 
 module _ (s w : List ℕ) (g : Ground) (G : Grounded s w g) where
   -- theorem: the text that an even slot tells of is the print
@@ -88,9 +77,6 @@ module _ (s w : List ℕ) (g : Ground) (G : Grounded s w g) where
     here : SymStands s w (g .m) (g .width) (K .four) left at (g .from + K .end) (K .symbol)
     here = rw (K .is) (K .stands)
 
-    size : K .place + 9 ≤ K .end
-    size = omega (arith, K .stands .lies .end, sym-length (g .width) (texts s w (g .m)) (K .symbol), node-size (g .width) (texts s w (g .m)) (K .symbol))
-
     -- its own place has a reference if it is expanded
     parts : NotedAt s w g (innerKeys s w g (K .symbol) (K .place)) × NotedAt s w g (ownKeys (isKey (K .symbol)) (K .place))
     parts = noted-parts s w g (innerKeys s w g (K .symbol) (K .place)) (ownKeys (isKey (K .symbol)) (K .place)) (subst (NotedAt s w g) (keys-parts (g .width) (texts s w (g .m)) (K .symbol) (K .place)) (K .noted))
@@ -99,12 +85,13 @@ module _ (s w : List ℕ) (g : Ground) (G : Grounded s w g) where
     pub known-inner : SomeInner s w g left at
     known-inner = record { four = K .four; place = K .place; end = K .end; symbol = K .symbol; is = K .is; levels = K .levels; stands = K .stands; inside = K .inside; noted = parts .0 }
 
+    -- and it lies there
+    pub known-lies : SomeEnd w (g .width) at
+    known-lies = record { end = g .from + K .end; lies = record { texts = texts s w (g .m); four = K .four; left = left; symbol = K .symbol; within = here .within; lies = here .lies } }
+
     module _ (k : ℕ) (e : k ≡ knownAt w g at) (l : k < g .m .count) where
       told : Tells w g at k
       told = tells w g at k e l
-
-      pub known-far : g .end + 16 ≤ length w
-      known-far = omega (arith, told .far)
 
       expanded : isKey (K .symbol) ≡ true
       expanded = sym (stands-code s w g G (K .four) left (K .place) (K .end) (K .symbol) (K .stands) (K .inside)) ∙ ap (λ (a : ℕ). expandedCode (getD w a 0)) (sym (K .is)) ∙ told .code
@@ -121,20 +108,14 @@ module _ (s w : List ℕ) (g : Ground) (G : Grounded s w g) where
           let i = slot-print (own .pushed) (own .new) (K .place) (slotAt w g (at - g .from)) (own .slots) (own .held) (own .noted .0) (ap (slotAt w g) z) (told .even) (omega (arith, told .is)) in
           ap (λ (a : ℕ). getD (texts s w (g .m)) a []) (told .is) ∙ i ∙ ap print (stands-symbol s w g G (K .four) left (K .place) (K .end) (K .symbol) (K .stands) (K .inside) (K .levels))
 
-      -- the place behind it
-      known-end : skipOut (g .width) (g .end) w at (g .end) 1 ≡ g .from + K .end
-      unfolding sizeIn count
-      known-end =
-          let o = one-stands s w (g .m) (g .width) (K .four) left at (g .from + K .end) (K .symbol) here in
-          skip-means (g .width) (texts s w (g .m)) (cons (K .symbol) nil) (syms-fit (g .width) (texts s w (g .m)) (K .four) (cons (K .symbol) nil) left (o .within)) w at (g .from + K .end) (g .end)
-          (omega (arith, K .inside, G .ordered)) (o .lies)
-
 -- theorem: the text was held against t in its place
 pub known-follows : (s w : List ℕ) (g : Ground) (left : ℕ) (t : Text) (p : Met) (k a j : ℕ) (x : Text) → Grounded s w g → SomeKnown s w g left (p .at) → k ≡ knownAt w g (p .at) → k < g .m .count
-    → x ≡ getD (texts s w (g .m)) k [] → a ≡ skipOut (g .width) (g .end) w (p .at) (g .end) 1 → j ≡ metBy t (p .i) x → Follows s w (g .m) (g .width) left t p (record { at = a; i = j })
+    → x ≡ getD (texts s w (g .m)) k [] → EndsAt w (g .width) (p .at) a → j ≡ metBy t (p .i) x → Follows s w (g .m) (g .width) left t p (record { at = a; i = j })
+unfolding EndsAt
 known-follows s w g left t p k a j x G K e l f d o =
-    let h = here s w g G left (p .at) K in
+    let one : (four : Bool) (c : ℕ) (y : Sym) → SymStands s w (g .m) (g .width) four left (p .at) c y → (g .from + K .end ≡ c) × (K .symbol ≡ y) =
+    λ four c y i. one-symbol s w (g .m) (g .width) left (p .at) (K .four) (g .from + K .end) (K .symbol) four c y (here s w g G left (p .at) K) i in
     record {
-      place = λ four c y i. d ∙ known-end s w g G left (p .at) K k e l ∙ one-symbol s w (g .m) (g .width) left (p .at) (K .four) (g .from + K .end) (K .symbol) four c y (here s w g G left (p .at) K) i .0;
-      met = λ four c y i. o ∙ ap (metBy t (p .i)) (f ∙ known-print s w g G left (p .at) K k e l ∙ ap print (one-symbol s w (g .m) (g .width) left (p .at) (K .four) (g .from + K .end) (K .symbol) four c y (here s w g G left (p .at) K) i .1));
+      place = λ four c y i. d c (record { texts = texts s w (g .m); four = four; left = left; symbol = y; within = i .within; lies = i .lies });
+      met = λ four c y i. o ∙ ap (metBy t (p .i)) (f ∙ known-print s w g G left (p .at) K k e l ∙ ap print (one four c y i .1));
     }

@@ -3,12 +3,14 @@ use mathlib.Core.Path.{_≡_}
 use mathlib.Core.Bool.{Bool}
 use mathlib.Core.List.{List}
 use Prim.Native.Nat.{ℕ, _+_, _-_, _/_, _%_, _≤_, _<_}
-use lib.Dec.{eqb, ltb}
+use lib.Dec.{eqb}
 use lib.ListN.{length, getD}
 use Rattle.octets.specs.working.Choice.{pick}
-use Rattle.parse_tree.specs.plain.Tree.{Sym}
+use Rattle.octets.specs.plain.Runs.{Lies}
+use Rattle.parse_tree.specs.plain.Tree.{Text, Sym}
 use Rattle.parse_tree.specs.working.Nodes.{sizeOf}
-use Rattle.parse_tree.specs.working.Within.{Each}
+use Rattle.parse_tree.specs.working.Encode.{symBytes}
+use Rattle.parse_tree.specs.working.Within.{Each, SymWithin}
 use Rattle.laws.specs.Flat.{symNode, children}
 use Rattle.texts.specs.Table.{texts}
 use Rattle.replacing.specs.Slots.{Slots}
@@ -18,20 +20,34 @@ use Rattle.expander.specs.Ground.{sizeIn, slotPlace, slotAt, symbolIn, K
 use Rattle.expander.specs.Held.{Held, Off}
 use Rattle.expander.specs.Replace.{expandedCode, keysOf, keysOfAll, StandsAt}
 
--- what the slot of the symbol at p says: the number of a text, or one from the table's count on
-unfoldable pub slotText : List ℕ → Ground → ℕ → ℕ
-slotText w g p = pick (eqb (slotAt w g p % 2) 0) (slotAt w g p / 2) (g .m .count)
+-- a symbol lies in w from `at` up to e, by whatever texts; wd is the width of an atom's number in bytes
+pub record SymbolLies (w : List ℕ) (wd at e : ℕ) : Type 0 where
+  pub texts : List Text
+  pub four : Bool
+  pub left : ℕ
+  pub symbol : Sym
+  pub within : SymWithin four wd texts symbol left
+  pub lies : Lies w at (symBytes wd texts symbol) e
 
--- that of the symbol at a place of work; none is told where a run over symbols could not be read
-unfoldable pub knownAt : List ℕ → Ground → ℕ → ℕ
-knownAt w g at = pick (ltb (length w - g .end) 16) (g .m .count) (pick (expandedCode (getD w at 0)) (slotText w g (at - g .from)) (g .m .count))
+-- there is such a symbol
+pub record SomeEnd (w : List ℕ) (wd at : ℕ) : Type 0 where
+  pub end : ℕ
+  pub lies : SymbolLies w wd at end
 
--- a symbol stands there, in the stage
+-- r is the place behind it
+unfoldable pub EndsAt : List ℕ → ℕ → ℕ → ℕ → Type 0
+EndsAt w wd at r = (e : ℕ) → SymbolLies w wd at e → r ≡ e
+
+-- a place of work that is one of the stage's, and may have a slot
 pub record SlotAt (w : List ℕ) (g : Ground) (at : ℕ) : Type 0 where
   pub from : g .from ≤ at
   pub within : at < length w
-  pub end : g .end ≤ length w
   pub room : slotPlace g (at - g .from) + 8 ≤ length w
+
+-- the number of the text that the slot of a symbol tells of; one from the table's count on if the symbol is not expanded, or its slot tells of none
+unfoldable pub knownAt : List ℕ → Ground → ℕ → ℕ
+knownAt w g at =
+    pick (expandedCode (getD w at 0)) (pick (eqb (slotAt w g (at - g .from) % 2) 0) (slotAt w g (at - g .from) / 2) (g .m .count)) (g .m .count)
 
 module _ (s w : List ℕ) (g : Ground) where
   -- the places of the symbols that are expanded inside y, which stands at p
@@ -58,7 +74,7 @@ module _ (s w : List ℕ) (g : Ground) where
     pub inside : end ≤ sizeIn g
     pub noted : NotedAt (keysOf (g .width) (texts s w (g .m)) symbol place)
 
-  -- and all inside it
+  -- and all inside it, whether or not itself was
   pub record SomeInner (left at : ℕ) : Type 0 where
     pub four : Bool
     pub place : ℕ

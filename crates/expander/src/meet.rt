@@ -8,23 +8,34 @@ use display::follow::behind;
 use display::follow::between;
 use display::follow::inside;
 use display::follow::meet;
-use grades::skip::skip;
 use resolve::commands::long;
 use texts::text::text;
 ghost use mathlib.Core.Path.{_≡_};
+ghost use Prim.Native.Nat.{_≤_};
 ghost use Rattle.display.specs.Follow.{Follows};
 ghost use Rattle.expander.specs.Ground.{Grounded};
-ghost use Rattle.expander.specs.Meet.{knownAt, SlotAt, SomeKnown, SomeInner};
+ghost use Rattle.expander.specs.Meet.{SomeEnd, EndsAt, SlotAt, knownAt, SomeKnown, SomeInner};
+
+// The place behind the symbol at a place: a flat run, k symbols are to come. (`grades::skip` asks for bytes behind the items, which need not be there.)
+fn symbol_end(work: &[u8], width: usize, at: usize) -> usize
+    requires { ⌜ (2 ≤ width) × (width ≤ 3) × SomeEnd (now work) width at ⌝ }
+    ensures { λ r. ⌜ EndsAt (now (work .entry)) width at r ⌝ }
+{
+    let mut p = at;
+    let mut k = 1;
+    while 0 < k {
+        let c = work[p];
+        k = k - 1 + inside(work, width, p, c);
+        p += long(c, width);
+    }
+    p
+}
 
 // The number of the text that the symbol at a place is known to print as; one from the table's count on if none is known.
 fn known(work: &[u8], g: Ground, at: usize) -> usize
     requires { ⌜ SlotAt (now work) g at ⌝ }
     ensures { λ r. ⌜ r ≡ knownAt (now (work .entry)) g at ⌝ }
 {
-    // `skip` reads so far behind the items.
-    if work.len() - g.end < 16 {
-        return g.m.count;
-    }
     if is_expanded(work[at]) {
         let v = slot(work, g, at - g.from);
         if v % 2 == 0 {
@@ -43,7 +54,7 @@ fn meet_known<'a>(tape: &'a [u8], work: &'a [u8], g: Ground, left: usize, t: &[u
     if k < g.m.count {
         let x = text(tape, work, g.m, k);
         return Met {
-            at: skip(work, p.at, g.end, 1, g.width),
+            at: symbol_end(work, g.width, p.at),
             i: meet(t, p.i, x),
         };
     }

@@ -16,7 +16,7 @@ use Rattle.display.proofs.follow.between.Reads as between-reads
 use Rattle.display.proofs.follow.inside.Reads as inside-reads
 use Rattle.display.proofs.follow.meet.Reads as meet-reads
 use Rattle.expander.proofs.meet.known.Reads as known-reads
-use Rattle.grades.proofs.skip.skip.Reads as skip-reads
+use Rattle.expander.proofs.meet.symbol_end.Reads as symbol-end-reads
 use Rattle.resolve.proofs.commands.long.Reads as long-reads
 use Rattle.texts.proofs.text.text.Reads as text-reads
 use Rattle.expander.proofs.meet.+meet_known+meet_symbol.{statement}
@@ -45,7 +45,7 @@ meet-symbol-below t =
     and 2 meet-symbol-kinds.ps (falls 2 meet-symbol-kinds.ps _<_ μ-meet-symbol t) meet-symbol.Pre
 
 abbrev meet-known-calls : ℕ → meet-known-lts.Claims
-meet-known-calls t = (known-reads.Asked, known-reads.Learnt, text-reads.Asked, text-reads.Learnt, skip-reads.Asked, skip-reads.Learnt, meet-reads.Asked, meet-reads.Learnt, meet-symbol-below t, meet-symbol.Post)
+meet-known-calls t = (known-reads.Asked, known-reads.Learnt, text-reads.Asked, text-reads.Learnt, symbol-end-reads.Asked, symbol-end-reads.Learnt, meet-reads.Asked, meet-reads.Learnt, meet-symbol-below t, meet-symbol.Post)
 
 abbrev meet-symbol-calls : ℕ → meet-symbol-lts.Claims
 meet-symbol-calls t = (inside-reads.Asked, inside-reads.Learnt, long-reads.Asked, long-reads.Learnt, before-reads.Asked, before-reads.Learnt, between-reads.Asked, between-reads.Learnt, meet-known-below t, meet-known.Post, behind-reads.Asked, behind-reads.Learnt)
@@ -56,8 +56,8 @@ meet-known-known-requires t c κs = search known-meeting
 meet-known-text-requires : (t : ℕ) → meet-known-lts.Need-text-requires (meet-known-calls t) (meet-known-at t) meet-known.Post
 meet-known-text-requires t c κs = search known-meeting
 
-meet-known-skip-requires : (t : ℕ) → meet-known-lts.Need-skip-requires (meet-known-calls t) (meet-known-at t) meet-known.Post
-meet-known-skip-requires t c κs = search known-meeting
+meet-known-symbol-end-requires : (t : ℕ) → meet-known-lts.Need-symbol-end-requires (meet-known-calls t) (meet-known-at t) meet-known.Post
+meet-known-symbol-end-requires t c κs = search known-meeting
 
 meet-known-meet-requires : (t : ℕ) → meet-known-lts.Need-meet-requires (meet-known-calls t) (meet-known-at t) meet-known.Post
 meet-known-meet-requires t c κs = search known-meeting
@@ -121,5 +121,5 @@ meet-symbol-returns t c = search symbol-meeting
 
 pub +meet-known+meet-symbol-spec : {M : Type 1} → statement M
 +meet-known+meet-symbol-spec = close μ-meet-known μ-meet-symbol
-    (λ t. meet-known-lts.spec (meet-known-calls t) (meet-known-at t) meet-known.Post (meet-known-known-requires t) (meet-known-text-requires t) (meet-known-skip-requires t) (meet-known-meet-requires t) (meet-known-returns t) (meet-known-meet-symbol-requires t) (meet-known-returns-2 t))
+    (λ t. meet-known-lts.spec (meet-known-calls t) (meet-known-at t) meet-known.Post (meet-known-known-requires t) (meet-known-text-requires t) (meet-known-symbol-end-requires t) (meet-known-meet-requires t) (meet-known-returns t) (meet-known-meet-symbol-requires t) (meet-known-returns-2 t))
     λ t. meet-symbol-lts.spec (meet-symbol-calls t) (meet-symbol-at t) meet-symbol.Post meet-symbol-Inv-loop meet-symbol-μ-loop (meet-symbol-shared-slice-read-c t) (meet-symbol-inside-requires t) (meet-symbol-long-requires t) (meet-symbol-add-t16 t) (meet-symbol-before-requires t) (meet-symbol-loop-holds t) (meet-symbol-between-requires t) (meet-symbol-sub-meet-known t) (meet-symbol-meet-known-requires t) (meet-symbol-add-k t) (meet-symbol-loop-less t) (meet-symbol-loop-again t) (meet-symbol-behind-requires t) (meet-symbol-returns t)

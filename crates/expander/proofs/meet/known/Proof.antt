@@ -7,12 +7,6 @@ use Rattle.expander.proofs.meet.known.Lts as lts
 use Rattle.expander.proofs.replace.is_expanded.Reads as is-expanded-reads
 use Rattle.expander.proofs.slots.slot.Reads as slot-reads
 
-sub-if1 : tie.Need-sub-if1
-sub-if1 c = search needs
-
-returns : tie.Need-returns
-returns c = search knowing
-
 shared-slice-read-is-expanded : tie.Need-shared-slice-read-is-expanded
 shared-slice-read-is-expanded c = search needs
 
@@ -25,25 +19,23 @@ sub-slot c = search needs
 slot-requires : tie.Need-slot-requires
 slot-requires c κs = search needs
 
+returns : tie.Need-returns
+returns c = search knowing
+
 returns-2 : tie.Need-returns-2
 returns-2 c = search knowing
 
 returns-3 : tie.Need-returns-3
 returns-3 c = search knowing
 
-returns-4 : tie.Need-returns-4
-returns-4 c = search knowing
-
 pub known-spec : {M : Type 1} → statement M
 known-spec =
     tie.close
     (tie.spec
-    sub-if1
-    returns
     shared-slice-read-is-expanded
     is-expanded-requires
     sub-slot
     slot-requires
+    returns
     returns-2
-    returns-3
-    returns-4)
+    returns-3)
