@@ -1,10 +1,9 @@
--- A printed form held against a text: the loop of `follow`, and the ways out. Assumes nothing.
+-- A printed form held against a text: a loop through the symbols straight inside, for crate expander, and its ways out. Assumes nothing.
 use mathlib.Core.Path.{_≡_, refl, sym, ap, _∙_}
 use mathlib.Core.Bool.{Bool}
 use mathlib.Core.List.{List, _++_}
 use Prim.Native.Nat.{ℕ, zero, suc, _+_, _-_, _*_, _^_, _<_, _≤_}
 use native.Mathlib.Omega.{arith}
-use borrow.Author.Needs.{needs}
 use borrow.Author.Tests.{ne-eqb}
 use mir.Val.{Fits}
 use mir.Syntax.{w64}
@@ -22,8 +21,8 @@ use Rattle.resolve.specs.Commands.{longOf}
 use Rattle.grades.specs.Skip.{insideBy}
 use Rattle.display.specs.declared.Met.{Met}
 use Rattle.display.specs.Standing.{Readable, SymStands, SymsStand, SomeSym}
-use Rattle.display.specs.Follow.{metBy, beforeBy, behindBy, betweenBy, Follows, IsForm}
-use Rattle.display.proofs.MetLaws.{met-append, met-is}
+use Rattle.display.specs.Follow.{metBy, beforeBy, behindBy, betweenBy, Follows}
+use Rattle.display.proofs.MetLaws.{met-append}
 use Rattle.display.proofs.StandsLaws.{beforeText, betweenText, behindText, print-parts, standing, first-stands, none-stand}
 
 -- the symbols that are left, k stand before them
@@ -96,14 +95,6 @@ module _ (s w : List ℕ) (m : Map) (wd left : ℕ) (t : Text) (at : ℕ) where
     held : (four : Bool) (e : ℕ) (x : Sym) → SymStands s w m wd four left at e x → n ≡ count (children x)
     held four e x h = g .number ∙ ap (insideBy wd w at) (g .code) ∙ standing s w m wd four left at e x h .reads .held
 
-    pub going-some : k < n → SomeSym s w m wd (left - 1) (q .at)
-    unfolding count
-    going-some l = let b = g .some in let r = g .carry (b .four) (b .end) (b .symbol) (b .stands) in go (r .rest) (r .many) (r .stand)
-      where
-        go : (xs : Syms) → k + count xs ≡ count (children (g .some .symbol)) → SymsStand s w m wd (g .some .four) (left - 1) (q .at) (g .some .end) xs → SomeSym s w m wd (left - 1) (q .at)
-        go nil j h = let z = held (g .some .four) (g .some .end) (g .some .symbol) (g .some .stands) in absurd (omega arith)
-        go (cons y ys) j h = record { four = g .some .four; end = _; symbol = y; stands = first-stands s w m wd (g .some .four) (left - 1) (q .at) (g .some .end) y ys h .0 }
-
     pub going-next : (i : ℕ) (r : Met) → k < n → i ≡ metBy t (q .i) (betweenBy c k) → Follows s w m wd (left - 1) t (record { at = q .at; i = i }) r → Going c n b r (k + 1)
     unfolding count
     going-next i r l d f =
@@ -148,11 +139,3 @@ going-done s w m wd left t p c n b q k i g l a d =
       place = λ four e x h. place s w m wd left t (p .at) c n b q k g four e x l h (g .carry four e x h .rest) (g .carry four e x h .many) (g .carry four e x h .stand);
       met = λ four e x h. all-met s w m wd left t (p .at) c n b q k g i (p .i) l a d four e x h (g .carry four e x h .rest) (g .carry four e x h .many) (g .carry four e x h .met);
     }
-
-pub ruleset following = (needs, some-room, some-within, some-high, some-fits, going-start, going-some, going-next, going-done)
-
--- ---- is_form
-pub form-is : (s w : List ℕ) (m : Map) (wd left at : ℕ) (t : Text) (q : Met) → Follows s w m wd left t (record { at = at; i = 0 }) q → IsForm s w m wd left at t (eqb (q .i) (length t))
-form-is s w m wd left at t q f = record { says = λ four e x h. ap (λ (z : ℕ). eqb z (length t)) (f .met four e x h) ∙ sym (met-is t 0 (print x) (omega arith)) }
-
-pub ruleset forming = (needs, form-is)

@@ -2,7 +2,7 @@
 pub mod MetLaws
 pub mod StandsLaws
 mod MeetCode
-mod FollowCode
+pub mod FollowCode
 pub mod FormLaws
 mod FormCode
 mod FormListCode

@@ -8,7 +8,6 @@ use lib.Dec.{eqb, ltb}
 use lib.ListN.{length, getD}
 use Rattle.octets.specs.working.Choice.{pick}
 use Rattle.octets.specs.plain.Numbers.{leAt}
-use Rattle.octets.specs.plain.Runs.{sameAs}
 use Rattle.parse_tree.specs.plain.Tree.{Text, Sym}
 use Rattle.parse_tree.specs.plain.Display.{escaped, print}
 use Rattle.texts.specs.declared.Map.{Map}
@@ -78,7 +77,3 @@ module _ (s w : List ℕ) (m : Map) (wd left : ℕ) where
   pub record Follows (t : Text) (p r : Met) : Type 0 where
     pub place : (four : Bool) (e : ℕ) (x : Sym) → SymStands s w m wd four left (p .at) e x → r .at ≡ e
     pub met : (four : Bool) (e : ℕ) (x : Sym) → SymStands s w m wd four left (p .at) e x → r .i ≡ metBy t (p .i) (print x)
-
-  -- b says of each symbol that stands there whether t is its printed form
-  pub record IsForm (at : ℕ) (t : Text) (b : Bool) : Type 0 where
-    pub says : (four : Bool) (e : ℕ) (x : Sym) → SymStands s w m wd four left at e x → b ≡ sameAs (print x) t

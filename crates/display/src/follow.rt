@@ -1,11 +1,9 @@
-// The printed form of a symbol that stands in work, held against a text t in one pass: what stands before the symbols straight inside, these with separators between them, and what stands behind.
-use crate::Met;
+// The parts of the printed form of a symbol that stands in work, held against a text t: what stands before the symbols straight inside, what between them, and what behind. How many they are.
 use octets::numbers::atom_at;
 use octets::numbers::u16_at;
 use octets::wide::from8;
 use octets::wide::from16;
 use octets::wide::from32;
-use resolve::commands::long;
 use texts::Map;
 use texts::fields::mark;
 use texts::text::text_at;
@@ -18,8 +16,7 @@ ghost use Rattle.texts.specs.Table.{texts};
 ghost use Rattle.resolve.specs.Commands.{longOf};
 ghost use Rattle.grades.specs.Grading.{Worded};
 ghost use Rattle.grades.specs.Skip.{insideBy};
-ghost use Rattle.display.specs.Standing.{Readable, SomeSym};
-ghost use Rattle.display.specs.Follow.{metOne, metBy, quotedText, wordAt, leafText, markText, nameText, beforeBy, opByte, behindBy, betweenBy, Follows, IsForm};
+ghost use Rattle.display.specs.Follow.{metOne, metBy, quotedText, wordAt, leafText, markText, nameText, beforeBy, opByte, behindBy, betweenBy};
 
 // The place in t behind the byte b, if it stands at i.
 fn meet_byte(t: &[u8], i: usize, b: u8) -> usize
@@ -136,7 +133,7 @@ fn meet_name(t: &[u8], i: usize, b: u8, x: &[u8]) -> usize
 }
 
 // What stands before the symbols straight inside that of the code c at a place.
-fn before<'a>(
+pub fn before<'a>(
     tape: &'a [u8],
     work: &'a [u8],
     m: Map,
@@ -184,7 +181,7 @@ pub fn op_byte(op: u8) -> u8
 }
 
 // What stands behind them.
-fn behind(work: &[u8], width: usize, at: usize, c: u8, t: &[u8], i: usize) -> usize
+pub fn behind(work: &[u8], width: usize, at: usize, c: u8, t: &[u8], i: usize) -> usize
     requires { ⌜ at + longOf width c ≤ length (now work) ⌝ }
     ensures { λ r. ⌜ r ≡ metBy (now (t .entry)) i (behindBy (now (work .entry)) at c) ⌝ }
 {
@@ -204,7 +201,7 @@ fn behind(work: &[u8], width: usize, at: usize, c: u8, t: &[u8], i: usize) -> us
 }
 
 // What stands before the k-th of them.
-fn between(t: &[u8], i: usize, c: u8, k: usize) -> usize
+pub fn between(t: &[u8], i: usize, c: u8, k: usize) -> usize
     ensures { λ r. ⌜ r ≡ metBy (now (t .entry)) i (betweenBy c k) ⌝ }
 {
     if k == 0 {
@@ -234,56 +231,4 @@ pub fn inside(work: &[u8], width: usize, at: usize, c: u8) -> usize
         return 0;
     }
     1
-}
-
-// The symbol at a place, with `left` levels of nesting left.
-pub fn follow<'a>(
-    tape: &'a [u8],
-    work: &'a [u8],
-    m: Map,
-    width: usize,
-    left: usize,
-    t: &[u8],
-    p: Met,
-) -> Met
-    requires { ⌜ Readable (now tape) (now work) m width × SomeSym (now tape) (now work) m width left (p .at) ⌝ }
-    ensures { λ r. ⌜ Follows (now (tape .entry)) (now (work .entry)) m width left (now (t .entry)) p r ⌝ }
-{
-    let at = p.at;
-    let c = work[at];
-    let n = inside(work, width, at, c);
-    let mut q = Met {
-        at: at + long(c, width),
-        i: before(tape, work, m, width, at, c, t, p.i),
-    };
-    let mut k = 0;
-    while k < n {
-        let start = Met {
-            at: q.at,
-            i: between(t, q.i, c, k),
-        };
-        q = follow(tape, work, m, width, left - 1, t, start);
-        k += 1;
-    }
-    Met {
-        at: q.at,
-        i: behind(work, width, at, c, t, q.i),
-    }
-}
-
-// Whether the printed form of the symbol at a place is the text.
-pub fn is_form<'a>(
-    tape: &'a [u8],
-    work: &'a [u8],
-    m: Map,
-    width: usize,
-    left: usize,
-    at: usize,
-    t: &[u8],
-) -> bool
-    requires { ⌜ Readable (now tape) (now work) m width × SomeSym (now tape) (now work) m width left at ⌝ }
-    ensures { λ r. ⌜ IsForm (now (tape .entry)) (now (work .entry)) m width left at (now (t .entry)) r ⌝ }
-{
-    let q = follow(tape, work, m, width, left, t, Met { at, i: 0 });
-    q.i == t.len()
 }

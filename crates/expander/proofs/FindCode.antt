@@ -7,7 +7,7 @@ use native.Mathlib.Omega.{arith}
 use borrow.Author.Needs.{needs}
 use mir.Syntax.{w8, w64}
 use mir.Val as Bound
-use lib.Dec.{leb}
+use lib.Dec.{leb, eqb}
 use lib.ListN.{length, getD}
 use Rattle.octets.specs.plain.Runs.{sameAs}
 use Rattle.octets.proofs.SameLaws.{sameAs-eq, sameAs-sym}
@@ -20,12 +20,15 @@ use Rattle.texts.proofs.TableFindCode.{is-not, chasing}
 use Rattle.display.specs.declared.form.Form.{Form}
 use Rattle.display.specs.Form.{textForm}
 use Rattle.display.specs.Standing.{SomeSym}
-use Rattle.display.specs.Follow.{IsForm}
+use Rattle.display.specs.declared.Met.{Met}
+use Rattle.display.specs.Follow.{Follows}
+use Rattle.display.proofs.MetLaws.{met-is}
 use Rattle.display.specs.Window.{SamePrints}
 use Rattle.replacing.specs.Prints.{printAt}
 use Rattle.expander.specs.declared.Ground.{Ground}
-use Rattle.expander.specs.Ground.{Grounded, Records, KeyAt, printedAt, keyAt, pushedText, sizeIn, topOf}
-use Rattle.expander.proofs.StageReads.{grounded-readable, key-stands, key-some, key-room}
+use Rattle.expander.specs.Ground.{Grounded, Records, KeyAt, symbolIn, printedAt, keyAt, pushedText, sizeIn, topOf}
+use Rattle.expander.specs.Meet.{InnerNoted, SomeInner}
+use Rattle.expander.proofs.StageReads.{grounded-readable, read-room, key-stands, key-some, key-room}
 
 -- ---- the form of a text
 pub form-hash : (t : Text) (f : Form) → f ≡ textForm t → f .hash ≡ hashOf t
@@ -89,13 +92,28 @@ module _ (s w : List ℕ) (g : Ground) (n i : ℕ) (G : Grounded s w g) (R : Rec
 pub ruleset keying = (needs, grounded-readable, place-some, place-fits, record-room, record-some, record-fits, record-same, record-hash, record-length)
 
 -- ---- `is_text`
-pub form-same : (s w : List ℕ) (g : Ground) (k p : ℕ) (t : Text) (r : Bool) → Grounded s w g → ((j : ℕ) → Bound.Fits w8 (getD w j 0)) → KeyAt s w g p → t ≡ getD (texts s w (g .m)) k []
-    → IsForm s w (g .m) (g .width) 64 (g .from + p) t r → r ≡ sameAs (getD (texts s w (g .m)) k []) (printedAt s w g p)
-unfolding printAt
-form-same s w g k p t r G b y e z =
-    z .says false _ _ (key-stands s w g (λ j. b j .fits) G p y) ∙ sameAs-sym (printedAt s w g p) t ∙ ap (λ (u : Text). sameAs u (printedAt s w g p)) e
+module _ (s w : List ℕ) (g : Ground) (G : Grounded s w g) (b : (j : ℕ) → Bound.Fits w8 (getD w j 0)) (p : ℕ) (y : KeyAt s w g p) where
+  pub key-inner : InnerNoted s w g p → SomeInner s w g 64 (g .from + p)
+  key-inner N = record {
+    four = false;
+    place = p;
+    end = y .end;
+    symbol = symbolIn s w g p;
+    is = refl;
+    levels = omega arith;
+    stands = key-stands s w g (λ j. b j .fits) G p y;
+    inside = read-room s w g (λ j. b j .fits) G 64 p (symbolIn s w g p) (y .end) (y .read) .1;
+    noted = N;
+  }
 
-pub ruleset texting = (needs, grounded-readable, place-some, place-fits, form-hash, is-not, form-same)
+  pub key-same : (k : ℕ) (t : Text) (q : Met) → t ≡ getD (texts s w (g .m)) k [] → Follows s w (g .m) (g .width) 64 t (record { at = g .from + p; i = 0 }) q
+      → eqb (q .i) (length t) ≡ sameAs (getD (texts s w (g .m)) k []) (printedAt s w g p)
+  unfolding printAt
+  key-same k t q e f =
+      ap (λ (z : ℕ). eqb z (length t)) (f .met false _ _ (key-stands s w g (λ j. b j .fits) G p y)) ∙ sym (met-is t 0 (printedAt s w g p) (omega arith))
+      ∙ sameAs-sym (printedAt s w g p) t ∙ ap (λ (u : Text). sameAs u (printedAt s w g p)) e
+
+pub ruleset texting = (needs, place-fits, form-hash, is-not, key-inner, key-same)
 
 -- ---- `written`: the table is gone through as by `find`
 pub ruleset seeking = (chasing, form-hash)

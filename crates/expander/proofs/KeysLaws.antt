@@ -35,7 +35,7 @@ use Rattle.replacing.specs.Runs.{plainLeaf, plainAround, plainKind, plain}
 use Rattle.replacing.specs.Slots.{Ref, text, like, Slots, among, refer, pushText, pushNew, firstLike, noteBy, noteAs, note, noteAll}
 use Rattle.replacing.specs.Sound.{HasRef}
 use Rattle.replacing.proofs.Readings.{read-more}
-use Rattle.replacing.proofs.SlotsMean.{each-map}
+use Rattle.replacing.proofs.SlotsMean.{each-map, among-here, among-later}
 use Rattle.expander.specs.declared.Ground.{Ground}
 use Rattle.expander.specs.Ground.{sizeIn, stageIn, symbolIn, printedAt, KeyAt, Grounded}
 use Rattle.expander.specs.Held.{Off, AllBefore}
@@ -66,7 +66,7 @@ module _ (four : Bool) (wd : ℕ) (ts : List Text) where
   over-any group n h = h
 
   mutual
-    sym-any : (x : Sym) (left : ℕ) → SymWithin four wd ts x left → SymWithin false wd ts x left
+    pub sym-any : (x : Sym) (left : ℕ) → SymWithin four wd ts x left → SymWithin false wd ts x left
     sym-any (leaf s l) zero h = absurd h
     sym-any (leaf s l) (suc left) h = (h .0, leaf-any l (h .1))
     sym-any (around s a x) zero h = absurd h
@@ -312,6 +312,24 @@ module _ (same : ℕ → ℕ → Bool) (textIn : ℕ → Option ℕ) where
       go : (r : ℕ) → (HasRef r x) ⊎ (r ≡ p) → P r
       go r (inl i) = f r i
       go r (inr e) = subst P (sym e) (a .0)
+
+  -- what has a reference keeps it, and what is noted has one
+  note-stays : (p q : ℕ) (x : Slots) → HasRef q x → HasRef q (note same textIn p x)
+  note-stays p q x h = let (r, e) = note-adds p x in rw e (among-later q p (map (λ (v : ℕ × Ref). v .0) (x .refs)) h)
+
+  note-here : (p : ℕ) (x : Slots) → HasRef p (note same textIn p x)
+  note-here p x = let (r, e) = note-adds p x in rw e (among-here p (map (λ (v : ℕ × Ref). v .0) (x .refs)))
+
+  notes-stay : (ps : List ℕ) (q : ℕ) (x : Slots) → HasRef q x → HasRef q (noteAll same textIn ps x)
+  unfolding noteAll
+  notes-stay [] q x h = h
+  notes-stay (p ∷ ps) q x h = notes-stay ps q (note same textIn p x) (note-stays p q x h)
+
+  -- theorem: all that were noted have references
+  pub notes-have : (ps : List ℕ) (x : Slots) → Each (λ q. HasRef q (noteAll same textIn ps x)) ps
+  unfolding noteAll
+  notes-have [] x = tt
+  notes-have (p ∷ ps) x = (notes-stay ps p (note same textIn p x) (note-here p x), notes-have ps (note same textIn p x))
 
   pub notes-append : (ps qs : List ℕ) (x : Slots) → noteAll same textIn (ps ++ qs) x ≡ noteAll same textIn qs (noteAll same textIn ps x)
   unfolding noteAll

@@ -23,6 +23,8 @@ pub mod NodeCodes
 pub mod KeysPlaces
 pub mod WalksMean
 pub mod KeysLaws
+mod MeetLaws
+mod MeetCode
 mod ReplaceLaws
 mod ReplaceCode
 mod ReplaceListCode

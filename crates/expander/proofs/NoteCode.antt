@@ -17,7 +17,8 @@ use Rattle.parse_tree.specs.plain.Texts.{has}
 use Rattle.replacing.specs.Trees.{enter}
 use Rattle.expander.specs.declared.Ground.{Ground}
 use Rattle.expander.specs.Ground.{sizeIn, slotPlace, topOf, keyAt, pushedText, symbolIn, printedAt, Grounded}
-use Rattle.expander.specs.Held.{Notable, Notes}
+use Rattle.expander.specs.Held.{Notes}
+use Rattle.expander.specs.Meet.{Notable}
 use Rattle.expander.specs.Find.{NoneBefore, FindsKey}
 use Rattle.expander.specs.Note.{Pushed}
 use Rattle.expander.proofs.NoteMeans.{note-found, note-marked, note-pushed, note-new, noted-sound}

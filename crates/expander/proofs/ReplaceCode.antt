@@ -12,6 +12,7 @@ use Rattle.octets.specs.working.Choice.{pick}
 use Rattle.parse_tree.specs.plain.Tree.{Text, Sym, count}
 use Rattle.parse_tree.specs.plain.Display.{shownAll, print}
 use Rattle.parse_tree.specs.working.Nodes.{sizeOf}
+use Rattle.parse_tree.specs.working.Within.{Each}
 use Rattle.parse_tree.specs.working.Encode.{symsBytes}
 use Rattle.parse_tree.proofs.DisplayLaws.{shownAll-app}
 use Rattle.laws.specs.Flat.{symNode, children}
@@ -21,7 +22,8 @@ use Rattle.resolve.specs.Commands.{longOf}
 use Rattle.grades.specs.Grading.{Worded}
 use Rattle.grades.specs.Skip.{insideBy}
 use Rattle.grades.proofs.WordedLaws.{table-worded}
-use Rattle.replacing.specs.Slots.{noteAll}
+use Rattle.replacing.specs.Slots.{Slots, noteAll}
+use Rattle.replacing.specs.Sound.{HasRef}
 use Rattle.replacing.specs.Trees.{isKey}
 use Rattle.display.specs.declared.form.Form.{Form}
 use Rattle.display.specs.Follow.{beforeBy, behindBy, betweenBy}
@@ -30,11 +32,12 @@ use Rattle.display.proofs.FormLaws.{from-form, from-then, from-as, table-hashed
 use Rattle.display.proofs.StandsLaws.{beforeText, betweenText, behindText, print-parts, Standing, standing}
 use Rattle.expander.specs.declared.Ground.{Ground}
 use Rattle.expander.specs.declared.replace.Keyed.{Keyed}
-use Rattle.expander.specs.Ground.{sizeIn, printedAt, sameAt, textIn, Grounded, KeptAround}
-use Rattle.expander.specs.Held.{Notable, Notes}
+use Rattle.expander.specs.Ground.{sizeIn, symbolIn, printedAt, sameAt, textIn, Grounded, KeptAround}
+use Rattle.expander.specs.Held.{Notes}
+use Rattle.expander.specs.Meet.{innerKeys, Notable}
 use Rattle.expander.specs.Replace.{expandedCode, keysOf, keysOfAll, StandsAt, StandAt, SomeSymbol, SomeSymbols, NotedAll, ReplacesOne, ReplacesAll}
-use Rattle.expander.proofs.KeysLaws.{ownKeys, keys-parts, keys-spread-all, Spread, sym-length, stands-code, stands-print, stands-key, notes-off}
-use Rattle.expander.proofs.ReplaceLaws.{kept-grounded, kept-byte, kept-stands, noted-plain, noted-own, held-inside}
+use Rattle.expander.proofs.KeysLaws.{ownKeys, keys-parts, keys-spread-all, Spread, sym-length, stands-code, stands-symbol, stands-print, stands-key, notes-have, notes-off}
+use Rattle.expander.proofs.ReplaceLaws.{kept-grounded, kept-texts, kept-byte, kept-stands, noted-plain, noted-own, held-inside}
 
 -- ---- is_expanded
 pub expanded-37 : (c : ℕ) → c ≡ 37 → true ≡ expandedCode c
@@ -212,6 +215,16 @@ module _ (s w : List ℕ) (g : Ground) (left p n : ℕ) (G : Grounded s w g) (S 
           there-now : StandsAt s v g (S .four) left p (S .end) (S .symbol)
           there-now = kept-stands s w v g G inner-kept (S .four) left p (S .end) (S .symbol) (S .inside) (S .stands)
 
+          abbrev inner-slots : Slots
+          inner-slots = noteAll (sameAt s w g) (textIn s w g) (keysOfAll (g .width) (texts s w (g .m)) (children (S .symbol)) (p + l)) (S .held .slots)
+
+          -- the places inside it are still those
+          inner-are : innerKeys s v g (symbolIn s v g p) p ≡ keysOfAll (g .width) (texts s w (g .m)) (children (S .symbol)) (p + l)
+          inner-are =
+              ap (λ (y : Sym). innerKeys s v g y p) (stands-symbol s v g symbol-ground (S .four) left p (S .end) (S .symbol) there-now (S .inside) (S .levels))
+              ∙ ap (λ (ts : List Text). keysOfAll (g .width) ts (children (S .symbol)) (p + sizeOf (g .width) (symNode ts (S .symbol)))) (kept-texts s w v g G inner-kept)
+              ∙ ap (λ (m : ℕ). keysOfAll (g .width) (texts s w (g .m)) (children (S .symbol)) (p + m)) (size-is (S .four) (S .end) (S .symbol) (S .stands))
+
           -- theorem: one that is can be noted
           symbol-notable : Notable s v g (q .pile) p
           symbol-notable =
@@ -226,8 +239,9 @@ module _ (s w : List ℕ) (g : Ground) (left p n : ℕ) (G : Grounded s w g) (S 
                 inside = omega arith;
                 room = omega arith;
                 count = b′ .new;
-                slots = noteAll (sameAt s w g) (textIn s w g) (keysOfAll (g .width) (texts s w (g .m)) (children (S .symbol)) (p + l)) (b′ .slots);
+                slots = inner-slots;
                 held = inner-noted .held (b′ .new) (b′ .slots) (b′ .held) (λ o m. omega (arith, b′ .before o m));
+                inner = subst (Each (λ o. HasRef o inner-slots)) (sym inner-are) (notes-have (sameAt s w g) (textIn s w g) (keysOfAll (g .width) (texts s w (g .m)) (children (S .symbol)) (p + l)) (b′ .slots));
                 off = notes-off (sameAt s w g) (textIn s w g) p (p + l) (S .end) (keysOfAll (g .width) (texts s w (g .m)) (children (S .symbol)) (p + l)) (b′ .slots) (omega arith) (inner-spread (S .four) (S .end) (S .symbol) (S .stands)) (b′ .before);
               }
 

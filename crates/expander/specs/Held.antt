@@ -107,17 +107,7 @@ Off p x = (q : ℕ) → HasRef q x → (q + 9 ≤ p) ⊎ (p + 9 ≤ q)
 abbrev pub AllBefore : ℕ → Slots → Type 0
 AllBefore p x = (q : ℕ) → HasRef q x → q + 9 ≤ p
 
--- the symbol at p can be noted
-pub record Notable (s w : List ℕ) (g : Ground) (n p : ℕ) : Type 0 where
-  pub key : KeyAt s w g p
-  pub inside : p + 9 ≤ sizeIn g
-  pub room : n < sizeIn g / 9
-  pub count : ℕ
-  pub slots : Slots
-  pub held : Held s w g n count slots
-  pub off : Off p slots
-
--- and was: r symbols are pushed then
+-- the symbol at p was noted: r symbols are pushed then
 pub record NotedBy (s w : List ℕ) (g : Ground) (n c p : ℕ) (x : Slots) (r : ℕ) (w′ : List ℕ) : Type 0 where
   pub held : Held s w′ g r c (note (sameAt s w g) (textIn s w g) p x)
   pub kept : KeptAround g w w′

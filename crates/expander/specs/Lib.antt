@@ -5,4 +5,5 @@ pub mod Names
 pub mod Find
 pub mod Note
 pub mod Replace
+pub mod Meet
 pub mod Stage

@@ -1,6 +1,7 @@
 // A printed form found: among the symbols that were pushed this round, and among the texts. Hash and length say where to look; what is found is compared.
 use crate::Ground;
-use display::follow::is_form;
+use crate::meet::meet_symbol;
+use display::Met;
 use display::form::Form;
 use display::window::same_print;
 use octets::wide::from32;
@@ -22,6 +23,7 @@ ghost use Rattle.texts.specs.Table.{texts, linked, Finds};
 ghost use Rattle.texts.specs.Fields.{cellAt};
 ghost use Rattle.display.specs.Form.{textForm};
 ghost use Rattle.expander.specs.Ground.{printedAt, keyAt, KeyAt, pushedText, Grounded, Records};
+ghost use Rattle.expander.specs.Meet.{InnerNoted};
 ghost use Rattle.expander.specs.Find.{NoneBefore, FindsKey, HasNot};
 
 // Whether the i-th pushed symbol prints as the one at p, whose form is f.
@@ -81,19 +83,24 @@ pub fn pending<'a>(tape: &'a [u8], work: &'a [u8], g: Ground, n: usize, p: usize
 
 // Whether the k-th text is the printed form of the symbol at p.
 fn is_text<'a>(tape: &'a [u8], work: &'a [u8], g: Ground, k: usize, p: usize, f: Form) -> bool
-    requires { ⌜ Grounded (now tape) (now work) g × (k < g .m .count) × KeyAt (now tape) (now work) g p × (f ≡ textForm (printedAt (now tape) (now work) g p)) ⌝ }
+    requires { ⌜ Grounded (now tape) (now work) g × (k < g .m .count) × KeyAt (now tape) (now work) g p × InnerNoted (now tape) (now work) g p × (f ≡ textForm (printedAt (now tape) (now work) g p)) ⌝ }
     ensures { λ r. ⌜ r ≡ sameAs (getD (texts (now (tape .entry)) (now (work .entry)) (g .m)) k []) (printedAt (now (tape .entry)) (now (work .entry)) g p) ⌝ }
 {
     if hash(work, g.m.base, k) != f.hash {
         return false;
     }
     let t = text(tape, work, g.m, k);
-    is_form(tape, work, g.m, g.width, 64, g.from + p, t)
+    let start = Met {
+        at: g.from + p,
+        i: 0,
+    };
+    let q = meet_symbol(tape, work, g, 64, t, start);
+    q.i == t.len()
 }
 
 // Among the texts that are in no chain.
 fn rest_text<'a>(tape: &'a [u8], work: &'a [u8], g: Ground, p: usize, f: Form) -> Found
-    requires { ⌜ Grounded (now tape) (now work) g × KeyAt (now tape) (now work) g p × (f ≡ textForm (printedAt (now tape) (now work) g p)) × HasNot (now tape) (now work) g (linked (g .m .count)) p ⌝ }
+    requires { ⌜ Grounded (now tape) (now work) g × KeyAt (now tape) (now work) g p × InnerNoted (now tape) (now work) g p × (f ≡ textForm (printedAt (now tape) (now work) g p)) × HasNot (now tape) (now work) g (linked (g .m .count)) p ⌝ }
     ensures { λ r. ⌜ Finds (texts (now (tape .entry)) (now (work .entry)) (g .m)) (printedAt (now (tape .entry)) (now (work .entry)) g p) r ⌝ }
 {
     let mut i: usize = 4294967295;
@@ -108,7 +115,7 @@ fn rest_text<'a>(tape: &'a [u8], work: &'a [u8], g: Ground, p: usize, f: Form) -
 
 // The number of the text that is the printed form of the symbol at p.
 pub fn written<'a>(tape: &'a [u8], work: &'a [u8], g: Ground, p: usize, f: Form) -> Found
-    requires { ⌜ Grounded (now tape) (now work) g × KeyAt (now tape) (now work) g p × (f ≡ textForm (printedAt (now tape) (now work) g p)) ⌝ }
+    requires { ⌜ Grounded (now tape) (now work) g × KeyAt (now tape) (now work) g p × InnerNoted (now tape) (now work) g p × (f ≡ textForm (printedAt (now tape) (now work) g p)) ⌝ }
     ensures { λ r. ⌜ Finds (texts (now (tape .entry)) (now (work .entry)) (g .m)) (printedAt (now (tape .entry)) (now (work .entry)) g p) r ⌝ }
 {
     let y = bucket(f.hash, g.m.buckets);

@@ -4,6 +4,7 @@
 use texts::Map;
 
 pub mod find;
+pub mod meet;
 pub mod note;
 pub mod replace;
 pub mod slots;

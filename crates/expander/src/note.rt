@@ -11,7 +11,8 @@ ghost use mathlib.Core.Path.{_≡_};
 ghost use Prim.Native.Nat.{_*_, _/_, _≤_, _<_};
 ghost use Rattle.display.specs.Form.{textForm};
 ghost use Rattle.expander.specs.Ground.{sizeIn, printedAt, KeyAt, Grounded, Records};
-ghost use Rattle.expander.specs.Held.{Notable, Notes};
+ghost use Rattle.expander.specs.Held.{Notes};
+ghost use Rattle.expander.specs.Meet.{Notable};
 ghost use Rattle.expander.specs.Find.{NoneBefore};
 ghost use Rattle.expander.specs.Note.{Pushed};
 
