@@ -1,13 +1,12 @@
 -- The ways out of referred, numbered, known and put_known: the text of a symbol that stands already. Assumes nothing.
 use mathlib.Core.Path.{_≡_, sym, ap, _∙_, subst}
-use mathlib.Core.Bool.{Bool, true, false, true≢false}
-use mathlib.Core.Logic.{_⊎_, inl, inr}
+use mathlib.Core.Bool.{Bool, true}
+use mathlib.Core.Logic.{inl, inr}
 use mathlib.Core.List.{List, [], _∷_, _++_}
 use Prim.Native.Nat.{ℕ, _+_, _-_, _*_, _/_, _%_, _<_, _≤_}
 use native.Mathlib.Omega.{arith}
 use borrow.Author.Needs.{needs}
 use lib.ListN.{length, getD}
-use Rattle.parse_tree.specs.plain.Tree.{Text, Sym}
 use Rattle.parse_tree.specs.working.Within.{Each}
 use Rattle.texts.specs.Fields.{markAt}
 use Rattle.texts.specs.Table.{texts}
@@ -18,7 +17,7 @@ use Rattle.replacing.specs.Trees.{isKey}
 use Rattle.display.proofs.StandsLaws.{standing}
 use Rattle.precedence.specs.Write.{Puts}
 use Rattle.expander.specs.declared.Ground.{Ground}
-use Rattle.expander.specs.Ground.{sizeIn, topOf, slotPlace, slotAt, keyAt, printedAt, Grounded}
+use Rattle.expander.specs.Ground.{sizeIn, slotPlace, slotAt, keyAt, Grounded}
 use Rattle.expander.specs.Held.{followed}
 use Rattle.expander.specs.Replace.{expandedCode, keysOf, keysOfAll}
 use Rattle.expander.proofs.GroundLaws.{slots-top, keys-slots}
@@ -98,7 +97,6 @@ module _ (s w : List ℕ) (x : Print) (left p : ℕ) (G : Grounded s w (x .g)) (
   unfolding ownKeys pick
   own-said c b d e t =
       let k : isKey (h .symbol) ≡ true = sym (stands-code s w (x .g) G (h .four) left p (h .end) (h .symbol) (h .stands) (h .inside)) ∙ ap expandedCode (sym d) ∙ sym e ∙ t in
-      let y = h .symbol in
       let is : keysOf (x .g .width) (texts s w (x .g .m)) (h .symbol) p ≡ keysOfAll (x .g .width) (texts s w (x .g .m)) (children (h .symbol)) (p + sizeOf (x .g .width) (symNode (texts s w (x .g .m)) (h .symbol))) ++ (p ∷ []) =
       keys-parts (x .g .width) (texts s w (x .g .m)) (h .symbol) p ∙ ap (λ (i : Bool). keysOfAll (x .g .width) (texts s w (x .g .m)) (children (h .symbol)) (p + sizeOf (x .g .width) (symNode (texts s w (x .g .m)) (h .symbol))) ++ ownKeys i p) k in
       each-parts (Said s w x) (keysOfAll (x .g .width) (texts s w (x .g .m)) (children (h .symbol)) (p + sizeOf (x .g .width) (symNode (texts s w (x .g .m)) (h .symbol)))) (p ∷ []) (subst (Each (Said s w x)) is (h .said)) .1 .0

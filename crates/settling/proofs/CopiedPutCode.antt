@@ -6,10 +6,9 @@ use Prim.Native.Nat.{ℕ, _+_, _-_, _<_, _≤_}
 use native.Mathlib.Omega.{arith}
 use borrow.Author.Needs.{needs}
 use borrow.Author.Tests.{ne-eqb, le-ltb}
-use lib.Dec.{eqb, ltb}
 use lib.ListN.{length, getD}
 use Rattle.octets.specs.working.Choice.{pick}
-use Rattle.parse_tree.specs.plain.Tree.{Text, Sym, Syms, nil, cons, count}
+use Rattle.parse_tree.specs.plain.Tree.{Text, Syms, nil, cons, count}
 use Rattle.parse_tree.specs.plain.Display.{shownAll, shownMore, print}
 use Rattle.parse_tree.specs.working.Encode.{symBytes}
 use Rattle.parse_tree.specs.working.Within.{Each}
@@ -25,11 +24,11 @@ use Rattle.precedence.specs.Write.{Puts}
 use Rattle.precedence.proofs.WriteLaws.{puts-none}
 use Rattle.expander.specs.declared.Ground.{Ground}
 use Rattle.expander.specs.Ground.{sizeIn, printedAt, Grounded}
-use Rattle.expander.specs.Replace.{keysOf, keysOfAll, StandsAt, StandAt}
+use Rattle.expander.specs.Replace.{keysOf, keysOfAll, StandAt}
 use Rattle.expander.proofs.KeysLaws.{stands-print}
 use Rattle.appending.proofs.SymbolsTrees.{each-parts}
 use Rattle.settling.specs.declared.copied.Print.{Print}
-use Rattle.settling.specs.Print.{Printable, Closing, SomeBelow, PrintsSymbol}
+use Rattle.settling.specs.Print.{Printable, Closing}
 use Rattle.settling.specs.Copied.{TextStands, Said, Copying, SaidSymbol, SaidSymbols, Known, SaidAround, Behinds, PutsAll}
 use Rattle.settling.proofs.PutLaws.{puts-as}
 use Rattle.settling.proofs.CopiedTrees.{said-within, said-left, said-room, said-high, said-below, said-walked, said-many, here, before-on, before-inside, before-stand, inside-closing, parts-put, leaf-end, skip-end}
@@ -61,12 +60,6 @@ module _ (s w : List ℕ) (x : Print) (left p to : ℕ) (C : Copying s w x to) (
     pub leaf-put : (n : ℕ) → n ≡ insideBy (g .width) w at c → n ≡ 0 → (r : ℕ) (w2 : List ℕ) → Puts w1 (x .lim) q (behindBy w1 at c) r w2 → Puts w (x .lim) to (printedAt s w g p) r w2
     leaf-put n m e r w2 D = parts-put s w x left p h to C c d q w1 A [] q w1 still (none-shown (children (h .symbol)) (betweenText (h .symbol)) (said-many s w x left p h c d ∙ sym m ∙ e)) r w2 D
 
-  pub walked-put : (r : ℕ) (w1 : List ℕ) → PrintsSymbol s w (g .m) (g .width) left at (x .lim) to r w1 → Puts w (x .lim) to (printedAt s w g p) r w1
-  walked-put r w1 a = said-walked s w x left p h to C r w1 a
-
-  pub walked-below : SomeBelow s w (g .m) (g .width) 1 left at to
-  walked-below = said-below s w x left p h to C
-
   -- ---- put_one
   pub copied-put : (k r : ℕ) (w1 : List ℕ) → Known s w x p k → 0 < k → Puts w (x .lim) to (markedText s w (markAt w (g .m .base) (k - 1))) r w1 → Puts w (x .lim) to (printedAt s w g p) r w1
   copied-put k r w1 K l a = puts-as (K .is l) a
@@ -95,7 +88,7 @@ module _ (s w : List ℕ) (x : Print) (left p to : ℕ) (C : Copying s w x to) (
       pub symbol-put : (r : ℕ) (w3 : List ℕ) → Puts w2 (x .lim) z (behindBy w2 at c) r w3 → Puts w (x .lim) to (printedAt s w g p) r w3
       symbol-put r w3 D = parts-put s w x left p h to C c d q w1 A (B .bytes) z w2 (B .puts) inside-is r w3 D
 
-pub ruleset walking = (needs, copying-print, said-within, said-room, said-high, leaf-closing, leaf-put, walked-put, walked-below)
+pub ruleset walking = (needs, copying-print, said-within, said-room, said-high, leaf-closing, leaf-put, said-walked, said-below)
 
 pub ruleset choosing = (needs, copied-put, copied-stands)
 

@@ -17,7 +17,7 @@ use Rattle.texts.proofs.TableStays.{leAt-agree, whole-agree, text-agree}
 use Rattle.precedence.specs.Write.{Puts}
 use Rattle.precedence.proofs.WriteLaws.{puts-beside}
 use Rattle.expander.specs.declared.Ground.{Ground}
-use Rattle.expander.specs.Ground.{sizeIn, topOf, slotPlace, slotAt, keyAt, printedAt, Grounded}
+use Rattle.expander.specs.Ground.{sizeIn, topOf, slotPlace, slotAt, keyAt, printedAt}
 use Rattle.expander.specs.Held.{followed}
 use Rattle.expander.specs.Replace.{keysOf, keysOfAll, StandsAt, StandAt}
 use Rattle.expander.proofs.GroundLaws.{keys-slots, slots-top}

@@ -1,14 +1,13 @@
 -- A symbol of the stage by its parts: what is put for it, what stands inside, and where it ends. Assumes nothing.
-use mathlib.Core.Path.{_≡_, refl, sym, ap, _∙_, subst}
+use mathlib.Core.Path.{_≡_, sym, ap, _∙_, subst}
 use mathlib.Core.Bool.{Bool}
 use mathlib.Core.Logic.{inl}
-use mathlib.Core.List.{List, [], _∷_, _++_}
+use mathlib.Core.List.{List, [], _++_}
 use Prim.Native.Nat.{ℕ, _+_, _-_, _<_, _≤_}
 use native.Mathlib.Omega.{arith}
-use borrow.Author.Needs.{needs}
 use lib.ListN.{length, getD}
-use Rattle.parse_tree.specs.plain.Tree.{Text, Sym, Syms, nil, cons, count}
-use Rattle.parse_tree.specs.plain.Display.{shownAll, shownMore, print}
+use Rattle.parse_tree.specs.plain.Tree.{Sym, Syms, nil, cons, count}
+use Rattle.parse_tree.specs.plain.Display.{shownAll, print}
 use Rattle.parse_tree.specs.working.Nodes.{sizeOf}
 use Rattle.parse_tree.specs.working.Within.{Each}
 use Rattle.texts.specs.Table.{texts}
@@ -19,13 +18,13 @@ use Rattle.grades.specs.Skip.{insideBy, skipOut}
 use Rattle.grades.proofs.SkipMean.{skip-means}
 use Rattle.replacing.specs.Trees.{isKey}
 use Rattle.display.specs.Standing.{SymsStand}
-use Rattle.display.specs.Follow.{beforeBy, behindBy, betweenBy}
-use Rattle.display.proofs.StandsLaws.{Standing, beforeText, betweenText, behindText, standing, none-stand, one-stands, first-stands}
+use Rattle.display.specs.Follow.{beforeBy, behindBy}
+use Rattle.display.proofs.StandsLaws.{Standing, beforeText, betweenText, behindText, standing, none-stand, one-stands}
 use Rattle.precedence.specs.Write.{Puts}
-use Rattle.precedence.proofs.WriteLaws.{puts-beside, puts-none}
+use Rattle.precedence.proofs.WriteLaws.{puts-beside}
 use Rattle.expander.specs.declared.Ground.{Ground}
 use Rattle.expander.specs.Ground.{sizeIn, printedAt, Grounded}
-use Rattle.expander.specs.Replace.{keysOf, keysOfAll, StandsAt, StandAt}
+use Rattle.expander.specs.Replace.{keysOfAll, StandsAt, StandAt}
 use Rattle.expander.proofs.KeysLaws.{ownKeys, keys-parts, stands-print}
 use Rattle.appending.proofs.SymbolsTrees.{each-parts}
 use Rattle.settling.specs.declared.copied.Print.{Print}
@@ -100,11 +99,9 @@ module _ (s w : List ℕ) (x : Print) (left p : ℕ) where
 
       inside-keys : Each (Said s w x) (keysOfAll (g .width) (texts s w (g .m)) (children y) (p + longOf (g .width) c))
       inside-keys =
-          let wd = g .width in
-          let ts = texts s w (g .m) in
           let z : sizeOf (g .width) (symNode (texts s w (g .m)) y) ≡ longOf (g .width) c = sym (here .reads .long) ∙ ap (longOf (g .width)) (sym d) in
           let k = each-parts (Said s w x) (keysOfAll (g .width) (texts s w (g .m)) (children y) (p + sizeOf (g .width) (symNode (texts s w (g .m)) y))) (ownKeys (isKey y) p)
-              (subst (Each (Said s w x)) (keys-parts (g .width) (texts s w (g .m)) y p) (h .said)) .0 in
+          (subst (Each (Said s w x)) (keys-parts (g .width) (texts s w (g .m)) y p) (h .said)) .0 in
           subst (λ (n : ℕ). Each (Said s w x) (keysOfAll (g .width) (texts s w (g .m)) (children y) (p + n))) z k
 
       pub said-inside : (n : ℕ) → n ≡ insideBy (g .width) w at c → SaidSymbols s w x n (left - 1) (p + longOf (g .width) c)

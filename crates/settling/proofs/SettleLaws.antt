@@ -11,13 +11,13 @@ use Rattle.texts.specs.Fields.{markAt, hashAt, cellAt}
 use Rattle.texts.specs.Hash.{hashOf}
 use Rattle.texts.specs.Texts.{markedText, Whole, Behind}
 use Rattle.expander.specs.declared.Ground.{Ground}
-use Rattle.expander.specs.Ground.{topOf, listPlace, listAt, Grounded}
+use Rattle.expander.specs.Ground.{topOf, listAt, Grounded}
 use Rattle.expander.specs.Names.{describedBy}
 use Rattle.expander.proofs.GroundLaws.{keys-slots, slots-top}
 use Rattle.settling.specs.One.{newCell, Entry}
 use Rattle.settling.specs.Settle.{newBytes, Settling}
 use Rattle.settling.proofs.NewLaws.{size-next, each-short, names-entry}
-use Rattle.settling.proofs.SettleStays.{PlacedText, placed-ground, placed-above, placed-list, placed-entry, placed-text}
+use Rattle.settling.proofs.SettleStays.{PlacedText, placed-ground, placed-list, placed-entry, placed-text}
 
 -- record k of the new ones says the text t, which stands from z on, and its cell u
 pub record Told (s w : List ℕ) (g : Ground) (k : ℕ) (t : Text) (u z : ℕ) : Type 0 where

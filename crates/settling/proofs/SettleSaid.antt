@@ -1,9 +1,9 @@
 -- A turn of settle begins: the texts that are written already are known by the references of symbols. Assumes nothing.
 use mathlib.Core.Path.{_≡_, refl, sym, ap, _∙_, subst}
 use mathlib.Core.Bool.{Bool, true, false}
-use mathlib.Core.Logic.{_⊎_, inl, inr}
+use mathlib.Core.Logic.{inl, inr}
 use mathlib.Core.List.{List, []}
-use Prim.Native.Nat.{ℕ, _+_, _-_, _*_, _/_, _%_, _<_, _≤_}
+use Prim.Native.Nat.{ℕ, _+_, _-_, _/_, _%_, _<_, _≤_}
 use native.Mathlib.Omega.{arith}
 use borrow.Author.Tests.{eqb-true, eqb-false}
 use lib.Dec.{eqb}
@@ -21,7 +21,7 @@ use Rattle.expander.specs.Ground.{sizeIn, topOf, slotPlace, slotAt, keyAt, list
 use Rattle.expander.specs.Held.{followed}
 use Rattle.expander.specs.Names.{describedBy, namedIn}
 use Rattle.expander.specs.Replace.{keysOf}
-use Rattle.expander.proofs.GroundLaws.{keys-slots, slots-top}
+use Rattle.expander.proofs.GroundLaws.{keys-slots}
 use Rattle.expander.proofs.NamedTexts.{length-named, named-found, named-new}
 use Rattle.appending.proofs.BuiltGround.{odd-one, followed-even, followed-odd}
 use Rattle.settling.specs.declared.copied.Print.{Print}
@@ -29,7 +29,7 @@ use Rattle.settling.specs.Copied.{TextStands, Numbered, Said, SaidIn}
 use Rattle.settling.specs.One.{newCell, TextReady}
 use Rattle.settling.specs.Settle.{Settling}
 use Rattle.settling.proofs.SettleStays.{placed-texts, placed-above, key-same, print-same, symbol-same}
-use Rattle.settling.proofs.SettleLaws.{Told, Going, keys-top, going-top, going-items, going-far, going-upto, going-ground, list-old, text-old, entry-new, going-short, going-size}
+use Rattle.settling.proofs.SettleLaws.{Told, Going, going-top, going-items, going-far, going-upto, going-ground, list-old, text-old, entry-new, going-short, going-size}
 use Rattle.settling.proofs.CopiedStays.{each-same, slot-top}
 
 module _ (s w : List ℕ) (g : Ground) (n c end : ℕ) (h : Settling s w g n c end) (i q : ℕ) (w1 : List ℕ) (r : Going s w g c end i q w1) (j : ℕ) (e : i ≡ j + 1) where
@@ -159,14 +159,12 @@ module _ (s w : List ℕ) (g : Ground) (n c end : ℕ) (h : Settling s w g n c e
   going-said : listAt w1 g j % 2 ≡ 0 → SaidIn s w1 x (keyAt w1 g (listAt w1 g j / 2))
   going-said z =
       let f = list-old s w g n c end h i q w1 r j e in
-      let k = listAt w g j / 2 in
       let l : listAt w g j / 2 < n = h .names .entries j (omega (arith, r .upto)) .0 (rw f at z) in
       let b : keyAt w1 g (listAt w1 g j / 2) ≡ keyAt w g (listAt w g j / 2) = ap (λ (d : ℕ). keyAt w1 g (d / 2)) f ∙ key-old (listAt w g j / 2) (omega (arith, l, h .names .records .few)) in
       rw b (
-        let P = keyAt w g (listAt w g j / 2) in
-        subst (λ (y : Sym). Each (Said s w1 x) (keysOf (g .width) (texts s w1 (g .m)) y (keyAt w g (listAt w g j / 2)))) (sym (symbol-same s w w1 g (g .m .count + i) q end (h .ground) (omega arith) top items (h .above) (r .placed) (keyAt w g (listAt w g j / 2))))
-        (subst (λ (ts : List Text). Each (Said s w1 x) (keysOf (g .width) ts (symbolIn s w g (keyAt w g (listAt w g j / 2))) (keyAt w g (listAt w g j / 2)))) (sym texts-old)
-        (each-same (keysOf (g .width) (texts s w (g .m)) (symbolIn s w g (keyAt w g (listAt w g j / 2))) (keyAt w g (listAt w g j / 2))) said-one (h .referred (listAt w g j / 2) l)))
+      subst (λ (y : Sym). Each (Said s w1 x) (keysOf (g .width) (texts s w1 (g .m)) y (keyAt w g (listAt w g j / 2)))) (sym (symbol-same s w w1 g (g .m .count + i) q end (h .ground) (omega arith) top items (h .above) (r .placed) (keyAt w g (listAt w g j / 2))))
+      (subst (λ (ts : List Text). Each (Said s w1 x) (keysOf (g .width) ts (symbolIn s w g (keyAt w g (listAt w g j / 2))) (keyAt w g (listAt w g j / 2)))) (sym texts-old)
+      (each-same (keysOf (g .width) (texts s w (g .m)) (symbolIn s w g (keyAt w g (listAt w g j / 2))) (keyAt w g (listAt w g j / 2))) said-one (h .referred (listAt w g j / 2) l)))
       )
 
   -- theorem: it can be written

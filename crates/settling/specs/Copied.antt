@@ -1,6 +1,6 @@
 -- Printed forms of pushed symbols, in which the texts of inner symbols are copied that stand already. s is the tape, w is work before and w′ after. Assumes nothing: these are definitions.
 use mathlib.Core.Path.{_≡_}
-use mathlib.Core.Bool.{Bool, true}
+use mathlib.Core.Bool.{Bool}
 use mathlib.Core.Logic.{_⊎_}
 use mathlib.Core.List.{List, []}
 use Prim.Native.Nat.{ℕ, _+_, _-_, _*_, _/_, _%_, _≤_, _<_}
@@ -13,10 +13,9 @@ use Rattle.texts.specs.Table.{texts}
 use Rattle.texts.specs.Texts.{markedText, Whole, Behind}
 use Rattle.display.specs.Follow.{betweenBy}
 use Rattle.precedence.specs.Write.{Puts}
-use Rattle.expander.specs.declared.Ground.{Ground}
 use Rattle.expander.specs.Ground.{sizeIn, topOf, slotAt, keyAt, symbolIn, printedAt, Grounded}
 use Rattle.expander.specs.Held.{followed}
-use Rattle.expander.specs.Replace.{expandedCode, keysOf, keysOfAll, StandsAt, StandAt}
+use Rattle.expander.specs.Replace.{keysOf, keysOfAll, StandsAt, StandAt}
 use Rattle.settling.specs.declared.copied.Print.{Print}
 use Rattle.settling.specs.Print.{Printable}
 

@@ -14,7 +14,7 @@ use resolve::commands::long;
 use texts::fields::mark;
 ghost use mathlib.Core.Path.{_≡_};
 ghost use Prim.Native.Nat.{_+_, _≤_};
-ghost use lib.ListN.{length, getD};
+ghost use lib.ListN.{length};
 ghost use Rattle.texts.specs.Fields.{markAt};
 ghost use Rattle.texts.specs.Texts.{markedText};
 ghost use Rattle.precedence.specs.Write.{Puts};

@@ -24,12 +24,11 @@ put-part-requires : tie.Need-put-part-requires Inv-loop μ-loop
 put-part-requires c κs = (search parts-on, search parts-first)
 
 behind-requires : tie.Need-behind-requires Inv-loop μ-loop
-behind-requires c κs =
-    (
-      parts-ground _ _ _ _ _ _ _ _ _ _ _ _ _ (c .before .before .before .before .before .before .before .before .before .before .loop .inv) (search needs) _ _ (c .before .before .before .before .before .before .before .put-between .ensures) _ _ (c .before .before .before .put-part .ensures),
-      parts-behind _ _ _ _ _ _ _ _ _ _ _ _ _ (c .before .before .before .before .before .before .before .before .before .before .loop .inv) (search needs) _ _ (c .before .before .before .before .before .before .before .put-between .ensures) _ _ (c .before .before .before .put-part .ensures),
-      parts-again _ _ _ _ _ _ _ _ _ _ _ _ _ (c .before .before .before .before .before .before .before .before .before .before .loop .inv) (search needs) _ _ (c .before .before .before .before .before .before .before .put-between .ensures) _ _ (c .before .before .before .put-part .ensures),
-    )
+behind-requires c κs = (
+  parts-ground _ _ _ _ _ _ _ _ _ _ _ _ _ (c .before .before .before .before .before .before .before .before .before .before .loop .inv) (search needs) _ _ (c .before .before .before .before .before .before .before .put-between .ensures) _ _ (c .before .before .before .put-part .ensures),
+  parts-behind _ _ _ _ _ _ _ _ _ _ _ _ _ (c .before .before .before .before .before .before .before .before .before .before .loop .inv) (search needs) _ _ (c .before .before .before .before .before .before .before .put-between .ensures) _ _ (c .before .before .before .put-part .ensures),
+  parts-again _ _ _ _ _ _ _ _ _ _ _ _ _ (c .before .before .before .before .before .before .before .before .before .before .loop .inv) (search needs) _ _ (c .before .before .before .before .before .before .before .put-between .ensures) _ _ (c .before .before .before .put-part .ensures),
+)
 
 sub-k : tie.Need-sub-k Inv-loop μ-loop
 sub-k c = search looping
