@@ -30,6 +30,8 @@ use Rattle.expander.specs.Names.{listedTexts, namedIn, Names}
 use Rattle.settling.specs.Settle.{newBytes, someLong, SomePushed, Settling}
 use Rattle.appending.specs.declared.Appended.{Appended}
 use Rattle.appending.proofs.SymbolsStays.{table-stays, texts-stay}
+use Rattle.macro_expand.specs.Drain.{Pile}
+use Rattle.macro_expand.proofs.PileStays.{pile-stays}
 use Rattle.rounds.specs.declared.Room.{Room}
 use Rattle.rounds.specs.declared.State.{State}
 use Rattle.rounds.specs.declared.round.Half.{Half}
@@ -245,6 +247,10 @@ module _ (s w : List ℕ) (room : Room) (t : Grammar) (z : State) (T : RoundTree
     new-below : room .y + length (newBytes s w‴ g (v .count)) ≤ z .low
     new-below = omega (arith, all-fit, places.low-place s w room t z T S)
 
+    -- what was pushed is as before it was expanded
+    piled : Pile s w‴ g (r .pile) lim t v (D .starts .places) false (T .definitions)
+    piled = pile-stays s g (r .pile) lim (D .starts .places) w″ (atStart r) (D .starts .pile .going) _ v w‴ (D .appends) t false (T .definitions) (D .starts .pile)
+
     -- theorem
     pub can-settle : Settling s w‴ g (r .pile) (v .count) (z .low)
     can-settle = record {
@@ -259,6 +265,8 @@ module _ (s w : List ℕ) (room : Room) (t : Grammar) (z : State) (T : RoundTree
       far = omega (arith, places.x-behind s w room t z T S, S .map .y-is, new-below);
       inside = omega (arith, places.low-is s w room t z T S, S .map .inside, D .appends .long, piles.wrote s w room t z T S h w′ H pushed F w″ (D .cleared) .long);
       above = above-low;
+      behind = D .appends .going .behind;
+      referred = λ j l. piled .piled j l .referred;
     }
 
     pub some-pushed : SomePushed s w‴ g (r .pile)

@@ -13,12 +13,9 @@ use Rattle.octets.proofs.StoreLaws.{lies-store, length-store}
 use Rattle.parse_tree.specs.plain.Tree.{Text}
 use Rattle.parse_tree.specs.working.Nodes.{nodeBytes}
 use Rattle.parse_tree.specs.working.Encode.{atomBytes}
-use Rattle.texts.specs.declared.Map.{Map}
 use Rattle.texts.specs.Atoms.{atomEnd, atomText}
 use Rattle.texts.specs.Texts.{markedText, Whole}
 use Rattle.texts.proofs.TableMarks.{work-mark-whole, work-mark-text}
-use Rattle.expander.proofs.HeldStays.{Between}
-use Rattle.settling.specs.Atom.{AtomPut}
 
 module _ (w w1 : List ℕ) (p : ℕ) (t : Text) (o : w1 ≡ store w p (atomBytes 2 t)) (room : p + 3 + length t ≤ length w) (short : length t < 65536) where
   bytes-long : length (atomBytes 2 t) ≡ 3 + length t
@@ -57,7 +54,3 @@ module _ (w w1 : List ℕ) (p : ℕ) (t : Text) (o : w1 ≡ store w p (atomBytes
 
     pub mark-reads : markedText s w1 (p - 4 * length s) ≡ t
     mark-reads = work-mark-text s w1 p far ∙ atom-reads
-
--- theorem: put_atom_text changes nothing but the atom
-pub atom-between : (s w : List ℕ) (m : Map) (wd left at len end r : ℕ) (w1 : List ℕ) → AtomPut s w m wd left at len end r w1 → Between r end w w1
-atom-between s w m wd left at len end r w1 a = record { long = a .long; others = a .others }

@@ -8,6 +8,11 @@ mod PrintCode
 mod PrintTexts
 mod PrintListCode
 pub mod PrintMean
+mod CopiedStays
+mod CopiedCode
+mod CopiedTrees
+mod CopiedPutCode
+mod CopiedLoop
 mod AtomCode
 pub mod AtomMean
 mod BuiltCode
@@ -18,6 +23,7 @@ pub mod NewLaws
 mod CountCode
 mod SettleStays
 mod SettleLaws
+mod SettleSaid
 mod SettleNext
 mod SettleGrow
 mod SettleCode

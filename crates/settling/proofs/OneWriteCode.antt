@@ -56,6 +56,12 @@ module _ (s w : List ℕ) (g : Ground) (i end : ℕ) (h : TextReady s w g i end)
   pub record-room : (w1 : List ℕ) → length w1 ≡ length w → g .m .base + 24 * (g .m .count + i) + 24 ≤ length w1
   record-room w1 e = omega (arith, h .record-place, keys-top, h .ground .top)
 
+  pub first-fits : (k : ℕ) → k ≤ 1 → Fits w64 (g .m .count + i + k)
+  first-fits k l = record { fits = omega (arith, h .record-place, keys-top, h .ground .top, h .ground .short) }
+
+  pub count-fits : Fits w64 (g .m .count + i)
+  count-fits = record { fits = omega (arith, h .record-place, keys-top, h .ground .top, h .ground .short) }
+
   pub ready-ground : Grounded s w g
   ready-ground = h .ground
 
@@ -66,7 +72,7 @@ module _ (s w : List ℕ) (g : Ground) (i end : ℕ) (h : TextReady s w g i end)
     len-is : len ≡ length t
     len-is = f ∙ ap (λ (u : ℕ). stop (length (describedBy s w g u))) e ∙ stop-less (length t) (h .short)
 
-    pub ready-put : Puttable s w g v len end
+    pub ready-put : Puttable s w g (g .m .count + i + 1) v len end
     ready-put = record {
       ground = h .ground;
       entry = ready-entry v e;
@@ -76,6 +82,8 @@ module _ (s w : List ℕ) (g : Ground) (i end : ℕ) (h : TextReady s w g i end)
       top = omega (arith, len-is, h .top);
       inside = h .inside;
       above = h .above;
+      behind = h .behind;
+      said = λ z. rw e (h .said (rw e at z));
     }
 
     pub len-fits : Fits w64 (len + 3)
@@ -132,4 +140,4 @@ module _ (s w : List ℕ) (g : Ground) (i end : ℕ) (h : TextReady s w g i end)
             go j (inr (inl d)) = r .after j (d .0) ∙ beside j (inl (d .1))
             go j (inr (inr d)) = r .after j (omega (arith, low, to-end)) ∙ beside j (inr d)
 
-pub ruleset writing = (needs, ready-place, ready-ground, ready-entry, ready-put, len-fits, len-room, far-room, record-room, hash-fits, text-written)
+pub ruleset writing = (needs, first-fits, count-fits, ready-place, ready-ground, ready-entry, ready-put, len-fits, len-room, far-room, record-room, hash-fits, text-written)

@@ -30,15 +30,19 @@ rest-first c (suc d) x xs =
     let y : restText (suc d) (cons x xs) (betweenBy c 1) ≡ betweenBy c 1 ++ shown x (shownMore xs (betweenBy c 1) []) = cc (ne-eqb (suc d) 0 (λ q. absurd (omega (arith, q)))) in
     ap (λ (u : Text). u ++ (print x ++ shownMore xs (betweenBy c 1) [])) z ∙ ap (λ (u : Text). betweenBy c 1 ++ u) (print-then x (shownMore xs (betweenBy c 1) [])) ∙ sym y
 
-print-whole : (x : Sym) → print x ≡ beforeText x ++ (shownAll (children x) (betweenText x) [] ++ behindText x)
+-- theorem: a printed form is what stands before, inside and behind
+pub print-whole : (x : Sym) → print x ≡ beforeText x ++ (shownAll (children x) (betweenText x) [] ++ behindText x)
 print-whole x = print-parts x ∙ ap (λ (y : Text). beforeText x ++ y) (sym (shownAll-app (children x) (betweenText x) [] (behindText x)))
 
--- theorem: what was put, then a separator and a symbol by its parts, then the others
-pub rest-step : (bytes : List ℕ) (c d : ℕ) (x : Sym) (xs : Syms) (a b e : List ℕ) → a ≡ beforeText x → b ≡ shownAll (children x) (betweenText x) [] → e ≡ behindText x
-    → (bytes ++ (betweenBy c d ++ (a ++ (b ++ e)))) ++ restText 1 xs (betweenBy c 1) ≡ bytes ++ restText d (cons x xs) (betweenBy c 1)
+-- theorem: what was put, then a separator and a symbol, then the others
+pub rest-one : (bytes : List ℕ) (c d : ℕ) (x : Sym) (xs : Syms) (b : List ℕ) → b ≡ print x → (bytes ++ (betweenBy c d ++ b)) ++ restText 1 xs (betweenBy c 1) ≡ bytes ++ restText d (cons x xs) (betweenBy c 1)
 unfolding restText pick
-rest-step bytes c d x xs a b e i j k =
-    let z : a ++ (b ++ e) ≡ print x = cc (i, j, k, print-whole x) in
+rest-one bytes c d x xs b z =
     let r = shownMore xs (betweenBy c 1) [] in
     ap (λ (u : Text). (bytes ++ (betweenBy c d ++ u)) ++ r) z ∙ append-assoc bytes (betweenBy c d ++ print x) r
     ∙ ap (λ (u : Text). bytes ++ u) (append-assoc (betweenBy c d) (print x) r ∙ rest-first c d x xs)
+
+-- theorem: the symbol by its parts
+pub rest-step : (bytes : List ℕ) (c d : ℕ) (x : Sym) (xs : Syms) (a b e : List ℕ) → a ≡ beforeText x → b ≡ shownAll (children x) (betweenText x) [] → e ≡ behindText x
+    → (bytes ++ (betweenBy c d ++ (a ++ (b ++ e)))) ++ restText 1 xs (betweenBy c 1) ≡ bytes ++ restText d (cons x xs) (betweenBy c 1)
+rest-step bytes c d x xs a b e i j k = rest-one bytes c d x xs (a ++ (b ++ e)) (cc (i, j, k, print-whole x))

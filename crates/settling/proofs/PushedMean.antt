@@ -1,8 +1,9 @@
 -- What stays where texts were marked: the ground, the names, and that the new texts can be settled. Assumes nothing.
 use mathlib.Core.Path.{_≡_, sym, ap, _∙_}
+use mathlib.Core.Bool.{true}
 use mathlib.Core.Logic.{inl, inr}
 use mathlib.Core.List.{List}
-use Prim.Native.Nat.{ℕ, _<_, _≤_}
+use Prim.Native.Nat.{ℕ, _+_, _*_, _/_, _<_, _≤_}
 use native.Mathlib.Omega.{arith}
 use lib.ListN.{length, getD, drop}
 use lib.Seq.{drop-append-seam}
@@ -10,11 +11,15 @@ use Rattle.parse_tree.specs.plain.Tree.{Text}
 use Rattle.parse_tree.specs.plain.Texts.{distinct}
 use Rattle.parse_tree.specs.plain.WriteTape.{bytesOfEach}
 use Rattle.parse_tree.specs.working.Encode.{atomBytes}
+use Rattle.parse_tree.specs.working.Within.{Each}
 use Rattle.texts.specs.Table.{Above, Agree, texts}
-use Rattle.texts.proofs.TableStays.{part-agree}
+use Rattle.texts.specs.Fields.{markAt}
+use Rattle.texts.proofs.TableStays.{leAt-agree, part-agree}
 use Rattle.resolve.specs.Whole.{Apart}
+use Rattle.replacing.specs.Slots.{among}
 use Rattle.expander.specs.declared.Ground.{Ground}
-use Rattle.expander.specs.Ground.{stageIn, topOf, listPlace, Grounded}
+use Rattle.expander.specs.Ground.{sizeIn, stageIn, topOf, keyAt, symbolIn, listPlace, Grounded}
+use Rattle.expander.specs.Replace.{keysOf}
 use Rattle.expander.specs.Names.{listedTexts, namedIn, Names}
 use Rattle.expander.proofs.GroundLaws.{list-start, keys-slots, slots-top}
 use Rattle.expander.proofs.NamesLaws.{named-agree, names-agree}
@@ -86,6 +91,19 @@ module _ (s w : List ℕ) (g : Ground) (n : ℕ) (w1 : List ℕ) (G : Grounded s
   unfolding newBytes
   marked-bytes = ap (bytesOfEach (atomBytes 2)) marked-new
 
+-- the references of the symbols in the j-th pushed
+abbrev Referred : List ℕ → List ℕ → Ground → List ℕ → ℕ → Type 0
+Referred s w g ps j = Each (λ (q : ℕ). among q ps ≡ true) (keysOf (g .width) (texts s w (g .m)) (symbolIn s w g (keyAt w g j)) (keyAt w g j))
+
+marked-referred : (s w : List ℕ) (g : Ground) (n : ℕ) (w1 : List ℕ) → Grounded s w g → MarkedPushed s w g n w1 → (ps : List ℕ) (j : ℕ) → j < sizeIn g / 9 → Referred s w g ps j → Referred s w1 g ps j
+unfolding keyAt markAt
+marked-referred s w g n w1 G m ps j l h =
+    let b : markAt w1 (g .keys) j ≡ markAt w (g .keys) j = key-stays in
+    rw (b, m .same, marked-stage s w g n w1 G m) h
+  where
+    key-stays : markAt w1 (g .keys) j ≡ markAt w (g .keys) j
+    key-stays = leAt-agree 8 w w1 (g .keys + 24 * j) (λ i x y. m .others i (inr (omega (arith, G .records))))
+
 -- theorem: new texts can be settled after marking as before
 pub marked-settling : (s w : List ℕ) (g : Ground) (n c end : ℕ) (w1 : List ℕ) → Settling s w g n c end → MarkedPushed s w g n w1 → Settling s w1 g n c end
 marked-settling s w g n c end w1 h m =
@@ -102,4 +120,6 @@ marked-settling s w g n c end w1 h m =
       far = rw z (h .far);
       inside = rw (m .long) (h .inside);
       above = marked-above s w g n w1 (h .ground) m end (h .above);
+      behind = rw (m .long) (h .behind);
+      referred = λ j l. marked-referred s w g n w1 (h .ground) m (h .places) j (omega (arith, l, h .names .records .few)) (h .referred j l);
     }

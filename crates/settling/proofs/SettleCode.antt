@@ -14,7 +14,8 @@ use Rattle.expander.specs.Ground.{listAt}
 use Rattle.expander.specs.Names.{describedBy}
 use Rattle.settling.specs.One.{TextReady, Written}
 use Rattle.settling.specs.Settle.{Settling, Settles}
-use Rattle.settling.proofs.SettleLaws.{Going, going-start, going-ready}
+use Rattle.settling.proofs.SettleLaws.{Going, going-start}
+use Rattle.settling.proofs.SettleSaid.{going-ready}
 use Rattle.settling.proofs.SettleNext.{going-next}
 use Rattle.settling.proofs.SettleGrow.{going-grow, going-done}
 

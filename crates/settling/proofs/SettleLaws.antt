@@ -11,13 +11,13 @@ use Rattle.texts.specs.Fields.{markAt, hashAt, cellAt}
 use Rattle.texts.specs.Hash.{hashOf}
 use Rattle.texts.specs.Texts.{markedText, Whole, Behind}
 use Rattle.expander.specs.declared.Ground.{Ground}
-use Rattle.expander.specs.Ground.{topOf, listPlace, listAt, Grounded}
+use Rattle.expander.specs.Ground.{topOf, listAt, Grounded}
 use Rattle.expander.specs.Names.{describedBy}
 use Rattle.expander.proofs.GroundLaws.{keys-slots, slots-top}
-use Rattle.settling.specs.One.{newCell, Entry, TextReady}
+use Rattle.settling.specs.One.{newCell, Entry}
 use Rattle.settling.specs.Settle.{newBytes, Settling}
 use Rattle.settling.proofs.NewLaws.{size-next, each-short, names-entry}
-use Rattle.settling.proofs.SettleStays.{PlacedText, placed-ground, placed-above, placed-list, placed-entry, placed-text}
+use Rattle.settling.proofs.SettleStays.{PlacedText, placed-ground, placed-list, placed-entry, placed-text}
 
 -- record k of the new ones says the text t, which stands from z on, and its cell u
 pub record Told (s w : List ℕ) (g : Ground) (k : ℕ) (t : Text) (u z : ℕ) : Type 0 where
@@ -82,7 +82,7 @@ module _ (s w : List ℕ) (g : Ground) (n c end : ℕ) (h : Settling s w g n c e
           ap (describedBy s w1 g) list-old
           ∙ placed-text s w w1 g (g .m .count + i) q end (h .ground) (omega arith) (omega (arith, going-top)) (omega (arith, going-items)) (h .above) (r .placed) (listAt w g j) entry-old
 
-      entry-new : Entry s w1 g (listAt w1 g j)
+      pub entry-new : Entry s w1 g (listAt w1 g j)
       entry-new = rw list-old (placed-entry s w w1 g (g .m .count + i) q end (h .ground) (omega arith) (omega (arith, going-top)) (omega (arith, going-items)) (h .above) (r .placed) (listAt w g j) entry-old)
 
       pub going-short : length (describedBy s w g (listAt w g j)) < 65536
@@ -92,21 +92,3 @@ module _ (s w : List ℕ) (g : Ground) (n c end : ℕ) (h : Settling s w g n c e
 
       pub going-size : length (newBytes s w g i) ≡ length (newBytes s w g j) + (3 + length (describedBy s w g (listAt w g j)))
       going-size = ap (λ (k : ℕ). length (newBytes s w g k)) e ∙ size-next s w g j
-
-      -- theorem: it can be written
-      pub going-ready : TextReady s w1 g j q
-      unfolding listPlace
-      going-ready =
-          let t = ap length text-old in
-          record {
-            ground = going-ground;
-            entry = entry-new;
-            short = omega (arith, t, going-short);
-            place = omega (arith, h .names .room, r .upto);
-            record-place = omega (arith, h .records, r .upto);
-            items = omega (arith, t, going-size, going-items);
-            top = omega (arith, t, going-size, going-top);
-            far = omega (arith, t, going-size, going-far);
-            inside = omega (arith, going-upto, h .inside, r .placed .long);
-            above = placed-above s w w1 g (g .m .count + i) q end (h .ground) (omega arith) (omega (arith, going-top)) (omega (arith, going-items)) (h .above) (r .placed) q going-upto;
-          }

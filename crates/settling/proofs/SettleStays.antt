@@ -15,10 +15,10 @@ use Rattle.texts.specs.Forms.{stop}
 use Rattle.texts.specs.Hash.{hashOf}
 use Rattle.texts.specs.Table.{Above, texts}
 use Rattle.texts.proofs.TableStays.{leAt-agree, above-lower}
-use Rattle.replacing.specs.Prints.{printAt}
+use Rattle.replacing.specs.Prints.{symAt, printAt}
 use Rattle.replacing.specs.Sound.{Firm}
 use Rattle.expander.specs.declared.Ground.{Ground}
-use Rattle.expander.specs.Ground.{sizeIn, topOf, keyAt, listPlace, listAt, printedAt, KeyAt, Grounded}
+use Rattle.expander.specs.Ground.{sizeIn, topOf, keyAt, listPlace, listAt, symbolIn, printedAt, KeyAt, Grounded}
 use Rattle.expander.specs.Stage.{WroteOnly}
 use Rattle.expander.specs.Names.{describedBy}
 use Rattle.expander.proofs.GroundLaws.{list-start, keys-slots, slots-top}
@@ -68,7 +68,7 @@ module _ (s w w′ : List ℕ) (g : Ground) (k q e : ℕ) (G : Grounded s w g) (
   field-same n b h l = leAt-agree n w w′ b (λ j x y. p .others j (inr (inl (omega arith, omega (arith, slots-top s w g G)))))
 
   module _ (i : ℕ) (h : i < sizeIn g / 9) where
-    key-same : keyAt w′ g i ≡ keyAt w g i
+    pub key-same : keyAt w′ g i ≡ keyAt w g i
     unfolding keyAt markAt
     key-same = field-same 8 (g .keys + 24 * i) (omega arith) (omega (arith, G .fits))
 
@@ -80,8 +80,11 @@ module _ (s w w′ : List ℕ) (g : Ground) (k q e : ℕ) (G : Grounded s w g) (
     unfolding cellAt
     cell-same = field-same 4 (g .keys + 24 * i + 20) (omega arith) (omega (arith, G .fits))
 
-  print-same : (a : ℕ) → printedAt s w′ g a ≡ printedAt s w g a
+  pub print-same : (a : ℕ) → printedAt s w′ g a ≡ printedAt s w g a
   print-same a = said-wrote s w w′ g q e e G top items (omega arith) above wrote (λ st ts. printAt false (g .width) st ts a ≡ printedAt s w g a) refl
+
+  pub symbol-same : (a : ℕ) → symbolIn s w′ g a ≡ symbolIn s w g a
+  symbol-same a = said-wrote s w w′ g q e e G top items (omega arith) above wrote (λ st ts. symAt false (g .width) st ts a ≡ symbolIn s w g a) refl
 
   firm-same : (a : ℕ) → KeyAt s w g a → KeyAt s w′ g a
   firm-same a f = said-wrote s w w′ g q e e G top items (omega arith) above wrote (λ st ts. Firm false (g .width) st ts a) f

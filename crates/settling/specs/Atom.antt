@@ -1,21 +1,16 @@
--- A printed form as an atom that ends at a place of work. s is the tape, w is work before and w′ after, wd the width of an atom's number in bytes.
--- Assumes nothing: these are definitions.
+-- A printed form as an atom that ends at a place of work. s is the tape, w is work. Assumes nothing: these are definitions.
 use mathlib.Core.Path.{_≡_}
-use mathlib.Core.Bool.{Bool}
-use mathlib.Core.Logic.{_⊎_}
 use mathlib.Core.List.{List}
 use Prim.Native.Nat.{ℕ, _+_, _-_, _≤_, _<_}
-use lib.ListN.{length, getD}
-use Rattle.octets.specs.working.Stores.{store}
-use Rattle.parse_tree.specs.plain.Tree.{Sym}
-use Rattle.parse_tree.specs.plain.Display.{print}
-use Rattle.parse_tree.specs.working.Encode.{atomBytes}
-use Rattle.texts.specs.declared.Map.{Map}
-use Rattle.display.specs.Standing.{SymStands}
+use lib.ListN.{length}
+use Rattle.expander.specs.Ground.{printedAt}
+use Rattle.settling.specs.declared.copied.Print.{Print}
+use Rattle.settling.specs.Copied.{Copying, SaidSymbol}
 
--- the atom begins at r and ends at `end`; whatever symbol of len printed bytes stands at a place, its text is that printed form; nothing else changed
-pub record AtomPut (s w : List ℕ) (m : Map) (wd left at len end r : ℕ) (w′ : List ℕ) : Type 0 where
-  pub place : r ≡ end - (len + 3)
-  pub long : length w′ ≡ length w
-  pub others : (i : ℕ) → (i < r) ⊎ (end ≤ i) → getD w′ i 0 ≡ getD w i 0
-  pub each : (four : Bool) (e : ℕ) (x : Sym) → SymStands s w m wd four left at e x → e ≤ r → length (print x) ≡ len → w′ ≡ store w r (atomBytes 2 (print x))
+-- the print of the symbol at p has len bytes, and can be put so that it ends at x.lim
+pub record AtomReady (s w : List ℕ) (x : Print) (p len : ℕ) : Type 0 where
+  pub copying : Copying s w x (x .lim - (len + 3))
+  pub symbol : SaidSymbol s w x 64 p
+  pub is : len ≡ length (printedAt s w (x .g) p)
+  pub short : len < 65536
+  pub room : len + 3 ≤ x .lim

@@ -18,6 +18,7 @@ use Rattle.texts.specs.Table.{Above}
 use Rattle.expander.specs.declared.Ground.{Ground}
 use Rattle.expander.specs.Ground.{sizeIn, topOf, keyAt, listPlace, listAt, printedAt, KeyAt, Grounded}
 use Rattle.expander.specs.Names.{describedBy}
+use Rattle.settling.specs.Copied.{SaidIn}
 
 -- t was put as an atom that ends at `end`, and r is its hash
 pub record TextPut (w : List ℕ) (t : Text) (end r : ℕ) (w′ : List ℕ) : Type 0 where
@@ -32,8 +33,8 @@ pub record Entry (s w : List ℕ) (g : Ground) (v : ℕ) : Type 0 where
   pub size : v % 2 ≡ 0 → cellAt w (g .keys) (v / 2) ≡ stop (length (printedAt s w g (keyAt w g (v / 2))))
   pub built : v % 2 ≡ 1 → v / 2 < 9
 
--- its text has len bytes, and can be put so that it ends at `end`
-pub record Puttable (s w : List ℕ) (g : Ground) (v len end : ℕ) : Type 0 where
+-- its text has len bytes, and can be put so that it ends at `end`; new texts are written from number `first` on
+pub record Puttable (s w : List ℕ) (g : Ground) (first v len end : ℕ) : Type 0 where
   pub ground : Grounded s w g
   pub entry : Entry s w g v
   pub is : len ≡ length (describedBy s w g v)
@@ -42,6 +43,8 @@ pub record Puttable (s w : List ℕ) (g : Ground) (v len end : ℕ) : Type 0 whe
   pub top : topOf g + (len + 3) ≤ end
   pub inside : end ≤ length w
   pub above : Above s w (g .m) end
+  pub behind : g .end + 16 ≤ length w
+  pub said : v % 2 ≡ 0 → SaidIn s w (record { g = g; first = first; lim = end }) (keyAt w g (v / 2))
 
 -- the text of the i-th entry can be put so that it ends at `end`, and its record can be written
 pub record TextReady (s w : List ℕ) (g : Ground) (i end : ℕ) : Type 0 where
@@ -55,6 +58,8 @@ pub record TextReady (s w : List ℕ) (g : Ground) (i end : ℕ) : Type 0 where
   pub far : 8 * length s + (length (describedBy s w g (listAt w g i)) + 3) ≤ end
   pub inside : end ≤ length w
   pub above : Above s w (g .m) end
+  pub behind : g .end + 16 ≤ length w
+  pub said : listAt w g i % 2 ≡ 0 → SaidIn s w (record { g = g; first = g .m .count + i + 1; lim = end }) (keyAt w g (listAt w g i / 2))
 
 -- the cell of the text that an entry v describes: a print counts as pushed, a built-in text doesn't
 unfoldable pub newCell : ℕ → ℕ

@@ -1,7 +1,7 @@
 -- The new texts of a round, once their stage is admitted: how many bytes they have, their atoms written behind one another up to a place, and their records. s is the tape, w is work; n symbols
 -- were pushed, c texts are new. Assumes nothing: these are definitions.
 use mathlib.Core.Path.{_≡_}
-use mathlib.Core.Bool.{Bool, false, _||_}
+use mathlib.Core.Bool.{Bool, true, false, _||_}
 use mathlib.Core.Logic.{_⊎_}
 use mathlib.Core.List.{List, [], _∷_}
 use Prim.Native.Nat.{ℕ, _+_, _-_, _*_, _%_, _≤_, _<_}
@@ -11,11 +11,14 @@ use Rattle.octets.specs.plain.Runs.{Lies}
 use Rattle.parse_tree.specs.plain.Tree.{Text}
 use Rattle.parse_tree.specs.plain.WriteTape.{bytesOfEach}
 use Rattle.parse_tree.specs.working.Encode.{atomBytes}
+use Rattle.parse_tree.specs.working.Within.{Each}
 use Rattle.texts.specs.Fields.{markAt, cellAt}
 use Rattle.texts.specs.Table.{Table, Above, texts}
+use Rattle.replacing.specs.Slots.{among}
 use Rattle.expander.specs.declared.Ground.{Ground}
-use Rattle.expander.specs.Ground.{topOf, listAt, keyAt, pushedText, Grounded}
+use Rattle.expander.specs.Ground.{topOf, listAt, keyAt, symbolIn, pushedText, Grounded}
 use Rattle.expander.specs.Held.{down, anyOf, refIn, isText}
+use Rattle.expander.specs.Replace.{keysOf}
 use Rattle.expander.specs.Names.{listedTexts, namedIn, Names}
 use Rattle.settling.specs.One.{newCell}
 use Rattle.settling.specs.declared.settle.Fresh.{Fresh}
@@ -56,6 +59,9 @@ pub record Settling (s w : List ℕ) (g : Ground) (n c end : ℕ) : Type 0 where
   pub far : 8 * length s + length (newBytes s w g c) ≤ end
   pub inside : end ≤ length w
   pub above : Above s w (g .m) end
+  pub behind : g .end + 16 ≤ length w
+  -- the symbols in those that were pushed have references
+  pub referred : (j : ℕ) → j < n → Each (λ q. among q places ≡ true) (keysOf (g .width) (texts s w (g .m)) (symbolIn s w g (keyAt w g j)) (keyAt w g j))
 
 -- r has the table with them, and the place of the first
 pub record Settles (s w : List ℕ) (g : Ground) (c end : ℕ) (r : Settled) (w′ : List ℕ) : Type 0 where

@@ -2,6 +2,7 @@
 // Touches nothing but the slices that it is handed.
 pub mod atom;
 pub mod built;
+pub mod copied;
 pub mod one;
 pub mod print;
 pub mod pushed;

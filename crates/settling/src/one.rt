@@ -2,6 +2,7 @@
 use crate::atom::put_atom_text;
 use crate::built::built_length;
 use crate::built::put_built;
+use crate::copied::Print;
 use expander::Ground;
 use octets::numbers::u64_at;
 use octets::wide::from32;
@@ -36,24 +37,45 @@ pub fn text_length(tape: &[u8], work: &[u8], g: Ground, v: usize) -> usize
     built_length(v / 2)
 }
 
-// The print that an even entry describes, which has len bytes, as an atom that ends at `end`; says its hash.
-fn put_print(tape: &[u8], work: &mut [u8], g: Ground, v: usize, len: usize, end: usize) -> usize
-    requires { ⌜ Puttable (now tape) (now work) g v len end × (v % 2 ≡ 0) ⌝ }
+// The print that an even entry describes, which has len bytes, as an atom that ends at `end`; says its hash. New texts are written from number `first` on.
+fn put_print(
+    tape: &[u8],
+    work: &mut [u8],
+    g: Ground,
+    first: usize,
+    v: usize,
+    len: usize,
+    end: usize,
+) -> usize
+    requires { ⌜ Puttable (now tape) (now work) g first v len end × (v % 2 ≡ 0) ⌝ }
     ensures { λ r. ⌜ TextPut (now (work .entry)) (describedBy (now (tape .entry)) (now (work .entry)) g v) end r (now (work .exit)) ⌝ }
 {
     let p = mark(work, g.keys, v / 2);
     let h = hash(work, g.keys, v / 2);
-    put_atom_text(tape, work, g.m, g.width, 64, g.from + p, len, end);
+    let x = Print {
+        g: g,
+        first: first,
+        lim: end,
+    };
+    put_atom_text(tape, work, x, p, len);
     h
 }
 
 // The text that an entry describes, which has len bytes, as such an atom.
-fn put_new(tape: &[u8], work: &mut [u8], g: Ground, v: usize, len: usize, end: usize) -> usize
-    requires { ⌜ Puttable (now tape) (now work) g v len end ⌝ }
+fn put_new(
+    tape: &[u8],
+    work: &mut [u8],
+    g: Ground,
+    first: usize,
+    v: usize,
+    len: usize,
+    end: usize,
+) -> usize
+    requires { ⌜ Puttable (now tape) (now work) g first v len end ⌝ }
     ensures { λ r. ⌜ TextPut (now (work .entry)) (describedBy (now (tape .entry)) (now (work .entry)) g v) end r (now (work .exit)) ⌝ }
 {
     if v % 2 == 0 {
-        return put_print(tape, work, g, v, len, end);
+        return put_print(tape, work, g, first, v, len, end);
     }
     put_built(work, v / 2, end)
 }
@@ -75,7 +97,7 @@ pub fn write_text(tape: &[u8], work: &mut [u8], g: Ground, i: usize, end: usize)
 {
     let v = entry(work, g, i);
     let len = text_length(tape, work, g, v);
-    let h = put_new(tape, work, g, v, len, end);
+    let h = put_new(tape, work, g, g.m.count + i + 1, v, len, end);
     let to = end - (len + 3);
     write(
         work,

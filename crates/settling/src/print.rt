@@ -28,7 +28,7 @@ pub struct Opened {
 }
 
 // What stands before the k-th of the symbols straight inside that of the code c.
-fn put_between(work: &mut [u8], c: u8, k: usize, lim: usize, to: usize) -> usize
+pub fn put_between(work: &mut [u8], c: u8, k: usize, lim: usize, to: usize) -> usize
     requires { ⌜ (lim ≤ length (now work)) × (to ≤ lim + 1) ⌝ }
     ensures { λ r. ⌜ Puts (now (work .entry)) lim to (betweenBy c k) r (now (work .exit)) ⌝ }
 {
@@ -60,7 +60,7 @@ fn put_named(
 }
 
 // What stands before all of them, the symbol being of the code c at a place.
-fn put_before(
+pub fn put_before(
     tape: &[u8],
     work: &mut [u8],
     m: Map,
@@ -97,7 +97,7 @@ fn put_before(
 }
 
 // What stands behind them.
-fn put_behind(work: &mut [u8], width: usize, at: usize, c: u8, lim: usize, to: usize) -> usize
+pub fn put_behind(work: &mut [u8], width: usize, at: usize, c: u8, lim: usize, to: usize) -> usize
     requires { ⌜ Closing (now work) width at c lim to ⌝ }
     ensures { λ r. ⌜ Puts (now (work .entry)) lim to (behindBy (now (work .entry)) at c) r (now (work .exit)) ⌝ }
 {

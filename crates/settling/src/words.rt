@@ -24,7 +24,7 @@ ghost use Rattle.precedence.specs.Write.{Puts};
 ghost use Rattle.settling.specs.Put.{sourceText, Fixed, Marked, PlacedText};
 
 // Where the text of a mark stands.
-fn mark_source(tape: &[u8], work: &[u8], x: usize) -> Source
+pub fn mark_source(tape: &[u8], work: &[u8], x: usize) -> Source
     requires { ⌜ Whole (now tape) (now work) x ⌝ }
     ensures { λ r. ⌜ Marked (now (tape .entry)) (now (work .entry)) x r ⌝ }
 {

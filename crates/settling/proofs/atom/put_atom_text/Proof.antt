@@ -5,7 +5,7 @@ use Rattle.settling.proofs.atom.put_atom_text.Tie as tie
 use Rattle.settling.proofs.atom.put_atom_text.Reads as reads
 use Rattle.settling.proofs.atom.put_atom_text.Lts as lts
 use Rattle.settling.proofs.atom.put_head.Reads as put-head-reads
-use Rattle.settling.proofs.print.print_symbol.Reads as print-symbol-reads
+use Rattle.settling.proofs.copied.put_symbol.Reads as put-symbol-reads
 
 add-to : tie.Need-add-to
 add-to c = search needs
@@ -19,8 +19,8 @@ cast-put-head c = search needs
 put-head-requires : tie.Need-put-head-requires
 put-head-requires c κs = search needs
 
-print-symbol-requires : tie.Need-print-symbol-requires
-print-symbol-requires c κs = search atoming
+put-symbol-requires : tie.Need-put-symbol-requires
+put-symbol-requires c κs = search atoming
 
 same-length : tie.Need-same-length
 same-length c = search needs
@@ -36,6 +36,6 @@ put-atom-text-spec =
     sub-to
     cast-put-head
     put-head-requires
-    print-symbol-requires
+    put-symbol-requires
     same-length
     returns)

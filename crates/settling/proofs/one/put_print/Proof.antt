@@ -14,9 +14,6 @@ mark-requires c κs = search printing
 hash-requires : tie.Need-hash-requires
 hash-requires c κs = search printing
 
-add-put-atom-text : tie.Need-add-put-atom-text
-add-put-atom-text c = search printing
-
 put-atom-text-requires : tie.Need-put-atom-text-requires
 put-atom-text-requires c κs = search printing
 
@@ -28,11 +25,4 @@ returns c = search printing
 
 pub put-print-spec : {M : Type 1} → statement M
 put-print-spec =
-    tie.close
-    (tie.spec
-    mark-requires
-    hash-requires
-    add-put-atom-text
-    put-atom-text-requires
-    same-length
-    returns)
+    tie.close (tie.spec mark-requires hash-requires put-atom-text-requires same-length returns)

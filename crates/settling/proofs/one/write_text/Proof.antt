@@ -16,6 +16,12 @@ entry-requires c κs = search writing
 text-length-requires : tie.Need-text-length-requires
 text-length-requires c κs = search writing
 
+add-put-new : tie.Need-add-put-new
+add-put-new c = search needs
+
+add-put-new-2 : tie.Need-add-put-new-2
+add-put-new-2 c = search needs
+
 put-new-requires : tie.Need-put-new-requires
 put-new-requires c κs = search writing
 
@@ -52,6 +58,8 @@ write-text-spec =
     (tie.spec
     entry-requires
     text-length-requires
+    add-put-new
+    add-put-new-2
     put-new-requires
     add-to
     sub-to
