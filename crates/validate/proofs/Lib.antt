@@ -5,6 +5,7 @@ pub mod CommandInside
 pub mod CommandCode
 mod SymbolsCode
 mod QuickCode
+mod QuickInsideCode
 mod QuickItemsCode
 mod CommandKinds
 pub mod FrontCode

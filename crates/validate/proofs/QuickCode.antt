@@ -30,7 +30,7 @@ use Rattle.parse_tree.proofs.TextLaws.{both}
 use Rattle.parse_tree.proofs.SizeLaws.{alternative-size, leaf-size, repeat-size, choose-size, name-size, macro-size, group-size}
 use Rattle.texts.specs.Atoms.{atomsOf}
 use Rattle.validate.specs.Steps.{Ready, askedOf, stepOf}
-use Rattle.validate.specs.Quick.{Kinded, Passing, QuickPassed, Quick, WholeAlternative, PassedAlternative, alternativeHere, heldIn, heldOf}
+use Rattle.validate.specs.Quick.{Kinded, Passing, QuickPassed, Quick, QuickInside, WholeAlternative, PassedAlternative, alternativeHere, heldIn, heldOf}
 use Rattle.validate.specs.declared.Atoms.{Atoms}
 use Rattle.validate.specs.declared.Asked.{Asked}
 use Rattle.validate.specs.declared.Step.{Step}
@@ -308,6 +308,9 @@ module _ (s : List ℕ) (m : Atoms) (left at f : ℕ) (q : Quick s m left at f) 
       unfolding times stepOf
       quick-next z = symbols-next (m .four) s (m .width) (m .count) left k at x inv (Step.Next f) (said (Step.Next f) (rw z)) l f refl
 
+      pub quick-behind : (d : ℕ) → QuickInside s m (left - 1) i f d → 0 < d → stepOf (times (readSym (m .four) (m .width) s (atomsOf s (m .count)) left) (k - 1) d) ≡ x
+      quick-behind d g z = symbols-next (m .four) s (m .width) (m .count) left k at x inv (Step.Next d) (said (Step.Next d) (sym (g .passed z))) l d refl
+
       module _ (y : Step) (o : y ≡ stepOf (times (readSym (m .four) (m .width) s (atomsOf s (m .count)) (left - 1)) i f)) where
         pub quick-on : (d : ℕ) → y ≡ Step.Next d → stepOf (times (readSym (m .four) (m .width) s (atomsOf s (m .count)) left) (k - 1) d) ≡ x
         quick-on d z = symbols-next (m .four) s (m .width) (m .count) left k at x inv y (said y o) l d z
@@ -315,7 +318,7 @@ module _ (s : List ℕ) (m : Atoms) (left at f : ℕ) (q : Quick s m left at f) 
         pub quick-stop : (z : Refusal) → y ≡ Step.Refused z → Step.Refused z ≡ x
         quick-stop z u = symbols-stop (m .four) s (m .width) (m .count) left k at x inv y (said y o) l z u
 
-pub ruleset stepping = (walking, quick-room, quick-deep, quick-falls, quick-next, quick-on, quick-stop)
+pub ruleset stepping = (walking, quick-room, quick-deep, quick-falls, quick-behind, quick-on, quick-stop)
 
 -- ---- `has_alternative`, `alternative_at`
 module _ (w : ℕ) (s : List ℕ) (at : ℕ) where

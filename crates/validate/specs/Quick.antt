@@ -10,8 +10,8 @@ use Rattle.parse_tree.specs.working.Nodes.{nodeAt, symbolNodeAt, spanIn, sizeOf
 use Rattle.parse_tree.specs.working.Places.{itemsPlace, alternativesPlace, symbolsPlace}
 use Rattle.parse_tree.specs.working.Questions.{symbolDefined, symbolSuits}
 use Rattle.parse_tree.specs.working.Operands.{insideOf}
-use Rattle.parse_tree.specs.plain.Reading.{got}
-use Rattle.parse_tree.specs.working.Decode.{ask}
+use Rattle.parse_tree.specs.plain.Reading.{got, times}
+use Rattle.parse_tree.specs.working.Decode.{ask, readSym}
 use Rattle.parse_tree.specs.declared.syntax.SymbolKind.{SymbolKind}
 use Rattle.parse_tree.specs.declared.syntax.Alternative.{Alternative}
 use Rattle.parse_tree.specs.declared.syntax.Attribute.{Attribute}
@@ -19,7 +19,9 @@ use Rattle.parse_tree.specs.declared.syntax.NonterminalData.{NonterminalData}
 use Rattle.parse_tree.specs.declared.syntax.TerminalData.{TerminalData}
 use Rattle.parse_tree.specs.declared.syntax.Node.{Node}
 use Rattle.texts.specs.Atoms.{atomsOf}
+use Rattle.validate.specs.Steps.{stepOf}
 use Rattle.validate.specs.declared.Atoms.{Atoms}
+use Rattle.validate.specs.declared.Step.{Step}
 
 -- the symbol whose code is c and stands at a place passes 3 and 4, in r bytes
 pub record Kinded (s : List ℕ) (m : Atoms) (c at r : ℕ) : Type 0 where
@@ -45,6 +47,10 @@ pub record QuickPassed (s : List ℕ) (m : Atoms) (left at r : ℕ) : Type 0 whe
 -- where r is behind it
 pub record Quick (s : List ℕ) (m : Atoms) (left at r : ℕ) : Type 0 where
   pub passed : at < r → QuickPassed s m left at r
+
+-- where r isn't 0, the n symbols from a place on are read and end at r
+pub record QuickInside (s : List ℕ) (m : Atoms) (left n at r : ℕ) : Type 0 where
+  pub passed : 0 < r → stepOf (times (readSym (m .four) (m .width) s (atomsOf s (m .count)) left) n at) ≡ Step.Next r
 
 -- how many symbols stand inside one
 unfoldable pub heldIn : SymbolKind → ℕ

@@ -34,7 +34,7 @@ ghost use Rattle.parse_tree.specs.working.Questions.{alternativeDefined, attrib
 ghost use Rattle.parse_tree.specs.declared.syntax.Node.{Node};
 ghost use Rattle.texts.specs.Atoms.{atomsOf};
 ghost use Rattle.validate.specs.Steps.{Ready};
-ghost use Rattle.validate.specs.Quick.{Passing, Quick, WholeAlternative, PassedAlternative, PassedNonterminal, PassedTerminal, QuickCommand, alternativeHere, attributeHere, nonterminalHere, heldOf};
+ghost use Rattle.validate.specs.Quick.{Passing, Quick, QuickInside, WholeAlternative, PassedAlternative, PassedNonterminal, PassedTerminal, QuickCommand, alternativeHere, attributeHere, nonterminalHere, heldOf};
 
 // Whether there is such an atom and, where question 4 is asked, its text is a name.
 fn names(tape: &[u8], work: &[u8], m: Atoms, k: u32) -> bool
@@ -168,6 +168,37 @@ pub fn held(tape: &[u8], at: usize, width: usize) -> usize
         return from16(u16_at(tape, at + 9));
     }
     1
+}
+
+// The place behind the n symbols inside one, where it is found out here: none, or one leaf with a name. Else 0.
+pub fn quick_inside(tape: &[u8], work: &[u8], m: Atoms, at: usize, n: usize, left: usize) -> usize
+    requires { ⌜ Ready (now tape) (now work) m ⌝ }
+    ensures { λ r. ⌜ QuickInside (now (tape .entry)) m left n at r ⌝ }
+{
+    if n == 0 {
+        return at;
+    }
+    if 1 < n {
+        return 0;
+    }
+    if left == 0 {
+        return 0;
+    }
+    if tape.len() <= at {
+        return 0;
+    }
+    if tape.len() - at < 10 + m.width {
+        return 0;
+    }
+    let c = tape[at];
+    if c < 32 {
+        return 0;
+    }
+    if 36 < c {
+        return 0;
+    }
+    let k = atom_at(tape, at + 9, m.width);
+    long(named(tape, work, m, c, k), at + (9 + m.width))
 }
 
 // Whether the command at a place is an alternative, and whole.

@@ -5,6 +5,7 @@ use crate::Step;
 use crate::command::command;
 use crate::quick::held;
 use crate::quick::quick;
+use crate::quick::quick_inside;
 use octets::wide::from8;
 use octets::wide::from16;
 use parse_tree::places::SYMBOLS;
@@ -52,7 +53,7 @@ pub fn symbol(tape: &[u8], work: &[u8], m: Atoms, at: usize, left: usize) -> Ste
     }
 }
 
-// n symbols, one behind another. What stands behind a quick look is a list: none for a leaf.
+// n symbols, one behind another. What stands behind a quick look is a list: mostly none, or one leaf.
 pub fn symbols(tape: &[u8], work: &[u8], m: Atoms, at: usize, n: usize, left: usize) -> Step
     requires { ⌜ Ready (now tape) (now work) m ⌝ }
     ensures { λ r. ⌜ r ≡ stepOf (times (readSym (m .four) (m .width) (now (tape .entry)) (atomsOf (now (tape .entry)) (m .count)) left) n at) ⌝ }
@@ -63,8 +64,9 @@ pub fn symbols(tape: &[u8], work: &[u8], m: Atoms, at: usize, n: usize, left: us
         let f = quick(tape, work, m, p, left);
         if p < f {
             let i = held(tape, p, m.width);
-            if i == 0 {
-                p = f;
+            let d = quick_inside(tape, work, m, f, i, left - 1);
+            if 0 < d {
+                p = d;
                 k -= 1;
             } else {
                 match symbols(tape, work, m, f, i, left - 1) {

@@ -18,6 +18,7 @@ use Rattle.parse_tree.proofs.refusal.at.Reads as at-reads
 use Rattle.validate.proofs.command.command.Reads as command-reads
 use Rattle.validate.proofs.quick.held.Reads as held-reads
 use Rattle.validate.proofs.quick.quick.Reads as quick-reads
+use Rattle.validate.proofs.quick.quick_inside.Reads as quick-inside-reads
 use Rattle.validate.proofs.symbols.inside.Reads as inside-reads
 use Rattle.validate.proofs.symbols.+symbol+symbols.{statement}
 use Rattle.validate.proofs.symbols.+symbol+symbols.Tie.{close}
@@ -44,7 +45,7 @@ abbrev symbol-calls : ℕ → symbol-lts.Claims
 symbol-calls t = (command-reads.Asked, command-reads.Learnt, at-reads.Asked, at-reads.Learnt, symbol-below t, symbol.Post, inside-reads.Asked, inside-reads.Learnt, symbols-below t, symbols.Post)
 
 abbrev symbols-calls : ℕ → symbols-lts.Claims
-symbols-calls t = (quick-reads.Asked, quick-reads.Learnt, held-reads.Asked, held-reads.Learnt, symbols-below t, symbols.Post, symbol-below t, symbol.Post)
+symbols-calls t = (quick-reads.Asked, quick-reads.Learnt, held-reads.Asked, held-reads.Learnt, quick-inside-reads.Asked, quick-inside-reads.Learnt, symbols-below t, symbols.Post, symbol-below t, symbol.Post)
 
 symbol-command-requires : (t : ℕ) → symbol-lts.Need-command-requires (symbol-calls t) (symbol-at t) symbol.Post
 symbol-command-requires t c κs = search walking
@@ -121,6 +122,12 @@ symbols-quick-requires t c κs = search stepping
 symbols-held-requires : (t : ℕ) → symbols-lts.Need-held-requires (symbols-calls t) (symbols-at t) symbols.Post symbols-Inv-loop symbols-μ-loop
 symbols-held-requires t c κs = search stepping
 
+symbols-sub-quick-inside : (t : ℕ) → symbols-lts.Need-sub-quick-inside (symbols-calls t) (symbols-at t) symbols.Post symbols-Inv-loop symbols-μ-loop
+symbols-sub-quick-inside t c = search stepping
+
+symbols-quick-inside-requires : (t : ℕ) → symbols-lts.Need-quick-inside-requires (symbols-calls t) (symbols-at t) symbols.Post symbols-Inv-loop symbols-μ-loop
+symbols-quick-inside-requires t c κs = search stepping
+
 symbols-sub-k : (t : ℕ) → symbols-lts.Need-sub-k (symbols-calls t) (symbols-at t) symbols.Post symbols-Inv-loop symbols-μ-loop
 symbols-sub-k t c = search stepping
 
@@ -181,4 +188,4 @@ symbols-returns-3 t c = search stepping
 pub +symbol+symbols-spec : {M : Type 1} → statement M
 +symbol+symbols-spec = close μ-symbol μ-symbols
     (λ t. symbol-lts.spec (symbol-calls t) (symbol-at t) symbol.Post (symbol-command-requires t) (symbol-enum-known-why t) (symbol-enum-known-n t) (symbol-at-requires t) (symbol-returns t) (symbol-enum-known-n-2 t) (symbol-at-requires-2 t) (symbol-returns-2 t) (symbol-enum-told t) (symbol-enum-told-2 t) (symbol-sub-symbol t) (symbol-symbol-requires t) (symbol-enum-known-k t) (symbol-inside-requires t) (symbol-sub-symbols t) (symbol-symbols-requires t) (symbol-returns-3 t) (symbol-returns-4 t) (symbol-returns-5 t) (symbol-returns-6 t))
-    λ t. symbols-lts.spec (symbols-calls t) (symbols-at t) symbols.Post symbols-Inv-loop symbols-μ-loop (symbols-loop-holds t) (symbols-quick-requires t) (symbols-held-requires t) (symbols-sub-k t) (symbols-loop-less t) (symbols-loop-again t) (symbols-sub-symbols t) (symbols-symbols-requires t) (symbols-enum-known-e t) (symbols-sub-k-2 t) (symbols-loop-less-2 t) (symbols-loop-again-2 t) (symbols-enum-known-why t) (symbols-returns t) (symbols-symbol-requires t) (symbols-enum-known-e-2 t) (symbols-sub-k-3 t) (symbols-loop-less-3 t) (symbols-loop-again-3 t) (symbols-enum-known-why-2 t) (symbols-returns-2 t) (symbols-returns-3 t)
+    λ t. symbols-lts.spec (symbols-calls t) (symbols-at t) symbols.Post symbols-Inv-loop symbols-μ-loop (symbols-loop-holds t) (symbols-quick-requires t) (symbols-held-requires t) (symbols-sub-quick-inside t) (symbols-quick-inside-requires t) (symbols-sub-k t) (symbols-loop-less t) (symbols-loop-again t) (symbols-sub-symbols t) (symbols-symbols-requires t) (symbols-enum-known-e t) (symbols-sub-k-2 t) (symbols-loop-less-2 t) (symbols-loop-again-2 t) (symbols-enum-known-why t) (symbols-returns t) (symbols-symbol-requires t) (symbols-enum-known-e-2 t) (symbols-sub-k-3 t) (symbols-loop-less-3 t) (symbols-loop-again-3 t) (symbols-enum-known-why-2 t) (symbols-returns-2 t) (symbols-returns-3 t)
