@@ -11,7 +11,7 @@ use mir.Val.{Fits}
 use Rattle.octets.specs.plain.Runs.{Lies, part, sameAs}
 use Rattle.octets.proofs.LiesLaws.{lies-split}
 use Rattle.octets.proofs.SameLaws.{sameAs-eq, eq-sameAs}
-use Rattle.parse_tree.specs.plain.Tree.{Text, Sym, Syms, nil, cons, count}
+use Rattle.parse_tree.specs.plain.Tree.{Sym, Syms, nil, cons, count}
 use Rattle.parse_tree.specs.plain.Display.{print}
 use Rattle.parse_tree.specs.working.Encode.{symBytes, symsBytes}
 use Rattle.parse_tree.specs.working.Within.{SymWithin, SymsWithin}
@@ -36,13 +36,9 @@ operands-done w p q n r e = record { says = λ t. part-same w p q 9 n (sameAs-eq
 
 pub ruleset operands = (needs, operands-done)
 
--- and what a yes of it says
-pub record Operands (w : List ℕ) (p q n : ℕ) : Type 0 where
-  pub same : Same w p q 9 n
-
-pub operands-same : (w : List ℕ) (p q n : ℕ) (r : Bool) → OperandsAlike w p q n r → not r ≡ false → Operands w p q n
-operands-same w p q n true h t = record { same = h .says refl }
-operands-same w p q n false h t = absurd (false≢true (sym t))
+yes : (r : Bool) → not r ≡ false → r ≡ true
+yes true h = refl
+yes false h = absurd (false≢true (sym h))
 
 -- ---- symbols to come at one place
 module _ (s w : List ℕ) (m : Map) (wd : ℕ) (four : Bool) where
@@ -150,7 +146,6 @@ module _ (w : List ℕ) (wd : ℕ) where
     rest-next t c o =
         let f = t .first .reads in
         let g = t .second .reads in
-        let ts = texts s w m in
         let i : insideBy wd w q (getD w q 0) ≡ insideBy wd w p (getD w p 0) = ap (insideBy wd w q) c ∙ sym (inside-same wd (texts s w m) w p q (getD w p 0) o) in
         let a : beforeText (t .u) ≡ beforeText (t .v) =
         sym (f .before) ∙ before-same wd (texts s w m) w p q (getD w p 0) o (f .high) ∙ ap (beforeBy wd (texts s w m) w q) (sym c) ∙ g .before in
@@ -233,16 +228,16 @@ module _ (w : List ℕ) (wd : ℕ) where
           pub running-room-q : q + n ≤ length w
           running-room-q = let z = ap (longOf wd) c in omega (arith, j, T .second .room, T .second .large, z)
 
-          pub running-next : (i : ℕ) → Operands w p q n → i ≡ insideBy wd w p (getD w p 0) → Running a b (p + n) (q + n) (k - 1 + i)
-          running-next i o u =
+          pub running-next : (r : Bool) (i : ℕ) → OperandsAlike w p q n r → not r ≡ false → i ≡ insideBy wd w p (getD w p 0) → Running a b (p + n) (q + n) (k - 1 + i)
+          running-next r i o t u =
               rw (j, u) (record {
                 two = R .two;
                 narrow = R .narrow;
                 wide = R .wide;
-                each = λ s m left four four′ e e′ x y y1 y2. rest-next s m four four′ e e′ x y p q k (rest-turn s m four four′ e e′ x y p q k l (R .each s m left four four′ e e′ x y y1 y2)) c (rw j at (o .same));
+                each = λ s m left four four′ e e′ x y y1 y2. rest-next s m four four′ e e′ x y p q k (rest-turn s m four four′ e e′ x y p q k l (R .each s m left four four′ e e′ x y y1 y2)) c (rw j at (o .says (yes r t)));
               })
 
-pub ruleset running = (needs, running-start, running-no, running-done, running-within, running-within-q, running-inside, running-place, running-place-q, running-fits, running-long, running-falls, running-room, running-room-q, running-next)
+pub ruleset running = (needs, running-start, running-no, running-done, running-within, running-within-q, running-inside, running-place, running-place-q, running-fits, running-falls)
 
 -- ---- the quick look of `same_print`
 module _ (s w : List ℕ) (m : Map) (wd left a b : ℕ) where

@@ -1,7 +1,6 @@
 use Prim.Native.Nat.{_-_}
-use borrow.Author.Needs.{needs}
 use lib.ListN.{length}
-use Rattle.display.proofs.ShapeCode.{Running, running-long, running-room, running-room-q, running-next, operands-same, running}
+use Rattle.display.proofs.ShapeCode.{Running, running-long, running-room, running-room-q, running-next, running}
 use Rattle.display.proofs.shape.same_shape.Statement.{statement}
 use Rattle.display.proofs.shape.same_shape.Tie as tie
 use Rattle.display.proofs.shape.same_shape.Reads as reads
@@ -56,7 +55,7 @@ loop-less : tie.Need-loop-less Inv-loop μ-loop
 loop-less c = search running
 
 loop-again : tie.Need-loop-again Inv-loop μ-loop
-loop-again c = running-next _ _ _ _ _ _ _ (search running) (search running) _ (search running) (search running) _ (operands-same _ _ _ _ (c .before .before .same-operands .result) (c .before .before .same-operands .ensures) (c .before .if2 .left)) (search running)
+loop-again c = search (running-next, c .before .before .same-operands .ensures, c .before .if2 .left)
 
 returns-3 : tie.Need-returns-3 Inv-loop μ-loop
 returns-3 c = search running
