@@ -13,3 +13,5 @@ mod WindowShow
 mod WindowSeen
 mod WindowBound
 mod WindowSame
+mod ShapeLaws
+mod ShapeCode

@@ -3,3 +3,4 @@ pub mod Standing
 pub mod Follow
 pub mod Form
 pub mod Window
+pub mod Shape

@@ -3,6 +3,7 @@
 pub mod emit;
 pub mod follow;
 pub mod form;
+pub mod shape;
 pub mod window;
 
 // Where to read on, and how many bytes of a text were met: its length + 1 after a difference.

@@ -8,6 +8,7 @@ use crate::emit::emit_run;
 use crate::follow::inside;
 use crate::follow::op_byte;
 use crate::follow::word;
+use crate::shape::same_shape;
 use octets::runs::same;
 use resolve::commands::long;
 use texts::Map;
@@ -257,7 +258,7 @@ fn same_in<'a>(
     }
 }
 
-// Whether the symbols at two places have the same printed form.
+// Whether the symbols at two places have the same printed form. Mostly they have the same commands, which is seen sooner.
 pub fn same_print<'a>(
     tape: &'a [u8],
     work: &'a [u8],
@@ -270,6 +271,9 @@ pub fn same_print<'a>(
     requires { ⌜ Readable (now tape) (now work) m width × SomeSym (now tape) (now work) m width left a × SomeSym (now tape) (now work) m width left b ⌝ }
     ensures { λ r. ⌜ SamePrints (now (tape .entry)) (now (work .entry)) m width left a b r ⌝ }
 {
+    if same_shape(work, width, a, b) {
+        return true;
+    }
     let mut x = [0u8; 256];
     let mut y = [0u8; 256];
     same_in(tape, work, m, width, left, a, b, &mut x, &mut y)
