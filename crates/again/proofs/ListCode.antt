@@ -17,7 +17,7 @@ use Rattle.octets.proofs.NumbersLaws.{length-le}
 use Rattle.octets.proofs.StoreLaws.{length-store, leAt-same, leAt-other, getD-store-before, getD-store-after}
 use Rattle.parse_tree.specs.plain.Tree.{Text, Item}
 use Rattle.expander.specs.Stage.{commandLong, itemCode}
-use Rattle.again.specs.List.{Listable, SomeListed, Lists}
+use Rattle.again.specs.List.{Listable, SomeListed, ListsItems}
 use Rattle.again.proofs.ListRun.{itemsFrom, from-end, from-item, from-other}
 use Rattle.again.proofs.ListMean.{run-means, places-many, place-is}
 
@@ -67,8 +67,8 @@ module _ (w₀ : List ℕ) (wd at end list : ℕ) where
     few = omega (arith, list-fits (g .some), g .many)
 
     -- ---- the end
-    pub list-done : end ≤ p → Lists w₀ wd at end list n w
-    unfolding Lists
+    pub list-done : end ≤ p → ListsItems w₀ wd at end list n w
+    unfolding ListsItems
     list-done e four ts is h =
         let z : length (from at) ≡ n = omega (arith, g .many, ap length (from-end wd w₀ end p e)) in
         let m = all-many ts is four h in

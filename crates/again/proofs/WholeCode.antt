@@ -37,7 +37,7 @@ use Rattle.resolve.proofs.GrammarLaws.{Row, row-start}
 use Rattle.rounds.specs.Define.{Cells, Forgot, Items}
 use Rattle.rounds.proofs.ResolvedFew.{resolved-few}
 use Rattle.again.specs.declared.Again.{Again}
-use Rattle.again.specs.List.{Listable, SomeListed, Listed, Lists}
+use Rattle.again.specs.List.{Listable, SomeListed, ListedItems, ListsItems}
 use Rattle.again.specs.Whole.{AgainStands, SomeAgain, AgainReady, AgainBy, AgainTo}
 use Rattle.again.proofs.WholeMean.{mark-same, table-same, texts-same, texts-short}
 
@@ -81,12 +81,12 @@ module _ (s w₀ : List ℕ) (m : Map) (list at end : ℕ) where
   again-listed g = record { four = false; texts = ts; items = g .tree; listable = listable (g .tree) (g .stands) }
 
   -- ---- the list is written
-  module _ (n : ℕ) (w₁ : List ℕ) (i₁ : Lists w₀ 2 at end list n w₁) where
+  module _ (n : ℕ) (w₁ : List ℕ) (i₁ : ListsItems w₀ 2 at end list n w₁) where
     abbrev grammar : Grammar
     grammar = record { at = at; end = end; list = list; count = n; width = 2 }
 
-    listed : (L : Tree) → Stands L → Listed w₀ 2 list ts L n w₁
-    unfolding Lists
+    listed : (L : Tree) → Stands L → ListedItems w₀ 2 list ts L n w₁
+    unfolding ListsItems
     listed L h = i₁ false ts L (listable L h)
 
     behind-list : (L : Tree) → Stands L → (i : ℕ) → m .base ≤ i → getD w₁ i 0 ≡ getD w₀ i 0
@@ -238,7 +238,7 @@ module _ (s w₀ : List ℕ) (m : Map) (list at end : ℕ) where
               go (no q p) _ k = absurd (fine-not (sym e ∙ k))
 
 -- what stood at the start comes first: the rest is found from it
-pub again-standing : (s w₀ : List ℕ) (m : Map) (list at end : ℕ) → SomeAgain s w₀ m list at end → (n : ℕ) (w₁ : List ℕ) → Lists w₀ 2 at end list n w₁ → (w₂ : List ℕ) → Forgot s w₁ m w₂
+pub again-standing : (s w₀ : List ℕ) (m : Map) (list at end : ℕ) → SomeAgain s w₀ m list at end → (n : ℕ) (w₁ : List ℕ) → ListsItems w₀ 2 at end list n w₁ → (w₂ : List ℕ) → Forgot s w₁ m w₂
     → Standing m (record { at = at; end = end; list = list; count = n; width = 2 }) (length w₂)
 again-standing s w₀ m list at end g n w₁ i₁ w₂ i₂ = standing s w₀ m list at end n w₁ i₁ w₂ i₂ g
 

@@ -29,12 +29,12 @@ pub record SomeListed (w : List ℕ) (wd at end list : ℕ) : Type 0 where
   pub listable : Listable w wd at end list four texts items
 
 -- r is how many they are, and their places are listed; nothing else changed
-pub record Listed (w : List ℕ) (wd list : ℕ) (ts : List Text) (is : List Item) (r : ℕ) (w′ : List ℕ) : Type 0 where
+pub record ListedItems (w : List ℕ) (wd list : ℕ) (ts : List Text) (is : List Item) (r : ℕ) (w′ : List ℕ) : Type 0 where
   pub many : r ≡ length is
   pub places : (i : ℕ) → i < length is → leAt 8 w′ (list + 8 * i) ≡ length (bytesOfEach (itemBytes wd ts) (take i is))
   pub long : length w′ ≡ length w
   pub others : (i : ℕ) → (i < list) ⊎ (list + 8 * length is ≤ i) → getD w′ i 0 ≡ getD w i 0
 
 -- whatever items stand there
-unfoldable pub Lists : List ℕ → ℕ → ℕ → ℕ → ℕ → ℕ → List ℕ → Type 0
-Lists w wd at end list r w′ = (four : Bool) (ts : List Text) (is : List Item) → Listable w wd at end list four ts is → Listed w wd list ts is r w′
+unfoldable pub ListsItems : List ℕ → ℕ → ℕ → ℕ → ℕ → ℕ → List ℕ → Type 0
+ListsItems w wd at end list r w′ = (four : Bool) (ts : List Text) (is : List Item) → Listable w wd at end list four ts is → ListedItems w wd list ts is r w′

@@ -2,12 +2,12 @@
 use expander::stage::command_long;
 use expander::stage::is_item;
 use octets::numbers::store64;
-ghost use Rattle.again.specs.List.{SomeListed, Lists};
+ghost use Rattle.again.specs.List.{SomeListed, ListsItems};
 
 // The items from `at` up to `end`: their places, counted from the first, to the list; says how many there are.
 pub fn list_items(work: &mut [u8], width: usize, at: usize, end: usize, list: usize) -> usize
     requires { ⌜ SomeListed (now work) width at end list ⌝ }
-    ensures { λ r. ⌜ Lists (now (work .entry)) width at end list r (now (work .exit)) ⌝ }
+    ensures { λ r. ⌜ ListsItems (now (work .entry)) width at end list r (now (work .exit)) ⌝ }
 {
     let mut p = at;
     let mut n = 0;

@@ -29,7 +29,7 @@ use Rattle.display.proofs.FollowCode.{some-room, some-within, some-high, some-f
 use Rattle.expander.specs.declared.Ground.{Ground}
 use Rattle.expander.specs.Ground.{sizeIn, slotAt, Grounded}
 use Rattle.expander.specs.Replace.{expandedCode, keysOf, keysOfAll, StandAt}
-use Rattle.expander.specs.Meet.{SymbolLies, SomeEnd, EndsAt, SlotAt, knownAt, NotedAt, SomeKnown, SomeInner}
+use Rattle.expander.specs.Meet.{SymbolLies, SomeEnd, EndsAt, SlotAt, textKnownAt, NotedAt, SomeKnown, SomeInner}
 use Rattle.expander.proofs.StageReads.{grounded-readable}
 use Rattle.expander.proofs.NoteSlotCode.{place-room}
 use Rattle.expander.proofs.KeysLaws.{sym-length}
@@ -130,17 +130,17 @@ pub ruleset ending = (needs, ending-start, ending-done, ending-within, ending-ro
 
 -- ---- `known`
 module _ (w : List ℕ) (g : Ground) (at : ℕ) (t : Bool) (e : t ≡ expandedCode (getD w at 0)) where
-  pub known-plain : t ≡ false → g .m .count ≡ knownAt w g at
-  unfolding knownAt pick
+  pub known-plain : t ≡ false → g .m .count ≡ textKnownAt w g at
+  unfolding textKnownAt pick
   known-plain f = cc (e, f)
 
   module _ (f : t ≡ true) (v : ℕ) (i : v ≡ slotAt w g (at - g .from)) where
-    pub known-even : v % 2 ≡ 0 → v / 2 ≡ knownAt w g at
-    unfolding knownAt pick
+    pub known-even : v % 2 ≡ 0 → v / 2 ≡ textKnownAt w g at
+    unfolding textKnownAt pick
     known-even z = cc (e, f, i, eq-eqb (v % 2) 0 z)
 
-    pub known-odd : (v % 2 ≡ 0 → ⊥) → g .m .count ≡ knownAt w g at
-    unfolding knownAt pick
+    pub known-odd : (v % 2 ≡ 0 → ⊥) → g .m .count ≡ textKnownAt w g at
+    unfolding textKnownAt pick
     known-odd z = cc (e, f, i, ne-eqb (v % 2) 0 z)
 
 pub ruleset knowing = (needs, known-plain, known-even, known-odd)

@@ -16,7 +16,7 @@ use Rattle.parse_tree.proofs.ItemBack.{sym-reads}
 use Rattle.texts.specs.declared.Map.{Map}
 use Rattle.texts.specs.Table.{texts}
 use Rattle.replacing.specs.Trees.{isKey}
-use Rattle.replacing.specs.Slots.{Ref, text, Slots}
+use Rattle.replacing.specs.Slots.{Ref, Slots}
 use Rattle.replacing.specs.Sound.{HasRef, Good}
 use Rattle.replacing.proofs.NumbersMean.{ref-good}
 use Rattle.display.specs.declared.Met.{Met}
@@ -26,7 +26,7 @@ use Rattle.expander.specs.declared.Ground.{Ground}
 use Rattle.expander.specs.Ground.{slotAt, symbolIn, KeyAt, Grounded}
 use Rattle.expander.specs.Held.{refBy, refIn, followed, Held}
 use Rattle.expander.specs.Replace.{expandedCode}
-use Rattle.expander.specs.Meet.{SomeEnd, EndsAt, knownAt, innerKeys, NotedAt, SomeKnown, SomeInner}
+use Rattle.expander.specs.Meet.{SomeEnd, EndsAt, textKnownAt, innerKeys, NotedAt, SomeKnown, SomeInner}
 use Rattle.expander.proofs.SlotsCode.{followed-even, ref-text}
 use Rattle.expander.proofs.KeysLaws.{ownKeys, keys-parts, sym-any, stands-code, stands-symbol}
 
@@ -54,8 +54,8 @@ pub record Tells (w : List ℕ) (g : Ground) (at k : ℕ) : Type 0 where
   pub even : slotAt w g (at - g .from) % 2 ≡ 0
   pub is : k ≡ slotAt w g (at - g .from) / 2
 
-tells : (w : List ℕ) (g : Ground) (at k : ℕ) → k ≡ knownAt w g at → k < g .m .count → Tells w g at k
-unfolding knownAt pick
+tells : (w : List ℕ) (g : Ground) (at k : ℕ) → k ≡ textKnownAt w g at → k < g .m .count → Tells w g at k
+unfolding textKnownAt pick
 tells w g at k e l = go (expandedCode (getD w at 0)) (eqb (slotAt w g (at - g .from) % 2) 0) refl refl e
   where
     go : (b c : Bool) → expandedCode (getD w at 0) ≡ b → eqb (slotAt w g (at - g .from) % 2) 0 ≡ c → k ≡ pick b (pick c (slotAt w g (at - g .from) / 2) (g .m .count)) (g .m .count) → Tells w g at k
@@ -89,7 +89,7 @@ module _ (s w : List ℕ) (g : Ground) (G : Grounded s w g) where
     pub known-lies : SomeEnd w (g .width) at
     known-lies = record { end = g .from + K .end; lies = record { texts = texts s w (g .m); four = K .four; left = left; symbol = K .symbol; within = here .within; lies = here .lies } }
 
-    module _ (k : ℕ) (e : k ≡ knownAt w g at) (l : k < g .m .count) where
+    module _ (k : ℕ) (e : k ≡ textKnownAt w g at) (l : k < g .m .count) where
       told : Tells w g at k
       told = tells w g at k e l
 
@@ -109,7 +109,7 @@ module _ (s w : List ℕ) (g : Ground) (G : Grounded s w g) where
           ap (λ (a : ℕ). getD (texts s w (g .m)) a []) (told .is) ∙ i ∙ ap print (stands-symbol s w g G (K .four) left (K .place) (K .end) (K .symbol) (K .stands) (K .inside) (K .levels))
 
 -- theorem: the text was held against t in its place
-pub known-follows : (s w : List ℕ) (g : Ground) (left : ℕ) (t : Text) (p : Met) (k a j : ℕ) (x : Text) → Grounded s w g → SomeKnown s w g left (p .at) → k ≡ knownAt w g (p .at) → k < g .m .count
+pub known-follows : (s w : List ℕ) (g : Ground) (left : ℕ) (t : Text) (p : Met) (k a j : ℕ) (x : Text) → Grounded s w g → SomeKnown s w g left (p .at) → k ≡ textKnownAt w g (p .at) → k < g .m .count
     → x ≡ getD (texts s w (g .m)) k [] → EndsAt w (g .width) (p .at) a → j ≡ metBy t (p .i) x → Follows s w (g .m) (g .width) left t p (record { at = a; i = j })
 unfolding EndsAt
 known-follows s w g left t p k a j x G K e l f d o =

@@ -45,8 +45,8 @@ pub record SlotAt (w : List ℕ) (g : Ground) (at : ℕ) : Type 0 where
   pub room : slotPlace g (at - g .from) + 8 ≤ length w
 
 -- the number of the text that the slot of a symbol tells of; one from the table's count on if the symbol is not expanded, or its slot tells of none
-unfoldable pub knownAt : List ℕ → Ground → ℕ → ℕ
-knownAt w g at =
+unfoldable pub textKnownAt : List ℕ → Ground → ℕ → ℕ
+textKnownAt w g at =
     pick (expandedCode (getD w at 0)) (pick (eqb (slotAt w g (at - g .from) % 2) 0) (slotAt w g (at - g .from) / 2) (g .m .count)) (g .m .count)
 
 module _ (s w : List ℕ) (g : Ground) where

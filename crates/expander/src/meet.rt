@@ -14,7 +14,7 @@ ghost use mathlib.Core.Path.{_≡_};
 ghost use Prim.Native.Nat.{_≤_};
 ghost use Rattle.display.specs.Follow.{Follows};
 ghost use Rattle.expander.specs.Ground.{Grounded};
-ghost use Rattle.expander.specs.Meet.{SomeEnd, EndsAt, SlotAt, knownAt, SomeKnown, SomeInner};
+ghost use Rattle.expander.specs.Meet.{SomeEnd, EndsAt, SlotAt, textKnownAt, SomeKnown, SomeInner};
 
 // The place behind the symbol at a place: a flat run, k symbols are to come. (`grades::skip` asks for bytes behind the items, which need not be there.)
 fn symbol_end(work: &[u8], width: usize, at: usize) -> usize
@@ -34,7 +34,7 @@ fn symbol_end(work: &[u8], width: usize, at: usize) -> usize
 // The number of the text that the symbol at a place is known to print as; one from the table's count on if none is known.
 fn known(work: &[u8], g: Ground, at: usize) -> usize
     requires { ⌜ SlotAt (now work) g at ⌝ }
-    ensures { λ r. ⌜ r ≡ knownAt (now (work .entry)) g at ⌝ }
+    ensures { λ r. ⌜ r ≡ textKnownAt (now (work .entry)) g at ⌝ }
 {
     if is_expanded(work[at]) {
         let v = slot(work, g, at - g.from);

@@ -27,7 +27,7 @@ use Rattle.rounds.specs.declared.Expander.{Expander}
 use Rattle.rounds.specs.declared.Room.{Room}
 use Rattle.rounds.specs.declared.State.{State}
 use Rattle.rounds.specs.declared.round.Half.{Half}
-use Rattle.rounds.specs.Steps.{pending, expanded}
+use Rattle.rounds.specs.Steps.{numbersPending, numbersAppended}
 use Rattle.rounds.specs.Grounds.{Groundable, Grounds}
 use Rattle.rounds.specs.Start.{Cleared}
 use Rattle.rounds.specs.Standing.{RoundTrees, RoundStands}
@@ -54,7 +54,7 @@ module _ (s w : List ℕ) (room : Room) (t : Grammar) (z : State) (K : SomeRound
     pub replace-some : SomeStage s w1 g (z .done)
     replace-some = grounds.can-replace s w room t z (K .trees) (K .standing) g w1 L bytes-in
 
-    pub replace-done : (r : Replaced) (w2 : List ℕ) → Stages s w1 g (z .done) r w2 → (e : Expander) → e ≡ pending (z .expander) (r .pile) → Halfway s w room t z (record { g = g; r = r; expander = e }) w2
+    pub replace-done : (r : Replaced) (w2 : List ℕ) → Stages s w1 g (z .done) r w2 → (e : Expander) → e ≡ numbersPending (z .expander) (r .pile) → Halfway s w room t z (record { g = g; r = r; expander = e }) w2
     replace-done r w2 k e i = record { middle = w1; grounds = L; bytes = bytes-in; stages = k; numbers = i }
 
 pub ruleset replacing = (needs, replace-ground, replace-some, replace-done)
@@ -150,7 +150,7 @@ pub settle-both : (s w : List ℕ) (z : State) (h : Half) (v : Appended) (w1 : L
 settle-both s w z h v w1 M q w2 Z = record { middle = w1; marked = M; settles = Z }
 
 pub settle-done : (s w : List ℕ) (room : Room) (t : Grammar) (z : State) (h : Half) (v : Appended) (q : Settled) (w2 : List ℕ) → SettlesTexts s w z h v q w2 → (w3 : List ℕ)
-    → w3 ≡ store w2 (room .x) (part (h .r .to) (v .to) w2) → (x : Expander) → x ≡ expanded (h .expander)
+    → w3 ≡ store w2 (room .x) (part (h .r .to) (v .to) w2) → (x : Expander) → x ≡ numbersAppended (h .expander)
     → SettlesRound s w room t z h v (record { expander = x; m = q .m; from = room .x; end = room .x + (v .to - h .r .to); done = h .r .to; low = q .at }) w3
 unfolding SettlesRound
 settle-done s w room t z h v q w2 k w3 e x i K =

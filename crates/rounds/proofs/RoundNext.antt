@@ -46,7 +46,7 @@ use Rattle.rounds.specs.declared.Room.{Room}
 use Rattle.rounds.specs.declared.State.{State}
 use Rattle.rounds.specs.declared.round.Half.{Half}
 use Rattle.rounds.specs.Begins.{BeginsRound}
-use Rattle.rounds.specs.Steps.{expanded}
+use Rattle.rounds.specs.Steps.{numbersAppended}
 use Rattle.rounds.specs.Start.{replacedBy}
 use Rattle.rounds.specs.Standing.{RoundTrees, roundAtoms, stageBefore, Mapped, GrownTrees, Tabled, DefinesMacros, RoundStands}
 use Rattle.rounds.specs.Round.{replacedOf, pendingOf, replacedStage, appendedStage, nextTrees, Halfway, Fine, Drained, Next}
@@ -76,7 +76,7 @@ drain-heads G (x ∷ xs) new l e =
 module _ (s w : List ℕ) (room : Room) (t : Grammar) (z : State) (T : RoundTrees) (S : RoundStands s w room t z T) (h : Half) (w′ : List ℕ) (H : Halfway s w room t z h w′) (pushed : 0 < h .r .pile)
     (F : Fine room (replacedStage T)) (new : List Item) (v : Appended) (w‴ : List ℕ) (D : Drained s w′ room t z T h (H .middle) new v w‴) (d : drain (T .definitions) (pendingOf T) ≡ yes new)
     (E : Fine room (appendedStage T new)) (w4 : List ℕ) (M : MarkedPushed s w‴ (h .g) (h .r .pile) w4) (q : Settled) (w5 : List ℕ) (Z : Settles s w4 (h .g) (v .count) (z .low) q w5)
-    (w6 : List ℕ) (moved : w6 ≡ store w5 (room .x) (part (h .r .to) (v .to) w5)) (x : Expander) (told : x ≡ expanded (h .expander)) where
+    (w6 : List ℕ) (moved : w6 ≡ store w5 (room .x) (part (h .r .to) (v .to) w5)) (x : Expander) (told : x ≡ numbersAppended (h .expander)) where
   abbrev g : Ground
   g = h .g
 

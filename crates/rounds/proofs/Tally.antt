@@ -1,6 +1,6 @@
 -- The expander's numbers from round to round: they stay those of the trees, and fit. Assumes nothing.
 use mathlib.Core.Path.{_≡_, refl, ap}
-use mathlib.Core.List.{List, [], _∷_, _++_}
+use mathlib.Core.List.{List, [], _∷_}
 use Prim.Native.Nat.{ℕ, _+_, _*_, _≤_, _<_}
 use native.Mathlib.Omega.{arith}
 use lib.ListN.{length, length-append}
@@ -20,7 +20,7 @@ use Rattle.rounds.specs.declared.Expander.{Expander}
 use Rattle.rounds.specs.declared.Room.{Room}
 use Rattle.rounds.specs.declared.State.{State}
 use Rattle.rounds.specs.declared.round.Half.{Half}
-use Rattle.rounds.specs.Steps.{pending, expanded}
+use Rattle.rounds.specs.Steps.{numbersAppended}
 use Rattle.rounds.specs.Standing.{RoundTrees, roundAtoms, Tallied, RoundStands}
 use Rattle.rounds.specs.Round.{replacedOf, pendingOf, nextTrees, Halfway}
 use Rattle.rounds.proofs.LastPushed.{pile-count}
@@ -96,7 +96,7 @@ module _ (s w : List ℕ) (room : Room) (t : Grammar) (z : State) (h : Half) (w�
         fits = omega (arith, S .numbers .items, items-few, cap-small, definitions-few, pile-small, S .map .short, H .stages .ground .short)
 
     -- theorem: and are those of the next trees
-    pub tally-next : (new : List Item) → drain (T .definitions) (pendingOf T) ≡ yes new → 0 < h .r .pile → (us : List Text) → Tallied (expanded (h .expander)) (nextTrees T new us)
+    pub tally-next : (new : List Item) → drain (T .definitions) (pendingOf T) ≡ yes new → 0 < h .r .pile → (us : List Text) → Tallied (numbersAppended (h .expander)) (nextTrees T new us)
     tally-next new d l us =
         let N = S .numbers in
         rw (H .numbers) (record {

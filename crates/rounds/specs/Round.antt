@@ -31,7 +31,7 @@ use Rattle.rounds.specs.declared.Room.{Room}
 use Rattle.rounds.specs.declared.State.{State}
 use Rattle.rounds.specs.declared.round.Half.{Half}
 use Rattle.rounds.specs.declared.Rounded.{Rounded}
-use Rattle.rounds.specs.Steps.{pending}
+use Rattle.rounds.specs.Steps.{numbersPending}
 use Rattle.rounds.specs.Judge.{verdict}
 use Rattle.rounds.specs.Start.{Cleared, StartsAppending, atStart, replacedBy}
 use Rattle.rounds.specs.Grounds.{Grounds}
@@ -61,7 +61,7 @@ pub record Halfway (s w : List ℕ) (room : Room) (t : Grammar) (z : State) (h :
   pub grounds : Grounds s w (z .m) (t .width) (z .from) (z .end) (room .x) (h .g) middle
   pub bytes : Bytes (stageIn middle (h .g))
   pub stages : Stages s middle (h .g) (z .done) (h .r) w′
-  pub numbers : h .expander ≡ pending (z .expander) (h .r .pile)
+  pub numbers : h .expander ≡ numbersPending (z .expander) (h .r .pile)
 
 -- of some trees
 pub record SomeHalf (s w : List ℕ) (room : Room) (t : Grammar) (z : State) (h : Half) : Type 0 where

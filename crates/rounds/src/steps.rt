@@ -2,11 +2,11 @@
 use crate::Expander;
 ghost use mathlib.Core.Path.{_≡_};
 ghost use Prim.Native.Nat.{_+_, _≤_, _<_};
-ghost use Rattle.rounds.specs.Steps.{started, pending, expanded};
+ghost use Rattle.rounds.specs.Steps.{numbersAtStart, numbersPending, numbersAppended};
 
 // So many items, and nothing is pending.
 pub fn start(items: usize) -> Expander
-    ensures { λ r. ⌜ r ≡ started items ⌝ }
+    ensures { λ r. ⌜ r ≡ numbersAtStart items ⌝ }
 {
     Expander {
         height: 0,
@@ -17,7 +17,7 @@ pub fn start(items: usize) -> Expander
 
 // The replacing stage left n symbols pending.
 pub fn push(e: Expander, n: usize) -> Expander
-    ensures { λ r. ⌜ r ≡ pending e n ⌝ }
+    ensures { λ r. ⌜ r ≡ numbersPending e n ⌝ }
 {
     Expander {
         height: n,
@@ -29,7 +29,7 @@ pub fn push(e: Expander, n: usize) -> Expander
 // The appending stage made an item of each of them.
 pub fn drained(e: Expander) -> Expander
     requires { ⌜ (e .round ≤ e .items) × (e .items + e .height < 18446744073709551615) ⌝ }
-    ensures { λ r. ⌜ r ≡ expanded e ⌝ }
+    ensures { λ r. ⌜ r ≡ numbersAppended e ⌝ }
 {
     Expander {
         height: 0,

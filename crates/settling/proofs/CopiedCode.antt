@@ -28,7 +28,7 @@ use Rattle.appending.proofs.SymbolsTrees.{each-parts}
 use Rattle.settling.specs.declared.Source.{Source}
 use Rattle.settling.specs.Put.{sourceText, Fixed, Marked}
 use Rattle.settling.specs.declared.copied.Print.{Print}
-use Rattle.settling.specs.Copied.{TextStands, Numbered, Said, Copying, SaidSymbol, Known}
+use Rattle.settling.specs.Copied.{TextStands, Numbered, Said, Copying, SaidSymbol, KnownText}
 use Rattle.settling.proofs.PutLaws.{puts-as}
 use Rattle.settling.proofs.CopiedStays.{slot-top}
 
@@ -63,11 +63,11 @@ module _ (s w : List ℕ) (x : Print) (p : ℕ) (G : Grounded s w (x .g)) (h : S
         odd-done u f = f ∙ ap (slotAt w g) m ∙ sym (followed-odd w g v o) ∙ ap (followed w g) e
 
   -- ---- numbered
-  pub known-none : Known s w x p 0
+  pub known-none : KnownText s w x p 0
   known-none = record { stands = λ l. absurd (omega arith); is = λ l. absurd (omega arith) }
 
   module _ (u : ℕ) (f : u ≡ followed w g (slotAt w g p)) (z : u % 2 ≡ 0) where
-    known-some : Numbered x (u / 2) → Known s w x p (u / 2 + 1)
+    known-some : Numbered x (u / 2) → KnownText s w x p (u / 2 + 1)
     known-some n =
         let y : u / 2 + 1 - 1 ≡ u / 2 = omega arith in
         let e : followed w g (slotAt w g p) % 2 ≡ 0 = rw (← f) z in
@@ -77,10 +77,10 @@ module _ (s w : List ℕ) (x : Print) (p : ℕ) (G : Grounded s w (x .g)) (h : S
           is = λ l. rw (y, f) (h .is e k);
         }
 
-    pub known-old : u / 2 < g .m .count → Known s w x p (u / 2 + 1)
+    pub known-old : u / 2 < g .m .count → KnownText s w x p (u / 2 + 1)
     known-old l = known-some (inl l)
 
-    pub known-new : x .first ≤ u / 2 → Known s w x p (u / 2 + 1)
+    pub known-new : x .first ≤ u / 2 → KnownText s w x p (u / 2 + 1)
     known-new l = known-some (inr l)
 
 pub ruleset referring = (needs, own-room, even-done, key-room, key-slot-room, odd-done)
@@ -101,7 +101,7 @@ module _ (s w : List ℕ) (x : Print) (left p : ℕ) (G : Grounded s w (x .g)) (
       keys-parts (x .g .width) (texts s w (x .g .m)) (h .symbol) p ∙ ap (λ (i : Bool). keysOfAll (x .g .width) (texts s w (x .g .m)) (children (h .symbol)) (p + sizeOf (x .g .width) (symNode (texts s w (x .g .m)) (h .symbol))) ++ ownKeys i p) k in
       each-parts (Said s w x) (keysOfAll (x .g .width) (texts s w (x .g .m)) (children (h .symbol)) (p + sizeOf (x .g .width) (symNode (texts s w (x .g .m)) (h .symbol)))) (p ∷ []) (subst (Each (Said s w x)) is (h .said)) .1 .0
 
-  pub known-not : Known s w x p 0
+  pub known-not : KnownText s w x p 0
   known-not = record { stands = λ l. absurd (omega arith); is = λ l. absurd (omega arith) }
 
 pub ruleset knowing = (needs, symbol-within, own-said, known-not)

@@ -29,7 +29,7 @@ use Rattle.expander.proofs.KeysLaws.{stands-print}
 use Rattle.appending.proofs.SymbolsTrees.{each-parts}
 use Rattle.settling.specs.declared.copied.Print.{Print}
 use Rattle.settling.specs.Print.{Printable, Closing}
-use Rattle.settling.specs.Copied.{TextStands, Said, Copying, SaidSymbol, SaidSymbols, Known, SaidAround, Behinds, PutsAll}
+use Rattle.settling.specs.Copied.{TextStands, Said, Copying, SaidSymbol, SaidSymbols, KnownText, SaidAround, Behinds, PutsAll}
 use Rattle.settling.proofs.PutLaws.{puts-as}
 use Rattle.settling.proofs.CopiedTrees.{said-within, said-left, said-room, said-high, said-below, said-walked, said-many, here, before-on, before-inside, before-stand, inside-closing, parts-put, leaf-end, skip-end}
 
@@ -61,10 +61,10 @@ module _ (s w : List ℕ) (x : Print) (left p to : ℕ) (C : Copying s w x to) (
     leaf-put n m e r w2 D = parts-put s w x left p h to C c d q w1 A [] q w1 still (none-shown (children (h .symbol)) (betweenText (h .symbol)) (said-many s w x left p h c d ∙ sym m ∙ e)) r w2 D
 
   -- ---- put_one
-  pub copied-put : (k r : ℕ) (w1 : List ℕ) → Known s w x p k → 0 < k → Puts w (x .lim) to (markedText s w (markAt w (g .m .base) (k - 1))) r w1 → Puts w (x .lim) to (printedAt s w g p) r w1
+  pub copied-put : (k r : ℕ) (w1 : List ℕ) → KnownText s w x p k → 0 < k → Puts w (x .lim) to (markedText s w (markAt w (g .m .base) (k - 1))) r w1 → Puts w (x .lim) to (printedAt s w g p) r w1
   copied-put k r w1 K l a = puts-as (K .is l) a
 
-  pub copied-stands : (k : ℕ) → Known s w x p k → 0 < k → TextStands s w x (k - 1)
+  pub copied-stands : (k : ℕ) → KnownText s w x p k → 0 < k → TextStands s w x (k - 1)
   copied-stands k K l = K .stands l
 
   -- ---- put_symbol

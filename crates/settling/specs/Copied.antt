@@ -72,7 +72,7 @@ pub record SaidSymbols (s w : List ℕ) (x : Print) (n left p : ℕ) : Type 0 wh
   pub said : Each (Said s w x) (keysOfAll (x .g .width) (texts s w (x .g .m)) symbols p)
 
 -- r is 0, or one more than the number of a text that stands: the print of the symbol at p
-pub record Known (s w : List ℕ) (x : Print) (p r : ℕ) : Type 0 where
+pub record KnownText (s w : List ℕ) (x : Print) (p r : ℕ) : Type 0 where
   pub stands : 0 < r → TextStands s w x (r - 1)
   pub is : 0 < r → markedText s w (markAt w (x .g .m .base) (r - 1)) ≡ printedAt s w (x .g) p
 

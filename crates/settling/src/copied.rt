@@ -20,7 +20,7 @@ ghost use Rattle.texts.specs.Texts.{markedText};
 ghost use Rattle.precedence.specs.Write.{Puts};
 ghost use Rattle.expander.specs.Ground.{slotAt, printedAt, Grounded};
 ghost use Rattle.expander.specs.Held.{followed};
-ghost use Rattle.settling.specs.Copied.{TextStands, Said, Copying, SaidSymbol, SaidSymbols, Known, SaidAround, Behinds, PutsAll};
+ghost use Rattle.settling.specs.Copied.{TextStands, Said, Copying, SaidSymbol, SaidSymbols, KnownText, SaidAround, Behinds, PutsAll};
 
 // What stays while a text is printed: the ground, the number from which on new texts are written, and the place before which to write.
 pub struct Print {
@@ -44,7 +44,7 @@ fn referred(tape: &[u8], work: &[u8], x: Print, p: usize) -> usize
 // The number of the text of the symbol at p, which is expanded, and one; 0 if that doesn't stand yet.
 fn numbered(tape: &[u8], work: &[u8], x: Print, p: usize) -> usize
     requires { ⌜ Grounded (now tape) (now work) (x .g) × Said (now tape) (now work) x p ⌝ }
-    ensures { λ r. ⌜ Known (now (tape .entry)) (now (work .entry)) x p r ⌝ }
+    ensures { λ r. ⌜ KnownText (now (tape .entry)) (now (work .entry)) x p r ⌝ }
 {
     let v = referred(tape, work, x, p);
     if v % 2 != 0 {
@@ -62,7 +62,7 @@ fn numbered(tape: &[u8], work: &[u8], x: Print, p: usize) -> usize
 // The same of any symbol.
 fn known(tape: &[u8], work: &[u8], x: Print, left: usize, p: usize) -> usize
     requires { ⌜ Grounded (now tape) (now work) (x .g) × SaidSymbol (now tape) (now work) x left p ⌝ }
-    ensures { λ r. ⌜ Known (now (tape .entry)) (now (work .entry)) x p r ⌝ }
+    ensures { λ r. ⌜ KnownText (now (tape .entry)) (now (work .entry)) x p r ⌝ }
 {
     if is_expanded(work[x.g.from + p]) {
         return numbered(tape, work, x, p);

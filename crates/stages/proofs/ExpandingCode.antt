@@ -20,7 +20,7 @@ use Rattle.rounds.specs.declared.Expander.{Expander}
 use Rattle.rounds.specs.declared.Room.{Room}
 use Rattle.rounds.specs.declared.State.{State}
 use Rattle.rounds.specs.declared.Rounded.{Rounded}
-use Rattle.rounds.specs.Steps.{started}
+use Rattle.rounds.specs.Steps.{numbersAtStart}
 use Rattle.rounds.specs.Standing.{RoundStands}
 use Rattle.rounds.specs.Define.{SomeDeclared, Defined}
 use Rattle.rounds.specs.Round.{SomeRound, Finished, RoundsTo, AllRounds}
@@ -61,13 +61,13 @@ module _ (s w : List ℕ) (m : Map) (t : Grammar) (room : Room) (low : ℕ) wher
   pub rounds-declared : SomeFirst s w m t room low → SomeDeclared s w m t
   rounds-declared A = first-declared s w m t room low (A .four) (A .tree) (A .first) (A .past) (A .owed) (A .stands)
 
-  pub rounds-some : SomeFirst s w m t room low → (w₁ : List ℕ) → Defined s w m t w₁ → (e : Expander) → e ≡ started (t .count) → SomeRound s w₁ room t (firstState e)
+  pub rounds-some : SomeFirst s w m t room low → (w₁ : List ℕ) → Defined s w m t w₁ → (e : Expander) → e ≡ numbersAtStart (t .count) → SomeRound s w₁ room t (firstState e)
   rounds-some A w₁ d e i = rw i (record {
     trees = firstTrees (A .tree) (A .first) (A .past) (A .owed);
     standing = first-stands s w m t room low (A .four) (A .tree) (A .first) (A .past) (A .owed) (A .stands) w₁ d;
   })
 
-  pub rounds-done : (limit : ℕ) (w₁ : List ℕ) → Defined s w m t w₁ → (e : Expander) → e ≡ started (t .count) → (r : Rounded) (w₂ : List ℕ) → AllRounds s w₁ room t limit (firstState e) r w₂ → FirstRounds s w m t room low limit r w₂
+  pub rounds-done : (limit : ℕ) (w₁ : List ℕ) → Defined s w m t w₁ → (e : Expander) → e ≡ numbersAtStart (t .count) → (r : Rounded) (w₂ : List ℕ) → AllRounds s w₁ room t limit (firstState e) r w₂ → FirstRounds s w m t room low limit r w₂
   unfolding FirstRounds AllRounds macroStages
   rounds-done limit w₁ d e i r w₂ a four G first past owed F =
       let n : limit - e .round ≡ limit = omega (arith, ap (λ (x : Expander). x .round) i) in

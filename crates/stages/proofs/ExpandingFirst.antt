@@ -24,7 +24,7 @@ use Rattle.resolve.proofs.GrammarLaws.{Row}
 use Rattle.macro_expand.specs.Drain.{itemOf}
 use Rattle.rounds.specs.declared.Room.{Room}
 use Rattle.rounds.specs.Define.{Items, SomeDeclared, Defined}
-use Rattle.rounds.specs.Steps.{started}
+use Rattle.rounds.specs.Steps.{numbersAtStart}
 use Rattle.rounds.specs.Standing.{DefinesMacros, Tabled, RoundStands}
 use Rattle.rounds.proofs.DefineMeans.{defined-items, defined-found}
 use Rattle.stages.specs.Expanding.{firstTrees, FirstStands}
@@ -91,7 +91,7 @@ module _ (s w : List ℕ) (m : Map) (t : Grammar) (room : Room) (low : ℕ) (fou
         go (inr h) = inr (omega (arith, h .0), h .1)
 
     -- theorem: the first round begins
-    pub first-stands : RoundStands s w′ room t (record { expander = started (t .count); m = m; from = t .at; end = t .end; done = room .y; low = low }) (firstTrees G first past owed)
+    pub first-stands : RoundStands s w′ room t (record { expander = numbersAtStart (t .count); m = m; from = t .at; end = t .end; done = room .y; low = low }) (firstTrees G first past owed)
     unfolding bytesOfEach
     first-stands = record {
       numbers = record { height = refl; round = refl; items = omega (arith, defines .many); few = omega arith };

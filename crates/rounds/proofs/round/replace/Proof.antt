@@ -1,5 +1,4 @@
 use Rattle.rounds.proofs.RoundCode.{replacing}
-use borrow.Author.Needs.{needs}
 use Rattle.rounds.proofs.round.replace.Statement.{statement}
 use Rattle.rounds.proofs.round.replace.Tie as tie
 

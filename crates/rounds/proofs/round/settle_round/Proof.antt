@@ -1,5 +1,4 @@
 use Rattle.rounds.proofs.RoundCode.{settling}
-use borrow.Author.Needs.{needs}
 use Rattle.rounds.proofs.round.settle_round.Statement.{statement}
 use Rattle.rounds.proofs.round.settle_round.Tie as tie
 

@@ -1,5 +1,4 @@
 use Rattle.stages.proofs.ExpandingCode.{macros-rounds}
-use borrow.Author.Needs.{needs}
 use Rattle.stages.proofs.expanding.expand_rounds.Statement.{statement}
 use Rattle.stages.proofs.expanding.expand_rounds.Tie as tie
 
