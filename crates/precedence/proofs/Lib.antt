@@ -9,6 +9,7 @@ mod SubstituteCode
 mod SubstituteRuns
 mod SubstituteMean
 pub mod WriteLaws
+mod ShortCode
 mod WriteCode
 mod WriteWholeCode
 pub mod WriteMean

@@ -1,4 +1,4 @@
--- The ways out of copy_within, put_run, put_attributes and fall_through. Assumes nothing.
+-- The ways out of copy_long, put_run, put_attributes and fall_through. Assumes nothing.
 use mathlib.Core.Path.{_≡_, refl, sym, ap, _∙_}
 use mathlib.Core.Logic.{inl}
 use mathlib.Core.List.{List, [], _∷_, _++_}
@@ -21,7 +21,7 @@ use Rattle.resolve.proofs.CellsLaws.{store-past}
 use Rattle.precedence.specs.Write.{Puts, keptOne, keptBytes, singleHead, fallBytes}
 use Rattle.precedence.proofs.WriteLaws.{puts-beside, puts-on, puts-upto, puts-append, puts-none, puts-whole, puts-not}
 
--- ---- copy_within: what is left, from i to e, goes to q on; what is below `to` is as it was
+-- ---- copy_long: what is left, from i to e, goes to q on; what is below `to` is as it was
 pub record Moving (w : List ℕ) (a e to : ℕ) (out : List ℕ) (i q : ℕ) : Type 0 where
   pub carry : store out q (part i e w) ≡ store w to (part a e w)
   pub upto : i ≤ e

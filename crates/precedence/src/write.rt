@@ -17,8 +17,19 @@ ghost use Rattle.octets.specs.working.Stores.{store};
 ghost use Rattle.grades.specs.Annotations.{conditionsFrom, symbolsFrom};
 ghost use Rattle.precedence.specs.Write.{Puts, keptOne, keptBytes, singleHead, fallBytes, headOut, fewerBy, strippedOut, PutsRenamed};
 
-// The bytes from a up to e, to a place behind them.
-pub fn copy_within(work: &mut [u8], a: usize, e: usize, to: usize)
+// The n bytes from a on, 8 to 16 of them, to another place: two numbers, which may overlap.
+fn copy_short(work: &mut [u8], a: usize, n: usize, to: usize)
+    requires { ⌜ (8 ≤ n) × (n ≤ 16) × (a + n ≤ length (now work)) × (to + n ≤ length (now work)) ⌝ }
+    ensures { λ _. ⌜ now (work .exit) ≡ store (now (work .entry)) to (part a (a + n) (now (work .entry))) ⌝ }
+{
+    let x = u64_at(work, a);
+    let y = u64_at(work, a + (n - 8));
+    store64(work, to, x);
+    store64(work, to + (n - 8), y);
+}
+
+// The bytes from a up to e, to a place behind them, one by one: the loop becomes moves of many bytes.
+fn copy_long(work: &mut [u8], a: usize, e: usize, to: usize)
     requires { ⌜ (a ≤ e) × (e ≤ to) × (to + (e - a) ≤ length (now work)) ⌝ }
     ensures { λ _. ⌜ now (work .exit) ≡ store (now (work .entry)) to (part a e (now (work .entry))) ⌝ }
 {
@@ -29,6 +40,21 @@ pub fn copy_within(work: &mut [u8], a: usize, e: usize, to: usize)
         i += 1;
         q += 1;
     }
+}
+
+// The bytes from a up to e, to a place behind them. Most commands have 8 to 16.
+pub fn copy_within(work: &mut [u8], a: usize, e: usize, to: usize)
+    requires { ⌜ (a ≤ e) × (e ≤ to) × (to + (e - a) ≤ length (now work)) ⌝ }
+    ensures { λ _. ⌜ now (work .exit) ≡ store (now (work .entry)) to (part a e (now (work .entry))) ⌝ }
+{
+    let n = e - a;
+    if n < 8 {
+        return copy_long(work, a, e, to);
+    }
+    if 16 < n {
+        return copy_long(work, a, e, to);
+    }
+    copy_short(work, a, n, to);
 }
 
 // The bytes from a up to e, if they end at lim or before.

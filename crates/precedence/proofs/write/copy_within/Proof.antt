@@ -1,55 +1,53 @@
-use Rattle.precedence.proofs.WriteCode.{Moving, moving}
-use Prim.Native.Nat.{_-_}
+use Rattle.precedence.proofs.ShortCode.{copyingShort}
+use borrow.Author.Needs.{needs}
 use Rattle.precedence.proofs.write.copy_within.Statement.{statement}
 use Rattle.precedence.proofs.write.copy_within.Tie as tie
 use Rattle.precedence.proofs.write.copy_within.Reads as reads
 use Rattle.precedence.proofs.write.copy_within.Lts as lts
+use Rattle.precedence.proofs.write.copy_long.Reads as copy-long-reads
+use Rattle.precedence.proofs.write.copy_short.Reads as copy-short-reads
 
-abbrev Inv-loop : tie.InvT-loop
-Inv-loop work₀ a e to i₀ q₀ work i q = Moving work₀ a e to work i q
+sub-n : tie.Need-sub-n
+sub-n c = search needs
 
-abbrev μ-loop : tie.MeasureT-loop
-μ-loop work₀ a e to i₀ q₀ work i q = e - i
+copy-long-requires : tie.Need-copy-long-requires
+copy-long-requires c κs = search needs
 
-loop-holds : tie.Need-loop-holds Inv-loop μ-loop
-loop-holds c = search moving
+same-length : tie.Need-same-length
+same-length c = search needs
 
-slice-read-work : tie.Need-slice-read-work Inv-loop μ-loop
-slice-read-work c = search moving
+returns : tie.Need-returns
+returns c = search needs
 
-slice-write-work : tie.Need-slice-write-work Inv-loop μ-loop
-slice-write-work c = search moving
+copy-long-requires-2 : tie.Need-copy-long-requires-2
+copy-long-requires-2 c κs = search needs
 
-add-i : tie.Need-add-i Inv-loop μ-loop
-add-i c = search moving
+same-length-2 : tie.Need-same-length-2
+same-length-2 c = search needs
 
-add-q : tie.Need-add-q Inv-loop μ-loop
-add-q c = search moving
+returns-2 : tie.Need-returns-2
+returns-2 c = search needs
 
-loop-less : tie.Need-loop-less Inv-loop μ-loop
-loop-less c = search moving
+copy-short-requires : tie.Need-copy-short-requires
+copy-short-requires c κs = search needs
 
-loop-again : tie.Need-loop-again Inv-loop μ-loop
-loop-again c = search moving
+same-length-3 : tie.Need-same-length-3
+same-length-3 c = search needs
 
-same-length : tie.Need-same-length Inv-loop μ-loop
-same-length c = search moving
-
-returns : tie.Need-returns Inv-loop μ-loop
-returns c = search moving
+returns-3 : tie.Need-returns-3
+returns-3 c = search copyingShort
 
 pub copy-within-spec : {M : Type 1} → statement M
 copy-within-spec =
     tie.close
     (tie.spec
-    Inv-loop
-    μ-loop
-    loop-holds
-    slice-read-work
-    slice-write-work
-    add-i
-    add-q
-    loop-less
-    loop-again
+    sub-n
+    copy-long-requires
     same-length
-    returns)
+    returns
+    copy-long-requires-2
+    same-length-2
+    returns-2
+    copy-short-requires
+    same-length-3
+    returns-3)
