@@ -23,7 +23,8 @@ rust: need-rt
 
 compare: need-rt
 	rt staticlib normalize > /dev/null
-	$(call cargo,run) --release -p compare --bin compare -- $(or $(SEED),1) $(or $(COUNT),200000)
+	for part in resolve levels macros; do $(call cargo,run) --release -p compare --bin compare -- $(or $(SEED),1) $(or $(COUNT),200000) $$part || exit 1; done
+	$(call cargo,run) --release -p compare --bin compare -- $(or $(SEED),1) $(or $(COUNT),500000) whole
 
 bench: need-rt
 	rt staticlib normalize > /dev/null
