@@ -127,7 +127,7 @@ fn terminals_of_blocks() {
 #[test]
 fn attributes_and_conditions() {
     same(
-        r#"grammar; M<P> = { #[a] #[ b ( k = "v" ) ] P if P == "x", #[cfg(feature = "f")] "y" if P != "" => z, if P == "z" => w };"#,
+        r#"grammar; M<P> = { #[a] #[ b ( k = "v" ) ] P if P == "x", #[cfg(feature = "f",)] "y" if P != "" => z, if P == "z" => w };"#,
         "M<P> = #a #b(k=\"v\") P if P == \"x\" | #cfg(feature=\"f\") \"y\" if P != \"\" => { z } | if P == \"z\" => { w };",
     );
     let escapes = only(r#"grammar; A = #[b(k = "\n\r\t\"\\")] B;"#).attributes;

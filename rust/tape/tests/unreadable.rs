@@ -93,6 +93,8 @@ fn alternatives() {
     refuses("A = { , };", "2:7: an alternative: expected a symbol or `=>`, found `,`");
     refuses("A = b:B;", "2:6: an alternative: expected `;`, found `:`");
     refuses("A = B => \"é\";", "2:7: an action can't be carried: it is not ASCII");
+    refuses("A = B =>@LR;", "2:11: an alternative: expected `;`, found `R`");
+    refuses("A = B =>@ L;", "2:7: `=>@` stands without `L` or `R`");
     refuses("A = B =>@L C;", "2:12: an alternative: expected `;`, found `C`");
 }
 
@@ -114,6 +116,7 @@ fn conditions() {
     refuses("M<A> = A if A ~~ \"b\";", "2:15: a condition with `~~` can't be carried");
     refuses("M<A> = A if A !~ \"b\";", "2:15: a condition with `!~` can't be carried");
     refuses("M<A> = A if A = \"b\";", "2:15: a condition: expected `==` or `!=`, found `=`");
+    refuses("M<A> = A if A == ~~ \"b\";", "2:18: a condition: expected a quoted text, found `~~`");
     refuses("M<A> = A if \"b\" == A;", "2:13: a condition: expected a name, found a quoted text");
     refuses("M<A> = A if A == r\"b\";", "2:18: a condition: expected a quoted text, found a regex");
     refuses("M<A> = A if A == \"\\n\";", "2:18: the text of a condition can't be carried: it is not printable ASCII");
@@ -152,6 +155,7 @@ fn blocks() {
     refuses("match { a }", "2:9: `match` block: expected a literal or `_`, found `a`");
     refuses("match { \"a\" b }", "2:13: `match` block: expected `,` or `}`, found `b`");
     refuses("match { \"a\" =>  b c }", "2:17: `match` block: expected a terminal or `{}` behind `=>`");
+    refuses("match { \"a\" => mut }", "2:16: `match` block: expected a terminal or `{}` behind `=>`");
     refuses("match { \"a\" => \"\\d\" }", "2:17: there is no escape `\\d`");
     refuses("match { \"a\" => é }", "2:16: the name `é` can't be carried: it is not ASCII");
     refuses("match { \"a\" } else", "2:19: `match` block: expected `{`, found the end");

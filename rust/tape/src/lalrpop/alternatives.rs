@@ -1,5 +1,5 @@
 //! Alternatives: attributes, symbols, a condition, an action.
-use super::parser::{counted, Parser};
+use super::parser::{counted, is_mark, Parser};
 use super::scanner::Lexeme;
 use super::unreadable::{Fault, Read};
 use crate::tree::{Action, Alternative, Attribute, Condition};
@@ -49,24 +49,28 @@ impl Parser<'_> {
 
     /// Nothing, and no step, where it isn't of that form.
     fn key_and_value(&mut self) -> Read<Option<(String, String)>> {
-        let lexemes = [0, 1, 2, 3, 4].map(|count| self.ahead(count).lexeme.clone());
-        let [Lexeme::Mark("("), Lexeme::Word(key), Lexeme::Mark("="), Lexeme::Text(value), Lexeme::Mark(")")] = lexemes else {
+        let lexemes = [0, 1, 2, 3].map(|count| self.ahead(count).lexeme.clone());
+        let [Lexeme::Mark("("), Lexeme::Word(key), Lexeme::Mark("="), Lexeme::Text(value)] = lexemes else {
             return Ok(None);
         };
+        let close = if is_mark(self.ahead(4), ",") { 5 } else { 4 };
+        if !is_mark(self.ahead(close), ")") {
+            return Ok(None);
+        }
         let (key_at, value_at) = (self.ahead(1).from, self.ahead(3).from);
         let key = self.plain(key, key_at, "the key of an attribute")?;
         let value = self.plain(&value, value_at, "the value of an attribute")?;
-        (0..5).for_each(|_| self.step());
+        (0..=close).for_each(|_| self.step());
         Ok(Some((key, value)))
     }
 
     fn condition(&mut self) -> Read<Condition> {
         let from = self.from();
         let lhs = self.name("a condition")?;
-        let equals = self.take("==");
         if let Some(op) = ["~~", "!~"].into_iter().find(|op| self.is(op)) {
             return Err(Fault::new(self.from(), format!("a condition with `{op}` can't be carried")));
         }
+        let equals = self.take("==");
         if !equals && !self.take("!=") {
             return Err(self.expected("a condition", "`==` or `!=`"));
         }

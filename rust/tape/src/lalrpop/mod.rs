@@ -1,7 +1,8 @@
 //! Grammars in LALRPOP's notation, as far as a tape carries them.
 //!
 //! Read and left out, since no tape carries them: `use`, the `grammar` line, types, patterns of tokens, and attributes of the whole grammar.
-//! What would change the grammar if it were left out is an error: see [`Unreadable`].
+//! What would change the grammar if it were left out is an error: see [`Unreadable`]. Whether names are declared, once and as what they are
+//! used as, is not asked here: name resolution does that.
 mod alternatives;
 mod code;
 mod items;

@@ -7,7 +7,7 @@ use std::collections::HashSet;
 const MOST_TEXTS: usize = 65_536;
 const LONGEST: usize = 65_535;
 
-/// Words that are no names.
+/// Words that are no names; `_` is a mark of LALRPOP's.
 const KEYWORDS: [&str; 14] = ["_", "dyn", "else", "enum", "extern", "for", "grammar", "if", "in", "match", "mut", "pub", "type", "where"];
 
 pub struct Parser<'a> {
@@ -49,9 +49,9 @@ impl<'a> Parser<'a> {
         Span(from as u32, self.tokens[self.at - 1].to as u32)
     }
 
-    /// There is no blank before the next token.
+    /// There is no blank between the last token that was read and the next.
     pub fn touches(&self) -> bool {
-        self.at > 0 && self.tokens[self.at - 1].to == self.from()
+        self.tokens[self.at - 1].to == self.from()
     }
 
     /// A mark or keyword is next.
@@ -114,8 +114,8 @@ impl<'a> Parser<'a> {
                 Lexeme::Mark("{") => open.push("}"),
                 Lexeme::Mark("<") => open.push(">"),
                 Lexeme::Mark(next) if next == close => drop(open.pop()),
-                Lexeme::Mark(")" | "]" | "}" | ">" | ";") => return Err(self.expected(place, &format!("`{close}`"))),
-                Lexeme::Word(_) | Lexeme::Mark(_) | Lexeme::Text(_) | Lexeme::Regex(_) => {}
+                Lexeme::Mark(next) if ![")", "]", "}", ">", ";"].contains(&next) => {}
+                Lexeme::Word(_) | Lexeme::Text(_) | Lexeme::Regex(_) => {}
                 _ => return Err(self.expected(place, &format!("`{close}`"))),
             }
             self.step();
@@ -126,9 +126,13 @@ impl<'a> Parser<'a> {
     /// The next token, where it is a word that may be a name.
     pub fn word(&self) -> Option<&'a str> {
         match self.token().lexeme {
-            Lexeme::Word(word) => Some(word).filter(|word| !KEYWORDS.contains(word)),
+            Lexeme::Word(word) if !is_keyword(word) => Some(word),
             _ => None,
         }
+    }
+
+    pub fn is_literal(&self) -> bool {
+        matches!(self.token().lexeme, Lexeme::Text(_) | Lexeme::Regex(_))
     }
 
     pub fn name(&mut self, place: &str) -> Read<String> {
@@ -171,6 +175,11 @@ impl<'a> Parser<'a> {
         }
         Ok(text.to_string())
     }
+}
+
+/// Whether a word is no name.
+pub fn is_keyword(word: &str) -> bool {
+    KEYWORDS.contains(&word)
 }
 
 pub fn is_mark(token: &Token, mark: &str) -> bool {

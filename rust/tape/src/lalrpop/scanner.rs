@@ -115,6 +115,9 @@ impl<'a> Scanner<'a> {
             self.at += long.len();
             return Ok(Lexeme::Mark(long));
         }
+        if self.rest().starts_with("=>@") {
+            return Err(Fault::new(from, "`=>@` stands without `L` or `R`"));
+        }
         if let Some(arrow) = ["=>?", "=>"].into_iter().find(|arrow| self.rest().starts_with(arrow)) {
             self.at += arrow.len();
             return Ok(Lexeme::Code(arrow, self.code()?));

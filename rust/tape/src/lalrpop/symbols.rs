@@ -19,8 +19,7 @@ impl Parser<'_> {
     }
 
     fn begins(&self) -> bool {
-        let literal = matches!(self.token().lexeme, Lexeme::Text(_) | Lexeme::Regex(_));
-        literal || self.word().is_some() || ["(", "<", "@L", "@R", "!", "`"].iter().any(|mark| self.is(mark))
+        self.is_literal() || self.word().is_some() || ["(", "<", "@L", "@R", "!", "`"].iter().any(|mark| self.is(mark))
     }
 
     fn symbol(&mut self, depth: usize) -> Read<Symbol> {
@@ -42,25 +41,30 @@ impl Parser<'_> {
 
     /// A symbol without what repeats it.
     fn kind(&mut self, depth: usize) -> Read<Kind> {
-        let at = self.from();
         match self.token().lexeme.clone() {
-            Lexeme::Text(text) => {
-                self.step();
-                Ok(Kind::Quoted(self.literal(&text, at, "a quoted terminal")?))
-            }
-            Lexeme::Regex(text) => {
-                self.step();
-                Ok(Kind::Regex(self.literal(text, at, "a regex")?))
-            }
-            Lexeme::Mark("`") => Err(Fault::new(at, "a name in backticks is not read")),
+            Lexeme::Text(text) => Ok(Kind::Quoted(self.terminal(&text, "a quoted terminal")?)),
+            Lexeme::Regex(text) => Ok(Kind::Regex(self.terminal(text, "a regex")?)),
             Lexeme::Word(_) => self.named(depth),
-            _ if self.take("@L") => Ok(Kind::Lookahead),
-            _ if self.take("@R") => Ok(Kind::Lookbehind),
-            _ if self.take("!") => Ok(Kind::Error),
-            _ if self.take("(") => self.group(depth, at),
-            _ if self.take("<") => self.chosen(depth, at),
+            Lexeme::Mark("(") => self.group(depth),
+            Lexeme::Mark("<") => self.chosen(depth),
+            Lexeme::Mark("@L") => Ok(self.only(Kind::Lookahead)),
+            Lexeme::Mark("@R") => Ok(self.only(Kind::Lookbehind)),
+            Lexeme::Mark("!") => Ok(self.only(Kind::Error)),
+            Lexeme::Mark("`") => Err(Fault::new(self.from(), "a name in backticks is not read")),
             _ => Err(self.expected("an alternative", "a symbol")),
         }
+    }
+
+    fn terminal(&mut self, text: &str, what: &str) -> Read<String> {
+        let text = self.literal(text, self.from(), what)?;
+        self.step();
+        Ok(text)
+    }
+
+    /// Of one mark.
+    fn only(&mut self, kind: Kind) -> Kind {
+        self.step();
+        kind
     }
 
     /// `<` is next, with no blank before it: `M<A>` is a call, `M <A>` is a name and a choice.
@@ -82,14 +86,18 @@ impl Parser<'_> {
         Ok(Kind::Macro(name, counted(arguments, 255, at, "a macro call with more than 255 arguments")?))
     }
 
-    fn group(&mut self, depth: usize, at: usize) -> Read<Kind> {
+    fn group(&mut self, depth: usize) -> Read<Kind> {
+        let at = self.from();
+        self.step();
         let symbols = self.symbols(depth + 1)?;
         self.need(")", "a group")?;
         Ok(Kind::Group(counted(symbols, 65_535, at, "a group with more than 65,535 symbols")?))
     }
 
     /// `<A>`, or `<name:A>`, which is no choice.
-    fn chosen(&mut self, depth: usize, at: usize) -> Read<Kind> {
+    fn chosen(&mut self, depth: usize) -> Read<Kind> {
+        let at = self.from();
+        self.step();
         if self.is_tuple() {
             return Err(Fault::new(at, "a tuple pattern can't be carried"));
         }

@@ -1,5 +1,5 @@
 //! The blocks that declare terminals.
-use super::parser::Parser;
+use super::parser::{is_keyword, Parser};
 use super::scanner::{tokens, Lexeme};
 use super::unreadable::{Fault, Read};
 use crate::tree::Item;
@@ -50,10 +50,6 @@ impl Parser<'_> {
         word.map(|word| Ok(Item::Extern(span, self.carried_name(word, from)?))).transpose()
     }
 
-    fn is_literal(&self) -> bool {
-        matches!(self.token().lexeme, Lexeme::Text(_) | Lexeme::Regex(_))
-    }
-
     /// A name that a literal is mapped to is carried, the literal isn't.
     pub fn match_block(&mut self, items: &mut Vec<Item>) -> Read<()> {
         loop {
@@ -91,7 +87,7 @@ impl<'a> Parser<'a> {
         let lexemes: Vec<&Lexeme> = found.iter().map(|token| &token.lexeme).collect();
         match lexemes[..] {
             [.., Lexeme::Fault(fault)] => Err(fault.clone()),
-            [Lexeme::Word(word), Lexeme::End] => Ok(Some((word, found[0].from))),
+            [Lexeme::Word(word), Lexeme::End] if !is_keyword(word) => Ok(Some((word, found[0].from))),
             [Lexeme::Text(_) | Lexeme::Regex(_), Lexeme::End] | [Lexeme::Mark("{"), Lexeme::Mark("}"), Lexeme::End] => Ok(None),
             _ => Err(Fault::new(found[0].from, format!("{MATCH}: expected a terminal or `{{}}` behind `=>`"))),
         }
