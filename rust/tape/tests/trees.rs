@@ -142,6 +142,7 @@ fn actions() {
     assert_eq!((action("=> @L"), action("=> "), action("=>? f(<>)?")), (user("@L"), user(""), Action::Fallible("f(<>)?".into())));
     assert_eq!(action("=> { a; [b, (c, d)] },"), user("{ a; [b, (c, d)] }"));
     assert_eq!(action(r#"=> f("},\"", '}', b'\'', '\u{7d}'),"#), user(r#"f("},\"", '}', b'\'', '\u{7d}')"#));
+    assert_eq!(action(r"=> f('\'','}'),"), user(r"f('\'','}')"));
     assert_eq!(action("=> g::<'a>(x),"), user("g::<'a>(x)"));
     assert_eq!(action("=> &'a (x) /* }, /* */ ; */ + r, // ,\n"), user("&'a (x) /* }, /* */ ; */ + r"));
     assert_eq!(action(r##"=> (r#"")"#, r"\", r),"##), user(r##"(r#"")"#, r"\", r)"##));

@@ -63,7 +63,6 @@ fn items() {
     refuses("`A` = B;", "2:1: a grammar: expected a nonterminal, `extern`, `match` or `use`, found ```");
     refuses("grammar;", "2:1: a grammar: expected a nonterminal, `extern`, `match` or `use`, found `grammar`");
     refuses("pub = B;", "2:5: a nonterminal: expected a name, found `=`");
-    refuses("pub _ = B;", "2:5: a nonterminal: expected a name, found `_`");
     refuses("pub(crate A = B;", "2:16: `pub`: expected `)`, found `;`");
     refuses("A;", "2:2: a nonterminal: expected `=`, found `;`");
     refuses("A <B> = B;", "2:3: a nonterminal: expected `=`, found `<`");
@@ -78,6 +77,9 @@ fn items() {
 
 #[test]
 fn names() {
+    for word in ["_", "dyn", "else", "enum", "extern", "for", "grammar", "if", "in", "match", "mut", "pub", "type", "use", "where"] {
+        refuses(&format!("pub {word} = B;"), &format!("2:5: a nonterminal: expected a name, found `{word}`"));
+    }
     refuses("A = error;", "2:5: the name `error` can't be carried: `!` is printed so");
     refuses("é = B;", "2:1: the name `é` can't be carried: it is not ASCII");
     refuses("A = `B`;", "2:5: a name in backticks is not read");
@@ -133,6 +135,7 @@ fn symbols() {
     refuses("A = <mut:B>;", "2:9: a choice: expected a name, found `:`");
     refuses("A = <if>;", "2:6: an alternative: expected a name, found `if`");
     refuses("A = B <(b, (mut c, d)):B>;", "2:7: a tuple pattern can't be carried");
+    refuses("A = <(b, c):B>;", "2:5: a tuple pattern can't be carried");
     refuses("A = (B, C);", "2:7: a group: expected `)`, found `,`");
     refuses("A = \"\\t\";", "2:5: a quoted terminal can't be carried: it is not printable ASCII");
     refuses("A = r\"é\";", "2:5: a regex can't be carried: it is not printable ASCII");
