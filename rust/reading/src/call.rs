@@ -2,7 +2,7 @@
 use crate::read::{read, Refusal};
 use crate::sizes::within_operands;
 use crate::tree::{Item, Stage};
-use crate::write::write_over;
+use tape::write_over;
 
 /// The tree that is written, or the refusal.
 pub type Outcome = Result<Vec<u8>, Refusal>;

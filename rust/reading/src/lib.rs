@@ -8,15 +8,13 @@ pub mod notation;
 mod read;
 mod sizes;
 mod texts;
-pub mod tree;
-mod write;
 
 pub use call::{answer, answer_and_stage, asked, call, measured, stage_lengths, with_output, work_needed, Outcome, Step};
 pub use display::{listing, printed};
 pub use levels::level_refusal;
 pub use read::{operand_bytes, read, read_made, Refusal};
 pub use sizes::within_operands;
-pub use write::write;
+pub use tape::{tree, write};
 
 #[cfg(test)]
 mod tests;

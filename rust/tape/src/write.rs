@@ -3,6 +3,14 @@ use crate::tree::*;
 use std::collections::HashMap;
 
 /// The tape of a stage whose counts and numbers are within their operands.
+///
+/// ```
+/// use tape::tree::{Item, Span, Stage};
+///
+/// let stage = Stage { atoms: vec![], items: vec![Item::Extern(Span(7, 8), "n".into())] };
+/// // the atom n, then the terminal that it names
+/// assert_eq!(tape::write(&stage), [0x01, 1, 0, b'n', 0x30, 7, 0, 0, 0, 8, 0, 0, 0, 0, 0]);
+/// ```
 pub fn write(stage: &Stage) -> Vec<u8> {
     write_over(stage).1
 }
