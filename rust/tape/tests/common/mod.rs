@@ -1,3 +1,4 @@
+//! What the tests of the reader share.
 use tape::tree::Stage;
 
 /// The tree of a grammar, whose tape is read back as the same tree.
