@@ -16,14 +16,14 @@ use precedence::write::put_run;
 use resolve::commands::long;
 
 // The place to read on at, and what is appended.
-#[derive(Drop)]
+#[derive(Clone, Copy)]
 pub struct Copied {
     pub at: usize,
     pub out: Appended,
 }
 
 // How many symbols are to come from where the run is.
-#[derive(Drop)]
+#[derive(Clone, Copy)]
 struct Coming {
     left: usize,
     run: Copied,

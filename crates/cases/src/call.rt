@@ -7,7 +7,7 @@ use output::Answer;
 pub const ROUNDS: usize = 64;
 
 // Macros and the whole within so many rounds.
-#[derive(Drop)]
+#[derive(Clone, Copy)]
 pub enum Call {
     Validate,
     Resolve,
@@ -16,7 +16,7 @@ pub enum Call {
     Whole(usize),
 }
 
-#[derive(Drop)]
+#[derive(Clone, Copy)]
 pub enum Named {
     Is(Call),
     Nothing,

@@ -9,7 +9,7 @@ use notation::bytes::Written;
 use notation::words::{Number, decimal, find};
 
 // A case so far: the length of its tape, its limit, and the lengths of the buffers where a word gave one.
-#[derive(Drop)]
+#[derive(Clone, Copy)]
 struct Case {
     tape: usize,
     limit: usize,
@@ -19,7 +19,7 @@ struct Case {
     work: usize,
 }
 
-#[derive(Drop)]
+#[derive(Clone, Copy)]
 enum Read {
     Case(Case),
     Bad,

@@ -10,6 +10,7 @@
 // tools/cases.sh writes both files. The lines of `validate` are by tools/cases.py, from document 01. Those of the other calls are stored answers:
 // 5 to 19 and the trees are LALRPOP's own, 1 to 4, 20 and 21 by the second reading of document 01 (rust/compare/src/chosen.rs, chosen_rounds.rs).
 // A line whose name begins with `reading-22`, `reading-28` or `reading-29` shows that reading of document 01 (rust/compare/src/stated.rs).
+#![tactic(auto)]
 use lines::run_lines;
 
 mod call;

@@ -7,7 +7,7 @@ ghost use Rattle.display.specs.Window.{Emitted};
 use octets::sink::put8;
 
 // Where to read on; how many bytes of the form are still to be skipped, hi * 2^64 + lo; and where in the window to write.
-#[derive(Drop)]
+#[derive(Clone, Copy)]
 pub struct Spot {
     pub at: usize,
     pub hi: usize,

@@ -20,7 +20,7 @@ use texts::hash::next;
 use texts::text::text_at;
 
 // Hash of a text, the power of the multiplier by its length, and the length, which stops at 65,536.
-#[derive(Drop)]
+#[derive(Clone, Copy)]
 pub struct Form {
     pub hash: usize,
     pub power: usize,
@@ -28,7 +28,7 @@ pub struct Form {
 }
 
 // The place behind symbols, and a form with theirs behind.
-#[derive(Drop)]
+#[derive(Clone, Copy)]
 pub struct Formed {
     pub at: usize,
     pub form: Form,

@@ -15,7 +15,7 @@ use resolve::commands::long;
 use texts::Map;
 
 // What a window says of two forms: they end in it and are the same, they differ, or both go on and were the same so far.
-#[derive(Drop)]
+#[derive(Clone, Copy)]
 pub enum Verdict {
     Same,
     Differ,
@@ -23,7 +23,7 @@ pub enum Verdict {
 }
 
 // How many bytes of both forms are behind, hi * 2^64 + lo.
-#[derive(Drop)]
+#[derive(Clone, Copy)]
 pub struct Count {
     pub hi: usize,
     pub lo: usize,

@@ -11,7 +11,7 @@ use display::form::{Form, before, behind, join, none, separated};
 use resolve::commands::long;
 
 // The place behind symbols, a form with theirs behind, and how many symbols are pushed.
-#[derive(Drop)]
+#[derive(Clone, Copy)]
 pub struct Keyed {
     pub at: usize,
     pub form: Form,

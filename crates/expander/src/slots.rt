@@ -12,7 +12,7 @@ use octets::numbers::{store64, u64_at};
 use texts::fields::mark;
 
 // The number of a symbol's text, and how many texts are new.
-#[derive(Drop)]
+#[derive(Clone, Copy)]
 pub struct Numbered {
     pub number: usize,
     pub count: usize,

@@ -12,7 +12,7 @@ use precedence::write::{copy_within, put_nonterminal};
 use resolve::commands::long;
 
 // Where the run stands: the place to read on at, the place to write on at, how many symbols are pushed, how many texts are new.
-#[derive(Drop)]
+#[derive(Clone, Copy)]
 pub struct Replaced {
     pub at: usize,
     pub to: usize,

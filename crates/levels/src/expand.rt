@@ -21,7 +21,7 @@ use precedence::names::{LevelName, level_name};
 use texts::Map;
 
 // The level whose keys were written: where they end, its name, how many texts there are then, and the place behind its item.
-#[derive(Drop)]
+#[derive(Clone, Copy)]
 pub struct Next {
     pub last: usize,
     pub name: usize,

@@ -14,7 +14,7 @@ use texts::Map;
 use texts::fields::mark;
 
 // How many bytes the names have with their commands, and whether one is too long for a text.
-#[derive(Drop)]
+#[derive(Clone, Copy)]
 pub struct Fresh {
     pub bytes: usize,
     pub long: bool,

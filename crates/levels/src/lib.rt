@@ -1,5 +1,6 @@
 // Precedence levels of a whole grammar: the items that stand resolved in work, written again level by level. Touches nothing but the slices
 // that it is handed: of work the records behind the table's, the arrays, the room for the items, and that for the bytes of names.
+#![tactic(auto)]
 use parse_tree::refusal::Refusal;
 
 pub mod expand;
@@ -8,7 +9,7 @@ pub mod settle;
 pub mod whole;
 
 // Where the pass writes: the arrays of the nonterminal at hand, and the items from `at` up to `lim`.
-#[derive(Drop)]
+#[derive(Clone, Copy)]
 pub struct Room {
     pub arrays: usize,
     pub at: usize,
@@ -16,13 +17,13 @@ pub struct Room {
 }
 
 // What is written so far: the place behind the items, lim + 1 where they don't fit, and how many texts there are.
-#[derive(Drop)]
+#[derive(Clone, Copy)]
 pub struct Written {
     pub to: usize,
     pub count: usize,
 }
 
-#[derive(Drop)]
+#[derive(Clone, Copy)]
 pub enum Levelled {
     Is(Written),
     Refused(Refusal),

@@ -1,4 +1,5 @@
 // Reads a tape (the first 2,048 bytes, no more) from standard input and prints its listing: limit 64, 4,096 bytes of output.
+#![tactic(auto)]
 use libc::{STDIN_FILENO, STDOUT_FILENO};
 use listing::whole::listing;
 

@@ -1,4 +1,5 @@
 // The listing of a tape: what the call for all three passes answers, as text.
+#![tactic(auto)]
 pub mod action;
 pub mod alternatives;
 pub mod head;
@@ -9,7 +10,7 @@ pub mod tree;
 pub mod whole;
 
 // Where a text stands in work: its place and the one behind it, which is behind work's end where the text doesn't fit.
-#[derive(Drop)]
+#[derive(Clone, Copy)]
 pub struct Listed {
     pub from: usize,
     pub to: usize,

@@ -12,7 +12,7 @@ use octets::wide::from8;
 use texts::Found;
 
 // Where the parameters and the symbols for them stand, how many there are, and the place before which the definition ends.
-#[derive(Drop)]
+#[derive(Clone, Copy)]
 pub struct Call {
     pub params: usize,
     pub many: usize,
@@ -21,14 +21,14 @@ pub struct Call {
 }
 
 // Whether a condition holds, unless its argument is no quoted literal.
-#[derive(Drop)]
+#[derive(Clone, Copy)]
 pub enum Judged {
     Is(bool),
     Refused,
 }
 
 // How many alternatives hold, or the place of a condition that is refused.
-#[derive(Drop)]
+#[derive(Clone, Copy)]
 pub enum Upheld {
     Many(usize),
     Refused(usize),

@@ -14,14 +14,14 @@ use expander::slots::number;
 use octets::numbers::u64_at;
 
 // The number of the item's name, and what is appended.
-#[derive(Drop)]
+#[derive(Clone, Copy)]
 pub struct Begun {
     pub name: usize,
     pub out: Appended,
 }
 
 // The symbol's span, the numbers of its print and of a built-in text, and how many texts are new.
-#[derive(Drop)]
+#[derive(Clone, Copy)]
 struct Named {
     span: u64,
     name: usize,

@@ -17,7 +17,7 @@ use parse_tree::node::span_at;
 use parse_tree::refusal;
 
 // A call, how many alternatives the definition has, and where they begin.
-#[derive(Drop)]
+#[derive(Clone, Copy)]
 pub struct Macro {
     pub call: Call,
     pub many: usize,
@@ -25,7 +25,7 @@ pub struct Macro {
 }
 
 // The span of the call, and what is appended.
-#[derive(Drop)]
+#[derive(Clone, Copy)]
 pub struct Started {
     pub span: u64,
     pub out: Appended,

@@ -17,7 +17,7 @@ use resolve::commands::long;
 use texts::Found;
 
 // How many symbols are to come, and from where on.
-#[derive(Drop)]
+#[derive(Clone, Copy)]
 pub struct Opened {
     pub many: usize,
     pub run: Copied,

@@ -1,5 +1,6 @@
 // Macro expansion, the appending stage: the items of the symbols that were pushed, in the order they leave the pile. Touches nothing but the slices that it is handed: of work the list of
 // new texts, the slots, the numbers of built-in texts, and the room for appended items.
+#![tactic(auto)]
 use appending::Appended;
 use parse_tree::refusal::Refusal;
 
@@ -18,7 +19,7 @@ pub mod repeat;
 pub mod star;
 
 // What is appended, or why a symbol is refused.
-#[derive(Drop)]
+#[derive(Clone, Copy)]
 pub enum Expanded {
     Is(Appended),
     Refused(Refusal),

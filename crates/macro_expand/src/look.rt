@@ -9,7 +9,7 @@ use expander::slots::number;
 use octets::numbers::u64_at;
 
 // The symbol's span, its action, the number of its print, and how many texts are new.
-#[derive(Drop)]
+#[derive(Clone, Copy)]
 struct Called {
     span: u64,
     act: u8,

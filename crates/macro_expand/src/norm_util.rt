@@ -6,7 +6,7 @@ use expander::Ground;
 use grades::skip::skip;
 
 // How many of the direct symbols are chosen, as far as they were looked at, and whether one has a name.
-#[derive(Drop)]
+#[derive(Clone, Copy)]
 pub struct Analyzed {
     pub chosen: usize,
     pub named: bool,

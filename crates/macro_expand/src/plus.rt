@@ -19,7 +19,7 @@ use expander::slots::Numbered;
 use octets::numbers::u64_at;
 
 // The numbers of the texts of the second alternative of `X+`, and how many texts are new.
-#[derive(Drop)]
+#[derive(Clone, Copy)]
 struct Pushing {
     push: u32,
     v: u32,

@@ -116,7 +116,7 @@ fn star_rest(
 }
 
 // The span of the repeat at q, and whether the symbol inside is nested too deep.
-#[derive(Drop)]
+#[derive(Clone, Copy)]
 struct Starred {
     span: u64,
     deep: bool,

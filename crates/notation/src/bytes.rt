@@ -5,7 +5,7 @@ use crate::words::digit;
 use octets::sink::put8;
 
 // The place behind what was written, or a word that is none.
-#[derive(Drop)]
+#[derive(Clone, Copy)]
 pub enum Written {
     To(usize),
     Bad,

@@ -1,4 +1,5 @@
 // What a call answers, and what it hands over: sizes asked, texts put, trees copied to the output.
+#![tactic(auto)]
 use parse_tree::refusal::Refusal;
 
 pub mod expanded;
@@ -7,7 +8,7 @@ pub mod putting;
 pub mod room;
 
 // The length of the tree written, or why the tape is refused.
-#[derive(Drop)]
+#[derive(Clone, Copy)]
 pub enum Answer {
     Yes(usize),
     No(Refusal),

@@ -10,7 +10,7 @@ use borrow.Author.Tests.{ltb-true, leb-true, eqb-true}
 use lib.Dec.{leb, ltb, eqb}
 use lib.ListN.{length, get_or}
 use Rattle.octets.specs.Working.Choice.{pick}
-use Rattle.parse_tree.specs.Plain.Tree.{Text, Leaf, Around, Over, Syms, Attribute, Condition, Alternative, Source, count, conditions}
+use Rattle.parse_tree.specs.Plain.Tree.{Text, Syms, Attribute, Condition, Alternative, Source, count, conditions}
 use Rattle.parse_tree.specs.Plain.Texts.{is_name, is_literal, is_ascii, number, distinct}
 use Rattle.parse_tree.specs.Working.Nodes.{node_bytes}
 use Rattle.parse_tree.specs.Working.Questions.{has_text, of_class, leaf_defined, symbol_defined, alternative_defined, attribute_defined, defined, leaf_suits, symbol_suits, suits}

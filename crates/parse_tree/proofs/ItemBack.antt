@@ -8,7 +8,7 @@ use native.Mathlib.Omega.{arith}
 use lib.ListN.{length}
 use Rattle.octets.specs.Plain.Runs.{Lies}
 use Rattle.octets.proofs.LiesLaws.{lies_split}
-use Rattle.parse_tree.specs.Plain.Tree.{Text, Sym, Syms, Attribute, Condition, leaf, around, over, nil, cons, item, terminal, count, conditions}
+use Rattle.parse_tree.specs.Plain.Tree.{Text, Sym, Syms, Condition, leaf, around, over, nil, cons, item, terminal, count, conditions}
 use Rattle.parse_tree.specs.Plain.Texts.{is_name}
 use Rattle.parse_tree.specs.Working.Nodes.{node_bytes}
 use Rattle.parse_tree.specs.Working.Places.{class_of, table, allowed_at, items_place, arguments_place, alternatives_place, attributes_place, conditions_place, symbols_place}

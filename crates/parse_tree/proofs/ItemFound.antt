@@ -7,7 +7,7 @@ use native.Mathlib.Omega.{arith}
 use lib.ListN.{length}
 use Rattle.octets.specs.Plain.Numbers.{Bytes}
 use Rattle.octets.proofs.LiesLaws.{lies_append}
-use Rattle.parse_tree.specs.Plain.Tree.{Text, Sym, Attribute, Condition, Alternative, leaf, around, over, item, count, syms_of, conditions}
+use Rattle.parse_tree.specs.Plain.Tree.{Text, Sym, Attribute, Condition, Alternative, item, count, syms_of, conditions}
 use Rattle.parse_tree.specs.Plain.Texts.{is_name, distinct}
 use Rattle.parse_tree.specs.Working.Nodes.{node_bytes}
 use Rattle.parse_tree.specs.Working.Places.{items_place, arguments_place, alternatives_place, attributes_place, conditions_place, symbols_place}

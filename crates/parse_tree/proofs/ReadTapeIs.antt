@@ -12,7 +12,7 @@ use lib.ListN.{length, get_or}
 use Rattle.octets.specs.Working.Choice.{pick}
 use Rattle.octets.specs.Plain.Numbers.{le_at}
 use Rattle.octets.specs.Plain.Runs.{part}
-use Rattle.parse_tree.specs.Plain.Tree.{Text, Sym, Action, Attribute, Condition, Alternative, Nonterminal, Item, syms_of, no_action, user, fallible, lookahead_action, lookbehind_action, item}
+use Rattle.parse_tree.specs.Plain.Tree.{Text, Sym, Action, Attribute, Condition, Alternative, Item, syms_of, no_action, user, fallible, lookahead_action, lookbehind_action, item}
 use Rattle.parse_tree.specs.Plain.Texts.{is_name, is_ascii, has}
 use Rattle.parse_tree.specs.Working.Nodes.{if_whole, text_node, span_in, nonterminal_node_at, terminal_node_at, argument_node_at, alternative_node_at, attribute_node_at, condition_node_at, node_by, node_at}
 use Rattle.parse_tree.specs.Working.Places.{class_of, allowed_at, table, items_place, arguments_place, alternatives_place, attributes_place, conditions_place}

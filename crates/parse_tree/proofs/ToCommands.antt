@@ -13,7 +13,7 @@ use lib.Dec.{leb, ltb, eqb}
 use lib.ListN.{length, get_or}
 use Rattle.octets.specs.Working.Choice.{pick}
 use Rattle.octets.proofs.ChoiceLaws.{pick_same}
-use Rattle.parse_tree.specs.Plain.Tree.{Text, Leaf, Around, Over, Action, Attribute, Condition, Alternative, Nonterminal, Source, star, plus, question, ambiguous, bare, quoted, regex, nonterminal, lookahead, lookbehind, error, repeat, choose, name, macro, group, no_action, user, fallible, lookahead_action, lookbehind_action, extern, match, terminal, conditions}
+use Rattle.parse_tree.specs.Plain.Tree.{Text, Leaf, Around, Over, Action, Condition, Alternative, Nonterminal, Source, star, plus, question, ambiguous, bare, quoted, regex, nonterminal, lookahead, lookbehind, error, repeat, choose, name, macro, group, no_action, user, fallible, lookahead_action, lookbehind_action, extern, match, terminal, conditions}
 use Rattle.parse_tree.specs.Plain.Texts.{is_name, is_literal, is_ascii, number}
 use Rattle.parse_tree.specs.Working.Questions.{has_text, of_class, leaf_defined, symbol_defined, alternative_defined, attribute_defined, defined, leaf_suits, symbol_suits, suits}
 use Rattle.parse_tree.specs.Plain.Reading.{got}

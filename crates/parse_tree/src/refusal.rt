@@ -6,7 +6,7 @@ use crate::syntax::Span;
 use octets::wide::from32;
 
 // The number of the question that the tape fails, and the place.
-#[derive(Drop)]
+#[derive(Clone, Copy)]
 pub struct Refusal {
     pub number: usize,
     pub from: usize,

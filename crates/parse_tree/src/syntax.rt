@@ -1,22 +1,22 @@
 // The commands of a tape as values. Names of one kind are a type of their own, as in the Rust's parse tree.
 
-#[derive(Drop)]
+#[derive(Clone, Copy)]
 pub struct Span(pub u32, pub u32);
 
 // The number of an atom.
-#[derive(Drop)]
+#[derive(Clone, Copy)]
 pub struct Atom(pub u32);
 
 // The name of a nonterminal, a macro or an argument, by the number of its atom.
-#[derive(Drop)]
+#[derive(Clone, Copy)]
 pub struct NonterminalString(pub u32);
 
 // The name of a bare terminal, by the number of its atom.
-#[derive(Drop)]
+#[derive(Clone, Copy)]
 pub struct TerminalString(pub u32);
 
 // A symbol with nothing inside: 20 to 24, 2a, 2b, 2c.
-#[derive(Drop)]
+#[derive(Clone, Copy)]
 pub enum Leaf {
     AmbiguousId(Atom),
     Bare(TerminalString),
@@ -29,7 +29,7 @@ pub enum Leaf {
 }
 
 // A symbol around one other: 26, 27, 28.
-#[derive(Drop)]
+#[derive(Clone, Copy)]
 pub enum Around {
     Repeat(u8),
     Choose,
@@ -37,13 +37,13 @@ pub enum Around {
 }
 
 // A symbol over a list: 25 with the number of its arguments, 29 with that of its symbols.
-#[derive(Drop)]
+#[derive(Clone, Copy)]
 pub enum Over {
     Macro(NonterminalString, u8),
     Group(u16),
 }
 
-#[derive(Drop)]
+#[derive(Clone, Copy)]
 pub enum SymbolKind {
     Leaf(Leaf),
     Around(Around),
@@ -51,7 +51,7 @@ pub enum SymbolKind {
 }
 
 // 10, with the numbers of its arguments and alternatives.
-#[derive(Drop)]
+#[derive(Clone, Copy)]
 pub struct NonterminalData {
     pub span: Span,
     pub name: NonterminalString,
@@ -61,7 +61,7 @@ pub struct NonterminalData {
 }
 
 // 12, with the numbers of its attributes, conditions and symbols.
-#[derive(Drop)]
+#[derive(Clone, Copy)]
 pub struct Alternative {
     pub span: Span,
     pub attributes: u8,
@@ -72,7 +72,7 @@ pub struct Alternative {
 }
 
 // 13.
-#[derive(Drop)]
+#[derive(Clone, Copy)]
 pub struct Attribute {
     pub id: Atom,
     pub kind: u8,
@@ -81,7 +81,7 @@ pub struct Attribute {
 }
 
 // 14.
-#[derive(Drop)]
+#[derive(Clone, Copy)]
 pub struct Condition {
     pub span: Span,
     pub lhs: NonterminalString,
@@ -90,7 +90,7 @@ pub struct Condition {
 }
 
 // 30 and 31.
-#[derive(Drop)]
+#[derive(Clone, Copy)]
 pub struct TerminalData {
     pub span: Span,
     pub name: TerminalString,
@@ -98,7 +98,7 @@ pub struct TerminalData {
 }
 
 // A whole command, with its operands as they stand; Unknown where no known command stands whole.
-#[derive(Drop)]
+#[derive(Clone, Copy)]
 pub enum Node {
     Text(u16),
     Nonterminal(NonterminalData),

@@ -1,1 +1,2 @@
 // The passes on trees and what a tree derives: definitions only, in specs/. No code.
+#![tactic(auto)]

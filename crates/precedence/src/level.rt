@@ -13,7 +13,7 @@ use octets::numbers::{atom_at, u64_at};
 use octets::wide::from8;
 
 // One level: its keys from first up to last, its name, and that of the next lower level; its own where it is the lowest.
-#[derive(Drop)]
+#[derive(Clone, Copy)]
 pub struct Level {
     pub first: usize,
     pub last: usize,

@@ -14,7 +14,7 @@ use texts::text::text_at;
 use texts::{Found, Map};
 
 // The number of a text, and how many there are then.
-#[derive(Drop)]
+#[derive(Clone, Copy)]
 pub struct LevelName {
     pub name: usize,
     pub count: usize,

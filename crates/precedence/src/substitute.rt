@@ -10,7 +10,7 @@ use octets::numbers::{atom_at, store16};
 use resolve::commands::long;
 
 // Where the first and the last occurrence stood; the place behind the symbols where there was none.
-#[derive(Drop)]
+#[derive(Clone, Copy)]
 pub struct Marks {
     pub first: usize,
     pub last: usize,

@@ -4,7 +4,7 @@ use mathlib.Core.Bool.{Bool, true, false, false≢true}
 use mathlib.Core.List.{List}
 use Prim.Native.Nat.{ℕ, suc}
 use Rattle.octets.specs.Plain.Numbers.{Bytes}
-use Rattle.parse_tree.specs.Plain.Tree.{Text, Sym, leaf, around, over, syms_of}
+use Rattle.parse_tree.specs.Plain.Tree.{Text, Sym, leaf, around, syms_of}
 use Rattle.parse_tree.specs.Plain.Display.{print}
 use Rattle.parse_tree.specs.Working.Nodes.{node_at}
 use Rattle.parse_tree.specs.Working.Places.{symbols_place}

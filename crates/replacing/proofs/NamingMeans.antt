@@ -8,7 +8,7 @@ use lib.ListN.{length}
 use Rattle.octets.specs.Working.Choice.{pick}
 use Rattle.octets.specs.Plain.Numbers.{Bytes}
 use Rattle.octets.proofs.LiesLaws.{lies_part}
-use Rattle.parse_tree.specs.Plain.Tree.{Text, Sym, leaf, around, over, syms_of}
+use Rattle.parse_tree.specs.Plain.Tree.{Text, Sym, leaf, around, syms_of}
 use Rattle.parse_tree.specs.Plain.Texts.{number, distinct, with_new}
 use Rattle.parse_tree.specs.Plain.Display.{print}
 use Rattle.parse_tree.specs.Working.Nodes.{node_bytes, node_at, size_of}

@@ -5,7 +5,7 @@ use mathlib.Core.List.{List, [], ◌∷◌, ◌++◌, map}
 use Prim.Native.Nat.{ℕ, zero, suc, ◌+◌, ◌≤◌}
 use native.Mathlib.Omega.{arith}
 use Rattle.octets.specs.Plain.Numbers.{Bytes}
-use Rattle.parse_tree.specs.Plain.Tree.{Text, Leaf, Around, Over, Sym, leaf, around, over, syms_of}
+use Rattle.parse_tree.specs.Plain.Tree.{Text, Sym, leaf, around, syms_of}
 use Rattle.parse_tree.specs.Working.Nodes.{node_at, size_of}
 use Rattle.parse_tree.specs.Working.Places.{symbols_place}
 use Rattle.parse_tree.specs.Plain.Reading.{Reading, got, then, times}

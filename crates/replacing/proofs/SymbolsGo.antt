@@ -7,7 +7,7 @@ use Prim.Native.Nat.{ℕ, zero, suc, ◌<◌, ◌≤◌}
 use native.Mathlib.Omega.{arith}
 use Rattle.octets.specs.Plain.Numbers.{Bytes}
 use Rattle.octets.specs.Plain.Runs.{same_as}
-use Rattle.parse_tree.specs.Plain.Tree.{Text, Leaf, Around, Over, Sym, ambiguous, bare, quoted, regex, nonterminal, lookahead, lookbehind, error, repeat, choose, name, leaf, around, over, syms_of}
+use Rattle.parse_tree.specs.Plain.Tree.{Text, Leaf, Around, Sym, ambiguous, bare, quoted, regex, nonterminal, lookahead, lookbehind, error, repeat, choose, name, leaf, around, syms_of}
 use Rattle.parse_tree.specs.Plain.Texts.{has, number, distinct}
 use Rattle.parse_tree.specs.Plain.Display.{print}
 use Rattle.parse_tree.specs.Working.Nodes.{node_bytes}

@@ -1,4 +1,5 @@
 // The rounds of macro expansion: macros told in the cells of their names, a round's ground, its sizes, its two stages, and the loop. Touches nothing but the slices that it is handed.
+#![tactic(auto)]
 use parse_tree::refusal::Refusal;
 use texts::Map;
 
@@ -10,7 +11,7 @@ pub mod steps;
 pub mod whole;
 
 // Where things stand in work: the bytes of the tape's atoms, the output's length, the place of unreplaced items from the second round on, the place of replaced ones, the end of new texts.
-#[derive(Drop)]
+#[derive(Clone, Copy)]
 pub struct Room {
     pub first: usize,
     pub cap: usize,
@@ -20,7 +21,7 @@ pub struct Room {
 }
 
 // The expander's numbers: the height of the pile of pending symbols, how many rounds are done, how many items there are, the definitions of macros among them.
-#[derive(Drop)]
+#[derive(Clone, Copy)]
 pub struct Expander {
     pub height: usize,
     pub round: usize,
@@ -28,7 +29,7 @@ pub struct Expander {
 }
 
 // What a round begins with: the expander's numbers, the texts, the unreplaced items, the end of the replaced ones, the place of the lowest new text.
-#[derive(Drop)]
+#[derive(Clone, Copy)]
 pub struct State {
     pub expander: Expander,
     pub m: Map,
@@ -38,7 +39,7 @@ pub struct State {
     pub low: usize,
 }
 
-#[derive(Drop)]
+#[derive(Clone, Copy)]
 pub enum Rounded {
     More(State),
     Done(State),

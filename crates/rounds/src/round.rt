@@ -24,7 +24,7 @@ use settling::settle::{Settled, settle};
 use texts::fields::mark;
 
 // What the replacing stage leaves.
-#[derive(Drop)]
+#[derive(Clone, Copy)]
 pub struct Half {
     pub g: Ground,
     pub r: Replaced,

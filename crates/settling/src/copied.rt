@@ -18,7 +18,7 @@ use resolve::commands::long;
 use texts::fields::mark;
 
 // What stays while a text is printed: the ground, the number from which on new texts are written, and the place before which to write.
-#[derive(Drop)]
+#[derive(Clone, Copy)]
 pub struct Print {
     pub g: Ground,
     pub first: usize,

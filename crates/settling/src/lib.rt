@@ -1,5 +1,6 @@
 // New texts of a stage of macro expansion that is admitted: printed forms of symbols that stand in work, written to another place of the same work, and built-in texts; their records come to the table.
 // Touches nothing but the slices that it is handed.
+#![tactic(auto)]
 pub mod atom;
 pub mod built;
 pub mod copied;
@@ -11,7 +12,7 @@ pub mod settle;
 pub mod words;
 
 // Where a text stands: in work if `here`, else on the tape, from its first byte up to its end.
-#[derive(Drop)]
+#[derive(Clone, Copy)]
 pub struct Source {
     pub here: bool,
     pub from: usize,
@@ -19,7 +20,7 @@ pub struct Source {
 }
 
 // The place behind symbols, and the place to write on at.
-#[derive(Drop)]
+#[derive(Clone, Copy)]
 pub struct Printed {
     pub at: usize,
     pub to: usize,

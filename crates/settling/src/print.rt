@@ -14,7 +14,7 @@ use resolve::commands::long;
 use texts::Map;
 
 // What is read of a symbol's command: its code, where the symbols straight inside stand, and how many; and where to write on.
-#[derive(Drop)]
+#[derive(Clone, Copy)]
 pub struct Opened {
     pub code: u8,
     pub end: usize,

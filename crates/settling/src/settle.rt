@@ -7,14 +7,14 @@ use texts::Map;
 use texts::table::grow;
 
 // How many bytes the new texts have with their commands, and whether one is too long for a text.
-#[derive(Drop)]
+#[derive(Clone, Copy)]
 pub struct Fresh {
     pub bytes: usize,
     pub long: bool,
 }
 
 // The table with the new texts, and the place of the first.
-#[derive(Drop)]
+#[derive(Clone, Copy)]
 pub struct Settled {
     pub m: Map,
     pub at: usize,

@@ -2,6 +2,8 @@
 // A text is a record of 24 bytes in work: its mark (8), its hash (4), its link (4), the head of the bucket of this index (4), and a cell that
 // is the caller's (4). Links and heads are a number and one, and 0 for none. A mark below four times the tape's length is four times the place of
 // an 01 on the tape, and a class; any other is the place of an 01 in work, less four times the tape's length.
+#![tactic(auto)]
+
 pub mod chain;
 pub mod class;
 pub mod fields;
@@ -11,7 +13,7 @@ pub mod table;
 pub mod text;
 
 // Where the records stand, how many texts there are, and how many buckets.
-#[derive(Drop)]
+#[derive(Clone, Copy)]
 pub struct Map {
     pub base: usize,
     pub count: usize,
@@ -19,7 +21,7 @@ pub struct Map {
 }
 
 // The number of a text, or none.
-#[derive(Drop)]
+#[derive(Clone, Copy)]
 pub enum Found {
     At(usize),
     Nothing,

@@ -6,7 +6,7 @@ use crate::class::{byte_class, lesser_of};
 use crate::hash::next;
 
 // The hash, and the least class of the bytes; 3 where there are none.
-#[derive(Drop)]
+#[derive(Clone, Copy)]
 pub struct Scanned {
     pub hash: usize,
     pub least: usize,

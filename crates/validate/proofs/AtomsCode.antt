@@ -34,7 +34,7 @@ use Rattle.validate.specs.declared.Next.{Next}
 use Rattle.validate.specs.declared.Gathered.{Gathered}
 use Rattle.validate.specs.Regions.{regions_of}
 use Rattle.validate.specs.declared.regions.Regions.{Regions}
-use Rattle.validate.specs.Front.{Starts, Going, More, Nexts, All, Fronted}
+use Rattle.validate.specs.Front.{Starts, Going, More, Nexts, Fronted}
 use Rattle.validate.proofs.FrontCode.{place_three}
 
 pub place_steps : (s : List ℕ) (k : ℕ) → place_of s k + 3 ≤ place_of s (suc k)

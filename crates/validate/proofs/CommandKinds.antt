@@ -39,14 +39,15 @@ module _ {B : Type 0} (at e : ℕ) where
   no_alternative f (Node.Symbol s k) h = refl
   no_alternative f Node.Unknown h = refl
 
-  pub no_item : (f : NonterminalData → ℕ → Reading B) (g : TerminalData → ℕ → Reading B) (n : Node) → OneOf (0 ∷ 3 ∷ 4 ∷ 5 ∷ 6 ∷ 7 ∷ 8 ∷ []) (tag_of the_type n) → expect_item at f g n e ≡ refused 2 at
+  pub no_item : (f : NonterminalData → ℕ → Reading B) (g : TerminalData → ℕ → Reading B) (n : Node)
+      → ((d : NonterminalData) → n ≡ Node.Nonterminal d → ⊥) → ((t : TerminalData) → n ≡ Node.Terminal t → ⊥) → expect_item at f g n e ≡ refused 2 at
   unfolding expect_item
-  no_item f g (Node.Text k) h = refl
-  no_item f g (Node.Nonterminal d) h = absurd (miss (0 ∷ 3 ∷ 4 ∷ 5 ∷ 6 ∷ 7 ∷ 8 ∷ []) 1 tt h)
-  no_item f g (Node.Terminal t) h = absurd (miss (0 ∷ 3 ∷ 4 ∷ 5 ∷ 6 ∷ 7 ∷ 8 ∷ []) 2 tt h)
-  no_item f g (Node.Argument a) h = refl
-  no_item f g (Node.Alternative a) h = refl
-  no_item f g (Node.Attribute a) h = refl
-  no_item f g (Node.Condition c) h = refl
-  no_item f g (Node.Symbol s k) h = refl
-  no_item f g Node.Unknown h = refl
+  no_item f g (Node.Text k) h l = refl
+  no_item f g (Node.Nonterminal d) h l = absurd (h d refl)
+  no_item f g (Node.Terminal t) h l = absurd (l t refl)
+  no_item f g (Node.Argument a) h l = refl
+  no_item f g (Node.Alternative a) h l = refl
+  no_item f g (Node.Attribute a) h l = refl
+  no_item f g (Node.Condition c) h l = refl
+  no_item f g (Node.Symbol s k) h l = refl
+  no_item f g Node.Unknown h l = refl

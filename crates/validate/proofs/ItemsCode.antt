@@ -1,16 +1,13 @@
 -- The ways out of `nonterminal_parts` and `item`. Assumes nothing.
 use mathlib.Core.Path.{◌≡◌, refl, sym, ap, ◌∙◌}
 use mathlib.Core.Bool.{Bool, true}
-use mathlib.Core.List.{List, [], ◌∷◌}
+use mathlib.Core.List.{List}
 use Prim.Native.Nat.{ℕ, ◌+◌, ◌^◌, ◌<◌, ◌≤◌}
 use native.Mathlib.Omega.{arith}
 use lib.ListN.{length}
 use mir.Syntax.{w64}
 use mir.Val.{Fits}
 use borrow.Author.Rules.{rules}
-use denote.Enum.Declared.{tag_of}
-use types.Run.{OneOf}
-use Rattle.parse_tree.specs.contracts.syntax.Node.{the_type}
 use Rattle.parse_tree.specs.Plain.Tree.{Item}
 use Rattle.parse_tree.specs.Working.Places.{items_place, arguments_place}
 use Rattle.parse_tree.specs.Plain.Reading.{got, times}
@@ -62,9 +59,9 @@ module _ (four : Bool) (s : List ℕ) (w atoms at : ℕ) (r : Asked) (i : r ≡ 
     unfolding read_item nonterminal_parts
     wanted = then_is (ask four w s (atoms_of s atoms) items_place 1 at) _ n e (asked_got (ask four w s (atoms_of s atoms) items_place 1 at) n e (sym u ∙ i))
 
-    pub item_other : OneOf (0 ∷ 3 ∷ 4 ∷ 5 ∷ 6 ∷ 7 ∷ 8 ∷ []) (tag_of the_type n) → (z : Refusal) → z ≡ refusal_at 2 at → Step.Refused z ≡ step_of (read_item four w s (atoms_of s atoms) at)
+    pub item_other : ((d : NonterminalData) → n ≡ Node.Nonterminal d → ⊥) → ((t : TerminalData) → n ≡ Node.Terminal t → ⊥) → (z : Refusal) → z ≡ refusal_at 2 at → Step.Refused z ≡ step_of (read_item four w s (atoms_of s atoms) at)
     unfolding step_of
-    item_other o z h = ap Step.Refused h ∙ sym (ap step_of (wanted ∙ no_item at e (nonterminal_parts four w s (atoms_of s atoms)) (λ t d. got (terminal_of (atoms_of s atoms) t) d) n o))
+    item_other o l z h = ap Step.Refused h ∙ sym (ap step_of (wanted ∙ no_item at e (nonterminal_parts four w s (atoms_of s atoms)) (λ t d. got (terminal_of (atoms_of s atoms) t) d) n o l))
 
     kind : (x : Node) → n ≡ x → read_item four w s (atoms_of s atoms) at ≡ expect_item at (nonterminal_parts four w s (atoms_of s atoms)) (λ t d. got (terminal_of (atoms_of s atoms) t) d) x e
     kind x v = wanted ∙ ap (λ (y : Node). expect_item at (nonterminal_parts four w s (atoms_of s atoms)) (λ t d. got (terminal_of (atoms_of s atoms) t) d) y e) v

@@ -3,7 +3,7 @@ ghost use Rattle.std.specs.Prelude.{◌≡◌, ◌*◌, ◌^◌, ◌<◌};
 ghost use Rattle.validate.specs.Regions.{regions_of};
 
 // The list of the items' places, the items, and the records of the texts.
-#[derive(Drop)]
+#[derive(Clone, Copy)]
 pub struct Regions {
     pub list: usize,
     pub items: usize,

@@ -12,7 +12,7 @@ use Rattle.parse_tree.specs.declared.syntax.Span.{Span}
 use Rattle.parse_tree.proofs.ReadingLaws.{each_append}
 use Rattle.passes.specs.Outcome.{Tree, Outcome, yes}
 use Rattle.passes.specs.Resolve.{Def, terminal_def, nonterminal_def, argument_def, lookup, globals, check_globals, check_condition, validate_nonterminal, rewrite_ambiguous_id, validate_leaf, validate_over, validate_symbol, validate_symbols, validate_alternatives, validate_macro_args, validate_items, resolve}
-use Rattle.passes.specs.Grades.{Side, all, with_levels, Graded, with_sides, graded, annotated}
+use Rattle.passes.specs.Grades.{Side, all, value_of, is_given, without_first, precedence, assoc, level_of, side_of, with_levels, Graded, with_sides, graded, annotated}
 use Rattle.passes.specs.Levels.{level_name, levels_of, of_level, Group, groups_of, occurs, replace_occurrences, replace_occurrences_in, substitute, substituted, fall_through, with_fall_through, level_items, levelled, check_levels, levels}
 use Rattle.passes.proofs.Outcomes.{no≢yes, yes_inj, after-yes}
 
@@ -135,7 +135,10 @@ module _ (P : Span → Type 0) where
 
   sides_spans : (s : Side) (l : ℕ) (as' : List Alternative) → Each (AlternativeSpans P) as' → Each GradedSpans (with_sides s (with_levels l as'))
   sides_spans s l [] h = tt
-  sides_spans s l (a ∷ rest) h = (h.0, sides_spans _ _ rest h.1)
+  sides_spans s l (a ∷ rest) h =
+      let given = value_of precedence a.attributes in
+      let v : Side = side_of (cond (is_given given) all s) (value_of assoc (without_first precedence a.attributes)) in
+      (h.0, sides_spans v (level_of l given) rest h.1)
 
   of_level-spans : (v : ℕ) (gs : List Graded) → Each GradedSpans gs → Each GradedSpans (of_level v gs)
   unfolding of_level

@@ -9,7 +9,7 @@ use borrow.Author.Tests.{leb-true, leb-false, ltb-true, ltb-false, eqb-true, eqb
 use lib.Dec.{eqb, ltb, leb, leb-zero}
 use native.Mathlib.Omega.{arith}
 use Rattle.parse_tree.specs.Plain.Tree.{Syms, Alternative, Nonterminal}
-use Rattle.passes.specs.Grades.{Side, all, non, left, right, starts_annotated, annotated, with_levels, Graded, with_sides, graded, ceiling}
+use Rattle.passes.specs.Grades.{Side, all, non, left, right, starts_annotated, annotated, value_of, is_given, without_first, precedence, assoc, level_of, side_of, with_levels, Graded, with_sides, graded, ceiling}
 use Rattle.meaning.specs.Meaning.{below}
 use Rattle.passes.specs.Levels.{insert, levels_of}
 use Rattle.meaning.proofs.Basics.{test}
@@ -252,4 +252,7 @@ pub graded-symbols : (P : Syms → Type 0) (l : ℕ) (s : Side) (xs : List Alter
     → Memᴰ γ (with_sides s (with_levels l xs)) → P γ.alternative.symbols
 graded-symbols P l s [] h γ i = absurd (Memᴰ.not-nil i)
 graded-symbols P l s (a ∷ rest) h γ (Memᴰ.head e) = subst (λ (y : Graded). P y.alternative.symbols) (sym e) (h a (Memᴰ.head refl))
-graded-symbols P l s (a ∷ rest) h γ (Memᴰ.tail i) = graded-symbols P _ _ rest (λ b j. h b (Memᴰ.tail j)) γ i
+graded-symbols P l s (a ∷ rest) h γ (Memᴰ.tail i) =
+    let given = value_of precedence a.attributes in
+    let v : Side = side_of (cond (is_given given) all s) (value_of assoc (without_first precedence a.attributes)) in
+    graded-symbols P (level_of l given) v rest (λ b j. h b (Memᴰ.tail j)) γ i

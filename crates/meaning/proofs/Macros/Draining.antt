@@ -6,7 +6,7 @@ use mathlib.Core.List.Memᴰ
 use mathlib.Core.List.{List, [], ◌∷◌, ◌++◌, Memᴰ, nil≢cons}
 use mathlib.Core.Option.{Option, none, some}
 use Rattle.octets.specs.Plain.Runs.{same_as}
-use Rattle.parse_tree.specs.Plain.Tree.{Text, Op, star, plus, question, Over, Sym, Syms, name, macro, group, over, Nonterminal, Item, item}
+use Rattle.parse_tree.specs.Plain.Tree.{Text, Op, star, plus, question, Over, Sym, Syms, macro, group, over, Nonterminal, Item, item}
 use Rattle.parse_tree.specs.Plain.Display.{print}
 use Rattle.parse_tree.specs.declared.syntax.Span.{Span}
 use Rattle.passes.specs.Outcome.{Tree, Outcome, yes, no, simple}

@@ -1,0 +1,5 @@
+use Rattle.octets.proofs.NumbersLaws.{reading}
+use Rattle.octets.proofs.numbers.u16_at.Goals as goal
+
+pub returns : goal.returns
+returns c = search reading

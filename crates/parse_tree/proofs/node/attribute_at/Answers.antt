@@ -1,0 +1,11 @@
+use Rattle.parse_tree.proofs.NodeCode.{noding}
+use Rattle.parse_tree.specs.Working.Nodes.{attribute_node_at}
+use Rattle.parse_tree.proofs.node.attribute_at.Goals as goal
+
+pub returns-then-tape-at : goal.returns-then-tape-at
+unfolding attribute_node_at
+returns-then-tape-at c = search noding
+
+pub returns : goal.returns
+unfolding attribute_node_at
+returns c = search noding

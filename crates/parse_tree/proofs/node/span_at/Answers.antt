@@ -1,0 +1,5 @@
+use Rattle.parse_tree.proofs.NodeCode.{noding}
+use Rattle.parse_tree.proofs.node.span_at.Goals as goal
+
+pub returns : goal.returns
+returns c = search noding

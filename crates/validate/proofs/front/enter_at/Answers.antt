@@ -1,0 +1,23 @@
+use Rattle.validate.proofs.AtomsCode.{entering_at}
+use Rattle.validate.proofs.front.enter_at.Goals as goal
+
+pub atom-t-requires : goal.atom-t-requires
+atom-t-requires c = search entering_at
+
+pub find-requires : goal.find-requires
+find-requires c = search entering_at
+
+pub returns-in-At : goal.returns-in-At
+returns-in-At c = search entering_at
+
+pub class_by-requires : goal.class_by-requires
+class_by-requires c = search entering_at
+
+pub overflow_add-x : goal.overflow_add-x
+overflow_add-x c = search entering_at
+
+pub enter-r-requires : goal.enter-r-requires
+enter-r-requires c = search entering_at
+
+pub returns : goal.returns
+returns c = search entering_at

@@ -1,0 +1,29 @@
+use Rattle.validate.proofs.QuestionsCode.{nodes}
+use Rattle.validate.proofs.questions.is_defined.Goals as goal
+
+pub returns-then-atoms-from32 : goal.returns-then-atoms-from32
+returns-then-atoms-from32 c = search nodes
+
+pub returns-in-Text : goal.returns-in-Text
+returns-in-Text c = search nodes
+
+pub returns-else-atoms-from32 : goal.returns-else-atoms-from32
+returns-else-atoms-from32 c = search nodes
+
+pub returns-in-Terminal : goal.returns-in-Terminal
+returns-in-Terminal c = search nodes
+
+pub returns-in-Argument : goal.returns-in-Argument
+returns-in-Argument c = search nodes
+
+pub returns-in-Alternative : goal.returns-in-Alternative
+returns-in-Alternative c = search nodes
+
+pub returns-in-Attribute : goal.returns-in-Attribute
+returns-in-Attribute c = search nodes
+
+pub returns-in-Symbol : goal.returns-in-Symbol
+returns-in-Symbol c = search nodes
+
+pub returns-in-Unknown : goal.returns-in-Unknown
+returns-in-Unknown c = search nodes

@@ -1,0 +1,11 @@
+use Rattle.validate.proofs.SuitsCode.{holding}
+use Rattle.validate.proofs.suits.text_class.Goals as goal
+
+pub returns-then-m-k : goal.returns-then-m-k
+returns-then-m-k c = search holding
+
+pub class-requires : goal.class-requires
+class-requires c = search holding
+
+pub returns : goal.returns
+returns c = search holding
