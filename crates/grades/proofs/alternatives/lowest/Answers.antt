@@ -1,0 +1,17 @@
+use Rattle.grades.proofs.AlternativesCode.{lowering}
+use Rattle.grades.proofs.alternatives.lowest.Goals as goal
+
+pub loop-i-init : goal.loop-i-init
+loop-i-init c = search lowering
+
+pub returns-then-not-same_level : goal.returns-then-not-same_level
+returns-then-not-same_level c = search lowering
+
+pub returns-then-k-ne3 : goal.returns-then-k-ne3
+returns-then-k-ne3 c = search lowering
+
+pub loop-i-preserved : goal.loop-i-preserved
+loop-i-preserved c = search lowering
+
+pub returns : goal.returns
+returns c = search lowering

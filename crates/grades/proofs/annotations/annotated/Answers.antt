@@ -1,0 +1,8 @@
+use Rattle.grades.proofs.AnnotationsCode.{annotating}
+use Rattle.grades.proofs.annotations.annotated.Goals as goal
+
+pub returns-then-f-n : goal.returns-then-f-n
+returns-then-f-n c = search annotating
+
+pub returns : goal.returns
+returns c = search annotating

@@ -1,0 +1,12 @@
+use Rattle.resolve.proofs.CommandsCode.{Running, running}
+use Prim.Native.Nat.{◌-◌}
+use Rattle.std.proofs.Common.{◌≡◌, ◌+◌, ◌≤◌, ◌<◌, length, ℕ, ◌*◌}
+use Rattle.resolve.specs.Cells.{Room}
+use Rattle.resolve.specs.Commands.{long_of, asked_at, run_out, Runs}
+use Rattle.resolve.proofs.commands.validate_commands.Given as goal
+
+abbrev pub invariant-loop-p : goal.invariant-loop-p
+invariant-loop-p l = Running l.m l.width l.e l.at l.initial.work l.work l.p
+
+abbrev pub decreases-loop-p : goal.decreases-loop-p
+decreases-loop-p l = l.e - l.p

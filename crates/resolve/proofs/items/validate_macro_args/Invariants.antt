@@ -1,0 +1,12 @@
+use Rattle.resolve.proofs.ItemsCode.{MarksLeft, marking}
+use Rattle.std.proofs.Common.{◌≡◌, ◌+◌, ◌*◌, ◌≤◌, ◌<◌, length, ℕ, ◌-◌}
+use Rattle.resolve.specs.Cells.{Room}
+use Rattle.resolve.specs.Commands.{Runs}
+use Rattle.resolve.specs.Items.{Standing, item_place_in, Marks, marks_out, unmarks_out, item_out, items_out}
+use Rattle.resolve.proofs.items.validate_macro_args.Given as goal
+
+abbrev pub invariant-loop-k : goal.invariant-loop-k
+invariant-loop-k l = MarksLeft l.m l.width l.n l.at l.initial.work l.work l.p l.k
+
+abbrev pub decreases-loop-k : goal.decreases-loop-k
+decreases-loop-k l = l.k

@@ -1,0 +1,17 @@
+use Rattle.resolve.proofs.NamesCode.{naming}
+use Rattle.resolve.proofs.names.validate_macro.Goals as goal
+
+pub returns-in_default : goal.returns-in_default
+returns-in_default c = search naming
+
+pub returns-then-d-ge512 : goal.returns-then-d-ge512
+returns-then-d-ge512 c = search naming
+
+pub returns-then-d-le2 : goal.returns-then-d-le2
+returns-then-d-le2 c = search naming
+
+pub returns-then-d-k : goal.returns-then-d-k
+returns-then-d-k c = search naming
+
+pub returns : goal.returns
+returns c = search naming
