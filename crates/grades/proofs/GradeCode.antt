@@ -89,8 +89,8 @@ module _ (t : List ℕ) (x : LevelRead) (i v : ℕ) (c : Reading t x i v) where
 
   pub digits-done : length t ≤ i → ReadsLevel x (LevelRead.Is v)
   digits-done h = record {
-    answered = sym (ap level_answer (ap (digits v) (drop_of_length-le t {i = i} h) ∙ ap (λ (y : Bool). cond y (some v) none) (le-leb v 4294967295 (omega (arith, c.ranges))))) ∙ c.rest;
-    small = c.ranges;
+    answered = sym (ap level_answer (ap (digits v) (drop_of_length-le t {i = i} h) ∙ ap (λ (y : Bool). cond y (some v) none) (le-leb v 4294967295 (omega (arith, c.fits))))) ∙ c.rest;
+    small = c.fits;
   }
 
 pub ruleset digiting = (rules, digits-none, digits-start, digits_low, digits-high, digits-large, digits-next, digits-done)

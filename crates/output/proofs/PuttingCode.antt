@@ -101,7 +101,7 @@ module _ (s w : List ℕ) (m : Map) (n to : ℕ) (o o' : List ℕ) (k q : ℕ) (
     texts-short = (rest_short s w m k h c.left.short).0
 
     pub texts-room : q + 3 + length (numbered_text s w m k) ≤ length o'
-    texts-room = omega (arith, c.left.ranges, rest_size s w m k h)
+    texts-room = omega (arith, c.left.fits, rest_size s w m k h)
 
     pub texts-next : (r : List ℕ) (p : ℕ) → PutsNames o' q (atom_bytes 2 (numbered_text s w m k)) p r → TextsPut s w m n to o r (k + 1) p
     texts-next r p u =
@@ -110,7 +110,7 @@ module _ (s w : List ℕ) (m : Map) (n to : ℕ) (o o' : List ℕ) (k q : ℕ) (
         let l : length r ≡ length o' = ap length u.bytes ∙ length_store o' q a in
         let e : p + length b ≡ q + length (bytes_of_each (atom_bytes 2) (drop k (texts s w m))) = omega (arith, u.after, rest_size s w m k h, atom_size 2 (numbered_text s w m k)) in
         record {
-          left = record { table = c.left.table; upto = omega arith; short = (rest_short s w m k h c.left.short).1; fits = omega (arith, c.left.ranges, l, e) };
+          left = record { table = c.left.table; upto = omega arith; short = (rest_short s w m k h c.left.short).1; fits = omega (arith, c.left.fits, l, e) };
           same = l ∙ c.same;
           bytes = ap (λ (i : List ℕ). store i p b) u.bytes ∙ store-append o' q p a b u.after ∙ ap (store o' q) (sym (rest_bytes s w m k h)) ∙ c.bytes;
           place = e ∙ c.place;
