@@ -1,5 +1,6 @@
 // What levels read of alternatives: their levels and sides, graded and sorted; questions 14 to 16. Touches nothing but the slices that it is handed.
 #![tactic(auto)]
+
 pub mod alternatives;
 pub mod annotations;
 pub mod grade;

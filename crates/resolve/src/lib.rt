@@ -1,6 +1,7 @@
 // Name resolution: questions 5 to 13. The items stand in work, and are resolved where they stand: a 20 becomes a 21 or a 24. What a
 // name is stands in the cell of its text's record. Touches those cells and the items, nothing else.
 #![tactic(auto)]
+
 use parse_tree::refusal::Refusal;
 
 pub mod cells;

@@ -1,6 +1,4 @@
-use Rattle.grades.proofs.DecimalCode.{Putting, putting}
-use Rattle.std.proofs.Common.{◌-◌, ◌≡◌, ◌+◌, ◌≤◌, ◌<◌, length, drop, ℕ, ◌*◌}
-use Rattle.grades.specs.Grade.{ReadsLevel, level_said, digits_said, assoc_said, level_digits, PutsDecimal}
+use Rattle.grades.proofs.DecimalCode.{Putting}
 use Rattle.grades.proofs.grade.put_decimal.Given as goal
 
 abbrev pub invariant-loop-at : goal.invariant-loop-at

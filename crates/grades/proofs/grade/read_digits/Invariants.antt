@@ -1,9 +1,7 @@
-use Rattle.grades.proofs.GradeCode.{Reading, digiting}
+use Rattle.grades.proofs.GradeCode.{Reading}
 use Rattle.grades.specs.Grade.{digits_said}
 use lib.ListN.{length, drop}
 use Prim.Native.Nat.{◌-◌}
-use Rattle.std.proofs.Common.{◌≡◌, ◌+◌, ◌≤◌, ◌<◌, ℕ, ◌*◌}
-use Rattle.grades.specs.Grade.{ReadsLevel, level_said, assoc_said, level_digits, PutsDecimal}
 use Rattle.grades.proofs.grade.read_digits.Given as goal
 
 abbrev pub invariant-loop-i : goal.invariant-loop-i

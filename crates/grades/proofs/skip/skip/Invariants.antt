@@ -1,7 +1,5 @@
 use Prim.Native.Nat.{◌-◌}
-use Rattle.grades.proofs.SkipCode.{Skipping, skipping}
-use Rattle.std.proofs.Common.{◌≡◌, ◌+◌, ◌≤◌, ◌<◌, length, ℕ, ◌*◌}
-use Rattle.grades.specs.Skip.{inside_at, skip_out}
+use Rattle.grades.proofs.SkipCode.{Skipping}
 use Rattle.grades.proofs.skip.skip.Given as goal
 
 abbrev pub invariant-loop-p : goal.invariant-loop-p

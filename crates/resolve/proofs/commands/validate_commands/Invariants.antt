@@ -1,8 +1,5 @@
-use Rattle.resolve.proofs.CommandsCode.{Running, running}
+use Rattle.resolve.proofs.CommandsCode.{Running}
 use Prim.Native.Nat.{◌-◌}
-use Rattle.std.proofs.Common.{◌≡◌, ◌+◌, ◌≤◌, ◌<◌, length, ℕ, ◌*◌}
-use Rattle.resolve.specs.Cells.{Room}
-use Rattle.resolve.specs.Commands.{long_of, asked_at, run_out, Runs}
 use Rattle.resolve.proofs.commands.validate_commands.Given as goal
 
 abbrev pub invariant-loop-p : goal.invariant-loop-p

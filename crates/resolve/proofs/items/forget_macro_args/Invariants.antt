@@ -1,8 +1,4 @@
-use Rattle.resolve.proofs.ItemsCode.{UnmarksLeft, unmarking}
-use Rattle.std.proofs.Common.{◌≡◌, ◌+◌, ◌*◌, ◌≤◌, ◌<◌, length, ℕ, ◌-◌}
-use Rattle.resolve.specs.Cells.{Room}
-use Rattle.resolve.specs.Commands.{Runs}
-use Rattle.resolve.specs.Items.{Standing, item_place_in, Marks, marks_out, unmarks_out, item_out, items_out}
+use Rattle.resolve.proofs.ItemsCode.{UnmarksLeft}
 use Rattle.resolve.proofs.items.forget_macro_args.Given as goal
 
 abbrev pub invariant-loop-k : goal.invariant-loop-k
