@@ -1,12 +1,14 @@
 // One line: its case built and run.
 ghost use Rattle.std.specs.Prelude.{◌≤◌, length};
 
+use crate::buffers::Buffers;
 use crate::call::{Call, Named, ROUNDS, call_of, usual_output, within};
 use crate::report::run_case;
 use crate::tape::put_word;
-use libc::STDOUT_FILENO;
 use notation::bytes::Written;
 use notation::words::{Number, decimal, find};
+use std::io;
+use std::io::Write;
 
 // A case so far: the length of its tape, its limit, and the lengths of the buffers where a word gave one.
 #[derive(Clone, Copy)]
@@ -145,8 +147,8 @@ fn work_length(c: Case, output: usize) -> usize {
     8 * (c.tape + output)
 }
 
-fn print_bad() {
-    io::write_all(STDOUT_FILENO, b"bad\n");
+fn print_bad(writer: &mut impl Write) -> io::Result<()> {
+    writer.write_all(b"bad\n")
 }
 
 // The case whose buffers are n, o and w bytes long.
@@ -156,23 +158,26 @@ fn run_sized(
     n: usize,
     o: usize,
     w: usize,
-    tape: &[u8],
-    output: &mut [u8],
-    work: &mut [u8],
-) {
-    if tape.len() < n {
-        print_bad();
-        return;
+    buffers: &mut Buffers,
+    writer: &mut impl Write,
+) -> io::Result<()> {
+    if buffers.tape.len() < n {
+        return print_bad(writer);
     }
-    if output.len() < o {
-        print_bad();
-        return;
+    if buffers.output.len() < o {
+        return print_bad(writer);
     }
-    if work.len() < w {
-        print_bad();
-        return;
+    if buffers.work.len() < w {
+        return print_bad(writer);
     }
-    run_case(head, call, &tape[..n], &mut output[..o], &mut work[..w]);
+    run_case(
+        head,
+        call,
+        &buffers.tape[..n],
+        &mut buffers.output[..o],
+        &mut buffers.work[..w],
+        writer,
+    )
 }
 
 // The case whose call and name are the line's first bytes.
@@ -180,36 +185,31 @@ fn run_named(
     line: &[u8],
     end: usize,
     call: Call,
-    tape: &mut [u8],
-    output: &mut [u8],
-    work: &mut [u8],
-)
+    buffers: &mut Buffers,
+    writer: &mut impl Write,
+) -> io::Result<()>
     requires { end ≤ length line.now }
 {
-    let Read::Case(c) = read_words(line, end, tape) else {
-        print_bad();
-        return;
+    let Read::Case(c) = read_words(line, end, &mut buffers.tape) else {
+        return print_bad(writer);
     };
     let o = output_length(c, call);
     let w = work_length(c, o);
     let call = within(call, c.limit);
-    run_sized(&line[..end], call, c.tape, o, w, tape, output, work);
+    run_sized(&line[..end], call, c.tape, o, w, buffers, writer)
 }
 
-pub fn run_line(line: &[u8], tape: &mut [u8], output: &mut [u8], work: &mut [u8]) {
+pub fn run_line(line: &[u8], buffers: &mut Buffers, writer: &mut impl Write) -> io::Result<()> {
     let space = find(line, b' ', 0);
     let Named::Is(call) = call_of(&line[..space]) else {
-        print_bad();
-        return;
+        return print_bad(writer);
     };
     if space == line.len() {
-        print_bad();
-        return;
+        return print_bad(writer);
     }
     let end = find(line, b' ', space + 1);
     if end == space + 1 {
-        print_bad();
-        return;
+        return print_bad(writer);
     }
-    run_named(line, end, call, tape, output, work);
+    run_named(line, end, call, buffers, writer)
 }

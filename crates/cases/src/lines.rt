@@ -1,12 +1,16 @@
 // The lines of the input, one after another.
+use crate::buffers::Buffers;
 use crate::line::run_line;
 use notation::words::find;
+use std::io;
+use std::io::Write;
 
-pub fn run_lines(input: &[u8], tape: &mut [u8], output: &mut [u8], work: &mut [u8]) {
+pub fn run_lines(input: &[u8], buffers: &mut Buffers, writer: &mut impl Write) -> io::Result<()> {
     let mut at = 0;
     while at < input.len() {
         let end = find(input, b'\n', at);
-        run_line(&input[at..end], tape, output, work);
+        run_line(&input[at..end], buffers, writer)?;
         at = end + 1;
     }
+    Ok(())
 }

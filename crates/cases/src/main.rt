@@ -11,27 +11,38 @@
 // 5 to 19 and the trees are LALRPOP's own, 1 to 4, 20 and 21 by the second reading of document 01 (rust/compare/src/chosen.rs, chosen_rounds.rs).
 // A line whose name begins with `reading-22`, `reading-28` or `reading-29` shows that reading of document 01 (rust/compare/src/stated.rs).
 #![tactic(auto)]
-use lines::run_lines;
 
+use buffers::Buffers;
+use lines::run_lines;
+use std::alloc::Global;
+use std::io;
+use std::io::{BufWriter, Read, Write};
+
+mod buffers;
 mod call;
 mod line;
 mod lines;
 mod report;
 mod tape;
 
-fn run(input: &[u8]) {
-    let mut tape = [0u8; 400000];
-    let mut output = [0u8; 16384];
-    let mut work = [0u8; 3200000];
-    run_lines(input, &mut tape, &mut output, &mut work);
+fn run(alloc: Global, input: &[u8], writer: &mut impl Write) -> io::Result<()> {
+    let mut buffers = Buffers {
+        tape: vec![in alloc; 0; 400000]?,
+        output: vec![in alloc; 0; 16384]?,
+        work: vec![in alloc; 0; 3200000]?,
+    };
+    run_lines(input, &mut buffers, writer)
 }
 
-fn run_read(input: &mut [u8]) {
-    let n = io::read_full(0, input);
-    run(&input[..n]);
+// The first 1,048,576 bytes are read, and no more.
+fn run_read(alloc: Global, reader: impl Read + Drop, writer: &mut impl Write) -> io::Result<()> {
+    let mut input = Vec::new(alloc);
+    reader.take(1048576).read_to_end(&mut input)?;
+    run(alloc, &input, writer)
 }
 
-fn main() {
-    let mut input = [0u8; 1048576];
-    run_read(&mut input);
+fn main(rt: HostRuntime) -> io::Result<()> {
+    let mut writer = BufWriter::new(rt.alloc(), rt.stdout())?;
+    run_read(rt.alloc(), rt.stdin(), &mut writer)?;
+    writer.flush()
 }

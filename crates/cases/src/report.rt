@@ -1,71 +1,71 @@
 // One case run, and its answer printed.
 use crate::call::{Call, ask, handed};
-use libc::STDOUT_FILENO;
 use notation::buffers::{fill, is_all};
 use notation::bytes::put_digits;
 use output::Answer;
 use output::room::enough;
+use std::io;
+use std::io::Write;
 
 // What the buffers hold before a case.
 const BEFORE: u8 = 0xAA;
 
-fn print_number(before: &[u8], n: usize) {
-    io::write_all(STDOUT_FILENO, before);
-    io::print_decimal(STDOUT_FILENO, n as u64);
+fn print_number(before: &[u8], n: usize, writer: &mut impl Write) -> io::Result<()> {
+    writer.write_all(before)?;
+    write!(writer, "{n}")
 }
 
 // The bytes as digits, as far as the line's buffer goes.
-fn print_bytes(bytes: &[u8]) {
+fn print_bytes(bytes: &[u8], writer: &mut impl Write) -> io::Result<()> {
     let mut text = [0u8; 32768];
     let n = put_digits(bytes, &mut text, 0);
     if n <= text.len() {
-        io::write_all(STDOUT_FILENO, &text[..n]);
+        writer.write_all(&text[..n])?;
     }
+    Ok(())
 }
 
 // The tree at the front of the output, and whether the old bytes stand behind it.
-fn print_tree(output: &[u8], n: usize) {
+fn print_tree(output: &[u8], n: usize, writer: &mut impl Write) -> io::Result<()> {
     if output.len() < n {
-        io::write_all(STDOUT_FILENO, b" output");
-        return;
+        return writer.write_all(b" output");
     }
     if n == 0 {
-        io::write_all(STDOUT_FILENO, b" -");
+        writer.write_all(b" -")?;
     } else {
-        io::write_all(STDOUT_FILENO, b" ");
+        writer.write_all(b" ")?;
     }
-    print_bytes(&output[..n]);
-    if !is_all(&output[n..], BEFORE) {
-        io::write_all(STDOUT_FILENO, b" output");
-    }
+    print_bytes(&output[..n], writer)?;
+    print_untouched(&output[n..], writer)
 }
 
 // Whether the old bytes stand in all of the output.
-fn print_untouched(output: &[u8]) {
+fn print_untouched(output: &[u8], writer: &mut impl Write) -> io::Result<()> {
     if !is_all(output, BEFORE) {
-        io::write_all(STDOUT_FILENO, b" output");
+        writer.write_all(b" output")?;
     }
+    Ok(())
 }
 
 // What a yes left in the output.
-fn print_output(call: Call, output: &[u8], n: usize) {
+fn print_output(call: Call, output: &[u8], n: usize, writer: &mut impl Write) -> io::Result<()> {
     match call {
-        Call::Validate => print_untouched(output),
-        _ => print_tree(output, n),
+        Call::Validate => print_untouched(output, writer),
+        _ => print_tree(output, n, writer),
     }
 }
 
-fn print_answer(call: Call, a: Answer, output: &[u8]) {
+fn print_answer(call: Call, a: Answer, output: &[u8], writer: &mut impl Write) -> io::Result<()> {
     match a {
         Answer::Yes(n) => {
-            print_number(b" yes ", n);
-            print_output(call, output, n);
+            print_number(b" yes ", n, writer)?;
+            print_output(call, output, n, writer)
         }
         Answer::No(r) => {
-            print_number(b" refused ", r.number);
-            print_number(b" ", r.from);
-            print_number(b" ", r.to);
-            print_untouched(output);
+            print_number(b" refused ", r.number, writer)?;
+            print_number(b" ", r.from, writer)?;
+            print_number(b" ", r.to, writer)?;
+            print_untouched(output, writer)
         }
     }
 }
@@ -78,15 +78,22 @@ fn after(tape: usize, output: usize, work: usize) -> u8 {
     BEFORE
 }
 
-pub fn run_case(head: &[u8], call: Call, tape: &[u8], output: &mut [u8], work: &mut [u8]) {
+pub fn run_case(
+    head: &[u8],
+    call: Call,
+    tape: &[u8],
+    output: &mut [u8],
+    work: &mut [u8],
+    writer: &mut impl Write,
+) -> io::Result<()> {
     fill(output, BEFORE);
     fill(work, BEFORE);
     let a = ask(call, tape, output, work);
-    io::write_all(STDOUT_FILENO, head);
-    print_answer(call, a, output);
+    writer.write_all(head)?;
+    print_answer(call, a, output, writer)?;
     let o = handed(call, output.len());
     if !is_all(work, after(tape.len(), o, work.len())) {
-        io::write_all(STDOUT_FILENO, b" work");
+        writer.write_all(b" work")?;
     }
-    io::write_all(STDOUT_FILENO, b"\n");
+    writer.write_all(b"\n")
 }
