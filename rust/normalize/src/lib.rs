@@ -1,4 +1,4 @@
-//! Safe functions over `libnormalize.a`: a tape, an output and a work buffer in; the tree's length, or a refusal, out.
+//! Safe functions over `libexports.a`: a tape, an output and a work buffer in; the tree's length, or a refusal, out.
 mod archive;
 
 pub use archive::{Words, WORDS};
