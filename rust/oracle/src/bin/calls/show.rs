@@ -57,7 +57,7 @@ fn row(tape: &str, case: &Case) -> String {
     let (limit, output, work, words, bytes, too_long) = (case.limit, case.output, case.work, list(&words), list(&bytes), list(too_long));
     format!(
         "record {{ call = {call}; tape = {tape}; limit = {limit}; output = {output}; work = {work}; words = {words}; bytes = {bytes}; \
-         tooLong = {too_long} }}"
+         too_long = {too_long} }}"
     )
 }
 
