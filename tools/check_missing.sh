@@ -19,7 +19,7 @@ try() {
 
 check="cargo check --offline --manifest-path rust/Cargo.toml --target-dir $scratch/target"
 nowhere="LALRPOP_SRC=$scratch/nowhere"
-try "no archive" 101 "libnormalize.a is not in $scratch/nowhere: run \`rt staticlib normalize\`" RATTLE_STATICLIB="$scratch/nowhere" $check -p normalize
+try "no archive" 101 "libexports.a is not in $scratch/nowhere: run \`make archive\`" RATTLE_STATICLIB="$scratch/nowhere" $check -p normalize
 try "no LALRPOP" 0 "LALRPOP_SRC names their folder): what needs them is skipped" REQUIRE_LALRPOP= "$nowhere" $check -p oracle
 try "LALRPOP required" 101 "LALRPOP_SRC names their folder): REQUIRE_LALRPOP=1 asks for them" REQUIRE_LALRPOP=1 "$nowhere" $check -p oracle
 try "no LALRPOP, calls" 0 "LALRPOP_SRC names their folder): nothing compared" REQUIRE_LALRPOP= "$nowhere" tools/compare_calls.sh 1 1

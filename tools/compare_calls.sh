@@ -26,24 +26,24 @@ copy=$(mktemp -d)
 trap 'rm -rf "$copy"' EXIT
 module=$copy/crates/passes/proofs/Compared.antt
 
-# the crates that the module needs, without passes's other computed cases, and what is already proved of them
+# the crates that the module needs, without passes's other computed cases; rt begins with what checks of the same crates kept on this machine
 copy_crates() {
-    mkdir -p "$copy/crates" "$copy/target"
+    mkdir -p "$copy/crates"
     for crate in octets parse_tree passes; do
         grep "^$crate:" "$repository/crates.txt" >> "$copy/crates.txt"
-        cp -r "$repository/crates/$crate" "$copy/crates/"
+        mkdir "$copy/crates/$crate"
+        for part in src specs proofs; do
+            [ ! -d "$repository/crates/$crate/$part" ] || cp -r "$repository/crates/$crate/$part" "$copy/crates/$crate/"
+        done
     done
     find "$copy/crates/passes/proofs" -name '*.antt' ! -name Asked.antt -delete
     printf -- '-- Compared with the Rust.\nmod Asked\nmod Compared\n' > "$copy/crates/passes/proofs/Lib.antt"
-    for part in rlib stamp log; do
-        [ ! -d "$repository/target/$part" ] || cp -r "$repository/target/$part" "$copy/target/"
-    done
 }
 
 # compare ROWS: writes the module with so many cases to a theorem and checks it
 compare() {
     "$repository/target/rust/release/calls" "$seed" "$count" "$1" > "$module"
-    (cd "$copy" && RT_CUT=0 rt check passes) > "$copy/log" 2>&1
+    (cd "$copy/crates/passes" && rt check) > "$copy/log" 2>&1
 }
 
 # how many cases the module has

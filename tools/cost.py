@@ -1,11 +1,12 @@
 #!/usr/bin/env python3
-"""tools/cost.py: for each crate the number of functions and the lines of code, specs, laws and mechanical proofs, as docs/ARCHITECTURE.md has
-them. Lines without blank ones; in code without comments and imports. How long a check takes is in target/log after `rt prove`."""
+"""tools/cost.py: for each crate the number of functions and the lines of code, specs, laws and what is written of each function's proof, as
+docs/ARCHITECTURE.md has them. Lines without blank ones; in code without comments and imports."""
 import re
 from pathlib import Path
 
 TOP = Path(__file__).resolve().parent.parent
 IMPORT = re.compile(r"(ghost )?use ")
+OF_A_FUNCTION = ("Proof.antt", "Invariants.antt", "Answers.antt")
 
 
 def lines(paths, skipped=lambda line: False):
@@ -21,16 +22,16 @@ def is_left_out(line):
 def row(crate):
     """A line of the table."""
     sources = sorted(crate.glob("src/**/*.rt"))
-    mechanical = sorted(crate.glob("proofs/**/Proof.antt"))
-    laws = [path for path in crate.glob("proofs/**/*.antt") if path not in mechanical]
+    written = [path for path in crate.glob("proofs/**/*.antt") if path.name in OF_A_FUNCTION]
+    laws = [path for path in crate.glob("proofs/**/*.antt") if path not in written]
     functions = sum(len(re.findall(r"^\s*(?:pub )?(?:extern \"C\" )?fn ", path.read_text(), re.M)) for path in sources)
-    figures = [functions, lines(sources, is_left_out), lines(crate.glob("specs/**/*.antt")), lines(laws), lines(mechanical)]
+    figures = [functions, lines(sources, is_left_out), lines(crate.glob("specs/**/*.antt")), lines(laws), lines(written)]
     return f"| {crate.name} | " + " | ".join(f"{figure:,}" if figure else "–" for figure in figures) + " |"
 
 
 def main():
-    names = [line.split(":")[0] for line in (TOP / "crates.txt").read_text().splitlines() if line and not line.startswith("#")]
-    print("| | functions | code | specs | laws | proofs that the tools write |")
+    names = [line.split(":")[0].split()[0] for line in (TOP / "crates.txt").read_text().splitlines() if line and not line.startswith("#")]
+    print("| | functions | code | specs | laws | invariants and answers |")
     print("|---|---|---|---|---|---|")
     for name in names:
         print(row(TOP / "crates" / name))

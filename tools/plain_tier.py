@@ -10,11 +10,11 @@ import sys
 ROOT = os.path.dirname(os.path.dirname(os.path.abspath(__file__)))
 LIMIT = 1250
 # where the statements stand: the public functions of these files, exported to Rust or called from Rattle, and demand 3
-EXPORTS = ["crates/normalize/src/export.rt", "crates/normalize/src/calls.rt"]
+EXPORTS = ["crates/exports/src/export.rt", "crates/normalize/src/calls.rt"]
 DEMAND_3 = "crates/meaning/proofs/**/OnBytes.antt"
-THEOREMS = ["demand-3", "demand-3-flat", "higher-answer", "higher-bytes"]
+THEOREMS = ["demand_3", "demand_3_flat", "higher_answer", "higher_bytes"]
 # the calls, of which not all are exported yet
-CALLS = ["validateCall", "resolveCall", "levelsCall", "macrosCall", "whole", "answerWords", "written", "workAfter"]
+CALLS = ["validate_call", "resolve_call", "levels_call", "macros_call", "whole", "answer_words", "written", "work_after"]
 
 DECLARED = re.compile(r"^\s*(?:abbrev |unfoldable )?(?:pub )?(?:data |record )?([^\s(){}:]+)(?:\s[^:=]*)? :")
 BLOCK = re.compile(r"^\s*(?:(?:abbrev |unfoldable )?mutual|module _.*|where)\b")
@@ -35,21 +35,21 @@ def imports(lines):
     """Local name → the module's path and the name there; and module aliases."""
     names, modules = {}, {}
     for line in lines:
-        m = re.match(r"^(?:ghost )?use (Rattle·[^{\s]+?)\.\{(.*)\};?$", line)
+        m = re.match(r"^(?:ghost )?use (Rattle\.[^{\s]+?)\.\{(.*)\};?$", line)
         if m:
             for part in m.group(2).split(", "):
                 name, _, local = part.partition(" as ")
                 names[local or name] = (m.group(1), name)
-        m = re.match(r"^(?:ghost )?use (Rattle·\S+) as (\S+?);?$", line)
+        m = re.match(r"^(?:ghost )?use (Rattle\.\S+) as (\S+?);?$", line)
         if m:
             modules[m.group(2)] = m.group(1)
     return names, modules
 
 
 def file_of(module):
-    """Rattle·passes.specs.Calls or Rattle·passes·specs.specs.Calls → crates/passes/specs/Calls.antt"""
-    head, *rest = module.split(".")
-    return f"crates/{head.split('·')[1]}/{'/'.join(rest)}.antt"
+    """Rattle.passes.specs.Calls → crates/passes/specs/Calls.antt"""
+    _, crate, *rest = module.split(".")
+    return f"crates/{crate}/{'/'.join(rest)}.antt"
 
 
 def definitions(path):
@@ -160,7 +160,7 @@ def reached(specs):
 
 def check(total, files):
     """What is wrong: a working definition that a reader would need, more lines than LIMIT, or another number on the page."""
-    wrong = [f"{path} is reached, and is no plain file" for path in files if "/working/" in path]
+    wrong = [f"{path} is reached, and is no plain file" for path in files if "/Working/" in path]
     if total > LIMIT:
         wrong.append(f"{total} lines are more than {LIMIT}")
     printed = re.search(r"plain tier: ([\d,]+) lines", open(f"{ROOT}/docs/TRUST.md").read())

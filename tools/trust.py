@@ -14,6 +14,8 @@ def line_of(name, path):
     start = re.compile(
         r"^\s*(?:unfoldable |abbrev |pub |data |record |extern \"C\" |const )*(?:fn )?" + re.escape(name) + r"(?=[\s:({\[<])"
     )
+    if not os.path.exists(f"{root}/{path}"):
+        return None
     with open(f"{root}/{path}") as f:
         for number, line in enumerate(f, 1):
             if start.match(line):

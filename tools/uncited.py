@@ -1,66 +1,25 @@
 #!/usr/bin/env python3
-"""tools/uncited.py [--write]: what nothing cites, in every crate's specs and proofs: imported names, lemmas and definitions, and source lines in
-comments of written proofs, which go stale. With --write, removes the imports and the comments; a lemma is removed by hand. Exit status 1 if anything is left.
-A theorem that is a statement of its own, cited by documents only, is named in docs/TRUST.md, or follows a comment line that begins with `-- theorem`."""
+"""tools/uncited.py: the lemmas and definitions that nothing cites, in every crate's specs and proofs (imports are rt tidy's). A lemma is removed by hand.
+Exit status 1 if there is any. A theorem that is a statement of its own, cited by documents only, is named in docs/TRUST.md, or follows a comment line that
+begins with `-- theorem`."""
 import glob
 import os
 import re
 import sys
 
 ROOT = os.path.dirname(os.path.dirname(os.path.abspath(__file__)))
-USE = re.compile(r"^((?:ghost )?use [^\s{]+)\.\{([^}]*)\}(;?)$")
 TOKEN = re.compile(r"[^\s(){}.;,@\"«»]+")
 SIGNATURE = re.compile(r"^(\s*)(?:abbrev |unfoldable )?(pub )?([^\s(){}:=]+) : ")
-SOURCE_LINE = re.compile(r"^\s*-- src/\S+:\d+.*$")
-
-
-def tokens(text):
-    """The words of a text; a section such as `_++ xs` counts as its operator."""
-    words = set(TOKEN.findall(text))
-    return words | {word.strip("_") for word in words}
-
-
-def cites(name, seen):
-    """Whether an imported name occurs: an operator by its sign, `x as y` by y, and a name's parts before a dot by themselves."""
-    local = name.split(" as ")[-1].strip()
-    return local in seen or (local.startswith("_") or local.endswith("_")) and local.strip("_") in seen
+# what is written of the proof of one function
+OF_A_FUNCTION = ("/Proof.antt", "/Invariants.antt", "/Answers.antt")
 
 
 def without_comments(text):
     return "\n".join(line for line in text.split("\n") if not re.match(r"^\s*(--|//)", line))
 
 
-def prune_imports(path, write):
-    """The imported names that the file doesn't use."""
-    text = open(path).read()
-    lines = text.split("\n")
-    seen = tokens(without_comments("\n".join(line for line in lines if not USE.match(line))))
-    kept, unused = [], []
-    for line in lines:
-        match = USE.match(line)
-        if match:
-            names = [name.strip() for name in match.group(2).split(",")]
-            used = [name for name in names if cites(name, seen)]
-            unused += [name for name in names if name not in used]
-            if not used:
-                continue
-            line = f"{match.group(1)}.{{{', '.join(used)}}}{match.group(3)}"
-        kept.append(line)
-    if write and unused:
-        open(path, "w").write("\n".join(kept))
-    return unused
-
-
-def prune_source_lines(path, write):
-    lines = open(path).read().split("\n")
-    kept = [line for line in lines if not SOURCE_LINE.match(line)]
-    if write and len(kept) < len(lines):
-        open(path, "w").write("\n".join(kept))
-    return len(lines) - len(kept)
-
-
 def declared(path):
-    """The top-level names of a file that have a signature; not the needs of a written proof."""
+    """The top-level names of a file that have a signature."""
     lines = open(path).read().split("\n")
     for number, line in enumerate(lines):
         match = SIGNATURE.match(line)
@@ -78,7 +37,7 @@ def uncited_lemmas(paths, trust):
             counts.setdefault(name, {}).setdefault(path, 0)
             counts[name][path] += 1
     for path in paths:
-        if path.endswith("/Proof.antt") or "/proofs/" not in path and "/specs/" not in path:
+        if path.endswith(OF_A_FUNCTION) or "/proofs/" not in path and "/specs/" not in path:
             continue
         for name, line, indent in declared(path):
             others = [p for p in counts.get(name, {}) if p != path]
@@ -89,19 +48,12 @@ def uncited_lemmas(paths, trust):
 
 
 def main():
-    write = "--write" in sys.argv
-    paths = sorted(glob.glob(f"{ROOT}/crates/**/*.antt", recursive=True) + glob.glob(f"{ROOT}/crates/**/*.rt", recursive=True))
-    left = 0
-    for path in paths:
-        if path.endswith(".antt"):
-            unused, stale = prune_imports(path, write), prune_source_lines(path, write)
-            if (unused or stale) and not write:
-                print(f"{os.path.relpath(path, ROOT)}: unused {', '.join(unused)}" + (f"; {stale} source lines" if stale else ""))
-                left += 1
-    for row in uncited_lemmas(paths, open(f"{ROOT}/docs/TRUST.md").read()):
+    inside = [path for part in ("src", "specs", "proofs") for path in glob.glob(f"{ROOT}/crates/*/{part}/**", recursive=True)]
+    paths = sorted(path for path in inside if path.endswith((".antt", ".rt")))
+    left = list(uncited_lemmas(paths, open(f"{ROOT}/docs/TRUST.md").read()))
+    for row in left:
         print(row)
-        left += 1
-    print(f"uncited: {left}")
+    print(f"uncited: {len(left)}")
     return 1 if left else 0
 
 
