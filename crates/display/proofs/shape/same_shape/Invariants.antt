@@ -1,8 +1,6 @@
 use Prim.Native.Nat.{◌-◌}
 use lib.ListN.{length}
-use Rattle.display.proofs.ShapeCode.{Running, running_long, running_room, running_room_q, running_next, running}
-use Rattle.std.proofs.Common.{◌+◌, ◌≤◌, ◌≡◌, ℕ, ◌*◌, ◌<◌}
-use Rattle.display.specs.Shape.{OperandsAlike, SomeTwo, PrintsAlike}
+use Rattle.display.proofs.ShapeCode.{Running}
 use Rattle.display.proofs.shape.same_shape.Given as goal
 
 abbrev pub invariant-loop-k : goal.invariant-loop-k

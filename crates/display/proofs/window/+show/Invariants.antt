@@ -1,15 +1,5 @@
 use Prim.Native.Nat.{◌-◌}
-use Rattle.display.proofs.WindowShow.{Going, going_some, going_next, showing}
-use Prim.Native.Nat.{ℕ, ◌<◌}
-use borrow.Fn.PlainCycle.{Measures, is, falls, and}
-use Rattle.display.proofs.window.+show.{statement}
-use Rattle.std.proofs.Common.{◌≡◌, ◌+◌, ◌≤◌, ◌^◌, length, ◌*◌}
-use Rattle.texts.specs.Table.{texts}
-use Rattle.resolve.specs.Commands.{long_of}
-use Rattle.grades.specs.Grading.{Worded}
-use Rattle.display.specs.Standing.{Readable, SomeSym}
-use Rattle.display.specs.Follow.{before_by, behind_by, between_by}
-use Rattle.display.specs.Window.{skip_of, Emitted, Shows, Fills, judged, Looks, SamePrints}
+use Rattle.display.proofs.WindowShow.{Going}
 use Rattle.display.proofs.window.+show.Given as goal
 
 abbrev pub decreases-show : goal.decreases-show

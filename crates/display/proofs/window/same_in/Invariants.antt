@@ -1,14 +1,7 @@
 use Prim.Native.Nat.{◌-◌, ◌*◌, ◌^◌}
 use lib.ListN.{length}
 use Rattle.display.specs.Window.{skip_of}
-use Rattle.display.proofs.WindowSame.{Comparing, comparing}
-use Rattle.std.proofs.Common.{◌≡◌, ◌+◌, ◌≤◌, ◌<◌, ℕ}
-use Rattle.texts.specs.Table.{texts}
-use Rattle.resolve.specs.Commands.{long_of}
-use Rattle.grades.specs.Grading.{Worded}
-use Rattle.display.specs.Standing.{Readable, SomeSym}
-use Rattle.display.specs.Follow.{before_by, behind_by, between_by}
-use Rattle.display.specs.Window.{Emitted, Shows, Fills, judged, Looks, SamePrints}
+use Rattle.display.proofs.WindowSame.{Comparing}
 use Rattle.display.proofs.window.same_in.Given as goal
 
 abbrev pub invariant-loop-c : goal.invariant-loop-c
