@@ -1,3 +1,5 @@
+use Rattle.std.proofs.Common.{rules}
+use Rattle.expander.proofs.MeetCode.{meeting_next}
 use Rattle.expander.proofs.MeetCode.{known_meeting, symbol_meeting}
 use Rattle.expander.proofs.meet.+meet_known_meet_symbol.Goals as goal
 
@@ -26,7 +28,7 @@ pub meet_symbol-meet_known-q-requires : goal.meet_symbol-meet_known-q-requires
 meet_symbol-meet_known-q-requires t c = search symbol_meeting
 
 pub meet_symbol-loop-k-preserved : goal.meet_symbol-loop-k-preserved
-meet_symbol-loop-k-preserved t c = search symbol_meeting
+meet_symbol-loop-k-preserved t c = meeting_next _ _ _ _ _ _ _ _ _ _ _ c.loop-k.invariant c.between.result c.meet_known-q.result (search rules) c.between.ensures c.meet_known-q.ensures
 
 pub meet_symbol-behind-requires : goal.meet_symbol-behind-requires
 meet_symbol-behind-requires t c = search symbol_meeting
