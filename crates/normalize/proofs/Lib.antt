@@ -1,4 +1,3 @@
 -- Laws of the calls; EntryMeans has what the contract of normalize_whole says of the bytes handed in and written.
 mod CallsCode
-mod ExportCode
 pub mod EntryMeans

@@ -4,7 +4,7 @@ ghost use Rattle.passes.specs.Calls.{validate_call, resolve_call, levels_call, m
 ghost use Rattle.output.specs.Plain.Answers.{Exported, CheckedWords};
 ghost use Rattle.output.specs.Working.Handing.{words_of};
 
-use crate::calls::{levels, macros, resolve, validate, whole};
+use normalize::calls::{levels, macros, resolve, validate, whole};
 use octets::wide::from16;
 use output::Answer;
 
