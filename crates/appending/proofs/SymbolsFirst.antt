@@ -14,7 +14,7 @@ use Rattle.parse_tree.specs.Working.Nodes.{node_bytes, size_of}
 use Rattle.parse_tree.specs.Working.Encode.{sym_bytes, syms_bytes}
 use Rattle.parse_tree.specs.Working.Within.{Each}
 use Rattle.texts.specs.Table.{texts}
-use Rattle.laws.specs.Flat.{sym_node, children, joined, inside}
+use Rattle.laws.specs.Flat.{sym_node, children, joined}
 use Rattle.laws.proofs.Flat.{Step, SymsFits, syms_fit_lem, sym_bytes_lem, step, node_size}
 use Rattle.resolve.specs.Commands.{long_of}
 use Rattle.grades.specs.Skip.{inside_at}

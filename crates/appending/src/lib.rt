@@ -1,6 +1,7 @@
 // What the items of pushed symbols are made of: numbers of built-in texts, symbols of the unreplaced items with names, commands. Touches nothing but the slices that it is handed: of
 // work the list of new texts, the slots, the last 72 bytes of the room for records, and the room for appended items.
 #![tactic(auto)]
+
 pub mod built;
 pub mod commands;
 pub mod symbols;

@@ -8,7 +8,7 @@ use borrow.Author.Tests.{eqb-true}
 use lib.Dec.{eqb}
 use lib.ListN.{get_or}
 use Rattle.octets.specs.Working.Choice.{pick}
-use Rattle.parse_tree.specs.Plain.Tree.{Text, Sym, count}
+use Rattle.parse_tree.specs.Plain.Tree.{Text, Sym}
 use Rattle.parse_tree.specs.Plain.Display.{print}
 use Rattle.parse_tree.specs.Working.Within.{Each}
 use Rattle.parse_tree.proofs.ReadingLaws.{got_as}

@@ -10,7 +10,7 @@ use lib.Dec.{leb}
 use lib.ListN.{length, length-append}
 use Rattle.octets.specs.Plain.Numbers.{Bytes}
 use Rattle.octets.proofs.LiesLaws.{lies_inside}
-use Rattle.parse_tree.specs.Plain.Tree.{Text, Leaf, Around, Over, Sym, Attribute, Condition, Alternative, Nonterminal, Item, ambiguous, bare, quoted, regex, nonterminal, lookahead, lookbehind, error, repeat, choose, name, macro, group, leaf, around, over, item, syms_of}
+use Rattle.parse_tree.specs.Plain.Tree.{Text, Around, Sym, Attribute, Condition, Alternative, Item, ambiguous, bare, quoted, regex, nonterminal, lookahead, lookbehind, error, repeat, choose, name, macro, group, leaf, around, over, item, syms_of}
 use Rattle.parse_tree.specs.Plain.Texts.{distinct}
 use Rattle.parse_tree.specs.Working.Nodes.{symbol_bytes, node_bytes, node_at, size_of}
 use Rattle.parse_tree.specs.Working.Places.{class_of, items_place, symbols_place, arguments_place, alternatives_place, attributes_place, conditions_place}

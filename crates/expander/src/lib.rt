@@ -2,6 +2,7 @@
 // The unreplaced items stand in work and stay as they are. Touches nothing but the slices that it is handed: of work the records of pushed symbols, the slots, the list of
 // new texts behind the table's records, and the room for replaced items.
 #![tactic(auto)]
+
 use texts::Map;
 
 pub mod find;

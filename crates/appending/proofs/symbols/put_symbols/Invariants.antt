@@ -1,10 +1,5 @@
-use Rattle.appending.proofs.SymbolsCode.{Copying, copying}
+use Rattle.appending.proofs.SymbolsCode.{Copying}
 use Prim.Native.Nat.{◌-◌}
-use Rattle.std.proofs.Common.{◌∷◌, ◌++◌, ◌+◌, ◌≤◌, ◌<◌, length, ◌≡◌, ℕ, ◌*◌}
-use Rattle.octets.specs.Plain.Numbers.{le}
-use Rattle.precedence.specs.Write.{Puts}
-use Rattle.resolve.specs.Commands.{long_of}
-use Rattle.appending.specs.Symbols.{SomeReference, PutsReference, PutsCommand, SomeReferring, PutsNext, PutsSymbols}
 use Rattle.appending.proofs.symbols.put_symbols.Given as goal
 
 abbrev pub invariant-loop-x : goal.invariant-loop-x

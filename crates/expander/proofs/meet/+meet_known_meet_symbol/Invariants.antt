@@ -1,12 +1,5 @@
-use Rattle.expander.proofs.MeetCode.{Meeting, meeting_next, known_meeting, symbol_meeting}
+use Rattle.expander.proofs.MeetCode.{Meeting}
 use Prim.Native.Nat.{◌+◌, ◌-◌, ◌*◌}
-use Prim.Native.Nat.{ℕ, ◌<◌}
-use borrow.Fn.PlainCycle.{Measures, is, falls, and}
-use Rattle.expander.proofs.meet.+meet_known_meet_symbol.{statement}
-use Rattle.std.proofs.Common.{◌≡◌, ◌≤◌, length}
-use Rattle.display.specs.Follow.{Follows}
-use Rattle.expander.specs.Ground.{Grounded}
-use Rattle.expander.specs.Meet.{SomeEnd, EndsAt, SlotAt, text_known_at, SomeKnown, SomeInner}
 use Rattle.expander.proofs.meet.+meet_known_meet_symbol.Given as goal
 
 abbrev pub decreases-meet_known : goal.decreases-meet_known

@@ -1,10 +1,6 @@
-use Rattle.expander.proofs.MeetCode.{Ending, ending}
+use Rattle.expander.proofs.MeetCode.{Ending}
 use lib.ListN.{length}
 use Prim.Native.Nat.{◌-◌}
-use Rattle.std.proofs.Common.{◌≡◌, ◌≤◌, ℕ, ◌+◌, ◌*◌, ◌<◌}
-use Rattle.display.specs.Follow.{Follows}
-use Rattle.expander.specs.Ground.{Grounded}
-use Rattle.expander.specs.Meet.{SomeEnd, EndsAt, SlotAt, text_known_at, SomeKnown, SomeInner}
 use Rattle.expander.proofs.meet.symbol_end.Given as goal
 
 abbrev pub invariant-loop-k : goal.invariant-loop-k

@@ -1,13 +1,5 @@
-use mathlib.Core.Path.{refl}
-use Prim.Native.Nat.{ℕ, ◌+◌, ◌*◌, ◌<◌}
-use Rattle.expander.proofs.ReplaceCode.{meeting, symbol_inside, symbol_behind_room, symbol_note, symbol_plain, symbol_noted}
-use Rattle.expander.proofs.ReplaceListCode.{Replacing, looping}
-use borrow.Fn.PlainCycle.{Measures, is, falls, and}
-use Rattle.expander.proofs.replace.+replace_symbol_replace_symbols.{statement}
-use Rattle.std.proofs.Common.{◌≡◌, ◌-◌, ◌≤◌, length}
-use Rattle.display.specs.Form.{SomeForm}
-use Rattle.expander.specs.Ground.{Grounded}
-use Rattle.expander.specs.Replace.{expanded_code, SomeSymbol, SomeSymbols, ReplacesOne, ReplacesAll}
+use Prim.Native.Nat.{◌+◌, ◌*◌}
+use Rattle.expander.proofs.ReplaceListCode.{Replacing}
 use Rattle.expander.proofs.replace.+replace_symbol_replace_symbols.Given as goal
 
 abbrev pub decreases-replace_symbol : goal.decreases-replace_symbol
