@@ -228,13 +228,13 @@ module _ (w : List ℕ) (wd : ℕ) where
           pub running_room_q : q + n ≤ length w
           running_room_q = let z = ap (long_of wd) c in omega (arith, j, T.second.room, T.second.large, z)
 
-          pub running_next : (r : Bool) (i : ℕ) → OperandsAlike w p q n r → not r ≡ false → i ≡ inside_by wd w p (get_or w p 0) → Running a b (p + n) (q + n) (k - 1 + i)
+          pub running_next : (r : Bool) (i : ℕ) → OperandsAlike w p q n r → r ≡ true → i ≡ inside_by wd w p (get_or w p 0) → Running a b (p + n) (q + n) (k - 1 + i)
           running_next r i o t u =
               rw (j, u) (record {
                 two = R.two;
                 narrow = R.narrow;
                 wide = R.wide;
-                each = λ s m left four four' e e' x y y1 y2. rest_next s m four four' e e' x y p q k (rest_turn s m four four' e e' x y p q k l (R.each s m left four four' e e' x y y1 y2)) c (rw j at (o.says (yes r t)));
+                each = λ s m left four four' e e' x y y1 y2. rest_next s m four four' e e' x y p q k (rest_turn s m four four' e e' x y p q k l (R.each s m left four four' e e' x y y1 y2)) c (rw j at (o.says t));
               })
 
 pub ruleset running = (rules, running_start, running_no, running_done, running_within, running_within_q, running_inside, running_place, running_place_q, running_fits, running_falls)

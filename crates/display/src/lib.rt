@@ -1,6 +1,7 @@
 // Printed forms of symbols that stand in work, as the Rust's `Display` has them: never made whole, but held against a text, against each other, or hashed.
 // Touches nothing but the slices that it is handed.
 #![tactic(auto)]
+
 pub mod emit;
 pub mod follow;
 pub mod form;

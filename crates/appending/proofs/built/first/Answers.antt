@@ -1,0 +1,23 @@
+use Rattle.appending.proofs.BuiltCode.{asking}
+use Rattle.appending.proofs.built.first.Goals as goal
+
+pub overflow_add-k : goal.overflow_add-k
+overflow_add-k c = search asking
+
+pub put_word-requires : goal.put_word-requires
+put_word-requires c = search asking
+
+pub put_next-requires : goal.put_next-requires
+put_next-requires c = (search asking, search asking, search asking)
+
+pub overflow_add-result : goal.overflow_add-result
+overflow_add-result c = search asking
+
+pub overflow_add-result-in-Nothing : goal.overflow_add-result-in-Nothing
+overflow_add-result-in-Nothing c = search asking
+
+pub returns-in-At : goal.returns-in-At
+returns-in-At c = search asking
+
+pub returns-in-Nothing : goal.returns-in-Nothing
+returns-in-Nothing c = search asking

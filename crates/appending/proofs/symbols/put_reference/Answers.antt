@@ -1,0 +1,14 @@
+use Rattle.appending.proofs.SymbolsReferenceCode.{referring_one}
+use Rattle.appending.proofs.symbols.put_reference.Goals as goal
+
+pub u64_at-span-requires : goal.u64_at-span-requires
+u64_at-span-requires c = search referring_one
+
+pub number-x-requires : goal.number-x-requires
+number-x-requires c = search referring_one
+
+pub overflow_sub-result : goal.overflow_sub-result
+overflow_sub-result c = search referring_one
+
+pub returns : goal.returns
+returns c = search referring_one

@@ -1,0 +1,11 @@
+use Rattle.display.proofs.MeetCode.{quoting}
+use Rattle.display.proofs.follow.meet_inside.Goals as goal
+
+pub returns-then-b-eq34 : goal.returns-then-b-eq34
+returns-then-b-eq34 c = search quoting
+
+pub returns-then-b-eq92 : goal.returns-then-b-eq92
+returns-then-b-eq92 c = search quoting
+
+pub returns : goal.returns
+returns c = search quoting

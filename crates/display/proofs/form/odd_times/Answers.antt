@@ -1,0 +1,8 @@
+use Rattle.display.proofs.FormCode.{powering}
+use Rattle.display.proofs.form.odd_times.Goals as goal
+
+pub returns-then-k-eq1 : goal.returns-then-k-eq1
+returns-then-k-eq1 c = search powering
+
+pub returns : goal.returns
+returns c = search powering

@@ -1,0 +1,8 @@
+use Rattle.expander.proofs.StageRunCode.{leaving}
+use Rattle.expander.proofs.stage.is_left.Goals as goal
+
+pub returns-then-is_expanded : goal.returns-then-is_expanded
+returns-then-is_expanded c = search leaving
+
+pub returns : goal.returns
+returns c = search leaving
