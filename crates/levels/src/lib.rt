@@ -1,6 +1,7 @@
 // Precedence levels of a whole grammar: the items that stand resolved in work, written again level by level. Touches nothing but the slices
 // that it is handed: of work the records behind the table's, the arrays, the room for the items, and that for the bytes of names.
 #![tactic(auto)]
+
 use parse_tree::refusal::Refusal;
 
 pub mod expand;

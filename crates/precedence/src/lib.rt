@@ -1,5 +1,6 @@
 // What levels write: occurrences renamed, the nonterminal of one level, its name. Touches nothing but the slices that it is handed.
 #![tactic(auto)]
+
 pub mod level;
 pub mod names;
 pub mod substitute;

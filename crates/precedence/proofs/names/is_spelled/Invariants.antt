@@ -1,12 +1,7 @@
 use Prim.Native.Nat.{◌-◌}
 use mathlib.Core.List.{◌++◌}
 use Rattle.grades.specs.Grade.{level_digits}
-use Rattle.precedence.proofs.NamesCode.{Alike, spelling}
-use Rattle.std.proofs.Common.{◌≡◌, ◌+◌, ◌*◌, ◌<◌, eqb, length, get_or, ℕ, ◌≤◌}
-use Rattle.octets.specs.Plain.Runs.{same_as}
-use Rattle.texts.specs.Hash.{hash_from, hash_of}
-use Rattle.texts.specs.Table.{Finds}
-use Rattle.precedence.specs.Names.{Naming, Based, Spelled, BaseText, Describing, Described, LevelNamed, level_text, named_text, named_texts}
+use Rattle.precedence.proofs.NamesCode.{Alike}
 use Rattle.precedence.proofs.names.is_spelled.Given as goal
 
 abbrev pub invariant-loop-i : goal.invariant-loop-i

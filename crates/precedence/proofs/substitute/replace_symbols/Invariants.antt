@@ -1,10 +1,5 @@
 use Prim.Native.Nat.{◌-◌}
-use Rattle.precedence.proofs.SubstituteCode.{Replacing, replacing, replace_named}
-use Rattle.std.proofs.Common.{◌≡◌, ◌+◌, ◌≤◌, length, ℕ, ◌*◌, ◌<◌}
-use Rattle.octets.specs.Plain.Numbers.{le}
-use Rattle.octets.specs.Working.Stores.{store}
-use Rattle.grades.specs.Skip.{names_at}
-use Rattle.precedence.specs.Substitute.{marked_at, Replaces, replace_all, name_out, substitute_out}
+use Rattle.precedence.proofs.SubstituteCode.{Replacing}
 use Rattle.precedence.proofs.substitute.replace_symbols.Given as goal
 
 abbrev pub invariant-loop-p : goal.invariant-loop-p

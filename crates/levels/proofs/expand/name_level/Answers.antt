@@ -1,0 +1,8 @@
+use Rattle.levels.proofs.SmallCode.{naming-level}
+use Rattle.levels.proofs.expand.name_level.Goals as goal
+
+pub returns-then-highest : goal.returns-then-highest
+returns-then-highest c = search naming-level
+
+pub returns : goal.returns
+returns c = search naming-level
