@@ -74,6 +74,14 @@ macro_there (leaf s lookbehind) h e = absurd (omega (arith, e))
 macro_there (around s (repeat o) x) h e = absurd (omega (arith, e))
 macro_there (over s (macro m) xs) h e = (s, m, xs, refl)
 macro_there (over s group xs) h e = absurd (omega (arith, e))
+macro_there (leaf s (ambiguous _)) h e = elim h [ ]
+macro_there (leaf s (bare _)) h e = elim h [ ]
+macro_there (leaf s (quoted _)) h e = elim h [ ]
+macro_there (leaf s (regex _)) h e = elim h [ ]
+macro_there (leaf s (nonterminal _)) h e = elim h [ ]
+macro_there (leaf s error) h e = elim h [ ]
+macro_there (around s choose x) h e = elim h [ ]
+macro_there (around s (name _ _) x) h e = elim h [ ]
 
 pub repeat_there : (y : Sym) → Expands y → key_code y ≡ 38 → IsRepeat y
 repeat_there (leaf s lookahead) h e = absurd (omega (arith, e))
@@ -81,6 +89,14 @@ repeat_there (leaf s lookbehind) h e = absurd (omega (arith, e))
 repeat_there (around s (repeat o) x) h e = (s, o, x, refl)
 repeat_there (over s (macro m) xs) h e = absurd (omega (arith, e))
 repeat_there (over s group xs) h e = absurd (omega (arith, e))
+repeat_there (leaf s (ambiguous _)) h e = elim h [ ]
+repeat_there (leaf s (bare _)) h e = elim h [ ]
+repeat_there (leaf s (quoted _)) h e = elim h [ ]
+repeat_there (leaf s (regex _)) h e = elim h [ ]
+repeat_there (leaf s (nonterminal _)) h e = elim h [ ]
+repeat_there (leaf s error) h e = elim h [ ]
+repeat_there (around s choose x) h e = elim h [ ]
+repeat_there (around s (name _ _) x) h e = elim h [ ]
 
 pub group_there : (y : Sym) → Expands y → key_code y ≡ 41 → IsGroup y
 group_there (leaf s lookahead) h e = absurd (omega (arith, e))
@@ -88,6 +104,14 @@ group_there (leaf s lookbehind) h e = absurd (omega (arith, e))
 group_there (around s (repeat o) x) h e = absurd (omega (arith, e))
 group_there (over s (macro m) xs) h e = absurd (omega (arith, e))
 group_there (over s group xs) h e = (s, xs, refl)
+group_there (leaf s (ambiguous _)) h e = elim h [ ]
+group_there (leaf s (bare _)) h e = elim h [ ]
+group_there (leaf s (quoted _)) h e = elim h [ ]
+group_there (leaf s (regex _)) h e = elim h [ ]
+group_there (leaf s (nonterminal _)) h e = elim h [ ]
+group_there (leaf s error) h e = elim h [ ]
+group_there (around s choose x) h e = elim h [ ]
+group_there (around s (name _ _) x) h e = elim h [ ]
 
 pub look_there : (y : Sym) → Expands y → (key_code y ≡ 37 → ⊥) → (key_code y ≡ 38 → ⊥) → (key_code y ≡ 41 → ⊥) → IsLook y
 look_there (leaf s lookahead) h a b c = (s, ahead, refl)
@@ -95,3 +119,11 @@ look_there (leaf s lookbehind) h a b c = (s, behind, refl)
 look_there (around s (repeat o) x) h a b c = absurd (b refl)
 look_there (over s (macro m) xs) h a b c = absurd (a refl)
 look_there (over s group xs) h a b c = absurd (c refl)
+look_there (leaf s (ambiguous _)) h a b c = elim h [ ]
+look_there (leaf s (bare _)) h a b c = elim h [ ]
+look_there (leaf s (quoted _)) h a b c = elim h [ ]
+look_there (leaf s (regex _)) h a b c = elim h [ ]
+look_there (leaf s (nonterminal _)) h a b c = elim h [ ]
+look_there (leaf s error) h a b c = elim h [ ]
+look_there (around s choose x) h a b c = elim h [ ]
+look_there (around s (name _ _) x) h a b c = elim h [ ]

@@ -163,10 +163,10 @@ module _ (s w : List ℕ) (g : Ground) (n lim p span : ℕ) (v : Appended) (ps :
 -- ---- the code
 module _ (s w : List ℕ) (g : Ground) (n lim p span : ℕ) (v : Appended) (K : SomeArgument true s w g n lim p span v) where
   place : p - g.from ≡ K.from
-  place = argument-from s w g n lim p span v K.places K.four K.left K.from K.end K.symbol K.Span-of K.is
+  place = argument-from s w g n lim p span v K.places K.four K.left K.from K.end K.symbol K.span_of K.is
 
   here : among K.from K.places ≡ true
-  here = argument-here s w g n lim p span v K.places K.four K.left K.from K.end K.symbol K.Span-of K.is K.key
+  here = argument-here s w g n lim p span v K.places K.four K.left K.from K.end K.symbol K.span_of K.is K.key
 
   pub named-ground : Grounded s w g
   named-ground = K.is.going.ground

@@ -202,10 +202,10 @@ module _ (s w : List ℕ) (g : Ground) (n lim p span : ℕ) (v : Appended) (ps :
 -- ---- the code
 module _ (s w : List ℕ) (g : Ground) (n lim p span : ℕ) (v : Appended) (K : SomeArgument false s w g n lim p span v) where
   in_items : p + long_of g.width (get_or w p 0) ≤ g.end
-  in_items = plain-inside s w g n lim p span v K.places K.four K.left K.from K.end K.symbol K.Span-of K.is
+  in_items = plain-inside s w g n lim p span v K.places K.four K.left K.from K.end K.symbol K.span_of K.is
 
   some_long_lem : 9 ≤ long_of g.width (get_or w p 0)
-  some_long_lem = plain-long s w g n lim p span v K.places K.four K.left K.from K.end K.symbol K.Span-of K.is
+  some_long_lem = plain-long s w g n lim p span v K.places K.four K.left K.from K.end K.symbol K.span_of K.is
 
   pub one_here : p < length w
   one_here = omega (arith, in_items, some_long_lem, K.is.going.behind)
@@ -244,9 +244,9 @@ module _ (s w : List ℕ) (g : Ground) (n lim p span : ℕ) (v : Appended) (K : 
             left = K.left;
             end = K.end;
             symbols = _;
-            going = plain-going s w g n lim p span v K.places K.four K.left K.from K.end K.symbol K.Span-of K.is K.key m i to w1 put;
-            many = plain-many s w g n lim p span v K.places K.four K.left K.from K.end K.symbol K.Span-of K.is K.key m i to w1 put;
-            referring = plain-referring s w g n lim p span v K.places K.four K.left K.from K.end K.symbol K.Span-of K.is K.key m i to w1 put;
+            going = plain-going s w g n lim p span v K.places K.four K.left K.from K.end K.symbol K.span_of K.is K.key m i to w1 put;
+            many = plain-many s w g n lim p span v K.places K.four K.left K.from K.end K.symbol K.span_of K.is K.key m i to w1 put;
+            referring = plain-referring s w g n lim p span v K.places K.four K.left K.from K.end K.symbol K.span_of K.is K.key m i to w1 put;
           })
 
       pub one_put : (r : Copied) (w2 : List ℕ) → PutsSymbols s w1 g n lim (p + l - g.from) m (record { to = to; count = v.count; deep = v.deep }) r w2 → PutsOne false s w g n lim p span v r.out w2

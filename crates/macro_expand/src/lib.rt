@@ -1,6 +1,7 @@
 // Macro expansion, the appending stage: the items of the symbols that were pushed, in the order they leave the pile. Touches nothing but the slices that it is handed: of work the list of
 // new texts, the slots, the numbers of built-in texts, and the room for appended items.
 #![tactic(auto)]
+
 use appending::Appended;
 use parse_tree::refusal::Refusal;
 

@@ -8,7 +8,7 @@ use native.Mathlib.Omega.{arith}
 use lib.ListN.{length, get_or, drop}
 use Rattle.octets.specs.Plain.Runs.{Lies}
 use Rattle.octets.proofs.LiesLaws.{lies_inside}
-use Rattle.parse_tree.specs.Plain.Tree.{Sym, Syms, count}
+use Rattle.parse_tree.specs.Plain.Tree.{Sym, Syms}
 use Rattle.parse_tree.specs.Working.Encode.{sym_bytes, syms_bytes}
 use Rattle.texts.specs.declared.Map.{Map}
 use Rattle.texts.specs.Fields.{mark_at}

@@ -1,6 +1,7 @@
 // New texts of a stage of macro expansion that is admitted: printed forms of symbols that stand in work, written to another place of the same work, and built-in texts; their records come to the table.
 // Touches nothing but the slices that it is handed.
 #![tactic(auto)]
+
 pub mod atom;
 pub mod built;
 pub mod copied;

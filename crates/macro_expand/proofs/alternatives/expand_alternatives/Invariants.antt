@@ -1,0 +1,12 @@
+use Rattle.macro_expand.proofs.AlternativesListCode.{Adding, adding}
+use Rattle.std.proofs.Common.{[], ◌∷◌, ◌+◌, ◌≤◌, length, ◌≡◌, ℕ, ◌-◌, ◌*◌, ◌<◌}
+use Rattle.precedence.specs.Write.{Puts}
+use Rattle.macro_expand.specs.PutIn.{Frame}
+use Rattle.macro_expand.specs.Alternatives.{bare_out, SomeAlternative, OpensAlternative, PutsAlternative, PutsIf, SomeAlternatives, PutsHolding}
+use Rattle.macro_expand.proofs.alternatives.expand_alternatives.Given as goal
+
+abbrev pub invariant-loop-i : goal.invariant-loop-i
+invariant-loop-i l = Adding l.tape l.initial.work l.g l.n l.lim l.c l.span l.k l.at l.initial.r l.work l.i l.p l.r
+
+abbrev pub decreases-loop-i : goal.decreases-loop-i
+decreases-loop-i l = l.i

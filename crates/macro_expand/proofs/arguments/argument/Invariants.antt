@@ -1,0 +1,12 @@
+use Rattle.macro_expand.proofs.ArgumentsCode.{Looking, looking}
+use Rattle.std.proofs.Common.{◌≡◌, ◌+◌, ◌≤◌, ◌<◌, length, ℕ, ◌-◌, ◌*◌}
+use Rattle.grades.specs.Annotations.{conditions_from}
+use Rattle.octets.specs.Working.Choice.{pick}
+use Rattle.macro_expand.specs.Arguments.{ReadableCall, argument_for, equal_by, judged_at, holds_at, hold_from}
+use Rattle.macro_expand.proofs.arguments.argument.Given as goal
+
+abbrev pub invariant-loop-i : goal.invariant-loop-i
+invariant-loop-i l = Looking l.g l.work l.k l.size l.initial.i l.initial.a l.initial.p l.i l.a l.p
+
+abbrev pub decreases-loop-i : goal.decreases-loop-i
+decreases-loop-i l = l.i

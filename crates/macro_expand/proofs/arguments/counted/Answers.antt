@@ -1,0 +1,8 @@
+use Rattle.macro_expand.proofs.ArgumentsCode.{counting}
+use Rattle.macro_expand.proofs.arguments.counted.Goals as goal
+
+pub returns-then-b : goal.returns-then-b
+returns-then-b c = search counting
+
+pub returns : goal.returns
+returns c = search counting

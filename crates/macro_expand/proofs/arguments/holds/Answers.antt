@@ -1,0 +1,8 @@
+use Rattle.macro_expand.proofs.ArgumentsCode.{asking}
+use Rattle.macro_expand.proofs.arguments.holds.Goals as goal
+
+pub returns-then-x-eq0 : goal.returns-then-x-eq0
+returns-then-x-eq0 c = search asking
+
+pub returns : goal.returns
+returns c = search asking

@@ -1,0 +1,8 @@
+use Rattle.macro_expand.proofs.GroupCode.{grouping}
+use Rattle.macro_expand.proofs.group.put_group.Goals as goal
+
+pub put_symbols-x-requires : goal.put_symbols-x-requires
+put_symbols-x-requires c = search grouping
+
+pub returns : goal.returns
+returns c = search grouping

@@ -1,0 +1,8 @@
+use Rattle.macro_expand.proofs.LookCode.{acting}
+use Rattle.macro_expand.proofs.look.act.Goals as goal
+
+pub returns-then-work-at-eq42 : goal.returns-then-work-at-eq42
+returns-then-work-at-eq42 c = search acting
+
+pub returns : goal.returns
+returns c = search acting

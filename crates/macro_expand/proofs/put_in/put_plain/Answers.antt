@@ -1,0 +1,17 @@
+use Rattle.macro_expand.proofs.PutInPlain.{plain-one}
+use Rattle.macro_expand.proofs.put_in.put_plain.Goals as goal
+
+pub bounds-work-p : goal.bounds-work-p
+bounds-work-p c = search plain-one
+
+pub inside-k-requires : goal.inside-k-requires
+inside-k-requires c = search plain-one
+
+pub put_spanned-to-requires : goal.put_spanned-to-requires
+put_spanned-to-requires c = search plain-one
+
+pub put_symbols-r-requires : goal.put_symbols-r-requires
+put_symbols-r-requires c = search plain-one
+
+pub returns : goal.returns
+returns c = search plain-one

@@ -1,0 +1,23 @@
+use Rattle.settling.proofs.CopiedPutCode.{symbolling}
+use Rattle.settling.proofs.copied.put_symbol.Goals as goal
+
+pub bounds-work-at : goal.bounds-work-at
+bounds-work-at c = search symbolling
+
+pub inside-n-requires : goal.inside-n-requires
+inside-n-requires c = search symbolling
+
+pub put_before-q-requires : goal.put_before-q-requires
+put_before-q-requires c = search symbolling
+
+pub overflow_sub-left : goal.overflow_sub-left
+overflow_sub-left c = search symbolling
+
+pub put_parts-z-requires : goal.put_parts-z-requires
+put_parts-z-requires c = search symbolling
+
+pub put_behind-requires : goal.put_behind-requires
+put_behind-requires c = search symbolling
+
+pub returns : goal.returns
+returns c = search symbolling

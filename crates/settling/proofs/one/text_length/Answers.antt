@@ -1,0 +1,11 @@
+use Rattle.settling.proofs.OneCode.{lengthening}
+use Rattle.settling.proofs.one.text_length.Goals as goal
+
+pub cell-requires : goal.cell-requires
+cell-requires c = search lengthening
+
+pub returns-then-v-eq0 : goal.returns-then-v-eq0
+returns-then-v-eq0 c = search lengthening
+
+pub returns : goal.returns
+returns c = search lengthening

@@ -1,0 +1,11 @@
+use Rattle.settling.proofs.PrintCode.{spacing}
+use Rattle.settling.proofs.print.put_between.Goals as goal
+
+pub returns-then-k-eq0 : goal.returns-then-k-eq0
+returns-then-k-eq0 c = search spacing
+
+pub returns-then-c-eq37 : goal.returns-then-c-eq37
+returns-then-c-eq37 c = search spacing
+
+pub returns : goal.returns
+returns c = search spacing

@@ -1,0 +1,8 @@
+use Rattle.settling.proofs.WordsCode.{labelling}
+use Rattle.settling.proofs.words.put_label.Goals as goal
+
+pub returns-then-b-eq1 : goal.returns-then-b-eq1
+returns-then-b-eq1 c = search labelling
+
+pub returns : goal.returns
+returns c = search labelling
