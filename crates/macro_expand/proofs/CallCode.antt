@@ -11,7 +11,7 @@ use Rattle.octets.specs.Plain.Numbers.{le}
 use Rattle.octets.specs.Plain.Runs.{Lies}
 use Rattle.octets.proofs.LiesLaws.{lies_split, lies_first, lies_from}
 use Rattle.octets.proofs.NumbersLaws.{length-le}
-use Rattle.parse_tree.specs.Plain.Tree.{Text, Sym, Syms, ambiguous, bare, quoted, regex, nonterminal, lookahead, lookbehind, error, repeat, choose, name, macro, leaf, around, over, count, Nonterminal, item}
+use Rattle.parse_tree.specs.Plain.Tree.{Text, Sym, Syms, ambiguous, bare, quoted, regex, nonterminal, lookahead, lookbehind, error, repeat, choose, name, macro, leaf, around, over, Nonterminal, item}
 use Rattle.parse_tree.specs.Plain.Texts.{number, with_new}
 use Rattle.parse_tree.specs.Plain.Display.{print}
 use Rattle.parse_tree.specs.Plain.WriteTape.{bytes_of_each, bit}

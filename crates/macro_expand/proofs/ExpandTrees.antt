@@ -9,7 +9,7 @@ use lib.Dec.{eqb}
 use lib.ListN.{get_or}
 use Rattle.octets.specs.Plain.Runs.{Lies}
 use Rattle.octets.proofs.LiesLaws.{lies_first}
-use Rattle.parse_tree.specs.Plain.Tree.{Text, Leaf, Around, Over, Sym, Syms, ambiguous, bare, quoted, regex, nonterminal, lookahead, lookbehind, error, repeat, choose, name, macro, group, leaf, around, over, nil, cons, count}
+use Rattle.parse_tree.specs.Plain.Tree.{Text, Over, Sym, Syms, ambiguous, bare, quoted, regex, nonterminal, lookahead, lookbehind, error, repeat, choose, name, macro, group, leaf, around, over, nil, cons, count}
 use Rattle.parse_tree.specs.Plain.Texts.{with_new}
 use Rattle.parse_tree.specs.Plain.References.{leaf_texts, around_texts, over_texts, sym_texts, syms_texts}
 use Rattle.parse_tree.specs.Working.Nodes.{node_bytes, symbol_bytes, leaf_code}

@@ -20,7 +20,6 @@ use Rattle.parse_tree.specs.Plain.Display.{print}
 use Rattle.parse_tree.specs.Working.Nodes.{span_bytes, leaf_code, symbol_bytes, node_bytes}
 use Rattle.parse_tree.specs.Working.Encode.{leaf_node, action_text, sym_bytes, syms_bytes, item_bytes}
 use Rattle.parse_tree.specs.declared.syntax.Span.{Span}
-use Rattle.texts.specs.Table.{texts}
 use Rattle.passes.specs.Views.{Look, ahead, behind}
 use Rattle.passes.specs.Macros.{looking, symbol_of, expand_lookaround_symbol}
 use Rattle.precedence.specs.Write.{Puts}

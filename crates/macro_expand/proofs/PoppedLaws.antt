@@ -7,7 +7,7 @@ use native.Mathlib.Omega.{arith}
 use lib.ListN.{length-append}
 use Rattle.octets.specs.Plain.Numbers.{le_at, le, Bytes}
 use Rattle.octets.specs.Plain.Runs.{Lies}
-use Rattle.parse_tree.specs.Plain.Tree.{Text, Sym, ambiguous, bare, quoted, regex, nonterminal, lookahead, lookbehind, error, repeat, choose, name, macro, group, leaf, around, over, nil, count}
+use Rattle.parse_tree.specs.Plain.Tree.{Text, Sym, ambiguous, bare, quoted, regex, nonterminal, lookahead, lookbehind, error, repeat, choose, name, macro, group, leaf, around, over, nil}
 use Rattle.parse_tree.specs.Plain.WriteTape.{op_code}
 use Rattle.parse_tree.specs.Plain.Display.{print}
 use Rattle.parse_tree.specs.Working.Nodes.{span_bytes, symbol_bytes, node_bytes, leaf_code, leaf_operand}

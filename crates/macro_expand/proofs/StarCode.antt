@@ -13,7 +13,6 @@ use lib.ListN.{length, get_or}
 use Rattle.octets.specs.Working.Choice.{pick}
 use Rattle.octets.specs.Plain.Numbers.{le_at, le}
 use Rattle.parse_tree.specs.Plain.Tree.{star, repeat, around, nil, cons, count, item}
-use Rattle.parse_tree.specs.Plain.Texts.{number}
 use Rattle.parse_tree.specs.Plain.Display.{print}
 use Rattle.parse_tree.specs.Working.Nodes.{span_bytes}
 use Rattle.passes.specs.Macros.{expand_repeat_symbol}

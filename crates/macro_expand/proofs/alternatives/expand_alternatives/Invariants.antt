@@ -1,8 +1,4 @@
-use Rattle.macro_expand.proofs.AlternativesListCode.{Adding, adding}
-use Rattle.std.proofs.Common.{[], ◌∷◌, ◌+◌, ◌≤◌, length, ◌≡◌, ℕ, ◌-◌, ◌*◌, ◌<◌}
-use Rattle.precedence.specs.Write.{Puts}
-use Rattle.macro_expand.specs.PutIn.{Frame}
-use Rattle.macro_expand.specs.Alternatives.{bare_out, SomeAlternative, OpensAlternative, PutsAlternative, PutsIf, SomeAlternatives, PutsHolding}
+use Rattle.macro_expand.proofs.AlternativesListCode.{Adding}
 use Rattle.macro_expand.proofs.alternatives.expand_alternatives.Given as goal
 
 abbrev pub invariant-loop-i : goal.invariant-loop-i

@@ -1,8 +1,4 @@
-use Rattle.macro_expand.proofs.ArgumentsCode.{Looking, looking}
-use Rattle.std.proofs.Common.{◌≡◌, ◌+◌, ◌≤◌, ◌<◌, length, ℕ, ◌-◌, ◌*◌}
-use Rattle.grades.specs.Annotations.{conditions_from}
-use Rattle.octets.specs.Working.Choice.{pick}
-use Rattle.macro_expand.specs.Arguments.{ReadableCall, argument_for, equal_by, judged_at, holds_at, hold_from}
+use Rattle.macro_expand.proofs.ArgumentsCode.{Looking}
 use Rattle.macro_expand.proofs.arguments.argument.Given as goal
 
 abbrev pub invariant-loop-i : goal.invariant-loop-i

@@ -1,6 +1,4 @@
-use Rattle.macro_expand.proofs.DrainCode.{Draining, draining}
-use Rattle.std.proofs.Common.{◌<◌, ◌≡◌, ℕ, ◌+◌, ◌-◌, ◌*◌, ◌≤◌, length}
-use Rattle.macro_expand.specs.Drain.{SomePile, SomeOther, SomeDefinition, IsDefinition, ExpandsPushed, Drains}
+use Rattle.macro_expand.proofs.DrainCode.{Draining}
 use Rattle.macro_expand.proofs.drain.drain.Given as goal
 
 abbrev pub invariant-loop-i : goal.invariant-loop-i

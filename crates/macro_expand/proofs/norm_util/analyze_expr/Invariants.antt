@@ -1,6 +1,4 @@
-use Rattle.macro_expand.proofs.AnalyzeCode.{Analyzing, analyzing}
-use Rattle.std.proofs.Common.{◌≡◌, ◌≤◌, ℕ, ◌+◌, ◌-◌, ◌*◌, ◌<◌, length}
-use Rattle.macro_expand.specs.NormUtil.{chosen_one, SomeDirect, Analyzes}
+use Rattle.macro_expand.proofs.AnalyzeCode.{Analyzing}
 use Rattle.macro_expand.proofs.norm_util.analyze_expr.Given as goal
 
 abbrev pub invariant-loop-i : goal.invariant-loop-i

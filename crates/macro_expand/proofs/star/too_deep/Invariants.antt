@@ -1,14 +1,5 @@
 use Rattle.macro_expand.specs.Repeat.{nested_at}
 use mathlib.Core.Path.{◌≡◌}
-use Rattle.macro_expand.proofs.StarCode.{deepening}
-use Rattle.std.proofs.Common.{◌||◌, ◌+◌, ◌≤◌, length, ℕ, ◌-◌, ◌*◌, ◌<◌}
-use Rattle.parse_tree.specs.Plain.Tree.{star}
-use Rattle.precedence.specs.Write.{Puts}
-use Rattle.appending.specs.Built.{built_text}
-use Rattle.appending.specs.Pieces.{SomeAppending}
-use Rattle.appending.specs.Symbols.{SomeReferring}
-use Rattle.macro_expand.specs.Expand.{IsRepeat, SomePopped}
-use Rattle.macro_expand.specs.Repeat.{ExpandsAs, PutsBy, star_head, PutsStar, BeginsStar, ReadsStar}
 use Rattle.macro_expand.proofs.star.too_deep.Given as goal
 
 abbrev pub invariant-loop-k : goal.invariant-loop-k
