@@ -9,9 +9,9 @@ files but for strings, of must-fail edits, and in pages what stands in backticks
 """
 import os
 import re
+import subprocess
 import sys
 
-KIT = "/opt/rattle"
 WORD = r"[^\s(){}\[\].,;:\"`|\\/«»]"
 HEAD = r"^[ \t]*(?:(?:pub|abbrev|unfoldable)[ \t]+)*"
 DEFINES = re.compile(HEAD + r"(?P<names>%s+(?:[ \t]+%s+)*)[ \t]+:(?=[ \t\n])" % (WORD, WORD), re.M)
@@ -52,8 +52,10 @@ def defined(text):
 
 
 def library():
+    """What Rattle's own library defines, which lies beside the page that `rt doc` names."""
+    kit = os.path.dirname(subprocess.run(["rt", "doc"], capture_output=True, text=True, check=True).stdout.strip())
     names = set()
-    for root in (os.path.join(KIT, "rattle"), os.path.join(KIT, "logic_built")):
+    for root in (os.path.join(kit, "rattle"), os.path.join(kit, "logic_built")):
         for path in files(root, (".antt",)):
             try:
                 names.update(n for n, _, _ in defined(read(path)))
