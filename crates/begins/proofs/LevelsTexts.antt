@@ -11,7 +11,7 @@ use Rattle.parse_tree.specs.Working.Within.{Each}
 use Rattle.parse_tree.specs.declared.syntax.Span.{Span}
 use Rattle.parse_tree.proofs.ReadingLaws.{each_append}
 use Rattle.passes.specs.Outcome.{Tree}
-use Rattle.passes.specs.Grades.{Side, all, non, left, right, without_first, with_levels, Graded, with_sides, graded, annotated, ceiling}
+use Rattle.passes.specs.Grades.{Side, all, non, left, right, value_of, is_given, without_first, precedence, assoc, level_of, side_of, with_levels, Graded, with_sides, graded, annotated, ceiling}
 use Rattle.passes.specs.Levels.{decimal, levels_of, of_level, Group, groups_of, occurs, replace_occurrences, replace_occurrences_in, lower_name, substitute, substituted, fall_through, with_fall_through, level_items, levelled}
 use Rattle.appending.proofs.SymbolsTrees.{each-parts}
 use Rattle.begins.specs.Lowers.{lowers_of, lowers, plain_lowers, macro_lowers}
@@ -113,10 +113,12 @@ module _ (P : Text → Type 0) where
 
   sides_texts : (s : Side) (l : ℕ) (as' : List Alternative) → Each Parts as' → Each GradedParts (with_sides s (with_levels l as'))
   sides_texts s l [] h = tt
-  sides_texts s l (a ∷ rest) h = (
-    record { action = h.0.action; attributes = without_texts _ (without_first _ a.attributes) (without_texts _ a.attributes h.0.attributes); condition = h.0.condition; symbols = h.0.symbols },
-    sides_texts _ _ rest h.1,
-  )
+  sides_texts s l (a ∷ rest) h =
+      let given = value_of precedence a.attributes in
+      let v : Side = side_of (cond (is_given given) all s) (value_of assoc (without_first precedence a.attributes)) in (
+        record { action = h.0.action; attributes = without_texts _ (without_first _ a.attributes) (without_texts _ a.attributes h.0.attributes); condition = h.0.condition; symbols = h.0.symbols },
+        sides_texts v (level_of l given) rest h.1,
+      )
 
   of_level_texts : (v : ℕ) (gs : List Graded) → Each GradedParts gs → Each GradedParts (of_level v gs)
   unfolding of_level

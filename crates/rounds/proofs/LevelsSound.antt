@@ -12,7 +12,7 @@ use Rattle.parse_tree.specs.Working.Within.{Each}
 use Rattle.parse_tree.specs.declared.syntax.Span.{Span}
 use Rattle.parse_tree.proofs.ReadingLaws.{each_append}
 use Rattle.passes.specs.Outcome.{Tree}
-use Rattle.passes.specs.Grades.{Side, all, non, left, right, with_levels, Graded, with_sides, graded, annotated, ceiling}
+use Rattle.passes.specs.Grades.{Side, all, non, left, right, value_of, is_given, without_first, precedence, assoc, level_of, side_of, with_levels, Graded, with_sides, graded, annotated, ceiling}
 use Rattle.passes.specs.Levels.{decimal, level_name, levels_of, of_level, Group, groups_of, occurs, replace_occurrences, replace_occurrences_in, lower_name, substitute, substituted, fall_through, with_fall_through, level_items, levelled}
 use Rattle.laws.specs.Keys.{SoundText, LeafSound, SymSound, SymsSound, AlternativeSound, ItemSound}
 use Rattle.laws.proofs.Keys.{level_sound}
@@ -67,7 +67,10 @@ GradedSound g = AlternativeSound g.alternative
 
 sides_sound : (s : Side) (l : ℕ) (as' : List Alternative) → Each AlternativeSound as' → Each GradedSound (with_sides s (with_levels l as'))
 sides_sound s l [] h = tt
-sides_sound s l (a ∷ rest) h = (h.0, sides_sound _ _ rest h.1)
+sides_sound s l (a ∷ rest) h =
+    let given = value_of precedence a.attributes in
+    let v : Side = side_of (cond (is_given given) all s) (value_of assoc (without_first precedence a.attributes)) in
+    (h.0, sides_sound v (level_of l given) rest h.1)
 
 of_level_sound : (v : ℕ) (gs : List Graded) → Each GradedSound gs → Each GradedSound (of_level v gs)
 unfolding of_level

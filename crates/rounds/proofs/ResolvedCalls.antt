@@ -84,6 +84,10 @@ macro_global n (item d ∷ rest) (item x ∷ ys) T z (p, q, a) j e = go (same_as
         record { definition = x; found = ap (λ (b : Bool). cond (b && some_args x.args) (some x) (macro_in ys n)) (turned ∙ y) ∙ ap (λ (b : Bool). cond b (some x) (macro_in ys n)) (some_args_lem x.args j l); many = l }
     go false y e f = let m = f e in record { definition = m.definition; found = ap (λ (b : Bool). cond (b && some_args x.args) (some x) (macro_in ys n)) (turned ∙ y) ∙ m.found; many = m.many }
 macro_global n (Item.terminal s o t ∷ rest) (Item.terminal s' o' t' ∷ ys) T z a j e = let m = macro_global n rest ys T z a j e in record { definition = m.definition; found = m.found; many = m.many }
+macro_global n (item d ∷ rest) [] T z a j e = elim a [ ]
+macro_global n (item d ∷ rest) (Item.terminal s' o' t' ∷ ys) T z a j e = elim a [ ]
+macro_global n (Item.terminal s o t ∷ rest) [] T z a j e = elim a [ ]
+macro_global n (Item.terminal s o t ∷ rest) (item x ∷ ys) T z a j e = elim a [ ]
 
 -- ---- symbols
 module _ (G R : Tree) (alike : Alike G R) (ps : List Text) where
