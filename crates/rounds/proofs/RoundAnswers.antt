@@ -30,11 +30,9 @@ use Rattle.rounds.specs.Step.{RoundOutput, done, more, append_items, pending_rou
 use Rattle.rounds.specs.Standing.{RoundTrees, RoundStands}
 use Rattle.rounds.specs.Round.{pending_of, replaced_stage, appended_stage, next_trees, Halfway, SomeHalf, SomePending, Fine, Drained, DrainedTo, DrainsPile, SomeAppended, trees_in, replaced_verdict, appended_verdict, SomeDrained, Next, SettlesRound, Further, RoundTo, next_input, AnswersItems, AppendsRound, AnswersHalf}
 use Rattle.rounds.proofs.RoundStages.{drained_without, admitted-fine, admitted-no}
-use Rattle.rounds.proofs.RoundPlaces as places
 use Rattle.rounds.proofs.RoundHalf as halves
 use Rattle.rounds.proofs.Tally as tally
 use Rattle.rounds.proofs.RoundJudged as judges
-use Rattle.rounds.proofs.RoundPile as piles
 use Rattle.rounds.proofs.RoundAppended as appended
 
 -- a question without a place

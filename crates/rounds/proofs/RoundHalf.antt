@@ -18,7 +18,6 @@ use Rattle.texts.specs.declared.Map.{Map}
 use Rattle.texts.specs.Fields.{cell_at}
 use Rattle.texts.specs.Table.{texts}
 use Rattle.passes.specs.Macros.{Expander}
-use Rattle.passes.specs.Sizes.{each}
 use Rattle.resolve.specs.declared.Grammar.{Grammar}
 use Rattle.resolve.proofs.CellsLaws.{lies_agree}
 use Rattle.replacing.specs.Sound.{Key}

@@ -1,5 +1,6 @@
 // The rounds of macro expansion: macros told in the cells of their names, a round's ground, its sizes, its two stages, and the loop. Touches nothing but the slices that it is handed.
 #![tactic(auto)]
+
 use parse_tree::refusal::Refusal;
 use texts::Map;
 

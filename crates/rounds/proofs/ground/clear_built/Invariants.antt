@@ -1,9 +1,5 @@
 use Prim.Native.Nat.{◌-◌}
-use Rattle.rounds.proofs.GroundCode.{Clearing, clearing}
-use Rattle.std.proofs.Common.{◌≡◌, ◌+◌, ◌*◌, ◌/◌, ◌≤◌, ◌<◌, length, ℕ}
-use Rattle.expander.specs.Ground.{Grounded}
-use Rattle.rounds.specs.Start.{Cleared}
-use Rattle.rounds.specs.Grounds.{buckets_of, Groundable, Grounds}
+use Rattle.rounds.proofs.GroundCode.{Clearing}
 use Rattle.rounds.proofs.ground.clear_built.Given as goal
 
 abbrev pub invariant-loop-i : goal.invariant-loop-i

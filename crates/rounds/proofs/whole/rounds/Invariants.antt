@@ -1,7 +1,5 @@
 use Prim.Native.Nat.{◌-◌}
-use Rattle.rounds.proofs.RoundsCode.{Turning, turning}
-use Rattle.std.proofs.Common.{◌≡◌, ℕ, ◌+◌, ◌*◌, ◌<◌, ◌≤◌, length}
-use Rattle.rounds.specs.Round.{SomeRound, AllRounds}
+use Rattle.rounds.proofs.RoundsCode.{Turning}
 use Rattle.rounds.proofs.whole.rounds.Given as goal
 
 abbrev pub invariant-loop-x : goal.invariant-loop-x
