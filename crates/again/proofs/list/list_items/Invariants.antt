@@ -1,0 +1,11 @@
+use Rattle.again.proofs.ListCode.{Listing, listing}
+use Prim.Native.Nat.{◌-◌}
+use Rattle.std.proofs.Common.{◌≡◌, ℕ, ◌+◌, ◌*◌, ◌<◌, ◌≤◌, length}
+use Rattle.again.specs.List.{SomeListed, ListsItems}
+use Rattle.again.proofs.list.list_items.Given as goal
+
+abbrev pub invariant-loop-p : goal.invariant-loop-p
+invariant-loop-p l = Listing l.initial.work l.width l.at l.end l.list l.work l.p l.n
+
+abbrev pub decreases-loop-p : goal.decreases-loop-p
+decreases-loop-p l = l.end - l.p
