@@ -1,5 +1,6 @@
 // What a call answers, and what it hands over: sizes asked, texts put, trees copied to the output.
 #![tactic(auto)]
+
 use parse_tree::refusal::Refusal;
 
 pub mod expanded;

@@ -1,7 +1,5 @@
-use Rattle.again.proofs.ListCode.{Listing, listing}
+use Rattle.again.proofs.ListCode.{Listing}
 use Prim.Native.Nat.{◌-◌}
-use Rattle.std.proofs.Common.{◌≡◌, ℕ, ◌+◌, ◌*◌, ◌<◌, ◌≤◌, length}
-use Rattle.again.specs.List.{SomeListed, ListsItems}
 use Rattle.again.proofs.list.list_items.Given as goal
 
 abbrev pub invariant-loop-p : goal.invariant-loop-p

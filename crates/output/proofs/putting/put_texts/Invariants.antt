@@ -1,11 +1,5 @@
-use Rattle.output.proofs.PuttingCode.{TextsPut, texts_putting}
+use Rattle.output.proofs.PuttingCode.{TextsPut}
 use Prim.Native.Nat.{◌-◌}
-use Rattle.std.proofs.Common.{◌+◌, ◌≤◌, ◌<◌, length, drop, ◌≡◌, ℕ, ◌*◌}
-use Rattle.parse_tree.specs.Plain.WriteTape.{bytes_of_each}
-use Rattle.parse_tree.specs.Working.Encode.{atom_bytes}
-use Rattle.texts.specs.Table.{Table, texts}
-use Rattle.levels.specs.Fresh.{PutsNames}
-use Rattle.output.specs.Working.Putting.{numbered_text, TextsFit}
 use Rattle.output.proofs.putting.put_texts.Given as goal
 
 abbrev pub invariant-loop-k : goal.invariant-loop-k
