@@ -1,5 +1,6 @@
 // The stages behind question 1: a tape, and work that is long enough, in; the last stage's answer, and its tree in the output, out.
 #![tactic(auto)]
+
 use parse_tree::refusal::Refusal;
 use resolve::Grammar;
 use texts::Map;
