@@ -1,5 +1,6 @@
 // The listing of a tape: what the call for all three passes answers, as text.
 #![tactic(auto)]
+
 pub mod action;
 pub mod alternatives;
 pub mod head;

@@ -1,10 +1,7 @@
 use Rattle.listing.specs.Walk.{AlternativeGood}
 use Rattle.listing.specs.Listing.{listed_alternative}
 use Rattle.parse_tree.specs.Working.Encode.{alternative_bytes}
-use Rattle.listing.proofs.WalkLaws.{Going, walking}
-use Rattle.std.proofs.Common.{◌≡◌, ℕ, ◌+◌, ◌-◌, ◌*◌, ◌<◌, ◌≤◌, length}
-use Rattle.settling.specs.Print.{Printable}
-use Rattle.listing.specs.Walk.{SomeOne, SomeAll, ShowsOne, ShowsAll}
+use Rattle.listing.proofs.WalkLaws.{Going}
 use Rattle.listing.proofs.alternatives.list_alternatives.Given as goal
 
 abbrev pub invariant-loop-k : goal.invariant-loop-k

@@ -1,8 +1,4 @@
-use Rattle.listing.proofs.NumberCode.{Putting, putting}
-use Rattle.std.proofs.Common.{◌-◌, ◌≡◌, ◌∷◌, ◌+◌, ◌≤◌, length, ℕ, ◌*◌, ◌<◌}
-use Rattle.octets.specs.Working.Stores.{store}
-use Rattle.precedence.specs.Write.{Puts}
-use Rattle.listing.specs.Listing.{shown_number}
+use Rattle.listing.proofs.NumberCode.{Putting}
 use Rattle.listing.proofs.number.put_digits.Given as goal
 
 abbrev pub invariant-loop-at : goal.invariant-loop-at
