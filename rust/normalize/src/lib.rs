@@ -1,5 +1,6 @@
 //! Safe functions over `libexports.a`: a tape, an output and a work buffer in; the tree's length, or a refusal, out.
 mod archive;
+pub mod trees;
 
 pub use archive::{Words, WORDS};
 pub use tape::Refusal;

@@ -1,8 +1,7 @@
 //! A call as document 01 answers it: 1, then 2 to 4, then the pass's questions and the sizes of its stages, in time order.
-use crate::sizes::within_operands;
 use crate::tree::{Item, Stage};
 use crate::{read, Refusal};
-use tape::write_over;
+use tape::{within_operands, write_over};
 
 /// The tree that is written, or the refusal.
 pub type Outcome = Result<Vec<u8>, Refusal>;

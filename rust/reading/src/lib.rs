@@ -5,13 +5,11 @@ pub mod commands;
 mod display;
 mod levels;
 pub mod notation;
-mod sizes;
 
 pub use call::{answer, answer_and_stage, asked, call, measured, stage_lengths, with_output, work_needed, Outcome, Step};
 pub use display::{listing, printed};
 pub use levels::level_refusal;
-pub use sizes::within_operands;
-pub use tape::{operand_bytes, read, read_made, tree, write, Refusal};
+pub use tape::{operand_bytes, read, read_made, tree, within_operands, write, Refusal};
 
 #[cfg(test)]
 mod tests;

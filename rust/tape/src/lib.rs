@@ -12,10 +12,12 @@
 pub mod lalrpop;
 mod read;
 mod refusal;
+mod sizes;
 mod texts;
 pub mod tree;
 mod write;
 
 pub use read::{operand_bytes, read, read_made};
 pub use refusal::Refusal;
+pub use sizes::within_operands;
 pub use write::{write, write_over};

@@ -1,4 +1,4 @@
-//! Question 20: atoms, texts, counts and nesting of a stage within their operands and 64.
+//! Question 20: atoms, texts, counts and nesting of a stage within their operands and 64. Such a stage, and no other, is carried by a tape.
 use crate::tree::*;
 use std::collections::HashSet;
 
@@ -7,6 +7,14 @@ const HALF: usize = 65_535;
 const BYTE: usize = 255;
 const DEEPEST: usize = 64;
 
+/// Whether a tape can carry the stage: at most 65,536 texts, each of at most 65,535 bytes, every count within its operand, and symbols at most 64 deep.
+///
+/// ```
+/// use tape::tree::{Item, Span, Stage};
+///
+/// let named = |length| Stage { atoms: vec![], items: vec![Item::Extern(Span(7, 8), "n".repeat(length))] };
+/// assert!(tape::within_operands(&named(65_535)) && !tape::within_operands(&named(65_536)));
+/// ```
 pub fn within_operands(stage: &Stage) -> bool {
     let mut texts: HashSet<&[u8]> = stage.atoms.iter().map(Vec::as_slice).collect();
     let items = stage.items.iter().all(|item| item_within(item, &mut texts));
