@@ -3,7 +3,7 @@ mod archive;
 pub mod trees;
 
 pub use archive::{Words, WORDS};
-pub use tape::Refusal;
+pub use tape::{Place, Refusal};
 
 /// README's examples are compiled and run.
 #[cfg(doctest)]

@@ -18,6 +18,6 @@ pub mod tree;
 mod write;
 
 pub use read::{operand_bytes, read, read_made};
-pub use refusal::Refusal;
+pub use refusal::{Place, Refusal};
 pub use sizes::within_operands;
 pub use write::{write, write_over};

@@ -11,6 +11,41 @@ pub struct Refusal {
     pub place: (u64, u64),
 }
 
+/// Where a refusal points.
+#[derive(Clone, Copy, Debug, PartialEq, Eq, Hash)]
+pub enum Place {
+    /// The buffers or a whole stage: 1, 20 and 21.
+    Nowhere,
+    /// A byte of the tape, at which a command begins or is missing: 2 to 4.
+    Offset(u64),
+    /// From and to in the grammar's file, as the tape has them: 5 to 19.
+    Span(u64, u64),
+}
+
+impl Refusal {
+    /// Its place, as the question says it.
+    ///
+    /// ```
+    /// use tape::{Place, Refusal};
+    ///
+    /// assert_eq!(Refusal { number: 4, place: (3, 3) }.at(), Place::Offset(3));
+    /// assert_eq!(Refusal { number: 5, place: (3, 9) }.at(), Place::Span(3, 9));
+    /// ```
+    pub fn at(&self) -> Place {
+        let (from, to) = self.place;
+        match self.number {
+            1 | 20 | 21 => Place::Nowhere,
+            2..=4 => Place::Offset(from),
+            _ => Place::Span(from, to),
+        }
+    }
+
+    /// What is wrong, without number and place.
+    pub fn sentence(&self) -> &'static str {
+        fault(self.number).unwrap_or("the tape was refused")
+    }
+}
+
 /// What is wrong where the question with this number is answered no, or nothing where there is no such question.
 fn fault(number: u8) -> Option<&'static str> {
     Some(match number {
@@ -41,16 +76,12 @@ fn fault(number: u8) -> Option<&'static str> {
 
 impl fmt::Display for Refusal {
     fn fmt(&self, f: &mut fmt::Formatter<'_>) -> fmt::Result {
-        let (from, to) = self.place;
-        match self.number {
-            1 | 20 | 21 => {}
-            2..=4 => write!(f, "at byte {from} of the tape: ")?,
-            _ => write!(f, "at {from} to {to} of the grammar: ")?,
+        match self.at() {
+            Place::Nowhere => {}
+            Place::Offset(at) => write!(f, "at byte {at} of the tape: ")?,
+            Place::Span(from, to) => write!(f, "at {from} to {to} of the grammar: ")?,
         }
-        match fault(self.number) {
-            Some(fault) => f.write_str(fault)?,
-            None => f.write_str("the tape was refused")?,
-        }
+        f.write_str(self.sentence())?;
         write!(f, " (refusal {})", self.number)
     }
 }
@@ -90,6 +121,15 @@ mod tests {
         assert_eq!(sentence(4), "at byte 3 of the tape: a text does not suit its use (refusal 4)");
         assert_eq!(sentence(21), "the output buffer is shorter than a stage (refusal 21)");
         assert_eq!(sentence(99), "at 3 to 9 of the grammar: the tape was refused (refusal 99)");
+    }
+
+    #[test]
+    fn its_place_is_what_the_question_says() {
+        let at = |number| Refusal { number, place: (3, 9) }.at();
+        let (nowhere, offsets, spans): (Vec<u8>, Vec<u8>, Vec<u8>) = (vec![1, 20, 21], (2..=4).collect(), (5..=19).collect());
+        assert!(nowhere.into_iter().all(|number| at(number) == Place::Nowhere));
+        assert!(offsets.into_iter().all(|number| at(number) == Place::Offset(3)));
+        assert!(spans.into_iter().all(|number| at(number) == Place::Span(3, 9)));
     }
 
     #[test]
