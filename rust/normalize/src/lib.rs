@@ -4,6 +4,7 @@ pub mod trees;
 
 pub use archive::{Words, WORDS};
 pub use tape::{Place, Refusal};
+pub use trees::grown;
 
 /// README's examples are compiled and run.
 #[cfg(doctest)]

@@ -20,7 +20,7 @@ use tape::{read_made, within_operands, write};
 /// assert_eq!(trees::resolve(&parse("grammar; A = B;").unwrap()), Err(Refusal { number: 8, place: (13, 14) }));
 /// ```
 pub fn resolve(stage: &Stage) -> Result<Stage, Refusal> {
-    grown(stage, 0, |tape, output, work| crate::resolve(tape, output, work))
+    made(stage, 0, |tape, output, work| crate::resolve(tape, output, work))
 }
 
 /// Name resolution, then precedence levels, as [`crate::levels`].
@@ -28,12 +28,12 @@ pub fn resolve(stage: &Stage) -> Result<Stage, Refusal> {
 /// Where a stage doesn't fit in the output, the call is made again with one of twice the length, of `longest` bytes at most: then it is refused with 21.
 /// An output as long as the tree's own tape is there in any case.
 pub fn levels(stage: &Stage, longest: usize) -> Result<Stage, Refusal> {
-    grown(stage, longest, |tape, output, work| crate::levels(tape, output, work))
+    made(stage, longest, |tape, output, work| crate::levels(tape, output, work))
 }
 
 /// Name resolution, then macros in at most `limit` rounds, as [`crate::macros`]; of `longest` as in [`levels`].
 pub fn macros(stage: &Stage, limit: u16, longest: usize) -> Result<Stage, Refusal> {
-    grown(stage, longest, |tape, output, work| crate::macros(tape, limit, output, work))
+    made(stage, longest, |tape, output, work| crate::macros(tape, limit, output, work))
 }
 
 /// All three passes, macros in at most `limit` rounds, as [`crate::whole`]; of `longest` as in [`levels`].
@@ -51,20 +51,33 @@ pub fn macros(stage: &Stage, limit: u16, longest: usize) -> Result<Stage, Refusa
 /// assert_eq!(trees::whole(&stage, 64, 0), Err(Refusal { number: 21, place: (0, 0) }));
 /// ```
 pub fn whole(stage: &Stage, limit: u16, longest: usize) -> Result<Stage, Refusal> {
-    grown(stage, longest, |tape, output, work| crate::whole(tape, limit, output, work))
+    made(stage, longest, |tape, output, work| crate::whole(tape, limit, output, work))
 }
 
-/// The tree that a call makes of a tree. A refusal other than 21 is the same in any longer output, so it is the answer.
-fn grown(stage: &Stage, longest: usize, call: impl Fn(&[u8], &mut [u8], &mut [u8]) -> Result<usize, Refusal>) -> Result<Stage, Refusal> {
+/// The tree that a call makes of a tree.
+fn made(stage: &Stage, longest: usize, call: impl Fn(&[u8], &mut [u8], &mut [u8]) -> Result<usize, Refusal>) -> Result<Stage, Refusal> {
     if !within_operands(stage) {
         return Err(Refusal { number: 20, place: (0, 0) });
     }
-    let tape = write(stage);
+    let tree = grown(&write(stage), longest, call)?;
+    Ok(read_made(&tree).expect("a tree that a call wrote can be read"))
+}
+
+/// The bytes of the tree that a call makes of a tape, in an output of its own, which grows up to `longest` bytes; at first it is as long as the tape.
+/// A refusal other than 21 is the same in any longer output, so it is the answer.
+pub fn grown(
+    tape: &[u8],
+    longest: usize,
+    call: impl Fn(&[u8], &mut [u8], &mut [u8]) -> Result<usize, Refusal>,
+) -> Result<Vec<u8>, Refusal> {
     let mut length = tape.len();
     loop {
         let (mut output, mut work) = (vec![0; length], vec![0; work_len(tape.len(), length)]);
-        match call(&tape, &mut output, &mut work) {
-            Ok(n) => return Ok(read_made(&output[..n]).expect("a tree that a call wrote can be read")),
+        match call(tape, &mut output, &mut work) {
+            Ok(n) => {
+                output.truncate(n);
+                return Ok(output);
+            }
             Err(Refusal { number: 21, .. }) if length < longest => length = longest.min(2 * length.max(32)),
             Err(refusal) => return Err(refusal),
         }
