@@ -1,10 +1,11 @@
 //! Safe functions over `libexports.a`: a tape, an output and a work buffer in; the tree's length, or a refusal, out.
 mod archive;
+mod grown;
 pub mod trees;
 
 pub use archive::{Words, WORDS};
+pub use grown::grown;
 pub use tape::{Place, Refusal};
-pub use trees::grown;
 
 /// README's examples are compiled and run.
 #[cfg(doctest)]

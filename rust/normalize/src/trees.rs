@@ -2,7 +2,7 @@
 //!
 //! A tree that no tape can carry is refused with 20, before anything else is asked. Nothing of this module is proved: it writes the tape that a proved
 //! call is handed, and reads the tree that the call wrote.
-use crate::{work_len, Refusal};
+use crate::{grown, Refusal};
 use tape::tree::Stage;
 use tape::{read_made, within_operands, write};
 
@@ -61,25 +61,4 @@ fn made(stage: &Stage, longest: usize, call: impl Fn(&[u8], &mut [u8], &mut [u8]
     }
     let tree = grown(&write(stage), longest, call)?;
     Ok(read_made(&tree).expect("a tree that a call wrote can be read"))
-}
-
-/// The bytes of the tree that a call makes of a tape, in an output of its own, which grows up to `longest` bytes; at first it is as long as the tape.
-/// A refusal other than 21 is the same in any longer output, so it is the answer.
-pub fn grown(
-    tape: &[u8],
-    longest: usize,
-    call: impl Fn(&[u8], &mut [u8], &mut [u8]) -> Result<usize, Refusal>,
-) -> Result<Vec<u8>, Refusal> {
-    let mut length = tape.len();
-    loop {
-        let (mut output, mut work) = (vec![0; length], vec![0; work_len(tape.len(), length)]);
-        match call(tape, &mut output, &mut work) {
-            Ok(n) => {
-                output.truncate(n);
-                return Ok(output);
-            }
-            Err(Refusal { number: 21, .. }) if length < longest => length = longest.min(2 * length.max(32)),
-            Err(refusal) => return Err(refusal),
-        }
-    }
 }
