@@ -102,10 +102,10 @@ module _ (w₀ : List ℕ) (wd at end list : ℕ) where
 
         module _ (b : Bool) (e : b ≡ item_code c) where
           -- no item begins there
-          pub list_other : b ≡ false → (k : ℕ) → k ≡ command_long wd c → Listing w (p + k) n
-          list_other f k q =
+          pub list_other : b ≡ false → (w' : List ℕ) → w' ≡ w → (n' : ℕ) → n' ≡ n → (k : ℕ) → k ≡ command_long wd c → Listing w' (p + k) n'
+          list_other f w' x n' y k q =
               let z : from p ≡ from (p + k) = from_other wd w₀ end p c l code (sym e ∙ f) ∙ ap (λ (j : ℕ). from (p + j)) (sym q) in
-              record {
+              rw (x, y) (record {
                 some = g.some;
                 behind = omega (arith, g.behind);
                 long = g.long;
@@ -113,7 +113,7 @@ module _ (w₀ : List ℕ) (wd at end list : ℕ) where
                 left = λ i. g.left i ∙ ap (λ (x : List ℕ). get_or x i 0) z;
                 listed = g.listed;
                 others = g.others;
-              }
+              })
 
           -- an item does
           module _ (f : b ≡ true) where
@@ -162,10 +162,10 @@ module _ (w₀ : List ℕ) (wd at end list : ℕ) where
               stays i (inr h) =
                   ap (λ (x : List ℕ). get_or x i 0) o ∙ get_d_store_after w (list + 8 * n) (le 8 (p - at)) i (omega (arith, length-le 8 (p - at))) ∙ g.others i (inr (omega arith))
 
-              pub list_item : (k : ℕ) → k ≡ command_long wd c → Listing w₁ (p + k) (n + 1)
-              list_item k q =
+              pub list_item : (w' : List ℕ) → w' ≡ w₁ → (n' : ℕ) → n' ≡ n + 1 → (k : ℕ) → k ≡ command_long wd c → Listing w' (p + k) n'
+              list_item w' x n' y k q =
                   let z : from p ≡ p ∷ from (p + k) = step ∙ ap (λ (j : ℕ). p ∷ from (p + j)) (sym q) in
-                  record {
+                  rw (x, y) (record {
                     some = g.some;
                     behind = omega (arith, g.behind);
                     long = list_stored ∙ g.long;
@@ -173,6 +173,6 @@ module _ (w₀ : List ℕ) (wd at end list : ℕ) where
                     left = λ i. ap (λ (j : ℕ). get_or (from at) j 0) (let y : n + 1 + i ≡ n + suc i = omega arith in y) ∙ g.left (suc i) ∙ tail_get_d (from p) (from (p + k)) p i z;
                     listed = places;
                     others = stays;
-                  }
+                  })
 
 pub ruleset listing = (rules, list_start, list_long, list_wide, list_done, list_read, list_behind, list_on_fits, list_other, list_times_fits, list_place_fits, list_more_fits, list_room, list_stored, list_item)

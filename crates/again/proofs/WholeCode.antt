@@ -30,13 +30,12 @@ use Rattle.passes.proofs.ResolveWithin.{KeptItems, resolve-alike}
 use Rattle.resolve.specs.Items.{Standing}
 use Rattle.resolve.specs.Whole.{Holds, Free, Became, Answers, Resolves}
 use Rattle.resolve.specs.declared.Grammar.{Grammar}
-use Rattle.resolve.specs.declared.Verdict.{Verdict}
+use Rattle.std.specs.Prelude.{Result, Ok, Err}
 use Rattle.resolve.proofs.CellsLaws.{lies_agree}
 use Rattle.resolve.proofs.CommandsCode.{fine_not}
 use Rattle.resolve.proofs.GrammarLaws.{Row, row_start}
 use Rattle.rounds.specs.Define.{Cells, Forgot, Items}
 use Rattle.rounds.proofs.ResolvedFew.{resolved-few}
-use Rattle.again.specs.declared.Again.{Again}
 use Rattle.again.specs.List.{Listable, SomeListed, ListedItems, ListsItems}
 use Rattle.again.specs.Whole.{AgainStands, SomeAgain, AgainReady, AgainBy, AgainTo}
 use Rattle.again.proofs.WholeMean.{mark_same, table_same, texts-same, texts-short}
@@ -159,16 +158,16 @@ module _ (s w₀ : List ℕ) (m : Map) (list at end : ℕ) where
               apart = λ _. inr (omega (arith, h.fits, h.records, y));
             }
 
-        module _ (r : Verdict) (w₃ : List ℕ) (i₃ : Resolves m grammar w₂ r w₃) where
+        module _ (r : Result (Unit {0}) Refusal) (w₃ : List ℕ) (i₃ : Resolves m grammar w₂ r w₃) where
           answers : (L : Tree) → Stands L → Answers m grammar ts (resolve L) w₂ r w₃
           unfolding Resolves
           answers L h = i₃ ts L (holds L h)
 
-          pub again_refused : (why : Refusal) → r ≡ Verdict.Refused why → AgainTo s w₀ m list at end (Again.Refused why) w₃
+          pub again_refused : (why : Refusal) → r ≡ Err why → AgainTo s w₀ m list at end (Err why) w₃
           unfolding AgainTo AgainBy Answers
           again_refused why e L h = go (resolve L) (answers L h)
             where
-              go : (o : Outcome Tree) → Answers m grammar ts o w₂ r w₃ → AgainBy s w₀ m list at end o (Again.Refused why) w₃
+              go : (o : Outcome Tree) → Answers m grammar ts o w₂ r w₃ → AgainBy s w₀ m list at end o (Err why) w₃
               go (yes R) k = absurd (fine_not (sym k.0 ∙ e))
               go (no q p) k = let z : why ≡ refusal_over q p = cc in rw z refl
 
@@ -229,11 +228,11 @@ module _ (s w₀ : List ℕ) (m : Map) (list at end : ℕ) where
             ready : AgainReady s w₀ m list at end R grammar w₃
             ready = record { from = refl; upto = refl; listed = refl; width = refl; long = k.long ∙ long₂ L h; same = texts₃; marks = marks₃; items = items }
 
-          pub again_fine : (b : (j : ℕ) → Bound.Fits w8 (get_or s j 0)) → r ≡ Verdict.Fine → AgainTo s w₀ m list at end (Again.Is grammar) w₃
+          pub again_fine : (b : (j : ℕ) → Bound.Fits w8 (get_or s j 0)) → r ≡ Ok tt → AgainTo s w₀ m list at end (Ok grammar) w₃
           unfolding AgainTo AgainBy Answers
           again_fine b e L h = go (resolve L) refl (answers L h)
             where
-              go : (o : Outcome Tree) → resolve L ≡ o → Answers m grammar ts o w₂ r w₃ → AgainBy s w₀ m list at end o (Again.Is grammar) w₃
+              go : (o : Outcome Tree) → resolve L ≡ o → Answers m grammar ts o w₂ r w₃ → AgainBy s w₀ m list at end o (Ok grammar) w₃
               go (yes R) q k = (grammar, refl, ready b L h R q k.1)
               go (no q p) _ k = absurd (fine_not (sym e ∙ k))
 

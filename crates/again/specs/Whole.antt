@@ -1,5 +1,5 @@
 -- Items that stand levelled in work, resolved again. s is the tape, w is work before and w' after. Assumes nothing: these are definitions.
-use Rattle.std.specs.Prelude.{◌≡◌, true, false, List, ℕ, ◌+◌, ◌*◌, ◌^◌, ◌≤◌, ◌<◌, length}
+use Rattle.std.specs.Prelude.{◌≡◌, true, false, List, ℕ, ◌+◌, ◌*◌, ◌^◌, ◌≤◌, ◌<◌, length, Result, Ok, Err}
 use Rattle.octets.specs.Plain.Runs.{Lies}
 use Rattle.parse_tree.specs.Plain.Texts.{distinct}
 use Rattle.parse_tree.specs.Plain.WriteTape.{bytes_of_each}
@@ -13,7 +13,7 @@ use Rattle.passes.specs.Outcome.{Tree, Outcome, yes, no}
 use Rattle.passes.specs.Resolve.{resolve}
 use Rattle.resolve.specs.declared.Grammar.{Grammar}
 use Rattle.rounds.specs.Define.{Cells, Items}
-use Rattle.again.specs.declared.Again.{Again}
+use Rattle.parse_tree.specs.declared.refusal.Refusal.{Refusal}
 
 -- the items L stand from `at` up to `end`, behind the records and the heads of their chains, and before the texts in work; the list of their places fits before the records
 pub record AgainStands (s w : List ℕ) (m : Map) (list at end : ℕ) (L : Tree) : Type 0 where
@@ -45,10 +45,10 @@ pub record AgainReady (s w : List ℕ) (m : Map) (list at end : ℕ) (R : Tree) 
   pub items : Items s w' m t false R
 
 -- a yes leaves the tree, a no gives the question's number and the span
-unfoldable pub AgainBy : List ℕ → List ℕ → Map → ℕ → ℕ → ℕ → Outcome Tree → Again → List ℕ → Type 0
-AgainBy s w m list at end (yes R) r w' = (t : Grammar) × (r ≡ Again.Is t) × AgainReady s w m list at end R t w'
-AgainBy s w m list at end (no q sp) r w' = r ≡ Again.Refused (refusal_over q sp)
+unfoldable pub AgainBy : List ℕ → List ℕ → Map → ℕ → ℕ → ℕ → Outcome Tree → Result Grammar Refusal → List ℕ → Type 0
+AgainBy s w m list at end (yes R) r w' = (t : Grammar) × (r ≡ Ok t) × AgainReady s w m list at end R t w'
+AgainBy s w m list at end (no q sp) r w' = r ≡ Err (refusal_over q sp)
 
 -- "Resolving again: 5 to 13", of every tree that stands so
-unfoldable pub AgainTo : List ℕ → List ℕ → Map → ℕ → ℕ → ℕ → Again → List ℕ → Type 0
+unfoldable pub AgainTo : List ℕ → List ℕ → Map → ℕ → ℕ → ℕ → Result Grammar Refusal → List ℕ → Type 0
 AgainTo s w m list at end r w' = (L : Tree) → AgainStands s w m list at end L → AgainBy s w m list at end (resolve L) r w'

@@ -2,14 +2,5 @@
 // Touches the list, the cells and the items, nothing else.
 #![tactic(auto)]
 
-use parse_tree::refusal::Refusal;
-use resolve::Grammar;
-
 pub mod list;
 pub mod whole;
-
-#[derive(Clone, Copy)]
-pub enum Again {
-    Is(Grammar),
-    Refused(Refusal),
-}

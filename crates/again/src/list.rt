@@ -16,10 +16,8 @@ pub fn list_items(work: &mut [u8], width: usize, at: usize, end: usize, list: us
         if is_item(c) {
             store64(work, list + 8 * n, (p - at) as u64);
             n += 1;
-            p += command_long(c, width);
-        } else {
-            p += command_long(c, width);
         }
+        p += command_long(c, width);
     }
     n
 }

@@ -1,10 +1,10 @@
 // The levelled items resolved again.
 ghost use Rattle.again.specs.Whole.{SomeAgain, AgainTo};
 
-use crate::Again;
 use crate::list::list_items;
+use parse_tree::refusal::Refusal;
+use resolve::Grammar;
 use resolve::whole::resolve;
-use resolve::{Grammar, Verdict};
 use rounds::define::forget;
 use texts::Map;
 
@@ -16,21 +16,19 @@ pub fn resolve_again(
     list: usize,
     at: usize,
     end: usize,
-) -> Again
+) -> Result<Grammar, Refusal>
     requires { SomeAgain tape.now work.old m list at end }
     ensures { AgainTo tape.now work.old m list at end result work.new }
 {
     let n = list_items(work, 2, at, end, list);
     let t = Grammar {
-        at: at,
-        end: end,
-        list: list,
+        at,
+        end,
+        list,
         count: n,
         width: 2,
     };
     forget(tape, work, m);
-    match resolve(work, m, t) {
-        Verdict::Refused(why) => Again::Refused(why),
-        Verdict::Fine => Again::Is(t),
-    }
+    resolve(work, m, t)?;
+    Ok(t)
 }

@@ -1,9 +1,12 @@
 -- The ways out of the functions that put commands. Assumes nothing.
 use mathlib.Core.Path.{◌≡◌, refl, sym, ap, ◌∙◌}
 use mathlib.Core.List.{List, [], ◌∷◌, ◌++◌, append_assoc}
-use Prim.Native.Nat.{ℕ, ◌+◌, ◌-◌, ◌<◌, ◌≤◌}
+use Prim.Native.Nat.{ℕ, ◌+◌, ◌≤◌, ◌<◌}
 use native.Mathlib.Omega.{arith}
 use borrow.Author.Rules.{rules}
+use borrow.Author.Tests.{leb-true, leb-false}
+use lib.Dec.{leb}
+use mathlib.Core.Bool.{Bool, true, false}
 use lib.ListN.{length, set, length-set, length-append}
 use Rattle.octets.specs.Plain.Numbers.{le}
 use Rattle.octets.specs.Working.Stores.{store}
@@ -39,15 +42,12 @@ pub nonterminal_long : (wd span k : ℕ) → length (36 ∷ (le 8 span ++ le wd 
 nonterminal_long wd span k = omega (arith, length-append (le 8 span) (le wd k), length-le 8 span, length-le wd k)
 
 -- ---- put
-pub put_behind : (w xs : List ℕ) (lim to : ℕ) → lim < to → Puts w lim to xs (lim + 1) w
-put_behind w xs lim to h = puts_not w lim to xs (omega arith)
-
-module _ (w xs : List ℕ) (n lim to : ℕ) (l : length xs ≡ n) where
-  pub put_over : to ≤ lim → lim - to < n → Puts w lim to xs (lim + 1) w
-  put_over h k = puts_not w lim to xs (omega (arith, l))
-
-  pub put_done : to ≤ lim → n ≤ lim - to → (w1 : List ℕ) → w1 ≡ store w to xs → Puts w lim to xs (to + n) w1
-  put_done h k w1 e = puts_whole w lim to xs w1 n (sym l) (omega arith) e
+pub put_ends : (w xs : List ℕ) (n lim to r : ℕ) (w1 : List ℕ) → length xs ≡ n → (to + n ≤ lim → (r ≡ to + n) × (w1 ≡ store w to xs)) → (lim < to + n → (r ≡ lim + 1) × (w1 ≡ w)) → Puts w lim to xs r w1
+put_ends w xs n lim to r w1 l a b = go (leb (to + n) lim) refl
+  where
+    go : (c : Bool) → leb (to + n) lim ≡ c → Puts w lim to xs r w1
+    go true e = let (f, g) = a (leb-true (to + n) lim e) in rw f (puts_whole w lim to xs w1 n (sym l) (leb-true (to + n) lim e) g)
+    go false e = let (f, g) = b (leb-false (to + n) lim e) in rw (f, g) (puts_not w lim to xs (omega (arith, l, leb-false (to + n) lim e)))
 
 -- ---- store_named
 pub named-stored : (w w1 w2 : List ℕ) (to code wd span k : ℕ) → w1 ≡ store w to (code ∷ le 8 span) → w2 ≡ store w1 (to + 9) (le wd k) → w2 ≡ store w to (code ∷ (le 8 span ++ le wd k))
@@ -160,16 +160,11 @@ module _ (w w1 : List ℕ) (to wd span k : ℕ) (a : w1 ≡ store w to (40 ∷ l
 
 -- ---- put_plus
 module _ (w w1 : List ℕ) (to span : ℕ) (a : w1 ≡ store w to (38 ∷ le 8 span)) where
-  plus_stored : set w1 (to + 9) 1 ≡ store w to (plus_head span)
+  pub plus_stored : set w1 (to + 9) 1 ≡ store w to (plus_head span)
   unfolding plus_head
   plus_stored =
       set_store w1 (to + 9) 1 ∙ ap (λ (x : List ℕ). store x (to + 9) (1 ∷ [])) a
       ∙ store-append w to (to + 9) (38 ∷ le 8 span) (1 ∷ []) (omega (arith, length-le 8 span))
-
-  pub plus_done : (lim : ℕ) → to ≤ lim → 10 ≤ lim - to → Puts w lim to (plus_head span) (to + 10) (set w1 (to + 9) 1)
-  plus_done lim h k = put_done w (plus_head span) 10 lim to (plus_long span) h k (set w1 (to + 9) 1) plus_stored
-
-pub ruleset putting = (rules, item_long, alternative_long, name_long, plus_long, nonterminal_long, put_behind, put_over, put_done, plus_done)
 
 pub ruleset storing_item = (rules, named-stored, item-first, item-second, item_third, item_kept, item_stored)
 

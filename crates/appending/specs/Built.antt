@@ -1,5 +1,5 @@
 -- The numbers of the built-in texts, nine words of eight bytes before the slots: 0, or the number and one. s is the tape, w is work. Assumes nothing: these are definitions.
-use Rattle.std.specs.Prelude.{◌≡◌, false, ◌⊎◌, List, [], ◌∷◌, ℕ, ◌+◌, ◌-◌, ◌*◌, ◌/◌, ◌≤◌, ◌<◌, length, get_or}
+use Rattle.std.specs.Prelude.{◌≡◌, false, ◌⊎◌, List, [], ◌∷◌, ℕ, ◌+◌, ◌-◌, ◌*◌, ◌/◌, ◌≤◌, ◌<◌, length, get_or, Option, Some, None}
 use Rattle.octets.specs.Plain.Numbers.{le_at}
 use Rattle.parse_tree.specs.Plain.Tree.{Text}
 use Rattle.parse_tree.specs.Plain.Texts.{has, number, with_new}
@@ -9,6 +9,19 @@ use Rattle.expander.specs.declared.slots.Numbered.{Numbered}
 use Rattle.expander.specs.Ground.{size_in, key_at, list_place, printed_at}
 use Rattle.expander.specs.Names.{listed_texts, named_in, Names}
 use Rattle.expander.proofs.GroundLaws.{Around}
+use Rattle.appending.specs.declared.built.BuiltIn.{BuiltIn}
+
+-- a text's number, by which it stands in work
+abbrev pub number_of : BuiltIn → ℕ
+number_of BuiltIn.EmptyVec = 0
+number_of BuiltIn.Vector = 1
+number_of BuiltIn.VecOfOne = 2
+number_of BuiltIn.Pushed = 3
+number_of BuiltIn.Element = 4
+number_of BuiltIn.SomeOfOne = 5
+number_of BuiltIn.Nothing = 6
+number_of BuiltIn.Chosen = 7
+number_of BuiltIn.All = 8
 
 unfoldable pub built_text : ℕ → Text
 built_text i = get_or built_ins i []
@@ -18,6 +31,11 @@ built_place g i = g.slots - 72 + 8 * i
 
 unfoldable pub built_at : List ℕ → Ground → ℕ → ℕ
 built_at w g i = le_at 8 w (built_place g i)
+
+-- the word of a text that has a number or none
+abbrev pub word_of : Option ℕ → ℕ
+word_of None = 0
+word_of (Some k) = k + 1
 
 -- the i-th has the number k
 pub record BuiltIs (s w : List ℕ) (g : Ground) (c i k : ℕ) : Type 0 where

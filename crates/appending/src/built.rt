@@ -1,100 +1,126 @@
-// The numbers of the texts that the Rust's repeats and groups have. No printed form is one of them, so only the texts that have their bytes are asked.
+// Built-in texts, and their numbers: those that the Rust's repeats and groups have. No printed form is one of them, so only the texts that have their bytes are asked.
 ghost use Rattle.std.specs.Prelude.{◌≡◌, ◌+◌, ◌*◌, ◌≤◌, ◌<◌, length};
 ghost use Rattle.octets.specs.Plain.Numbers.{le};
 ghost use Rattle.octets.specs.Working.Stores.{store};
 ghost use Rattle.texts.specs.Table.{Table, Finds, texts};
 ghost use Rattle.expander.specs.Ground.{list_place, Grounded};
-ghost use Rattle.appending.specs.Built.{built_text, built_place, built_at, SomeBuilt, GivesBuilt};
+ghost use Rattle.appending.specs.Built.{number_of, word_of, built_text, built_place, built_at, SomeBuilt, GivesBuilt};
 
 use expander::Ground;
 use expander::slots::Numbered;
 use octets::numbers::{store64, u64_at};
+use texts::Map;
 use texts::hash::hash;
 use texts::table::find;
-use texts::{Found, Map};
 
-// The texts by their numbers here.
-pub const NONE: usize = 0;
-
-pub const V: usize = 1;
-
-pub const ONE: usize = 2;
-
-pub const PUSH: usize = 3;
-
-pub const E: usize = 4;
-
-pub const SOME: usize = 5;
-
-pub const NOTHING: usize = 6;
-
-pub const CHOSEN: usize = 7;
-
-pub const ALL: usize = 8;
-
-fn word(work: &[u8], g: Ground, i: usize) -> usize
-    requires { (72 ≤ g.slots) × (built_place g i + 8 ≤ length work.now) }
-    ensures { result ≡ built_at work.now g i }
-{
-    u64_at(work, g.slots - 72 + 8 * i) as usize
+// A built-in text, in the order of their numbers: `alloc::vec![]`, `v`, `alloc::vec![<>]`, `{ let mut v = v; v.push(e); v }`, `e`, `Some(<>)`, `None`, `<>`, `(<>)`.
+#[derive(Clone, Copy, PartialEq, Eq)]
+pub enum BuiltIn {
+    EmptyVec,
+    Vector,
+    VecOfOne,
+    Pushed,
+    Element,
+    SomeOfOne,
+    Nothing,
+    Chosen,
+    All,
 }
 
-fn put_word(work: &mut [u8], g: Ground, i: usize, v: usize)
-    requires { (72 ≤ g.slots) × (built_place g i + 8 ≤ length work.old) }
-    ensures { work.new ≡ store work.old (built_place g i) (le 8 v) }
+// Its number, as it stands in work.
+fn number_of(text: BuiltIn) -> usize
+    ensures { result ≡ number_of text }
 {
-    store64(work, g.slots - 72 + 8 * i, v as u64);
+    text as usize
 }
 
-// The i-th is the c-th new text.
-fn put_next(work: &mut [u8], g: Ground, c: usize, i: usize)
-    requires { (72 ≤ g.slots) × (list_place g c + 8 ≤ length work.old) × (built_place g i + 8 ≤ length work.old) }
-    ensures { work.new ≡ store (store work.old (list_place g c) (le 8 (2 * i + 1))) (built_place g i) (le 8 (g.m.count + c + 1)) }
-{
-    store64(work, g.m.base + 24 * g.m.count + 8 * c, (2 * i + 1) as u64);
-    put_word(work, g, i, g.m.count + c + 1);
-}
-
-fn find_text<'a>(tape: &'a [u8], work: &'a [u8], m: Map, t: &[u8]) -> Found
-    requires { Table tape.now work.now m × (0 < m.buckets) }
-    ensures { Finds (texts tape.now work.now m) t.now result }
-{
-    find(tape, work, m, t, hash(t))
-}
-
-// The number of the i-th in the table.
-fn find_built<'a>(tape: &'a [u8], work: &'a [u8], m: Map, i: usize) -> Found
-    requires { Table tape.now work.now m × (0 < m.buckets) × (i < 9) }
-    ensures { Finds (texts tape.now work.now m) (built_text i) result }
+// The text of a number that stands there.
+pub fn of_number(i: usize) -> BuiltIn
+    requires { i < 9 }
+    ensures { number_of result ≡ i }
 {
     match i {
-        NONE => find_text(tape, work, m, b"alloc::vec![]"),
-        V => find_text(tape, work, m, b"v"),
-        ONE => find_text(tape, work, m, b"alloc::vec![<>]"),
-        PUSH => find_text(tape, work, m, b"{ let mut v = v; v.push(e); v }"),
-        E => find_text(tape, work, m, b"e"),
-        SOME => find_text(tape, work, m, b"Some(<>)"),
-        NOTHING => find_text(tape, work, m, b"None"),
-        CHOSEN => find_text(tape, work, m, b"<>"),
-        _ => find_text(tape, work, m, b"(<>)"),
+        0 => BuiltIn::EmptyVec,
+        1 => BuiltIn::Vector,
+        2 => BuiltIn::VecOfOne,
+        3 => BuiltIn::Pushed,
+        4 => BuiltIn::Element,
+        5 => BuiltIn::SomeOfOne,
+        6 => BuiltIn::Nothing,
+        7 => BuiltIn::Chosen,
+        _ => BuiltIn::All,
     }
 }
 
-// The number of the i-th, which was not asked for yet.
-fn first(tape: &[u8], work: &mut [u8], g: Ground, n: usize, c: usize, i: usize) -> Numbered
-    requires { Grounded tape.now work.old g × SomeBuilt tape.now work.old g n c × (i < 9) × (built_at work.old g i ≡ 0) }
-    ensures { GivesBuilt tape.now work.old g n c i result work.new }
+// Its bytes.
+pub fn bytes(text: BuiltIn) -> &'static [u8]
+    ensures { result.now ≡ built_text (number_of text) }
 {
-    match find_built(tape, work, g.m, i) {
-        Found::At(k) => {
-            put_word(work, g, i, k + 1);
+    match text {
+        BuiltIn::EmptyVec => b"alloc::vec![]",
+        BuiltIn::Vector => b"v",
+        BuiltIn::VecOfOne => b"alloc::vec![<>]",
+        BuiltIn::Pushed => b"{ let mut v = v; v.push(e); v }",
+        BuiltIn::Element => b"e",
+        BuiltIn::SomeOfOne => b"Some(<>)",
+        BuiltIn::Nothing => b"None",
+        BuiltIn::Chosen => b"<>",
+        BuiltIn::All => b"(<>)",
+    }
+}
+
+// What its word says: its number among the texts, if it was asked for.
+fn word(work: &[u8], g: Ground, text: BuiltIn) -> Option<usize>
+    requires { (72 ≤ g.slots) × (built_place g (number_of text) + 8 ≤ length work.now) }
+    ensures { built_at work.now g (number_of text) ≡ word_of result }
+{
+    let i = number_of(text);
+    let v = u64_at(work, g.slots - 72 + 8 * i) as usize;
+    if v == 0 { None } else { Some(v - 1) }
+}
+
+fn put_word(work: &mut [u8], g: Ground, text: BuiltIn, v: usize)
+    requires { (72 ≤ g.slots) × (built_place g (number_of text) + 8 ≤ length work.old) }
+    ensures { work.new ≡ store work.old (built_place g (number_of text)) (le 8 v) }
+{
+    let i = number_of(text);
+    store64(work, g.slots - 72 + 8 * i, v as u64);
+}
+
+// The text is the c-th new one.
+fn put_next(work: &mut [u8], g: Ground, c: usize, text: BuiltIn)
+    requires { (72 ≤ g.slots) × (list_place g c + 8 ≤ length work.old) × (built_place g (number_of text) + 8 ≤ length work.old) }
+    ensures { work.new ≡ store (store work.old (list_place g c) (le 8 (2 * number_of text + 1))) (built_place g (number_of text)) (le 8 (g.m.count + c + 1)) }
+{
+    let i = number_of(text);
+    store64(work, g.m.base + 24 * g.m.count + 8 * c, (2 * i + 1) as u64);
+    put_word(work, g, text, g.m.count + c + 1);
+}
+
+// The number of a text in the table.
+fn find_built<'a>(tape: &'a [u8], work: &'a [u8], m: Map, text: BuiltIn) -> Option<usize>
+    requires { Table tape.now work.now m × (0 < m.buckets) }
+    ensures { Finds (texts tape.now work.now m) (built_text (number_of text)) result }
+{
+    let t = bytes(text);
+    find(tape, work, m, t, hash(t))
+}
+
+// The number of a text that was not asked for yet.
+fn first(tape: &[u8], work: &mut [u8], g: Ground, n: usize, c: usize, text: BuiltIn) -> Numbered
+    requires { Grounded tape.now work.old g × SomeBuilt tape.now work.old g n c × (built_at work.old g (number_of text) ≡ 0) }
+    ensures { GivesBuilt tape.now work.old g n c (number_of text) result work.new }
+{
+    match find_built(tape, work, g.m, text) {
+        Some(k) => {
+            put_word(work, g, text, k + 1);
             Numbered {
                 number: k,
                 count: c,
             }
         }
-        Found::Nothing => {
-            put_next(work, g, c, i);
+        None => {
+            put_next(work, g, c, text);
             Numbered {
                 number: g.m.count + c,
                 count: c + 1,
@@ -103,17 +129,16 @@ fn first(tape: &[u8], work: &mut [u8], g: Ground, n: usize, c: usize, i: usize) 
     }
 }
 
-// The number of the i-th: the next one, if it is no text yet. n symbols were pushed, c texts are new.
-pub fn built(tape: &[u8], work: &mut [u8], g: Ground, n: usize, c: usize, i: usize) -> Numbered
-    requires { Grounded tape.now work.old g × SomeBuilt tape.now work.old g n c × (i < 9) }
-    ensures { GivesBuilt tape.now work.old g n c i result work.new }
+// The number of a text: the next one, if it is no text yet. n symbols were pushed, c texts are new.
+pub fn built(tape: &[u8], work: &mut [u8], g: Ground, n: usize, c: usize, text: BuiltIn) -> Numbered
+    requires { Grounded tape.now work.old g × SomeBuilt tape.now work.old g n c }
+    ensures { GivesBuilt tape.now work.old g n c (number_of text) result work.new }
 {
-    let v = word(work, g, i);
-    if v != 0 {
-        return Numbered {
-            number: v - 1,
+    match word(work, g, text) {
+        Some(k) => Numbered {
+            number: k,
             count: c,
-        };
+        },
+        None => first(tape, work, g, n, c, text),
     }
-    first(tape, work, g, n, c, i)
 }

@@ -1,5 +1,6 @@
 // Commands of items that are appended. Each is put if it ends at lim or before; else the cursor is lim + 1.
-ghost use Rattle.std.specs.Prelude.{◌≡◌, [], ◌∷◌, ◌++◌, ◌+◌, ◌≤◌, length};
+ghost use Rattle.std.specs.Prelude.{◌≡◌, [], ◌∷◌, ◌++◌, ◌+◌, ◌≤◌, ◌<◌, length};
+ghost use Rattle.std.specs.Fn.{FnOnceReturnsAtMut};
 ghost use Rattle.octets.specs.Plain.Numbers.{le};
 ghost use Rattle.octets.specs.Working.Stores.{store};
 ghost use Rattle.precedence.specs.Write.{Puts};
@@ -8,6 +9,31 @@ ghost use Rattle.appending.specs.Commands.{item_head, alternative_head, name_hea
 use octets::numbers::store16;
 use precedence::substitute::put_atom;
 use precedence::write::put_command;
+
+// The n bytes that `store` writes from `to` on, if they end at lim or before.
+// Two tests with a return each: joined by `&&` they took three machine instructions more.
+#[inline(always)]
+pub fn put<F: FnOnce(&mut [u8])>(
+    work: &mut [u8],
+    n: usize,
+    lim: usize,
+    to: usize,
+    store: F,
+) -> usize
+    requires inside { lim ≤ length work.old }
+    requires stores { (x : _) → (length x.now ≡ length work.old) × (to + n ≤ lim) → F.pre store x }
+    ensures whole { to + n ≤ lim → (result ≡ to + n) × FnOnceReturnsAtMut F.FnOnce store work.old tt work.new }
+    ensures over { lim < to + n → (result ≡ lim + 1) × (work.new ≡ work.old) }
+{
+    if lim < to {
+        return lim + 1;
+    }
+    if lim - to < n {
+        return lim + 1;
+    }
+    store(work);
+    to + n
+}
 
 // A code, a span and the number of a text.
 fn store_named(work: &mut [u8], code: u8, span: u64, k: u32, width: usize, to: usize)
@@ -50,14 +76,9 @@ pub fn put_item(
     requires { (2 ≤ width) × (width ≤ 3) × (lim ≤ length work.old) }
     ensures { Puts work.old lim to (item_head width span k flags alternatives) result work.new }
 {
-    if lim < to {
-        return lim + 1;
-    }
-    if lim - to < 13 + width {
-        return lim + 1;
-    }
-    store_item(work, span, k, flags, alternatives, width, to);
-    to + (13 + width)
+    put(work, 13 + width, lim, to, move |w| {
+        store_item(w, span, k, flags, alternatives, width, to)
+    })
 }
 
 // The beginning of an alternative without attributes and condition.
@@ -102,14 +123,9 @@ pub fn put_alternative(
     requires { (2 ≤ width) × (width ≤ 3) × (lim ≤ length work.old) }
     ensures { Puts work.old lim to (alternative_head width span act text symbols) result work.new }
 {
-    if lim < to {
-        return lim + 1;
-    }
-    if lim - to < 14 + width {
-        return lim + 1;
-    }
-    store_alternative(work, span, act, text, symbols, width, to);
-    to + (14 + width)
+    put(work, 14 + width, lim, to, move |w| {
+        store_alternative(w, span, act, text, symbols, width, to)
+    })
 }
 
 fn store_name(work: &mut [u8], span: u64, k: u32, width: usize, to: usize)
@@ -126,14 +142,9 @@ pub fn put_name(work: &mut [u8], span: u64, k: u32, width: usize, lim: usize, to
     requires { (2 ≤ width) × (width ≤ 3) × (lim ≤ length work.old) }
     ensures { Puts work.old lim to (name_head width span k) result work.new }
 {
-    if lim < to {
-        return lim + 1;
-    }
-    if lim - to < 10 + width {
-        return lim + 1;
-    }
-    store_name(work, span, k, width, to);
-    to + (10 + width)
+    put(work, 10 + width, lim, to, move |w| {
+        store_name(w, span, k, width, to)
+    })
 }
 
 // A repeat of one or more of the symbol that comes next.
@@ -141,15 +152,10 @@ pub fn put_plus(work: &mut [u8], span: u64, lim: usize, to: usize) -> usize
     requires { lim ≤ length work.old }
     ensures { Puts work.old lim to (plus_head span) result work.new }
 {
-    if lim < to {
-        return lim + 1;
-    }
-    if lim - to < 10 {
-        return lim + 1;
-    }
-    put_command(work, 38, span, to);
-    work[to + 9] = 1;
-    to + 10
+    put(work, 10, lim, to, move |w| {
+        put_command(w, 38, span, to);
+        w[to + 9] = 1;
+    })
 }
 
 // A nonterminal as a symbol.
@@ -164,12 +170,7 @@ pub fn put_nonterminal(
     requires { (2 ≤ width) × (width ≤ 3) × (lim ≤ length work.old) }
     ensures { Puts work.old lim to (36 ∷ (le 8 span ++ le width k)) result work.new }
 {
-    if lim < to {
-        return lim + 1;
-    }
-    if lim - to < 9 + width {
-        return lim + 1;
-    }
-    store_named(work, 36, span, k, width, to);
-    to + (9 + width)
+    put(work, 9 + width, lim, to, move |w| {
+        store_named(w, 36, span, k, width, to)
+    })
 }

@@ -49,9 +49,9 @@ fn put_reference(tape: &[u8], work: &mut [u8], g: Ground, n: usize, lim: usize, 
     Copied {
         at: e - g.from,
         out: Appended {
-            to: to,
+            to,
             count: x.count,
-            deep: q.out.deep,
+            ..q.out
         },
     }
 }
@@ -66,11 +66,7 @@ fn put_command(work: &mut [u8], g: Ground, lim: usize, q: Copied, c: u8) -> Copi
     let to = put_run(work, at, at + k, lim, q.out.to);
     Copied {
         at: q.at + k,
-        out: Appended {
-            to: to,
-            count: q.out.count,
-            deep: q.out.deep,
-        },
+        out: Appended { to, ..q.out },
     }
 }
 
@@ -83,15 +79,16 @@ fn put_next(tape: &[u8], work: &mut [u8], g: Ground, n: usize, lim: usize, x: Co
     let at = g.from + q.at;
     let c = work[at];
     if is_expanded(c) {
-        let r = put_reference(tape, work, g, n, lim, q);
-        return Coming {
+        let run = put_reference(tape, work, g, n, lim, q);
+        Coming {
             left: x.left - 1,
-            run: r,
-        };
+            run,
+        }
+    } else {
+        let left = x.left - 1 + inside(work, at, g.width);
+        let run = put_command(work, g, lim, q, c);
+        Coming { left, run }
     }
-    let k = x.left - 1 + inside(work, at, g.width);
-    let r = put_command(work, g, lim, q, c);
-    Coming { left: k, run: r }
 }
 
 // k symbols that stand at p; n symbols were pushed, and items are written before lim.
@@ -113,6 +110,7 @@ pub fn put_symbols(
         left: k,
         run: first,
     };
+    // How many are to come grows by what stands inside: no range says it.
     while 0 < x.left {
         x = put_next(tape, work, g, n, lim, x);
     }

@@ -1,7 +1,6 @@
 // The calls that a line can name.
 use normalize::calls::{levels, macros, resolve, validate, whole};
-use octets::runs::equal;
-use output::Answer;
+use parse_tree::refusal::Refusal;
 
 // The rounds of macros where no word says how many.
 pub const ROUNDS: usize = 64;
@@ -16,29 +15,15 @@ pub enum Call {
     Whole(usize),
 }
 
-#[derive(Clone, Copy)]
-pub enum Named {
-    Is(Call),
-    Nothing,
-}
-
-pub fn call_of(word: &[u8]) -> Named {
-    if equal(word, b"validate") {
-        return Named::Is(Call::Validate);
+pub fn call_of(word: &[u8]) -> Option<Call> {
+    match word {
+        b"validate" => Some(Call::Validate),
+        b"resolve" => Some(Call::Resolve),
+        b"levels" => Some(Call::Levels),
+        b"macros" => Some(Call::Macros(ROUNDS)),
+        b"whole" => Some(Call::Whole(ROUNDS)),
+        _ => None,
     }
-    if equal(word, b"resolve") {
-        return Named::Is(Call::Resolve);
-    }
-    if equal(word, b"levels") {
-        return Named::Is(Call::Levels);
-    }
-    if equal(word, b"macros") {
-        return Named::Is(Call::Macros(ROUNDS));
-    }
-    if equal(word, b"whole") {
-        return Named::Is(Call::Whole(ROUNDS));
-    }
-    Named::Nothing
 }
 
 // The call within another limit, if it takes one.
@@ -66,7 +51,7 @@ pub fn handed(call: Call, output: usize) -> usize {
     }
 }
 
-pub fn ask(call: Call, tape: &[u8], output: &mut [u8], work: &mut [u8]) -> Answer {
+pub fn ask(call: Call, tape: &[u8], output: &mut [u8], work: &mut [u8]) -> Result<usize, Refusal> {
     match call {
         Call::Validate => validate(tape, work),
         Call::Resolve => resolve(tape, output, work),

@@ -2,11 +2,10 @@
 ghost use Rattle.std.specs.Prelude.{◌≤◌, length};
 
 use crate::buffers::Buffers;
-use crate::call::{Call, Named, ROUNDS, call_of, usual_output, within};
+use crate::call::{Call, ROUNDS, call_of, usual_output, within};
 use crate::report::run_case;
 use crate::tape::put_word;
-use notation::bytes::Written;
-use notation::words::{Number, decimal, find};
+use notation::words::{decimal, find};
 use std::io;
 use std::io::Write;
 
@@ -15,136 +14,63 @@ use std::io::Write;
 struct Case {
     tape: usize,
     limit: usize,
-    has_output: bool,
-    output: usize,
-    has_work: bool,
-    work: usize,
+    output: Option<usize>,
+    work: Option<usize>,
 }
 
-#[derive(Clone, Copy)]
-enum Read {
-    Case(Case),
-    Bad,
-}
-
-fn with_output(c: Case, n: usize) -> Case {
-    Case {
-        tape: c.tape,
-        limit: c.limit,
-        has_output: true,
-        output: n,
-        has_work: c.has_work,
-        work: c.work,
-    }
-}
-
-fn with_work(c: Case, n: usize) -> Case {
-    Case {
-        tape: c.tape,
-        limit: c.limit,
-        has_output: c.has_output,
-        output: c.output,
-        has_work: true,
-        work: n,
-    }
-}
-
-fn with_limit(c: Case, n: usize) -> Case {
-    Case {
-        tape: c.tape,
-        limit: n,
-        has_output: c.has_output,
-        output: c.output,
-        has_work: c.has_work,
-        work: c.work,
-    }
-}
-
-fn with_tape(c: Case, n: usize) -> Case {
-    Case {
-        tape: n,
-        limit: c.limit,
-        has_output: c.has_output,
-        output: c.output,
-        has_work: c.has_work,
-        work: c.work,
-    }
-}
-
-// One word more.
-fn read_word(word: &[u8], tape: &mut [u8], c: Case) -> Read {
-    if word.len() == 0 {
-        return Read::Bad;
-    }
-    if word[0] == b'o' {
-        let Number::Is(n) = decimal(&word[1..]) else {
-            return Read::Bad;
-        };
-        return Read::Case(with_output(c, n));
-    }
-    if word[0] == b'w' {
-        let Number::Is(n) = decimal(&word[1..]) else {
-            return Read::Bad;
-        };
-        return Read::Case(with_work(c, n));
-    }
-    if word[0] == b'l' {
-        let Number::Is(n) = decimal(&word[1..]) else {
-            return Read::Bad;
-        };
-        return Read::Case(with_limit(c, n));
-    }
-    match put_word(word, tape, c.tape) {
-        Written::Bad => Read::Bad,
-        Written::To(e) => Read::Case(with_tape(c, e)),
+// One word more; None of a word that is none.
+fn read_word(word: &[u8], tape: &mut [u8], c: Case) -> Option<Case> {
+    match word {
+        [b'o', rest @ ..] => Some(Case {
+            output: Some(decimal(rest)?),
+            ..c
+        }),
+        [b'w', rest @ ..] => Some(Case {
+            work: Some(decimal(rest)?),
+            ..c
+        }),
+        [b'l', rest @ ..] => Some(Case {
+            limit: decimal(rest)?,
+            ..c
+        }),
+        _ => Some(Case {
+            tape: put_word(word, tape, c.tape)?,
+            ..c
+        }),
     }
 }
 
 // The words of a line from a place on, where a space stands before each.
-fn read_words(line: &[u8], from: usize, tape: &mut [u8]) -> Read {
+fn read_words(line: &[u8], from: usize, tape: &mut [u8]) -> Option<Case> {
     let mut c = Case {
         tape: 0,
         limit: ROUNDS,
-        has_output: false,
-        output: 0,
-        has_work: false,
-        work: 0,
+        output: None,
+        work: None,
     };
     let mut at = from;
     while at < line.len() {
         let end = find(line, b' ', at + 1);
-        match read_word(&line[at + 1..end], tape, c) {
-            Read::Bad => {
-                return Read::Bad;
-            }
-            Read::Case(next) => {
-                c = next;
-                at = end;
-            }
-        }
+        c = read_word(&line[at + 1..end], tape, c)?;
+        at = end;
     }
-    Read::Case(c)
+    Some(c)
 }
 
 fn output_length(c: Case, call: Call) -> usize {
-    if c.has_output {
-        return c.output;
+    match c.output {
+        Some(n) => n,
+        None => usual_output(call, c.tape),
     }
-    usual_output(call, c.tape)
 }
 
 // 8 bytes for each byte of tape and output, unless the case says another length.
 fn work_length(c: Case, output: usize) -> usize {
-    if c.has_work {
-        return c.work;
+    match c.work {
+        Some(n) => n,
+        None if 10000000 < c.tape || 10000000 < output => usize::MAX,
+        None => 8 * (c.tape + output),
     }
-    if 10000000 < c.tape {
-        return usize::MAX;
-    }
-    if 10000000 < output {
-        return usize::MAX;
-    }
-    8 * (c.tape + output)
 }
 
 fn print_bad(writer: &mut impl Write) -> io::Result<()> {
@@ -190,7 +116,7 @@ fn run_named(
 ) -> io::Result<()>
     requires { end ≤ length line.now }
 {
-    let Read::Case(c) = read_words(line, end, &mut buffers.tape) else {
+    let Some(c) = read_words(line, end, &mut buffers.tape) else {
         return print_bad(writer);
     };
     let o = output_length(c, call);
@@ -201,7 +127,7 @@ fn run_named(
 
 pub fn run_line(line: &[u8], buffers: &mut Buffers, writer: &mut impl Write) -> io::Result<()> {
     let space = find(line, b' ', 0);
-    let Named::Is(call) = call_of(&line[..space]) else {
+    let Some(call) = call_of(&line[..space]) else {
         return print_bad(writer);
     };
     if space == line.len() {

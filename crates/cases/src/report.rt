@@ -1,9 +1,9 @@
 // One case run, and its answer printed.
 use crate::call::{Call, ask, handed};
-use notation::buffers::{fill, is_all};
+use notation::buffers::is_all;
 use notation::bytes::put_digits;
-use output::Answer;
 use output::room::enough;
+use parse_tree::refusal::Refusal;
 use std::io;
 use std::io::Write;
 
@@ -55,13 +55,18 @@ fn print_output(call: Call, output: &[u8], n: usize, writer: &mut impl Write) ->
     }
 }
 
-fn print_answer(call: Call, a: Answer, output: &[u8], writer: &mut impl Write) -> io::Result<()> {
+fn print_answer(
+    call: Call,
+    a: Result<usize, Refusal>,
+    output: &[u8],
+    writer: &mut impl Write,
+) -> io::Result<()> {
     match a {
-        Answer::Yes(n) => {
+        Ok(n) => {
             print_number(b" yes ", n, writer)?;
             print_output(call, output, n, writer)
         }
-        Answer::No(r) => {
+        Err(r) => {
             print_number(b" refused ", r.number, writer)?;
             print_number(b" ", r.from, writer)?;
             print_number(b" ", r.to, writer)?;
@@ -73,9 +78,10 @@ fn print_answer(call: Call, a: Answer, output: &[u8], writer: &mut impl Write) -
 // What the work buffer must hold afterwards: it is zeroed where it suffices, and otherwise untouched.
 fn after(tape: usize, output: usize, work: usize) -> u8 {
     if enough(tape, output, work) {
-        return 0;
+        0
+    } else {
+        BEFORE
     }
-    BEFORE
 }
 
 pub fn run_case(
@@ -86,8 +92,8 @@ pub fn run_case(
     work: &mut [u8],
     writer: &mut impl Write,
 ) -> io::Result<()> {
-    fill(output, BEFORE);
-    fill(work, BEFORE);
+    output.fill(BEFORE);
+    work.fill(BEFORE);
     let a = ask(call, tape, output, work);
     writer.write_all(head)?;
     print_answer(call, a, output, writer)?;

@@ -1,26 +1,17 @@
 // The tape of a case, word by word. What finds no room is counted and not written.
 ghost use Rattle.std.specs.Prelude.{◌<◌};
 
-use notation::bytes::{Written, put_bytes};
-use notation::words::{Number, decimal, find};
+use notation::bytes::put_bytes;
+use notation::words::{decimal, find};
 use octets::sink::put8;
 
 // Bytes, so many times.
-fn put_repeated(text: &[u8], times: usize, tape: &mut [u8], to: usize) -> Written {
+fn put_repeated(text: &[u8], times: usize, tape: &mut [u8], to: usize) -> Option<usize> {
     let mut q = to;
-    let mut k = times;
-    while 0 < k {
-        match put_bytes(text, tape, q) {
-            Written::To(e) => {
-                q = e;
-                k -= 1;
-            }
-            Written::Bad => {
-                return Written::Bad;
-            }
-        }
+    for _ in 0..times {
+        q = put_bytes(text, tape, q)?;
     }
-    Written::To(q)
+    Some(q)
 }
 
 // The letters in the order A to Z, a to z.
@@ -28,9 +19,10 @@ fn letter(k: usize) -> u8
     requires { k < 52 }
 {
     if k < 26 {
-        return b'A' + k as u8;
+        b'A' + k as u8
+    } else {
+        b'a' + (k - 26) as u8
     }
-    b'a' + (k - 26) as u8
 }
 
 // An atom with the k-th text, which begins with a capital letter.
@@ -47,36 +39,28 @@ fn put_atom(k: usize, tape: &mut [u8], to: usize) -> usize
 }
 
 // So many atoms, no two equal.
-fn put_atoms(count: usize, tape: &mut [u8], to: usize) -> Written {
+fn put_atoms(count: usize, tape: &mut [u8], to: usize) -> Option<usize> {
     if 70304 < count {
-        return Written::Bad;
+        return None;
     }
     let mut q = to;
-    let mut k = 0;
-    while k < count {
+    for k in 0..count {
         q = put_atom(k, tape, q);
-        k += 1;
     }
-    Written::To(q)
+    Some(q)
 }
 
 // What a word that writes to the tape stands for.
-pub fn put_word(word: &[u8], tape: &mut [u8], to: usize) -> Written {
-    if word.len() == 0 {
-        return Written::Bad;
+pub fn put_word(word: &[u8], tape: &mut [u8], to: usize) -> Option<usize> {
+    if word.is_empty() {
+        return None;
     }
     if word[0] == b'a' {
-        let Number::Is(n) = decimal(&word[1..]) else {
-            return Written::Bad;
-        };
-        return put_atoms(n, tape, to);
+        return put_atoms(decimal(&word[1..])?, tape, to);
     }
     let x = find(word, b'x', 0);
     if x == word.len() {
         return put_bytes(word, tape, to);
     }
-    let Number::Is(n) = decimal(&word[..x]) else {
-        return Written::Bad;
-    };
-    put_repeated(&word[x + 1..], n, tape, to)
+    put_repeated(&word[x + 1..], decimal(&word[..x])?, tape, to)
 }

@@ -9,6 +9,7 @@ use mir.Val.{Fits}
 use mir.Syntax.{w64}
 use lib.Dec.{eqb}
 use lib.ListN.{length, get_or}
+use Rattle.std.specs.Prelude.{Option, Some, None}
 use Rattle.octets.specs.Working.Choice.{pick}
 use Rattle.parse_tree.specs.Plain.Tree.{Text, Sym, Syms, nil, cons, count}
 use Rattle.parse_tree.specs.Plain.Display.{shown, shown_all, shown_more, print}
@@ -21,8 +22,8 @@ use Rattle.resolve.specs.Commands.{long_of}
 use Rattle.grades.specs.Skip.{inside_by}
 use Rattle.display.specs.declared.Met.{Met}
 use Rattle.display.specs.Standing.{Readable, SymStands, SymsStand, SomeSym}
-use Rattle.display.specs.Follow.{met_by, before_by, behind_by, between_by, Follows}
-use Rattle.display.proofs.MetLaws.{met_append}
+use Rattle.display.specs.Follow.{met_by, before_by, behind_by, between_by, index_of, Follows}
+use Rattle.display.proofs.MetLaws.{met_append, met_none, met_then, met_not}
 use Rattle.display.proofs.StandsLaws.{before_text, between_text, behind_text, print-parts, standing, first_stands, none_stand}
 
 -- the symbols that are left, k stand before them
@@ -63,79 +64,138 @@ module _ (s w : List ℕ) (m : Map) (wd left at : ℕ) (h : SomeSym s w m wd lef
 pub some_fits : (s w : List ℕ) (m : Map) (wd left at l : ℕ) → SomeSym s w m wd left at → l ≤ 17 → length w * 1 < 2 ^ 63 → Fits w64 (at + l)
 some_fits s w m wd left at l h k f = let z = some_within s w m wd left at h in omega arith
 
--- ---- follow: b bytes were met of what stands before the symbols straight inside that at a place
-module _ (s w : List ℕ) (m : Map) (wd left : ℕ) (t : Text) (at : ℕ) where
+-- ---- follow: from p on
+none_some : (q : Met) → None ≡ Some q → ⊥
+none_some q e = cc
+
+-- after a difference
+pub lost : (s w : List ℕ) (m : Map) (wd left : ℕ) (t : Text) (p : Met) → ((four : Bool) (e : ℕ) (x : Sym) → SymStands s w m wd four left p.at e x → None ≡ met_by t (Some p.i) (print x)) → Follows s w m wd left t p None
+unfolding index_of
+lost s w m wd left t p f = record { place = λ q e. absurd (none_some q e); met = f }
+
+module _ (s w : List ℕ) (m : Map) (wd left : ℕ) (t : Text) (p : Met) where
   -- what is left of x, k of whose symbols are behind
-  pub record Rest (b : ℕ) (q : Met) (k : ℕ) (four : Bool) (e : ℕ) (x : Sym) : Type 0 where
+  pub record Rest (q : Met) (k : ℕ) (four : Bool) (e : ℕ) (x : Sym) : Type 0 where
     pub rest : Syms
     pub many : k + count rest ≡ count (children x)
     pub stand : SymsStand s w m wd four (left - 1) q.at e rest
-    pub met : met_by t q.i (shown_from k rest (between_text x) (behind_text x)) ≡ met_by t b (shown_all (children x) (between_text x) (behind_text x))
+    pub met : met_by t (Some q.i) (shown_from k rest (between_text x) (behind_text x)) ≡ met_by t (Some p.i) (print x)
 
-  pub record Going (c n b : ℕ) (q : Met) (k : ℕ) : Type 0 where
+  pub record Going (c n : ℕ) (q : Met) (k : ℕ) : Type 0 where
     pub readable : Readable s w m wd
-    pub some : SomeSym s w m wd left at
+    pub some : SomeSym s w m wd left p.at
     pub deep : 0 < left
-    pub code : c ≡ get_or w at 0
-    pub number : n ≡ inside_by wd w at c
-    pub carry : (four : Bool) (e : ℕ) (x : Sym) → SymStands s w m wd four left at e x → Rest b q k four e x
+    pub code : c ≡ get_or w p.at 0
+    pub number : n ≡ inside_by wd w p.at c
+    pub carry : (four : Bool) (e : ℕ) (x : Sym) → SymStands s w m wd four left p.at e x → Rest q k four e x
 
-  pub going_start : (c n l b : ℕ) → Readable s w m wd → SomeSym s w m wd left at → c ≡ get_or w at 0 → n ≡ inside_by wd w at c → l ≡ long_of wd c → Going c n b (record { at = at + l; i = b }) 0
-  unfolding shown_from pick
-  going_start c n l b a h d e f = record { readable = a; some = h; deep = some_deep s w m wd left at h; code = d; number = e; carry = go }
-    where
-      go : (four : Bool) (e : ℕ) (x : Sym) → SymStands s w m wd four left at e x → Rest b (record { at = at + l; i = b }) 0 four e x
-      go four e x h =
-          let st = standing s w m wd four left at e x h in
-          let y : l ≡ long_of wd (get_or w at 0) = f ∙ ap (long_of wd) d in
-          record { rest = children x; many = omega arith; stand = rw y st.inside; met = refl }
+  module _ (c : ℕ) (d : c ≡ get_or w p.at 0) (o : Option ℕ) (j : o ≡ met_by t (Some p.i) (before_by wd (texts s w m) w p.at c)) where
+    -- what stands before the symbols straight inside was met
+    before_met : (four : Bool) (e : ℕ) (x : Sym) → SymStands s w m wd four left p.at e x → o ≡ met_by t (Some p.i) (before_text x)
+    before_met four e x h = j ∙ ap (λ (v : ℕ). met_by t (Some p.i) (before_by wd (texts s w m) w p.at v)) d ∙ ap (met_by t (Some p.i)) (standing s w m wd four left p.at e x h).reads.before
 
-  module _ (c n b : ℕ) (q : Met) (k : ℕ) (g : Going c n b q k) where
-    -- n is the number of symbols straight inside
-    held : (four : Bool) (e : ℕ) (x : Sym) → SymStands s w m wd four left at e x → n ≡ count (children x)
-    held four e x h = g.number ∙ ap (inside_by wd w at) g.code ∙ (standing s w m wd four left at e x h).reads.held
+    pub start_lost : o ≡ None → Follows s w m wd left t p None
+    start_lost z = lost s w m wd left t p (λ four e x h. met_not t (Some p.i) (before_text x) (shown_all (children x) (between_text x) (behind_text x)) (before_met four e x h) z ∙ ap (met_by t (Some p.i)) (sym (print-parts x)))
 
-    pub going_next : (i : ℕ) (r : Met) → k < n → i ≡ met_by t q.i (between_by c k) → Follows s w m wd (left - 1) t (record { at = q.at; i = i }) r → Going c n b r (k + 1)
-    unfolding count
-    going_next i r l d f =
-        record { readable = g.readable; some = g.some; deep = g.deep; code = g.code; number = g.number; carry = λ four e x h. let z = g.carry four e x h in go four e x h z.rest z.many z.stand z.met }
+    pub going_start : (n l b : ℕ) → Readable s w m wd → SomeSym s w m wd left p.at → n ≡ inside_by wd w p.at c → l ≡ long_of wd c → o ≡ Some b → Going c n (record { at = p.at + l; i = b }) 0
+    unfolding shown_from pick
+    going_start n l b a h e f z = record { readable = a; some = h; deep = some_deep s w m wd left p.at h; code = d; number = e; carry = go }
       where
-        go : (four : Bool) (e : ℕ) (x : Sym) → SymStands s w m wd four left at e x → (xs : Syms) → k + count xs ≡ count (children x) → SymsStand s w m wd four (left - 1) q.at e xs
-            → met_by t q.i (shown_from k xs (between_text x) (behind_text x)) ≡ met_by t b (shown_all (children x) (between_text x) (behind_text x)) → Rest b r (k + 1) four e x
-        go four e x h nil j st u = let z = held four e x h in absurd (omega arith)
-        go four e x h (cons y ys) j st u =
-            let fs = first_stands s w m wd four (left - 1) q.at e y ys st in
-            let a = f.place four (q.at + length (sym_bytes wd (texts s w m) y)) y fs.0 in
-            let o = f.met four (q.at + length (sym_bytes wd (texts s w m) y)) y fs.0 in
-            let v = shown_more ys (between_text x) (behind_text x) in
-            let sd : (o : ℕ) → between_by c (suc o) ≡ between_text x = λ o. ap (λ (z : ℕ). between_by z (suc o)) g.code ∙ (standing s w m wd four left at e x h).reads.between o in
+        go : (four : Bool) (e : ℕ) (x : Sym) → SymStands s w m wd four left p.at e x → Rest (record { at = p.at + l; i = b }) 0 four e x
+        go four e x h =
+            let st = standing s w m wd four left p.at e x h in
+            let y : l ≡ long_of wd (get_or w p.at 0) = f ∙ ap (long_of wd) d in
             record {
-              rest = ys;
+              rest = children x;
               many = omega arith;
-              stand = rw a fs.1;
-              met = ap (met_by t r.i) (shown_later k ys (between_text x) (behind_text x)) ∙ ap (λ (z : ℕ). met_by t z v) o ∙ met_append t i (print y) v ∙ ap (met_by t i) (print-then y v)
-                  ∙ ap (λ (z : ℕ). met_by t z (shown y v)) d ∙ met_append t q.i (between_by c k) (shown y v) ∙ ap (met_by t q.i) (shown_first c k y ys (between_text x) (behind_text x) sd) ∙ u;
+              stand = rw y st.inside;
+              met = met_then t (Some p.i) (before_text x) (shown_all (children x) (between_text x) (behind_text x)) (before_met four e x h) z refl ∙ ap (met_by t (Some p.i)) (sym (print-parts x));
             }
 
-    place : (four : Bool) (e : ℕ) (x : Sym) → n ≤ k → SymStands s w m wd four left at e x → (xs : Syms) → k + count xs ≡ count (children x) → SymsStand s w m wd four (left - 1) q.at e xs → q.at ≡ e
-    unfolding count
-    place four e x l h nil j st = none_stand s w m wd four (left - 1) q.at e st
-    place four e x l h (cons y ys) j st = let z = held four e x h in absurd (omega arith)
+  module _ (c n : ℕ) (q : Met) (k : ℕ) (g : Going c n q k) where
+    -- n is the number of symbols straight inside
+    held : (four : Bool) (e : ℕ) (x : Sym) → SymStands s w m wd four left p.at e x → n ≡ count (children x)
+    held four e x h = g.number ∙ ap (inside_by wd w p.at) g.code ∙ (standing s w m wd four left p.at e x h).reads.held
 
-    all_met : (i p : ℕ) → n ≤ k → b ≡ met_by t p (before_by wd (texts s w m) w at c) → i ≡ met_by t q.i (behind_by w at c) → (four : Bool) (e : ℕ) (x : Sym) → SymStands s w m wd four left at e x → (xs : Syms) → k + count xs ≡ count (children x)
-        → met_by t q.i (shown_from k xs (between_text x) (behind_text x)) ≡ met_by t b (shown_all (children x) (between_text x) (behind_text x)) → i ≡ met_by t p (print x)
-    unfolding count
-    all_met i p l a d four e x h nil j u =
-        let st = standing s w m wd four left at e x h in
-        let z : b ≡ met_by t p (before_text x) = a ∙ ap (λ (v : ℕ). met_by t p (before_by wd (texts s w m) w at v)) g.code ∙ ap (met_by t p) st.reads.before in
-        d ∙ ap (λ (v : ℕ). met_by t q.i (behind_by w at v)) g.code ∙ ap (met_by t q.i) (st.reads.behind ∙ sym (shown_none k (between_text x) (behind_text x))) ∙ u
-        ∙ ap (λ (v : ℕ). met_by t v (shown_all (children x) (between_text x) (behind_text x))) z ∙ met_append t p (before_text x) (shown_all (children x) (between_text x) (behind_text x)) ∙ ap (met_by t p) (sym (print-parts x))
-    all_met i p l a d four e x h (cons y ys) j u = let z = held four e x h in absurd (omega arith)
+    module _ (o : Option ℕ) (l : k < n) (d : o ≡ met_by t (Some q.i) (between_by c k)) where
+      -- what is left begins with what stands between
+      between_first : (four : Bool) (e : ℕ) (x : Sym) → SymStands s w m wd four left p.at e x → (y : Sym) (ys : Syms) → met_by t (Some q.i) (shown_from k (cons y ys) (between_text x) (behind_text x)) ≡ met_by t (Some p.i) (print x)
+          → met_by t (Some q.i) (between_by c k ++ shown y (shown_more ys (between_text x) (behind_text x))) ≡ met_by t (Some p.i) (print x)
+      between_first four e x h y ys u =
+          let sd : (o : ℕ) → between_by c (suc o) ≡ between_text x = λ o. ap (λ (z : ℕ). between_by z (suc o)) g.code ∙ (standing s w m wd four left p.at e x h).reads.between o in
+          ap (met_by t (Some q.i)) (shown_first c k y ys (between_text x) (behind_text x) sd) ∙ u
 
-pub going_done : (s w : List ℕ) (m : Map) (wd left : ℕ) (t : Text) (p : Met) (c n b : ℕ) (q : Met) (k i : ℕ) → Going s w m wd left t p.at c n b q k → n ≤ k
-    → b ≡ met_by t p.i (before_by wd (texts s w m) w p.at c) → i ≡ met_by t q.i (behind_by w p.at c) → Follows s w m wd left t p (record { at = q.at; i = i })
-going_done s w m wd left t p c n b q k i g l a d =
-    record {
-      place = λ four e x h. place s w m wd left t p.at c n b q k g four e x l h (g.carry four e x h).rest (g.carry four e x h).many (g.carry four e x h).stand;
-      met = λ four e x h. all_met s w m wd left t p.at c n b q k g i p.i l a d four e x h (g.carry four e x h).rest (g.carry four e x h).many (g.carry four e x h).met;
-    }
+      pub between_lost : o ≡ None → Follows s w m wd left t p None
+      unfolding count
+      between_lost z = lost s w m wd left t p (λ four e x h. let r = g.carry four e x h in go four e x h r.rest r.many r.met)
+        where
+          go : (four : Bool) (e : ℕ) (x : Sym) → SymStands s w m wd four left p.at e x → (xs : Syms) → k + count xs ≡ count (children x)
+              → met_by t (Some q.i) (shown_from k xs (between_text x) (behind_text x)) ≡ met_by t (Some p.i) (print x) → None ≡ met_by t (Some p.i) (print x)
+          go four e x h nil j u = let z = held four e x h in absurd (omega arith)
+          go four e x h (cons y ys) j u = met_not t (Some q.i) (between_by c k) (shown y (shown_more ys (between_text x) (behind_text x))) d z ∙ between_first four e x h y ys u
+
+      module _ (i : ℕ) (z : o ≡ Some i) (r : Option Met) (f : Follows s w m wd (left - 1) t (record { at = q.at; i = i }) r) where
+        -- the first of those left was held against t
+        first_met : (four : Bool) (e : ℕ) (x : Sym) → SymStands s w m wd four left p.at e x → (y : Sym) (ys : Syms) → SymsStand s w m wd four (left - 1) q.at e (cons y ys)
+            → met_by t (Some q.i) (shown_from k (cons y ys) (between_text x) (behind_text x)) ≡ met_by t (Some p.i) (print x)
+            → met_by t (index_of r) (shown_more ys (between_text x) (behind_text x)) ≡ met_by t (Some p.i) (print x)
+        first_met four e x h y ys st u =
+            let fs = first_stands s w m wd four (left - 1) q.at e y ys st in
+            let a = f.met four (q.at + length (sym_bytes wd (texts s w m) y)) y fs.0 in
+            let v = shown_more ys (between_text x) (behind_text x) in
+            ap (λ (b : Option ℕ). met_by t b v) a ∙ met_append t (Some i) (print y) v ∙ ap (met_by t (Some i)) (print-then y v)
+            ∙ met_then t (Some q.i) (between_by c k) (shown y v) d z refl ∙ between_first four e x h y ys u
+
+        pub inside_lost : r ≡ None → Follows s w m wd left t p None
+        unfolding count index_of
+        inside_lost e = lost s w m wd left t p (λ four e x h. let r = g.carry four e x h in go four e x h r.rest r.many r.stand r.met)
+          where
+            go : (four : Bool) (e : ℕ) (x : Sym) → SymStands s w m wd four left p.at e x → (xs : Syms) → k + count xs ≡ count (children x) → SymsStand s w m wd four (left - 1) q.at e xs
+                → met_by t (Some q.i) (shown_from k xs (between_text x) (behind_text x)) ≡ met_by t (Some p.i) (print x) → None ≡ met_by t (Some p.i) (print x)
+            go four d x h nil j st u = let z = held four d x h in absurd (omega arith)
+            go four d x h (cons y ys) j st u =
+                let v = shown_more ys (between_text x) (behind_text x) in
+                sym (met_none t v) ∙ ap (λ (b : Option Met). met_by t (index_of b) v) (sym e) ∙ first_met four d x h y ys st u
+
+        pub going_next : (q1 : Met) → r ≡ Some q1 → Going c n q1 (k + 1)
+        unfolding count index_of
+        going_next q1 e =
+            record { readable = g.readable; some = g.some; deep = g.deep; code = g.code; number = g.number; carry = λ four e x h. let r = g.carry four e x h in go four e x h r.rest r.many r.stand r.met }
+          where
+            go : (four : Bool) (e : ℕ) (x : Sym) → SymStands s w m wd four left p.at e x → (xs : Syms) → k + count xs ≡ count (children x) → SymsStand s w m wd four (left - 1) q.at e xs
+                → met_by t (Some q.i) (shown_from k xs (between_text x) (behind_text x)) ≡ met_by t (Some p.i) (print x) → Rest q1 (k + 1) four e x
+            go four d x h nil j st u = let z = held four d x h in absurd (omega arith)
+            go four d x h (cons y ys) j st u =
+                let fs = first_stands s w m wd four (left - 1) q.at d y ys st in
+                let a = f.place q1 e four (q.at + length (sym_bytes wd (texts s w m) y)) y fs.0 in
+                let v = shown_more ys (between_text x) (behind_text x) in
+                record {
+                  rest = ys;
+                  many = omega arith;
+                  stand = rw a fs.1;
+                  met = ap (met_by t (Some q1.i)) (shown_later k ys (between_text x) (behind_text x)) ∙ ap (λ (b : Option Met). met_by t (index_of b) v) (sym e) ∙ first_met four d x h y ys st u;
+                }
+
+    module _ (l : n ≤ k) (o : Option ℕ) (d : o ≡ met_by t (Some q.i) (behind_by w p.at c)) where
+      all_met : (four : Bool) (e : ℕ) (x : Sym) → SymStands s w m wd four left p.at e x → (xs : Syms) → k + count xs ≡ count (children x)
+          → met_by t (Some q.i) (shown_from k xs (between_text x) (behind_text x)) ≡ met_by t (Some p.i) (print x) → o ≡ met_by t (Some p.i) (print x)
+      unfolding count
+      all_met four e x h nil j u =
+          let st = standing s w m wd four left p.at e x h in
+          d ∙ ap (λ (v : ℕ). met_by t (Some q.i) (behind_by w p.at v)) g.code ∙ ap (met_by t (Some q.i)) (st.reads.behind ∙ sym (shown_none k (between_text x) (behind_text x))) ∙ u
+      all_met four e x h (cons y ys) j u = let z = held four e x h in absurd (omega arith)
+
+      place : (four : Bool) (e : ℕ) (x : Sym) → SymStands s w m wd four left p.at e x → (xs : Syms) → k + count xs ≡ count (children x) → SymsStand s w m wd four (left - 1) q.at e xs → q.at ≡ e
+      unfolding count
+      place four e x h nil j st = none_stand s w m wd four (left - 1) q.at e st
+      place four e x h (cons y ys) j st = let z = held four e x h in absurd (omega arith)
+
+      pub behind_lost : o ≡ None → Follows s w m wd left t p None
+      behind_lost z = lost s w m wd left t p (λ four e x h. let r = g.carry four e x h in sym z ∙ all_met four e x h r.rest r.many r.met)
+
+      pub going_done : (i : ℕ) → o ≡ Some i → Follows s w m wd left t p (Some (record { at = q.at; i = i }))
+      unfolding index_of
+      going_done i z = record {
+        place = λ q1 e four b x h. let r = g.carry four b x h in let y : q1 ≡ record { at = q.at; i = i } = cc in rw y (place four b x h r.rest r.many r.stand);
+        met = λ four e x h. let r = g.carry four e x h in sym z ∙ all_met four e x h r.rest r.many r.met;
+      }

@@ -1,17 +1,19 @@
 -- Forms: the ways out of the code that makes a form longer. Assumes nothing.
 use mathlib.Core.Path.{◌≡◌, refl, sym, ap, ◌∙◌}
 use mathlib.Core.Bool.{Bool, true, false}
+use mathlib.Core.Logic.{◌⊎◌, inl, inr}
 use mathlib.Core.List.{List, [], ◌∷◌}
-use Prim.Native.Nat.{ℕ, suc, ◌+◌, ◌*◌, ◌-◌, ◌/◌, ◌%◌, ◌<◌, ◌≤◌}
+use Prim.Native.Nat.{ℕ, suc, ◌+◌, ◌*◌, ◌-◌, ◌/◌, ◌%◌, ◌<◌, ◌≤◌, min}
 use native.Mathlib.Omega.{arith}
+use native.Mathlib.Numerals.{add-one}
 use native.Mathlib.Nat.{mul-le-mul, mod-lt}
 use borrow.Author.Rules.{rules}
-use borrow.Author.Tests.{lt-ltb, le-ltb, ltb-false, ne_eqb, eqb-true, eqb-false}
+use borrow.Author.Tests.{lt-ltb, le-ltb, ltb-true, ltb-false, ne_eqb, eqb-true, eqb-false}
 use mir.Val.{Fits}
 use mir.Syntax.{w64}
 use lib.Dec.{eqb, ltb}
-use lib.ListN.{length, get_or}
-use lib.Seq.{take_all}
+use lib.ListN.{length, drop, get_or, drop_of_length-le}
+use lib.Seq.{take_all, drop-cons}
 use Rattle.octets.specs.Working.Choice.{pick}
 use Rattle.octets.specs.Plain.Numbers.{le_at}
 use Rattle.octets.specs.Plain.Runs.{part}
@@ -44,27 +46,20 @@ module _ (f : Form) (g : SomeForm f) where
   pub snoc_hash : f.hash < 4294967296
   snoc_hash = hash_fits f g
 
-  pub snoc_power : Fits w64 (f.power * 2654435761)
-  snoc_power = let p = power-fits f g in record { fits = omega arith }
+  pub snoc_power : f.power < 4294967296
+  snoc_power = power-fits f g
 
-  pub snoc_less : (h b : ℕ) → h ≡ hash_step f.hash b → f.len < 65536 → From f (b ∷ []) (record { hash = h; power = f.power * 2654435761 % 4294967296; len = f.len + 1 })
-  unfolding form_from more_of stop pick
-  snoc_less h b e l = from_is f (b ∷ []) _ g (go (ltb (f.len + 1) 65536) refl)
-    where
-      go : (c : Bool) → ltb (f.len + 1) 65536 ≡ c → record { hash = h; power = f.power * 2654435761 % 4294967296; len = f.len + 1 } ≡ form_from f (b ∷ [])
-      go true z = cc
-      go false z = let n : f.len + 1 ≡ 65536 = omega (arith, ltb-false (f.len + 1) 65536 z) in cc
+  pub snoc_length : Fits w64 (f.len + 1)
+  snoc_length = record { fits = omega (arith, len_fits f g) }
 
-  pub snoc_full : (h b : ℕ) → h ≡ hash_step f.hash b → 65536 ≤ f.len → From f (b ∷ []) (record { hash = h; power = f.power * 2654435761 % 4294967296; len = f.len })
-  unfolding form_from more_of stop pick
-  snoc_full h b e l =
-      let n : f.len ≡ 65536 = omega (arith, len_fits f g) in
-      from_is f (b ∷ []) _ g (cc n)
+  pub snoc_done : (h b p l : ℕ) → h ≡ hash_step f.hash b → p ≡ f.power * 2654435761 % 4294967296 → l ≡ stop (f.len + 1) → From f (b ∷ []) (record { hash = h; power = p; len = l })
+  unfolding form_from more_of
+  snoc_done h b p l d e i = from_is f (b ∷ []) _ g cc
 
 pub one_is : (f r : Form) (b : ℕ) → f ≡ text_form [] → From f (b ∷ []) r → r ≡ text_form (b ∷ [])
 one_is f r b e a = a.is ∙ ap (λ (x : Form). form_from x (b ∷ [])) e ∙ from_form [] (b ∷ [])
 
-pub ruleset forming = (rules, none_is, none_form, snoc_hash, snoc_power, snoc_less, snoc_full, one_is)
+pub ruleset forming = (rules, none_is, none_form, snoc_hash, snoc_power, snoc_length, snoc_done, one_is)
 
 -- ---- times, power_of
 pub times-fits : (a b : ℕ) → a < 4294967296 → b < 4294967296 → Fits w64 (a * b)
@@ -142,13 +137,16 @@ power-done n r b k g h = let z : k ≡ 0 = omega arith in let q : r * power_by b
 pub ruleset powering = (rules, times-fits, times-small, power-start, power-next, power-done, odd_is, even_is)
 
 -- ---- stopped, whole, join
-pub stopped_less : (n : ℕ) → n < 65536 → n ≡ stop n
+pub stopped_is : (n k : ℕ) → k ≡ min n 65536 → k ≡ stop n
 unfolding stop pick
-stopped_less n l = cc (lt-ltb n 65536 l)
+stopped_is n k e = go (ltb n 65536) refl
+  where
+    go : (c : Bool) → ltb n 65536 ≡ c → k ≡ pick (ltb n 65536) n 65536
+    go true z = let l = ltb-true n 65536 z in rw z (omega arith)
+    go false z = let l = ltb-false n 65536 z in rw z (omega arith)
 
-pub stopped_full : (n : ℕ) → 65536 ≤ n → 65536 ≡ stop n
-unfolding stop pick
-stopped_full n l = cc (le-ltb n 65536 l)
+pub stopped_most : (n k : ℕ) → k ≡ min n 65536 → k ≤ 65536
+stopped_most n k e = omega arith
 
 pub whole_done : (h n p l : ℕ) → p ≡ power n → l ≡ stop n → record { hash = h; power = p; len = l } ≡ whole_of h n
 unfolding whole_of
@@ -173,9 +171,29 @@ module _ (x y : Form) (g : SomeForm x) (k : SomeForm y) where
   unfolding join_of
   join_done p l e z = cc
 
-pub ruleset joining = (rules, stopped_less, stopped_full, whole_done, join_fits, join_more_fits, join_len_fits, join_done)
+pub ruleset joining = (rules, stopped_is, stopped_most, whole_done, join_fits, join_more_fits, join_len_fits, join_done)
 
 pub ruleset fitting = (rules, power-fits)
+
+-- ---- snocs: g is f with what was passed more
+pub record Passing (f : Form) (t : Text) (g : Form) (i : ℕ) : Type 0 where
+  pub rest : form_from g (drop i t) ≡ form_from f t
+  pub form : SomeForm g
+
+pub snocs_start : (f : Form) (t : Text) → SomeForm f → Passing f t f 0
+snocs_start f t h = record { rest = refl; form = h }
+
+module _ (f : Form) (t : Text) (g : Form) (i : ℕ) (p : Passing f t g i) where
+  pub snocs_next : (r : Form) → i < length t → From g (get_or t i 0 ∷ []) r → Passing f t r (i + 1)
+  snocs_next r l a =
+      let z : drop i t ≡ get_or t i 0 ∷ drop (i + 1) t = cc (drop-cons t i 0 l, add-one i) in
+      record { rest = ap (λ (y : Form). form_from y (drop (i + 1) t)) a.is ∙ sym (from-append g (get_or t i 0 ∷ []) (drop (i + 1) t)) ∙ ap (form_from g) (sym z) ∙ p.rest; form = a.form }
+
+  pub snocs_done : length t ≤ i → From f t g
+  unfolding form_from
+  snocs_done l = record { is = cc (drop_of_length-le t {i = i} l, p.rest); form = p.form }
+
+pub ruleset following = (rules, snocs_start, snocs_next, snocs_done)
 
 -- ---- escapes: g is f with what was passed more
 pub record Escaping (f : Form) (t : Text) (g : Form) (i : ℕ) : Type 0 where
@@ -209,23 +227,20 @@ pub ruleset passing = (rules, escapes_start, escapes_next, escapes_done)
 
 -- ---- escape, quoted_form
 module _ (f : Form) (b : ℕ) where
-  pub escape_quote : (x r : Form) → b ≡ 34 → From f (92 ∷ []) x → From x (b ∷ []) r → From f (escaped (b ∷ []) []) r
+  pub escape_marked : (x r : Form) → (b ≡ 34) ⊎ ((b ≡ 34 → ⊥) × (b ≡ 92)) → From f (92 ∷ []) x → From x (b ∷ []) r → From f (escaped (b ∷ []) []) r
   unfolding escaped
-  escape_quote x r e p q = let z = rw e at (from_then p q) in rw e z
+  escape_marked x r (inl e) p q = let z = rw e at (from_then p q) in rw e z
+  escape_marked x r (inr (n, e)) p q = let z = rw e at (from_then p q) in rw e z
 
-  pub escape_slash : (x r : Form) → b ≡ 92 → From f (92 ∷ []) x → From x (b ∷ []) r → From f (escaped (b ∷ []) []) r
+  pub escape_plain : (r : Form) → (b ≡ 34 → ⊥) × (b ≡ 92 → ⊥) → From f (b ∷ []) r → From f (escaped (b ∷ []) []) r
   unfolding escaped
-  escape_slash x r e p q = let z = rw e at (from_then p q) in rw e z
-
-  pub escape_plain : (r : Form) → (b ≡ 34 → ⊥) → (b ≡ 92 → ⊥) → From f (b ∷ []) r → From f (escaped (b ∷ []) []) r
-  unfolding escaped
-  escape_plain r n m p = rw (ne_eqb b 34 n, ne_eqb b 92 m) p
+  escape_plain r (n, m) p = rw (ne_eqb b 34 n, ne_eqb b 92 m) p
 
 pub quoted_done : (f : Form) (t : Text) (x y r : Form) → From f (34 ∷ []) x → From x (escaped t []) y → From y (34 ∷ []) r → From f (quoted_text t) r
 unfolding quoted_text
 quoted_done f t x y r a b c = from_then a (from_then b c)
 
-pub ruleset quoting = (rules, escape_quote, escape_slash, escape_plain, quoted_done)
+pub ruleset quoting = (rules, escape_marked, escape_plain, quoted_done)
 
 -- ---- named
 module _ (s w : List ℕ) (m : Map) (k h y : ℕ) (g : Hashed s w m) (l : k < m.count) (p : y ≡ mark_at w m.base k) (q : h ≡ hash_at w m.base k) (t : Text) (e : t ≡ marked_text s w y) where
@@ -247,9 +262,9 @@ named-beyond s w m wd at x k f j u l g = from_as (word_beyond wd s w m at x k j 
 pub ruleset naming = (rules, word_whole, whole_form, named_some, named-beyond)
 
 -- ---- mutable, separated
-pub mutable_yes : (f a b c r : Form) (v : ℕ) → v ≡ 1 → From f (109 ∷ []) a → From a (117 ∷ []) b → From b (116 ∷ []) c → From c (32 ∷ []) r → From f (label_text v) r
+pub mutable_yes : (f r : Form) (v : ℕ) → v ≡ 1 → From f (109 ∷ 117 ∷ 116 ∷ 32 ∷ []) r → From f (label_text v) r
 unfolding label_text pick
-mutable_yes f a b c r v e h i j k = rw e (from_then h (from_then i (from_then j k)))
+mutable_yes f r v e h = rw e h
 
 pub mutable_no : (f : Form) (v : ℕ) → SomeForm f → (v ≡ 1 → ⊥) → From f (label_text v) f
 unfolding label_text pick
@@ -260,9 +275,9 @@ module _ (f : Form) (c k : ℕ) where
   unfolding between_by pick
   separated_none g e = rw e (from_none f g)
 
-  pub separated_comma : (x r : Form) → (k ≡ 0 → ⊥) → c ≡ 37 → From f (44 ∷ []) x → From x (32 ∷ []) r → From f (between_by c k) r
+  pub separated_comma : (r : Form) → (k ≡ 0 → ⊥) → c ≡ 37 → From f (44 ∷ 32 ∷ []) r → From f (between_by c k) r
   unfolding between_by pick
-  separated_comma x r n e a b = rw (ne_eqb k 0 n, e) (from_then a b)
+  separated_comma r n e a = rw (ne_eqb k 0 n, e) a
 
   pub separated_space : (r : Form) → (k ≡ 0 → ⊥) → (c ≡ 37 → ⊥) → From f (32 ∷ []) r → From f (between_by c k) r
   unfolding between_by pick
@@ -301,25 +316,25 @@ module _ (f : Form) (c : ℕ) where
     unfolding leaf_text pick
     leaf_quoted r e a = rw (e, ← j) a
 
-    pub leaf_regex : (y z u r : Form) → c ≡ 35 → From f (114 ∷ []) y → From y (35 ∷ []) z → From z (quoted_text t) u → From u (35 ∷ []) r → From f (leaf_text c x) r
+    pub leaf_regex : (z u r : Form) → c ≡ 35 → From f (114 ∷ 35 ∷ []) z → From z (quoted_text t) u → From u (35 ∷ []) r → From f (leaf_text c x) r
     unfolding leaf_text pick
-    leaf_regex y z u r e a b d g = rw (e, ← j) (from_then a (from_then b (from_then d g)))
+    leaf_regex z u r e a d g = rw (e, ← j) (from_then a (from_then d g))
 
   pub leaf_name : (x : Text) (r : Form) → (c ≡ 34 → ⊥) → (c ≡ 35 → ⊥) → From f x r → From f (leaf_text c x) r
   unfolding leaf_text pick
   leaf_name x r n34 n35 a = rw (ne_eqb c 34 n34, ne_eqb c 35 n35) a
 
-  pub marked_left : (x r : Form) → c ≡ 42 → From f (64 ∷ []) x → From x (76 ∷ []) r → From f (mark_text c) r
+  pub marked_left : (r : Form) → c ≡ 42 → From f (64 ∷ 76 ∷ []) r → From f (mark_text c) r
   unfolding mark_text pick
-  marked_left x r e a b = rw e (from_then a b)
+  marked_left r e a = rw e a
 
-  pub marked_right : (x r : Form) → c ≡ 43 → From f (64 ∷ []) x → From x (82 ∷ []) r → From f (mark_text c) r
+  pub marked_right : (r : Form) → c ≡ 43 → From f (64 ∷ 82 ∷ []) r → From f (mark_text c) r
   unfolding mark_text pick
-  marked_right x r e a b = rw e (from_then a b)
+  marked_right r e a = rw e a
 
-  pub marked_error : (x y z v r : Form) → (c ≡ 42 → ⊥) → (c ≡ 43 → ⊥) → From f (101 ∷ []) x → From x (114 ∷ []) y → From y (114 ∷ []) z → From z (111 ∷ []) v → From v (114 ∷ []) r → From f (mark_text c) r
+  pub marked_error : (r : Form) → (c ≡ 42 → ⊥) → (c ≡ 43 → ⊥) → From f (101 ∷ 114 ∷ 114 ∷ 111 ∷ 114 ∷ []) r → From f (mark_text c) r
   unfolding mark_text pick
-  marked_error x y z v r n m a b d g h = rw (ne_eqb c 42 n, ne_eqb c 43 m) (from_then a (from_then b (from_then d (from_then g h))))
+  marked_error r n m a = rw (ne_eqb c 42 n, ne_eqb c 43 m) a
 
 pub ruleset leafing = (rules, leaf_quoted, leaf_regex, leaf_name)
 

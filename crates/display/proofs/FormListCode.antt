@@ -54,16 +54,21 @@ module _ (s w : List ℕ) (m : Map) (wd n left at code : ℕ) (f : Form) where
     pub form : SomeForm g
     pub each : (four : Bool) (e : ℕ) (xs : Syms) → count xs ≡ n → SymsStand s w m wd four left at e xs → Onward four e xs p k d g
 
-  pub forming_start : SomeSyms s w m wd n left at → SomeForm f → Forming at n 0 f
+  pub forming_start : SomeSyms s w m wd n left at → SomeForm f → Forming at (n - 0) 0 f
   unfolding shown_from pick
-  forming_start h g = record {
-    some = h;
-    form = g;
-    each = λ four e xs q z. record { ys = xs; many = q; stand = z; same = refl };
-  }
+  forming_start h g =
+      let z : n - 0 ≡ n = omega arith in
+      rw z (record {
+        some = h;
+        form = g;
+        each = λ four e xs q z. record { ys = xs; many = q; stand = z; same = refl };
+      })
 
-  module _ (p k d : ℕ) (g : Form) (inv : Forming p k d g) where
-    pub forming_done : k ≤ 0 → PrintsAll s w m wd n left at code f (record { at = p; form = g })
+  module _ (p d : ℕ) (g : Form) (inv : Forming p (n - d) d g) where
+    abbrev k : ℕ
+    k = n - d
+
+    pub forming_done : n ≤ d → PrintsAll s w m wd n left at code f (record { at = p; form = g })
     unfolding form_from count
     forming_done z = record { each = λ four e xs q h. go four e xs (inv.each four e xs q h); form = inv.form }
       where
@@ -74,7 +79,7 @@ module _ (s w : List ℕ) (m : Map) (wd n left at code : ℕ) (f : Form) where
         go : (four : Bool) (e : ℕ) (xs : Syms) → Onward four e xs p k d g → (p ≡ e) × (g ≡ form_from f (shown_all xs (between_by code 1) []))
         go four e xs o = last four e xs o.ys o.many o.stand o.same
 
-    module _ (some : 0 < k) where
+    module _ (some : d < n) where
       -- the first of them
       forming_first : SomeSym s w m wd left p
       unfolding count
@@ -132,6 +137,9 @@ module _ (s w : List ℕ) (m : Map) (wd n left at code : ℕ) (f : Form) where
 
         module _ (x b : Form) (before-x : From g (between_by code d) x) (before-b : From x (before_by wd (texts s w m) w p c) b) (q : Formed)
             (printed : PrintsAll s w m wd i (left - 1) (p + l) c b q) (h : Form) (behind-h : From q.form (behind_by w p c) h) where
+          abbrev k1 : ℕ
+          k1 = n - (d + 1)
+
           -- the first symbol: the place behind it, and the form with it more
           first : (four : Bool) (e : ℕ) (y : Sym) → SymStands s w m wd four left p e y → (r : Text) → (q.at ≡ e) × (form_from g (between_by code d ++ shown y r) ≡ form_from h r)
           first four e y st r =
@@ -144,30 +152,30 @@ module _ (s w : List ℕ) (m : Map) (wd n left at code : ℕ) (f : Form) where
               let rear : From q.form (behind_text y) h = from_as (ap (behind_by w p) read ∙ o.behind) behind-h in
               (u.0, symbol_more y (between_by code d) g h r (from_then before-x (from_then front (from_then mid rear))))
 
-          next-some : SomeSyms s w m wd (k - 1) left q.at
+          next-some : SomeSyms s w m wd k1 left q.at
           unfolding count
           next-some = go inv.some.symbols inv.some.many inv.some.stand
             where
-              go : (ys : Syms) → count ys ≡ k → SymsStand s w m wd inv.some.four left p inv.some.end ys → SomeSyms s w m wd (k - 1) left q.at
+              go : (ys : Syms) → count ys ≡ k → SymsStand s w m wd inv.some.four left p inv.some.end ys → SomeSyms s w m wd k1 left q.at
               go nil r st = absurd (omega arith)
               go (cons y ys) r st =
                   let a = first_stands s w m wd inv.some.four left p inv.some.end y ys st in
                   let t = (first inv.some.four _ y a.0 []).0 in
                   record { four = inv.some.four; end = inv.some.end; symbols = ys; many = omega arith; stand = rw t a.1 }
 
-          next_each : (four : Bool) (e : ℕ) (xs : Syms) → Onward four e xs p k d g → Onward four e xs q.at (k - 1) 1 h
+          next_each : (four : Bool) (e : ℕ) (xs : Syms) → Onward four e xs p k d g → Onward four e xs q.at k1 (d + 1) h
           unfolding count
           next_each four e xs o = go o.ys o.many o.stand o.same
             where
-              go : (ys : Syms) → count ys ≡ k → SymsStand s w m wd four left p e ys → form_from f (shown_all xs (between_by code 1) []) ≡ form_from g (shown_from d ys (between_by code 1) []) → Onward four e xs q.at (k - 1) 1 h
+              go : (ys : Syms) → count ys ≡ k → SymsStand s w m wd four left p e ys → form_from f (shown_all xs (between_by code 1) []) ≡ form_from g (shown_from d ys (between_by code 1) []) → Onward four e xs q.at k1 (d + 1) h
               go nil r st v = absurd (omega arith)
               go (cons y ys) r st v =
                   let a = first_stands s w m wd four left p e y ys st in
                   let t = first four _ y a.0 (shown_more ys (between_by code 1) []) in
                   let t0 = t.0 in
-                  record { ys = ys; many = omega arith; stand = rw t0 a.1; same = v ∙ ap (form_from g) (sym (shown_first code d y ys (between_by code 1) [] (later code))) ∙ t.1 ∙ ap (form_from h) (sym (shown_later 0 ys (between_by code 1) [])) }
+                  record { ys = ys; many = omega arith; stand = rw t0 a.1; same = v ∙ ap (form_from g) (sym (shown_first code d y ys (between_by code 1) [] (later code))) ∙ t.1 ∙ ap (form_from h) (sym (shown_later d ys (between_by code 1) [])) }
 
-          pub forming_next : Forming q.at (k - 1) 1 h
+          pub forming_next : Forming q.at k1 (d + 1) h
           forming_next = record {
             some = next-some;
             form = behind-h.form;

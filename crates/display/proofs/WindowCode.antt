@@ -1,7 +1,8 @@
 -- Parts of printed forms written into a window: the ways out of the code. Assumes nothing.
 use mathlib.Core.Path.{◌≡◌, refl, sym, ap, ◌∙◌}
+use mathlib.Core.Logic.{◌⊎◌, inl, inr}
 use mathlib.Core.List.{List, [], ◌∷◌, ◌++◌}
-use Prim.Native.Nat.{ℕ, ◌+◌, ◌-◌, ◌*◌, ◌^◌, ◌<◌, ◌≤◌}
+use Prim.Native.Nat.{ℕ, ◌+◌, ◌-◌, ◌<◌, ◌≤◌}
 use native.Mathlib.Omega.{arith}
 use native.Mathlib.Numerals.{add-one}
 use borrow.Author.Rules.{rules}
@@ -13,35 +14,27 @@ use Rattle.octets.specs.Working.Sink.{Laid}
 use Rattle.parse_tree.specs.Plain.Tree.{Text}
 use Rattle.parse_tree.specs.Plain.Display.{escaped}
 use Rattle.display.specs.declared.emit.Spot.{Spot}
-use Rattle.display.specs.declared.window.Count.{Count}
 use Rattle.display.specs.Follow.{quoted_text, word_at, leaf_text, mark_text, label_text, name_text, before_by, op_byte, behind_by, between_by}
-use Rattle.display.specs.Window.{skip_of, Emitted}
+use Rattle.display.specs.Window.{Emitted}
 use Rattle.display.proofs.StandsLaws.{escaped-one}
 use Rattle.display.proofs.MeetCode.{named-room, macro_room, repeat_room, name_room, name_read}
 use Rattle.display.proofs.WindowLaws.{then, emitted_as, emitted_none, skipped}
 
 -- ---- emit
 module _ (o : List ℕ) (p : Spot) (b : ℕ) where
-  pub emit_low : 0 < p.lo → Emitted (b ∷ []) p.at o p (record { at = p.at; hi = p.hi; lo = p.lo - 1; to = p.to }) o
-  unfolding skip_of
-  emit_low h = skipped (b ∷ []) o p (record { at = p.at; hi = p.hi; lo = p.lo - 1; to = p.to }) refl refl (omega arith) (omega arith)
+  pub emit_skip : 0 < p.skip → Emitted (b ∷ []) p.at o p (record { at = p.at; skip = p.skip - 1; to = p.to }) o
+  emit_skip h = skipped (b ∷ []) o p (record { at = p.at; skip = p.skip - 1; to = p.to }) refl refl (omega arith) (omega arith)
 
-  pub emit_high : p.lo ≤ 0 → 0 < p.hi → Emitted (b ∷ []) p.at o p (record { at = p.at; hi = p.hi - 1; lo = 18446744073709551615; to = p.to }) o
-  unfolding skip_of
-  emit_high l h = skipped (b ∷ []) o p (record { at = p.at; hi = p.hi - 1; lo = 18446744073709551615; to = p.to }) refl refl (omega arith) (omega arith)
-
-  pub emit_put : (q m : ℕ) (o1 : List ℕ) → p.lo ≤ 0 → p.hi ≤ 0 → m ≡ length o → Laid o m p.to (b ∷ []) q o1 → Emitted (b ∷ []) p.at o p (record { at = p.at; hi = 0; lo = 0; to = q }) o1
-  unfolding skip_of
-  emit_put q m o1 l h e c =
-      let z : p.hi * 2 ^ 64 + p.lo ≡ 0 = omega arith in
+  pub emit_put : (q m : ℕ) (o1 : List ℕ) → p.skip ≤ 0 → m ≡ length o → Laid o m p.to (b ∷ []) q o1 → Emitted (b ∷ []) p.at o p (record { at = p.at; skip = p.skip; to = q }) o1
+  emit_put q m o1 h e c =
+      let z : p.skip ≡ 0 = omega arith in
       record { place = refl; skip = omega arith; bytes = rw z (rw e at c.bytes); after = rw z (rw e at c.after) }
 
-pub ruleset emitting = (rules, emit_low, emit_high, emit_put)
+pub ruleset emitting = (rules, emit_skip, emit_put)
 
 -- ---- emit_run
-pub run_skip : (x : List ℕ) (o : List ℕ) (p : Spot) (n : ℕ) → n ≡ length x → n ≤ p.lo → Emitted x p.at o p (record { at = p.at; hi = p.hi; lo = p.lo - n; to = p.to }) o
-unfolding skip_of
-run_skip x o p n e h = skipped x o p (record { at = p.at; hi = p.hi; lo = p.lo - n; to = p.to }) refl refl (omega arith) (omega arith)
+pub run_skip : (x : List ℕ) (o : List ℕ) (p : Spot) (n : ℕ) → n ≡ length x → n ≤ p.skip → Emitted x p.at o p (record { at = p.at; skip = p.skip - n; to = p.to }) o
+run_skip x o p n e h = skipped x o p (record { at = p.at; skip = p.skip - n; to = p.to }) refl refl (omega arith) (omega arith)
 
 -- from i on the bytes of x are left
 pub record Running (x : List ℕ) (o : List ℕ) (p : Spot) (out : List ℕ) (i : ℕ) (q : Spot) : Type 0 where
@@ -64,19 +57,16 @@ pub ruleset running = (rules, run_skip, run_start, run_next, run_done)
 
 -- ---- emit_inside
 module _ (o : List ℕ) (p r : Spot) (o2 : List ℕ) (b : ℕ) where
-  pub inside-quote : (q : Spot) (o1 : List ℕ) → b ≡ 34 → Emitted (92 ∷ []) p.at o p q o1 → Emitted (b ∷ []) q.at o1 q r o2 → Emitted (escaped (b ∷ []) []) p.at o p r o2
+  pub inside-marked : (q : Spot) (o1 : List ℕ) → (b ≡ 34) ⊎ ((b ≡ 34 → ⊥) × (b ≡ 92)) → Emitted (92 ∷ []) p.at o p q o1 → Emitted (b ∷ []) q.at o1 q r o2 → Emitted (escaped (b ∷ []) []) p.at o p r o2
   unfolding escaped
-  inside-quote q o1 e c d = let z = rw e at (then c d) in rw e z
+  inside-marked q o1 (inl e) c d = let z = rw e at (then c d) in rw e z
+  inside-marked q o1 (inr (n, e)) c d = let z = rw e at (then c d) in rw e z
 
-  pub inside-slash : (q : Spot) (o1 : List ℕ) → b ≡ 92 → Emitted (92 ∷ []) p.at o p q o1 → Emitted (b ∷ []) q.at o1 q r o2 → Emitted (escaped (b ∷ []) []) p.at o p r o2
+  pub inside-plain : (b ≡ 34 → ⊥) × (b ≡ 92 → ⊥) → Emitted (b ∷ []) p.at o p r o2 → Emitted (escaped (b ∷ []) []) p.at o p r o2
   unfolding escaped
-  inside-slash q o1 e c d = let z = rw e at (then c d) in rw e z
+  inside-plain (n, m) c = rw (ne_eqb b 34 n, ne_eqb b 92 m) c
 
-  pub inside-plain : (b ≡ 34 → ⊥) → (b ≡ 92 → ⊥) → Emitted (b ∷ []) p.at o p r o2 → Emitted (escaped (b ∷ []) []) p.at o p r o2
-  unfolding escaped
-  inside-plain n m c = rw (ne_eqb b 34 n, ne_eqb b 92 m) c
-
-pub ruleset quoting = (rules, inside-quote, inside-slash, inside-plain)
+pub ruleset quoting = (rules, inside-marked, inside-plain)
 
 -- ---- emit_escaped
 -- the same, escaped
@@ -115,10 +105,10 @@ module _ (x o : List ℕ) (p r : Spot) (o4 : List ℕ) (c : ℕ) where
   unfolding leaf_text pick
   named-quoted e a = rw e a
 
-  pub named-regex : (o1 o2 o3 : List ℕ) (y q z : Spot) → c ≡ 35 → Emitted (114 ∷ []) p.at o p y o1 → Emitted (35 ∷ []) y.at o1 y q o2 → Emitted (quoted_text x) q.at o2 q z o3
+  pub named-regex : (o2 o3 : List ℕ) (q z : Spot) → c ≡ 35 → Emitted (114 ∷ 35 ∷ []) p.at o p q o2 → Emitted (quoted_text x) q.at o2 q z o3
       → Emitted (35 ∷ []) z.at o3 z r o4 → Emitted (leaf_text c x) p.at o p r o4
   unfolding leaf_text pick
-  named-regex o1 o2 o3 y q z e a b d f = rw e (then a (then b (then d f)))
+  named-regex o2 o3 q z e a d f = rw e (then a (then d f))
 
   pub named-plain : (c ≡ 34 → ⊥) → (c ≡ 35 → ⊥) → Emitted x p.at o p r o4 → Emitted (leaf_text c x) p.at o p r o4
   unfolding leaf_text pick
@@ -126,42 +116,37 @@ module _ (x o : List ℕ) (p r : Spot) (o4 : List ℕ) (c : ℕ) where
 
 pub ruleset naming = (rules, named-quoted, named-regex, named-plain)
 
--- ---- emit_error, emit_mark, emit_mut
-pub error_done : (o o1 o2 o3 o4 o5 : List ℕ) (p a b c d r : Spot) → Emitted (101 ∷ []) p.at o p a o1 → Emitted (114 ∷ []) a.at o1 a b o2 → Emitted (114 ∷ []) b.at o2 b c o3
-    → Emitted (111 ∷ []) c.at o3 c d o4 → Emitted (114 ∷ []) d.at o4 d r o5 → Emitted (101 ∷ 114 ∷ 114 ∷ 111 ∷ 114 ∷ []) p.at o p r o5
-error_done o o1 o2 o3 o4 o5 p a b c d r e f g h i = then e (then f (then g (then h i)))
-
-pub mut_done : (o o1 o2 o3 o4 : List ℕ) (p a b c r : Spot) → Emitted (109 ∷ []) p.at o p a o1 → Emitted (117 ∷ []) a.at o1 a b o2 → Emitted (116 ∷ []) b.at o2 b c o3
-    → Emitted (32 ∷ []) c.at o3 c r o4 → Emitted (109 ∷ 117 ∷ 116 ∷ 32 ∷ []) p.at o p r o4
-mut_done o o1 o2 o3 o4 p a b c r e f g h = then e (then f (then g h))
-
+-- ---- emit_mark, emit_label
 module _ (o : List ℕ) (p r : Spot) (o2 : List ℕ) (c : ℕ) where
-  pub mark_left : (o1 : List ℕ) (q : Spot) → c ≡ 42 → Emitted (64 ∷ []) p.at o p q o1 → Emitted (76 ∷ []) q.at o1 q r o2 → Emitted (mark_text c) p.at o p r o2
+  pub mark_left : c ≡ 42 → Emitted (64 ∷ 76 ∷ []) p.at o p r o2 → Emitted (mark_text c) p.at o p r o2
   unfolding mark_text pick
-  mark_left o1 q e a b = rw e (then a b)
+  mark_left e a = rw e a
 
-  pub mark_right : (o1 : List ℕ) (q : Spot) → c ≡ 43 → Emitted (64 ∷ []) p.at o p q o1 → Emitted (82 ∷ []) q.at o1 q r o2 → Emitted (mark_text c) p.at o p r o2
+  pub mark_right : c ≡ 43 → Emitted (64 ∷ 82 ∷ []) p.at o p r o2 → Emitted (mark_text c) p.at o p r o2
   unfolding mark_text pick
-  mark_right o1 q e a b = rw e (then a b)
+  mark_right e a = rw e a
 
   pub mark_error : (c ≡ 42 → ⊥) → (c ≡ 43 → ⊥) → Emitted (101 ∷ 114 ∷ 114 ∷ 111 ∷ 114 ∷ []) p.at o p r o2 → Emitted (mark_text c) p.at o p r o2
   unfolding mark_text pick
   mark_error n m a = rw (ne_eqb c 42 n, ne_eqb c 43 m) a
 
-pub ruleset marking = (rules, error_done, mut_done, mark_left, mark_right, mark_error)
+  pub label_mut : c ≡ 1 → Emitted (109 ∷ 117 ∷ 116 ∷ 32 ∷ []) p.at o p r o2 → Emitted (label_text c) p.at o p r o2
+  unfolding label_text pick
+  label_mut e a = rw e a
+
+  pub label_none : (c ≡ 1 → ⊥) → Emitted (label_text c) p.at o p p o
+  unfolding label_text pick
+  label_none n = rw (ne_eqb c 1 n) (emitted_none o p)
+
+pub ruleset marking = (rules, mark_left, mark_right, mark_error, label_mut, label_none)
 
 -- ---- emit_name
 module _ (x o : List ℕ) (p r : Spot) (o3 : List ℕ) (b : ℕ) where
-  pub name_mut : (o1 o2 : List ℕ) (y q : Spot) → b ≡ 1 → Emitted (109 ∷ 117 ∷ 116 ∷ 32 ∷ []) p.at o p y o1 → Emitted x y.at o1 y q o2 → Emitted (58 ∷ []) q.at o2 q r o3
-      → Emitted (name_text b x) p.at o p r o3
-  unfolding name_text label_text pick
-  name_mut o1 o2 y q e a c d = rw e (then a (then c d))
+  pub name_done : (o1 o2 : List ℕ) (y q : Spot) → Emitted (label_text b) p.at o p y o1 → Emitted x y.at o1 y q o2 → Emitted (58 ∷ []) q.at o2 q r o3 → Emitted (name_text b x) p.at o p r o3
+  unfolding name_text
+  name_done o1 o2 y q a c d = then a (then c d)
 
-  pub name_plain : (o1 : List ℕ) (q : Spot) → (b ≡ 1 → ⊥) → Emitted x p.at o p q o1 → Emitted (58 ∷ []) q.at o1 q r o3 → Emitted (name_text b x) p.at o p r o3
-  unfolding name_text label_text pick
-  name_plain o1 q n a c = rw (ne_eqb b 1 n) (then a c)
-
-pub ruleset prefixing = (rules, name_mut, name_plain)
+pub ruleset prefixing = (rules, name_done)
 
 -- ---- between
 module _ (o : List ℕ) (p r : Spot) (o2 : List ℕ) (c k : ℕ) where
@@ -169,9 +154,9 @@ module _ (o : List ℕ) (p r : Spot) (o2 : List ℕ) (c k : ℕ) where
   unfolding between_by pick
   between_none e = rw e (emitted_none o p)
 
-  pub between-comma : (o1 : List ℕ) (q : Spot) → (k ≡ 0 → ⊥) → c ≡ 37 → Emitted (44 ∷ []) p.at o p q o1 → Emitted (32 ∷ []) q.at o1 q r o2 → Emitted (between_by c k) p.at o p r o2
+  pub between-comma : (k ≡ 0 → ⊥) → c ≡ 37 → Emitted (44 ∷ 32 ∷ []) p.at o p r o2 → Emitted (between_by c k) p.at o p r o2
   unfolding between_by pick
-  between-comma o1 q n e a b = rw (ne_eqb k 0 n, e) (then a b)
+  between-comma n e a = rw (ne_eqb k 0 n, e) a
 
   pub between-space : (k ≡ 0 → ⊥) → (c ≡ 37 → ⊥) → Emitted (32 ∷ []) p.at o p r o2 → Emitted (between_by c k) p.at o p r o2
   unfolding between_by pick
@@ -234,15 +219,3 @@ module _ (wd : ℕ) (ts : List Text) (w : List ℕ) (at c : ℕ) (o : List ℕ) 
   before-mark l n37 n38 n39 n40 n41 a = rw (le-ltb c 37 l, ne_eqb c 37 n37, ne_eqb c 38 n38, ne_eqb c 39 n39, ne_eqb c 40 n40, ne_eqb c 41 n41) a
 
 pub ruleset opening = (rules, named-room, macro_room, name_room, name_read, before-named, before-macro, before-repeat, before-choose, before-name, before-group, before-mark)
-
--- ---- add
-module _ (c : Count) (n : ℕ) where
-  pub add_low : skip_of c.hi (c.lo + n) ≡ skip_of c.hi c.lo + n
-  unfolding skip_of
-  add_low = omega arith
-
-  pub add_high : 18446744073709551615 - n < c.lo → n < 2 ^ 64 → skip_of (c.hi + 1) (c.lo - (18446744073709551615 - n) - 1) ≡ skip_of c.hi c.lo + n
-  unfolding skip_of
-  add_high h k = omega arith
-
-pub ruleset adding = (rules, add_low, add_high)

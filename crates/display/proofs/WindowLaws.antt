@@ -7,7 +7,7 @@ use lib.ListN.{length, drop, length-append, length-drop, drop_of_length-le}
 use lib.Seq.{drop-nil}
 use Rattle.octets.specs.Working.Sink.{lay, adv}
 use Rattle.display.specs.declared.emit.Spot.{Spot}
-use Rattle.display.specs.Window.{skip_of, Emitted}
+use Rattle.display.specs.Window.{Emitted}
 use Rattle.display.proofs.SinkLaws.{lay-append, adv-append, length_lay}
 
 drop_append : (n : ℕ) (xs ys : List ℕ) → drop n (xs ++ ys) ≡ drop n xs ++ drop (n - length xs) ys
@@ -17,12 +17,12 @@ drop_append zero (x ∷ xs) ys = let z : 0 - length (x ∷ xs) ≡ 0 = omega ari
 drop_append (suc n) (x ∷ xs) ys = let z : suc n - length (x ∷ xs) ≡ n - length xs = omega arith in rw z (drop_append n xs ys)
 
 pub emitted_kept : (xs : List ℕ) (e : ℕ) (o : List ℕ) (p r : Spot) (o1 : List ℕ) → Emitted xs e o p r o1 → length o1 ≡ length o
-emitted_kept xs e o p r o1 c = ap length c.bytes ∙ length_lay o (length o) p.to (drop (skip_of p.hi p.lo) xs)
+emitted_kept xs e o p r o1 c = ap length c.bytes ∙ length_lay o (length o) p.to (drop p.skip xs)
 
 -- theorem: what is emitted one behind another
 pub emitted_append : (xs ys : List ℕ) (e1 e : ℕ) (o o1 o2 : List ℕ) (p q r : Spot) → Emitted xs e1 o p q o1 → Emitted ys e o1 q r o2 → Emitted (xs ++ ys) e o p r o2
 emitted_append xs ys e1 e o o1 o2 p q r c d =
-    let n = skip_of p.hi p.lo in
+    let n = p.skip in
     let to = p.to in
     let k = emitted_kept xs e1 o p q o1 c in
     let l = length-append xs ys in
@@ -46,15 +46,15 @@ emitted_as {xs} {ys} {o} {o1} {e} {p} {r} i c = rw i at c
 pub emitted_none : (o : List ℕ) (p : Spot) → Emitted [] p.at o p p o
 unfolding lay adv
 emitted_none o p =
-    let z : ◌≡◌ {A = List ℕ} (drop (skip_of p.hi p.lo) []) [] = drop-nil (skip_of p.hi p.lo) in
-    let y : 0 - skip_of p.hi p.lo ≡ 0 = omega arith in
+    let z : ◌≡◌ {A = List ℕ} (drop p.skip []) [] = drop-nil p.skip in
+    let y : 0 - p.skip ≡ 0 = omega arith in
     record { place = refl; skip = omega arith; bytes = rw z; after = rw y }
 
 -- all of xs is skipped
-pub skipped : (xs : List ℕ) (o : List ℕ) (p r : Spot) → r.at ≡ p.at → r.to ≡ p.to → length xs ≤ skip_of p.hi p.lo → skip_of r.hi r.lo ≡ skip_of p.hi p.lo - length xs → Emitted xs p.at o p r o
+pub skipped : (xs : List ℕ) (o : List ℕ) (p r : Spot) → r.at ≡ p.at → r.to ≡ p.to → length xs ≤ p.skip → r.skip ≡ p.skip - length xs → Emitted xs p.at o p r o
 unfolding lay adv
 skipped xs o p r i j h k =
-    let n = skip_of p.hi p.lo in
+    let n = p.skip in
     let z : drop n xs ≡ [] = drop_of_length-le xs {i = n} h in
     let y : length xs - n ≡ 0 = omega arith in
     record { place = i; skip = k; bytes = rw z; after = rw y j }

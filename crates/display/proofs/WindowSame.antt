@@ -4,6 +4,8 @@ use mathlib.Core.Bool.{Bool, true, false}
 use mathlib.Core.List.{List}
 use Prim.Native.Nat.{ℕ, ◌+◌, ◌-◌, ◌*◌, ◌^◌, ◌<◌}
 use native.Mathlib.Omega.{arith}
+use mir.Syntax.{w128}
+use mir.Val.{Fits}
 use borrow.Author.Rules.{rules}
 use lib.ListN.{length, drop, length-drop}
 use lib.Seq.{drop-drop}
@@ -11,11 +13,10 @@ use Rattle.octets.specs.Plain.Runs.{same_as}
 use Rattle.parse_tree.specs.Plain.Tree.{Sym}
 use Rattle.parse_tree.specs.Plain.Display.{print}
 use Rattle.texts.specs.declared.Map.{Map}
-use Rattle.display.specs.declared.window.Count.{Count}
 use Rattle.display.specs.declared.window.Verdict.{Verdict}
 use Rattle.display.specs.declared.window.Verdict.TheVariants.{Same, Differ, More}
 use Rattle.display.specs.Standing.{Readable, SymStands, SomeSym}
-use Rattle.display.specs.Window.{skip_of, Seen, Looks, SamePrints}
+use Rattle.display.specs.Window.{Seen, Looks, SamePrints}
 use Rattle.display.proofs.WindowBound.{print-short}
 
 -- ---- plain numbers
@@ -37,8 +38,7 @@ module _ (s w : List ℕ) (m : Map) (wd left a b : ℕ) where
     pub same_x : x ≡ x₀
     pub same_y : y ≡ y₀
 
-  pub comparing_start : (x y : ℕ) → Readable s w m wd → SomeSym s w m wd left a → SomeSym s w m wd left b → x ≡ y → 0 < x → Comparing (skip_of 0 0) x y x y
-  unfolding skip_of
+  pub comparing_start : (x y : ℕ) → Readable s w m wd → SomeSym s w m wd left a → SomeSym s w m wd left b → x ≡ y → 0 < x → Comparing 0 x y x y
   comparing_start x y g f h e k = record { readable = g; first = f; second = h; rest = λ four four' e e' u v p q. refl; equal = e; some = k; same_x = refl; same_y = refl }
 
   module _ (n x y x₀ y₀ l : ℕ) (v : Verdict) (i : Comparing n x y x₀ y₀) (k : Looks s w m wd left a b n l v) where
@@ -90,19 +90,12 @@ module _ (s w : List ℕ) (m : Map) (wd left a b : ℕ) where
               let t : n1 ≡ n + x = omega arith in
               cc (drop-drop x n f, drop-drop x n g, z.1, o)
 
-next : (hi m : ℕ) → hi < m → m < 2 ^ 64 → hi + 1 < 2 ^ 64
-next hi m h k = omega arith
-
-below : (hi lo l m : ℕ) → hi * 2 ^ 64 + lo + l < 2 ^ 64 * m → hi < m
-below hi lo l m h = omega arith
+below : (n l m : ℕ) → n + l < 2 ^ 64 * m → m < 2 ^ 64 → n + l < 2 ^ 128
+below n l m h k = omega arith
 
 -- the count never overflows
-pub more_fits : (s w : List ℕ) (m : Map) (wd left a b : ℕ) (c : Count) (x y x₀ y₀ : ℕ) (v : Verdict) → length s < 2 ^ 64 → length w < 2 ^ 64 → Comparing s w m wd left a b (skip_of c.hi c.lo) x y x₀ y₀
-    → Looks s w m wd left a b (skip_of c.hi c.lo) x v → v ≡ More → c.hi + 1 < 2 ^ 64
-unfolding skip_of
-more_fits s w m wd left a b c x y x₀ y₀ v bs bw i k e =
-    let z = longer s w m wd left a b (skip_of c.hi c.lo) x y x₀ y₀ v i k e bs bw in
-    let h = below c.hi c.lo x (length w) z in
-    next c.hi (length w) h bw
+pub more_fits : (s w : List ℕ) (m : Map) (wd left a b n x y x₀ y₀ : ℕ) (v : Verdict) → length s < 2 ^ 64 → length w < 2 ^ 64 → Comparing s w m wd left a b n x y x₀ y₀
+    → Looks s w m wd left a b n x v → v ≡ More → (x1 : ℕ) → x1 ≡ x → Fits w128 (n + x1)
+more_fits s w m wd left a b n x y x₀ y₀ v bs bw i k e x1 j = rw j (record { fits = below n x (length w) (longer s w m wd left a b n x y x₀ y₀ v i k e bs bw) bw })
 
 pub ruleset comparing = (rules, comparing_start, same_yes, same_no, more_less, more_next, more_fits)

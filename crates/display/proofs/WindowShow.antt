@@ -19,7 +19,7 @@ use Rattle.grades.specs.Skip.{inside_by}
 use Rattle.display.specs.declared.emit.Spot.{Spot}
 use Rattle.display.specs.Standing.{Readable, SymStands, SymsStand, SomeSym}
 use Rattle.display.specs.Follow.{before_by, behind_by, between_by}
-use Rattle.display.specs.Window.{skip_of, Emitted, Shows, Fills}
+use Rattle.display.specs.Window.{Emitted, Shows, Fills}
 use Rattle.display.proofs.StandsLaws.{before_text, between_text, behind_text, print-parts, standing, first_stands, none_stand}
 use Rattle.display.proofs.FollowCode.{shown_from, shown_none, shown_later, shown_first, some_room, some_within, some_high, some_deep, some_fits}
 use Rattle.display.proofs.WindowLaws.{emitted_append, emitted_as}
@@ -111,7 +111,7 @@ module _ (s w : List ℕ) (m : Map) (wd left at : ℕ) (o : List ℕ) (p : Spot)
     ended r out1 l d four e x h (cons y ys) j st u = let z = held four e x h in absurd (omega arith)
 
 pub going_done : (s w : List ℕ) (m : Map) (wd left : ℕ) (o₀ : List ℕ) (p₀ : Spot) (l : ℕ) (o : List ℕ) (p : Spot) (c n : ℕ) (out : List ℕ) (q : Spot) (k : ℕ) (r : Spot) (out1 : List ℕ) → Going s w m wd left p₀.at o p c n out q k → n ≤ k
-    → Emitted (before_by wd (texts s w m) w p₀.at c) (p₀.at + l) o₀ (record { at = p₀.at + l; hi = p₀.hi; lo = p₀.lo; to = p₀.to }) p o
+    → Emitted (before_by wd (texts s w m) w p₀.at c) (p₀.at + l) o₀ (record { at = p₀.at + l; skip = p₀.skip; to = p₀.to }) p o
     → Emitted (behind_by w p₀.at c) q.at out q r out1 → Shows s w m wd left o₀ p₀ r out1
 going_done s w m wd left o₀ p₀ l o p c n out q k r out1 g h a d = record { shows = go }
   where
@@ -128,10 +128,10 @@ going_done s w m wd left o₀ p₀ l o p c n out q k r out1 g h a d = record { s
 pub ruleset showing = (rules, some_room, some_within, some_high, some_fits, going_start, going_done)
 
 -- ---- fill
-pub fill_done : (s w : List ℕ) (m : Map) (wd left a hi lo : ℕ) (o : List ℕ) (q : Spot) (o1 : List ℕ) → Shows s w m wd left o (record { at = a; hi = hi; lo = lo; to = 0 }) q o1
-    → Fills s w m wd left a (skip_of hi lo) o q.to o1
-fill_done s w m wd left a hi lo o q o1 f = record {
-  fills = λ four e x h. let c = f.shows four e x h in record { bytes = c.bytes; after = rw (length-drop (skip_of hi lo) (print x)) c.after };
+pub fill_done : (s w : List ℕ) (m : Map) (wd left a skip : ℕ) (o : List ℕ) (q : Spot) (o1 : List ℕ) → Shows s w m wd left o (record { at = a; skip = skip; to = 0 }) q o1
+    → Fills s w m wd left a skip o q.to o1
+fill_done s w m wd left a skip o q o1 f = record {
+  fills = λ four e x h. let c = f.shows four e x h in record { bytes = c.bytes; after = rw (length-drop skip (print x)) c.after };
 }
 
 pub ruleset filling = (rules, fill_done)

@@ -1,6 +1,6 @@
 -- Printed forms held against a text t, and their parts by the code c of the command at a place of work w. wd is the width of an atom's number in bytes, ts are the texts.
 -- Assumes nothing: these are definitions.
-use Rattle.std.specs.Prelude.{◌≡◌, Bool, List, [], ◌∷◌, ◌++◌, ℕ, ◌+◌, eqb, ltb, length, get_or}
+use Rattle.std.specs.Prelude.{◌≡◌, Bool, Option, Some, None, List, [], ◌∷◌, ◌++◌, ℕ, ◌+◌, eqb, ltb, length, get_or}
 use Rattle.octets.specs.Working.Choice.{pick}
 use Rattle.octets.specs.Plain.Numbers.{le_at}
 use Rattle.parse_tree.specs.Plain.Tree.{Text, Sym}
@@ -9,12 +9,13 @@ use Rattle.texts.specs.declared.Map.{Map}
 use Rattle.display.specs.declared.Met.{Met}
 use Rattle.display.specs.Standing.{SymStands}
 
--- the place in t behind the byte b, if it stands at i; the length + 1 after a difference
-unfoldable pub met_one : Text → ℕ → ℕ → ℕ
-met_one t i b = pick (ltb i (length t)) (pick (eqb (get_or t i 0) b) (i + 1) (length t + 1)) (length t + 1)
+-- the place in t behind the byte b, if it stands at i; none after a difference
+unfoldable pub met_one : Text → Option ℕ → ℕ → Option ℕ
+met_one t None b = None
+met_one t (Some i) b = pick (ltb i (length t)) (pick (eqb (get_or t i 0) b) (Some (i + 1)) None) None
 
 -- behind the bytes xs
-unfoldable pub met_by : Text → ℕ → Text → ℕ
+unfoldable pub met_by : Text → Option ℕ → Text → Option ℕ
 met_by t i [] = i
 met_by t i (x ∷ xs) = met_by t (met_one t i x) xs
 
@@ -67,8 +68,13 @@ behind_by w at c =
 unfoldable pub between_by : ℕ → ℕ → Text
 between_by c k = pick (eqb k 0) [] (pick (eqb c 37) (0x2c ∷ 0x20 ∷ []) (0x20 ∷ []))
 
+-- how many bytes were met
+unfoldable pub index_of : Option Met → Option ℕ
+index_of (Some r) = Some r.i
+index_of None = None
+
 module _ (s w : List ℕ) (m : Map) (wd left : ℕ) where
-  -- from p on, the printed form of each symbol that stands there was held against t
-  pub record Follows (t : Text) (p r : Met) : Type 0 where
-    pub place : (four : Bool) (e : ℕ) (x : Sym) → SymStands s w m wd four left p.at e x → r.at ≡ e
-    pub met : (four : Bool) (e : ℕ) (x : Sym) → SymStands s w m wd four left p.at e x → r.i ≡ met_by t p.i (print x)
+  -- from p on, the printed form of each symbol that stands there was held against t: r is the place behind it, or none after a difference
+  pub record Follows (t : Text) (p : Met) (r : Option Met) : Type 0 where
+    pub place : (q : Met) → r ≡ Some q → (four : Bool) (e : ℕ) (x : Sym) → SymStands s w m wd four left p.at e x → q.at ≡ e
+    pub met : (four : Bool) (e : ℕ) (x : Sym) → SymStands s w m wd four left p.at e x → index_of r ≡ met_by t (Some p.i) (print x)

@@ -1,5 +1,5 @@
 -- Windows of printed forms: what of a form falls into a window, and what two windows say of two forms. Assumes nothing: these are definitions.
-use Rattle.std.specs.Prelude.{◌≡◌, Bool, true, false, List, ℕ, ◌+◌, ◌-◌, ◌*◌, ◌^◌, ◌<◌, eqb, leb, length, drop}
+use Rattle.std.specs.Prelude.{◌≡◌, Bool, true, false, List, ℕ, ◌+◌, ◌-◌, ◌<◌, eqb, leb, length, drop}
 use Rattle.octets.specs.Working.Choice.{pick}
 use Rattle.octets.specs.Working.Sink.{lay, adv, Laid}
 use Rattle.octets.specs.Plain.Runs.{part, same_as}
@@ -11,16 +11,12 @@ use Rattle.display.specs.declared.window.Verdict.{Verdict}
 use Rattle.display.specs.declared.window.Verdict.TheVariants.{Same, Differ, More}
 use Rattle.display.specs.Standing.{SymStands}
 
--- a number of bytes in two words
-unfoldable pub skip_of : ℕ → ℕ → ℕ
-skip_of hi lo = hi * 2 ^ 64 + lo
-
 -- of xs as many bytes as p says are skipped, and the others written to o as far as they fit: this leaves o' and the spot r, which reads on at e
 pub record Emitted (xs : List ℕ) (e : ℕ) (o : List ℕ) (p r : Spot) (o' : List ℕ) : Type 0 where
   pub place : r.at ≡ e
-  pub skip : skip_of r.hi r.lo ≡ skip_of p.hi p.lo - length xs
-  pub bytes : o' ≡ lay o (length o) p.to (drop (skip_of p.hi p.lo) xs)
-  pub after : r.to ≡ adv (length o) p.to (length xs - skip_of p.hi p.lo)
+  pub skip : r.skip ≡ p.skip - length xs
+  pub bytes : o' ≡ lay o (length o) p.to (drop p.skip xs)
+  pub after : r.to ≡ adv (length o) p.to (length xs - p.skip)
 
 -- the verdict on two windows, of whose cursors one is i and the other j
 unfoldable pub judged : List ℕ → List ℕ → ℕ → ℕ → Verdict

@@ -12,7 +12,6 @@ ghost use Rattle.display.specs.Form.{SomeForm, From, text_form, odd_times, whole
 
 use crate::follow::{inside, op_byte, word};
 use octets::numbers::atom_at;
-use octets::wide::from32;
 use resolve::commands::long;
 use texts::Map;
 use texts::fields::{hash, mark};
@@ -50,20 +49,23 @@ pub fn snoc(f: Form, b: u8) -> Form
     requires { SomeForm f }
     ensures { From f (b ∷ []) result }
 {
-    let h = next(f.hash, b);
-    let p = f.power * 2654435761 % 4294967296;
-    if f.len < 65536 {
-        return Form {
-            hash: h,
-            power: p,
-            len: f.len + 1,
-        };
-    }
     Form {
-        hash: h,
-        power: p,
-        len: f.len,
+        hash: next(f.hash, b),
+        power: times(f.power, 2654435761),
+        len: stopped(f.len + 1),
     }
+}
+
+// The bytes of t more.
+fn snocs(f: Form, t: &[u8]) -> Form
+    requires { SomeForm f }
+    ensures { From f t.now result }
+{
+    let mut g = f;
+    for b in t {
+        g = snoc(g, *b);
+    }
+    g
 }
 
 // The form of one byte.
@@ -86,23 +88,20 @@ fn odd_times(r: usize, b: usize, k: usize) -> usize
     requires { (r < 4294967296) × (b < 4294967296) }
     ensures { (result ≡ odd_times r b k) × (result < 4294967296) }
 {
-    if k % 2 == 1 {
-        return times(r, b);
-    }
-    r
+    if k % 2 == 1 { times(r, b) } else { r }
 }
 
 // The power of the multiplier by a length, by squaring.
 fn power_of(n: usize) -> usize
     ensures { (result ≡ power n) × (result < 4294967296) }
 {
-    let mut r: usize = 1;
-    let mut b: usize = 2654435761;
+    let mut r = 1;
+    let mut b = 2654435761;
     let mut k = n;
     while 0 < k {
         r = odd_times(r, b, k);
         b = times(b, b);
-        k = k / 2;
+        k /= 2;
     }
     r
 }
@@ -111,10 +110,7 @@ fn power_of(n: usize) -> usize
 fn stopped(n: usize) -> usize
     ensures { (result ≡ stop n) × (result ≤ 65536) }
 {
-    if n < 65536 {
-        return n;
-    }
-    65536
+    n.min(65536)
 }
 
 // The form of a text of n bytes whose hash is h.
@@ -145,13 +141,11 @@ fn escape(f: Form, b: u8) -> Form
     requires { SomeForm f }
     ensures { From f (escaped (b ∷ []) []) result }
 {
-    if b == 34 {
-        return snoc(snoc(f, 92), b);
+    if b == b'"' || b == b'\\' {
+        snoc(snoc(f, b'\\'), b)
+    } else {
+        snoc(f, b)
     }
-    if b == 92 {
-        return snoc(snoc(f, 92), b);
-    }
-    snoc(f, b)
 }
 
 // The bytes of a quoted text more.
@@ -160,10 +154,8 @@ fn escapes(f: Form, t: &[u8]) -> Form
     ensures { From f (escaped t.now []) result }
 {
     let mut g = f;
-    let mut i = 0;
-    while i < t.len() {
-        g = escape(g, t[i]);
-        i += 1;
+    for b in t {
+        g = escape(g, *b);
     }
     g
 }
@@ -173,7 +165,7 @@ pub fn quoted_form(f: Form, t: &[u8]) -> Form
     requires { SomeForm f }
     ensures { From f (quoted_text t.now) result }
 {
-    snoc(escapes(snoc(f, 34), t), 34)
+    snoc(escapes(snoc(f, b'"'), t), b'"')
 }
 
 // The text whose number stands at a place, more: its hash is read, not made.
@@ -181,7 +173,7 @@ fn named<'a>(tape: &'a [u8], work: &'a [u8], m: Map, width: usize, at: usize, f:
     requires { Worded tape.now work.now m × Hashed tape.now work.now m × (2 ≤ width) × (width ≤ 3) × (at + width ≤ length work.now) × SomeForm f }
     ensures { From f (word_at width (texts tape.now work.now m) work.now at) result }
 {
-    let k = from32(atom_at(work, at, width));
+    let k = atom_at(work, at, width) as usize;
     if m.count <= k {
         return f;
     }
@@ -196,10 +188,7 @@ fn mutable(f: Form, b: u8) -> Form
     requires { SomeForm f }
     ensures { From f (label_text b) result }
 {
-    if b == 1 {
-        return snoc(snoc(snoc(snoc(f, 109), 117), 116), 32);
-    }
-    f
+    if b == 1 { snocs(f, b"mut ") } else { f }
 }
 
 // A leaf of the code c, the number of whose text stands at a place, more.
@@ -207,14 +196,14 @@ fn leaf<'a>(tape: &'a [u8], work: &'a [u8], m: Map, width: usize, at: usize, c: 
     requires { Worded tape.now work.now m × Hashed tape.now work.now m × (2 ≤ width) × (width ≤ 3) × (at + width ≤ length work.now) × SomeForm f }
     ensures { From f (leaf_text c (word_at width (texts tape.now work.now m) work.now at)) result }
 {
-    if c == 34 {
-        return quoted_form(f, word(tape, work, m, width, at));
+    match c {
+        34 => quoted_form(f, word(tape, work, m, width, at)),
+        35 => {
+            let t = word(tape, work, m, width, at);
+            snoc(quoted_form(snocs(f, b"r#"), t), b'#')
+        }
+        _ => named(tape, work, m, width, at, f),
     }
-    if c == 35 {
-        let t = word(tape, work, m, width, at);
-        return snoc(quoted_form(snoc(snoc(f, 114), 35), t), 35);
-    }
-    named(tape, work, m, width, at, f)
 }
 
 // A leaf that has no text, more.
@@ -222,13 +211,11 @@ fn marked(f: Form, c: u8) -> Form
     requires { SomeForm f }
     ensures { From f (mark_text c) result }
 {
-    if c == 42 {
-        return snoc(snoc(f, 64), 76);
+    match c {
+        42 => snocs(f, b"@L"),
+        43 => snocs(f, b"@R"),
+        _ => snocs(f, b"error"),
     }
-    if c == 43 {
-        return snoc(snoc(f, 64), 82);
-    }
-    snoc(snoc(snoc(snoc(snoc(f, 101), 114), 114), 111), 114)
 }
 
 // What stands before the symbols straight inside that of the code c at a place, more.
@@ -244,28 +231,18 @@ pub fn before<'a>(
     requires { Worded tape.now work.now m × Hashed tape.now work.now m × (2 ≤ width) × (width ≤ 3) × (32 ≤ c) × (at + long_of width c ≤ length work.now) × SomeForm f }
     ensures { From f (before_by width (texts tape.now work.now m) work.now at c) result }
 {
-    if c < 37 {
-        return leaf(tape, work, m, width, at + 9, c, f);
+    match c {
+        0..=36 => leaf(tape, work, m, width, at + 9, c, f),
+        37 => snoc(named(tape, work, m, width, at + 9, f), b'<'),
+        38 => f,
+        39 => snoc(f, b'<'),
+        40 => {
+            let g = mutable(f, work[at + 9]);
+            snoc(named(tape, work, m, width, at + 10, g), b':')
+        }
+        41 => snoc(f, b'('),
+        _ => marked(f, c),
     }
-    if c == 37 {
-        return snoc(named(tape, work, m, width, at + 9, f), 60);
-    }
-    if c == 38 {
-        return f;
-    }
-    if c == 39 {
-        return snoc(f, 60);
-    }
-    if c == 40 {
-        return snoc(
-            named(tape, work, m, width, at + 10, mutable(f, work[at + 9])),
-            58,
-        );
-    }
-    if c == 41 {
-        return snoc(f, 40);
-    }
-    marked(f, c)
 }
 
 // What stands behind them, more.
@@ -273,19 +250,13 @@ pub fn behind(work: &[u8], width: usize, at: usize, c: u8, f: Form) -> Form
     requires { (at + long_of width c ≤ length work.now) × SomeForm f }
     ensures { From f (behind_by work.now at c) result }
 {
-    if c == 37 {
-        return snoc(f, 62);
+    match c {
+        37 => snoc(f, b'>'),
+        38 => snoc(f, op_byte(work[at + 9])),
+        39 => snoc(f, b'>'),
+        41 => snoc(f, b')'),
+        _ => f,
     }
-    if c == 38 {
-        return snoc(f, op_byte(work[at + 9]));
-    }
-    if c == 39 {
-        return snoc(f, 62);
-    }
-    if c == 41 {
-        return snoc(f, 41);
-    }
-    f
 }
 
 // What stands before the k-th of them, more.
@@ -297,9 +268,10 @@ pub fn separated(f: Form, c: u8, k: usize) -> Form
         return f;
     }
     if c == 37 {
-        return snoc(snoc(f, 44), 32);
+        snocs(f, b", ")
+    } else {
+        snoc(f, b' ')
     }
-    snoc(f, 32)
 }
 
 // The printed forms of n symbols, with between them what stands between those straight inside a command of the code c, more. `left` levels of nesting are left.
@@ -318,19 +290,15 @@ pub fn form_list<'a>(
     ensures { PrintsAll tape.now work.now m width n left at c f result }
 {
     let mut p = at;
-    let mut k = n;
-    let mut d = 0;
     let mut g = f;
-    while 0 < k {
+    for k in 0..n {
         let o = work[p];
-        let b = before(tape, work, m, width, p, o, separated(g, c, d));
+        let b = before(tape, work, m, width, p, o, separated(g, c, k));
         let e = p + long(o, width);
         let i = inside(work, width, p, o);
         let q = form_list(tape, work, m, width, left - 1, e, i, o, b);
         g = behind(work, width, p, o, q.form);
         p = q.at;
-        d = 1;
-        k -= 1;
     }
     Formed { at: p, form: g }
 }

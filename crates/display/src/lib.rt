@@ -8,7 +8,7 @@ pub mod form;
 pub mod shape;
 pub mod window;
 
-// Where to read on, and how many bytes of a text were met: its length + 1 after a difference.
+// Where to read on, and how many bytes of a text were met.
 #[derive(Clone, Copy)]
 pub struct Met {
     pub at: usize,

@@ -1,11 +1,11 @@
 // The printed form of a symbol that stands in work, of any length: a window of it is written, and two forms are compared window by window.
-ghost use Rattle.std.specs.Prelude.{◌≡◌, ◌+◌, ◌≤◌, ◌<◌, ◌^◌, length};
+ghost use Rattle.std.specs.Prelude.{◌≡◌, ◌+◌, ◌≤◌, ◌<◌, length};
 ghost use Rattle.texts.specs.Table.{texts};
 ghost use Rattle.resolve.specs.Commands.{long_of};
 ghost use Rattle.grades.specs.Grading.{Worded};
 ghost use Rattle.display.specs.Standing.{Readable, SomeSym};
 ghost use Rattle.display.specs.Follow.{before_by, behind_by, between_by};
-ghost use Rattle.display.specs.Window.{skip_of, Emitted, Shows, Fills, judged, Looks, SamePrints};
+ghost use Rattle.display.specs.Window.{Emitted, Shows, Fills, judged, Looks, SamePrints};
 
 use crate::emit::{Spot, emit, emit_mark, emit_name, emit_named, emit_run};
 use crate::follow::{inside, op_byte, word};
@@ -22,13 +22,6 @@ pub enum Verdict {
     More,
 }
 
-// How many bytes of both forms are behind, hi * 2^64 + lo.
-#[derive(Clone, Copy)]
-pub struct Count {
-    pub hi: usize,
-    pub lo: usize,
-}
-
 // What stands before the symbols straight inside that of the code c at a place.
 fn before<'a>(
     tape: &'a [u8],
@@ -43,26 +36,18 @@ fn before<'a>(
     requires { Worded tape.now work.now m × (2 ≤ width) × (width ≤ 3) × (32 ≤ c) × (at + long_of width c ≤ length work.now) }
     ensures { Emitted (before_by width (texts tape.now work.now m) work.now at c) p.at out.old p result out.new }
 {
-    if c < 37 {
-        return emit_named(out, p, c, word(tape, work, m, width, at + 9));
+    match c {
+        0..=36 => emit_named(out, p, c, word(tape, work, m, width, at + 9)),
+        37 => {
+            let q = emit_run(out, p, word(tape, work, m, width, at + 9));
+            emit(out, q, b'<')
+        }
+        38 => p,
+        39 => emit(out, p, b'<'),
+        40 => emit_name(out, p, work[at + 9], word(tape, work, m, width, at + 10)),
+        41 => emit(out, p, b'('),
+        _ => emit_mark(out, p, c),
     }
-    if c == 37 {
-        let q = emit_run(out, p, word(tape, work, m, width, at + 9));
-        return emit(out, q, 60);
-    }
-    if c == 38 {
-        return p;
-    }
-    if c == 39 {
-        return emit(out, p, 60);
-    }
-    if c == 40 {
-        return emit_name(out, p, work[at + 9], word(tape, work, m, width, at + 10));
-    }
-    if c == 41 {
-        return emit(out, p, 40);
-    }
-    emit_mark(out, p, c)
 }
 
 // What stands behind them.
@@ -70,19 +55,13 @@ fn behind(work: &[u8], width: usize, at: usize, c: u8, out: &mut [u8], p: Spot) 
     requires { at + long_of width c ≤ length work.now }
     ensures { Emitted (behind_by work.now at c) p.at out.old p result out.new }
 {
-    if c == 37 {
-        return emit(out, p, 62);
+    match c {
+        37 => emit(out, p, b'>'),
+        38 => emit(out, p, op_byte(work[at + 9])),
+        39 => emit(out, p, b'>'),
+        41 => emit(out, p, b')'),
+        _ => p,
     }
-    if c == 38 {
-        return emit(out, p, op_byte(work[at + 9]));
-    }
-    if c == 39 {
-        return emit(out, p, 62);
-    }
-    if c == 41 {
-        return emit(out, p, 41);
-    }
-    p
 }
 
 // What stands before the k-th of them.
@@ -93,10 +72,10 @@ fn between(out: &mut [u8], p: Spot, c: u8, k: usize) -> Spot
         return p;
     }
     if c == 37 {
-        let q = emit(out, p, 44);
-        return emit(out, q, 32);
+        emit_run(out, p, b", ")
+    } else {
+        emit(out, p, b' ')
     }
-    emit(out, p, 32)
 }
 
 // The symbol at a place, with `left` levels of nesting left.
@@ -117,21 +96,17 @@ fn show<'a>(
     let n = inside(work, width, at, c);
     let start = Spot {
         at: at + long(c, width),
-        hi: p.hi,
-        lo: p.lo,
-        to: p.to,
+        ..p
     };
     let mut q = before(tape, work, m, width, at, c, out, start);
-    let mut k = 0;
-    while k < n {
+    for k in 0..n {
         let z = between(out, q, c, k);
         q = show(tape, work, m, width, left - 1, out, z);
-        k += 1;
     }
     behind(work, width, at, c, out, q)
 }
 
-// The window of a form that starts hi * 2^64 + lo bytes into it.
+// The window of a form that starts `skip` bytes into it.
 fn fill<'a>(
     tape: &'a [u8],
     work: &'a [u8],
@@ -139,26 +114,13 @@ fn fill<'a>(
     width: usize,
     left: usize,
     a: usize,
-    c: Count,
+    skip: u128,
     x: &mut [u8],
 ) -> usize
     requires { Readable tape.now work.now m width × SomeSym tape.now work.now m width left a }
-    ensures { Fills tape.now work.now m width left a (skip_of c.hi c.lo) x.old result x.new }
+    ensures { Fills tape.now work.now m width left a skip x.old result x.new }
 {
-    let p = show(
-        tape,
-        work,
-        m,
-        width,
-        left,
-        x,
-        Spot {
-            at: a,
-            hi: c.hi,
-            lo: c.lo,
-            to: 0,
-        },
-    );
+    let p = show(tape, work, m, width, left, x, Spot { at: a, skip, to: 0 });
     p.to
 }
 
@@ -173,17 +135,18 @@ fn judge(x: &[u8], y: &[u8], i: usize, j: usize) -> Verdict
     let w = x.len();
     if i <= w {
         if same(x, 0, y, 0, i) {
-            return Verdict::Same;
+            Verdict::Same
+        } else {
+            Verdict::Differ
         }
-        return Verdict::Differ;
+    } else if same(x, 0, y, 0, w) {
+        Verdict::More
+    } else {
+        Verdict::Differ
     }
-    if same(x, 0, y, 0, w) {
-        return Verdict::More;
-    }
-    Verdict::Differ
 }
 
-// What the windows from c on say of two forms.
+// What the windows that start `skip` bytes into them say of two forms.
 fn look<'a>(
     tape: &'a [u8],
     work: &'a [u8],
@@ -192,33 +155,16 @@ fn look<'a>(
     left: usize,
     a: usize,
     b: usize,
-    c: Count,
+    skip: u128,
     x: &mut [u8],
     y: &mut [u8],
 ) -> Verdict
     requires { Readable tape.now work.now m width × SomeSym tape.now work.now m width left a × SomeSym tape.now work.now m width left b × (length x.old ≡ length y.old) }
-    ensures { Looks tape.now work.now m width left a b (skip_of c.hi c.lo) (length x.old) result }
+    ensures { Looks tape.now work.now m width left a b skip (length x.old) result }
 {
-    let i = fill(tape, work, m, width, left, a, c, x);
-    let j = fill(tape, work, m, width, left, b, c, y);
+    let i = fill(tape, work, m, width, left, a, skip, x);
+    let j = fill(tape, work, m, width, left, b, skip, y);
     judge(x, y, i, j)
-}
-
-fn add(c: Count, n: usize) -> Count
-    requires { c.hi + 1 < 2 ^ 64 }
-    ensures { skip_of result.hi result.lo ≡ skip_of c.hi c.lo + n }
-{
-    let room = 18446744073709551615 - n;
-    if c.lo <= room {
-        return Count {
-            hi: c.hi,
-            lo: c.lo + n,
-        };
-    }
-    Count {
-        hi: c.hi + 1,
-        lo: c.lo - room - 1,
-    }
 }
 
 // Whether two forms are the same, with two windows of one length.
@@ -236,18 +182,12 @@ fn same_in<'a>(
     requires { Readable tape.now work.now m width × SomeSym tape.now work.now m width left a × SomeSym tape.now work.now m width left b × (length x.old ≡ length y.old) × (0 < length x.old) }
     ensures { SamePrints tape.now work.now m width left a b result }
 {
-    let mut c = Count { hi: 0, lo: 0 };
+    let mut skip = 0;
     loop {
-        match look(tape, work, m, width, left, a, b, c, x, y) {
-            Verdict::Same => {
-                return true;
-            }
-            Verdict::Differ => {
-                return false;
-            }
-            Verdict::More => {
-                c = add(c, x.len());
-            }
+        match look(tape, work, m, width, left, a, b, skip, x, y) {
+            Verdict::Same => return true,
+            Verdict::Differ => return false,
+            Verdict::More => skip += x.len() as u128,
         }
     }
 }

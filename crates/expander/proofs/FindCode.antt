@@ -21,8 +21,9 @@ use Rattle.display.specs.declared.form.Form.{Form}
 use Rattle.display.specs.Form.{text_form}
 use Rattle.display.specs.Standing.{SomeSym}
 use Rattle.display.specs.declared.Met.{Met}
-use Rattle.display.specs.Follow.{Follows}
-use Rattle.display.proofs.MetLaws.{met_is}
+use Rattle.display.specs.Follow.{index_of, Follows}
+use Rattle.std.specs.Prelude.{Option, Some, None}
+use Rattle.display.proofs.MetLaws.{whole_met, met_is}
 use Rattle.display.specs.Window.{SamePrints}
 use Rattle.replacing.specs.Prints.{print_at}
 use Rattle.expander.specs.declared.Ground.{Ground}
@@ -106,14 +107,22 @@ module _ (s w : List ℕ) (g : Ground) (G : Grounded s w g) (b : (j : ℕ) → B
     noted = N;
   }
 
-  pub key_same : (k : ℕ) (t : Text) (q : Met) → t ≡ get_or (texts s w g.m) k [] → Follows s w g.m g.width 64 t (record { at = g.from + p; i = 0 }) q
-      → eqb q.i (length t) ≡ same_as (get_or (texts s w g.m) k []) (printed_at s w g p)
-  unfolding print_at
-  key_same k t q e f =
-      ap (λ (z : ℕ). eqb z (length t)) (f.met false _ _ (key_stands s w g (λ j. (b j).fits) G p y)) ∙ sym (met_is t 0 (printed_at s w g p) (omega arith))
-      ∙ same_as-sym (printed_at s w g p) t ∙ ap (λ (u : Text). same_as u (printed_at s w g p)) e
+  module _ (k : ℕ) (t : Text) (q : Option Met) (e : t ≡ get_or (texts s w g.m) k []) (f : Follows s w g.m g.width 64 t (record { at = g.from + p; i = 0 }) q) where
+    key_met : whole_met t (index_of q) ≡ same_as (get_or (texts s w g.m) k []) (printed_at s w g p)
+    unfolding print_at
+    key_met =
+        ap (whole_met t) (f.met false _ _ (key_stands s w g (λ j. (b j).fits) G p y)) ∙ sym (met_is t 0 (printed_at s w g p) (omega arith))
+        ∙ same_as-sym (printed_at s w g p) t ∙ ap (λ (u : Text). same_as u (printed_at s w g p)) e
 
-pub ruleset texting = (rules, place_fits, form_hash, is_not, key_inner, key_same)
+    pub key_same : (r : Met) → q ≡ Some r → eqb r.i (length t) ≡ same_as (get_or (texts s w g.m) k []) (printed_at s w g p)
+    unfolding whole_met index_of
+    key_same r z = ap (λ (v : Option Met). whole_met t (index_of v)) (sym z) ∙ key_met
+
+    pub key_differs : q ≡ None → false ≡ same_as (get_or (texts s w g.m) k []) (printed_at s w g p)
+    unfolding whole_met index_of
+    key_differs z = ap (λ (v : Option Met). whole_met t (index_of v)) (sym z) ∙ key_met
+
+pub ruleset texting = (rules, place_fits, form_hash, is_not, key_inner, key_same, key_differs)
 
 -- ---- `written`: the table is gone through as by `find`
 pub ruleset seeking = (chasing, form_hash)

@@ -12,7 +12,7 @@ use Rattle.octets.specs.Working.Choice.{pick}
 use Rattle.octets.specs.Plain.Runs.{same_as}
 use Rattle.octets.proofs.SameLaws.{same_as-eq}
 use Rattle.parse_tree.specs.Plain.Tree.{Text}
-use Rattle.texts.specs.declared.Found.{Found}
+use Rattle.std.specs.Prelude.{Some, None}
 use Rattle.texts.specs.Hash.{hash_of, bucket_of}
 use Rattle.texts.specs.Fields.{link_at, head_at, bucket_at, last}
 use Rattle.texts.specs.Table.{linked}
@@ -28,10 +28,10 @@ use Rattle.expander.proofs.FindCode.{form_hash, record_room}
 
 -- ---- texts by number of which none is x
 module _ (q : ℕ → Text) (x : Text) where
-  abbrev None : ℕ → Type 0
-  None k = (i : ℕ) → i < k → same_as (q i) x ≡ false
+  abbrev NoneTo : ℕ → Type 0
+  NoneTo k = (i : ℕ) → i < k → same_as (q i) x ≡ false
 
-  none_more : (k m : ℕ) → m ≤ k + 1 → None k → same_as (q k) x ≡ false → None m
+  none_more : (k m : ℕ) → m ≤ k + 1 → NoneTo k → same_as (q k) x ≡ false → NoneTo m
   none_more k m u h e i l = go (ltb i k) refl
     where
       go : (t : Bool) → ltb i k ≡ t → same_as (q i) x ≡ false
@@ -39,7 +39,7 @@ module _ (q : ℕ → Text) (x : Text) where
       go false a = let z : i ≡ k = omega (arith, ltb-false i k a) in rw z e
 
   -- behind the last of a bucket none is x
-  last_none : (f : ℕ → ℕ) (y k : ℕ) → ((i : ℕ) → i < k → q i ≡ x → f i ≡ y) → None (last f y k) → None k
+  last_none : (f : ℕ → ℕ) (y k : ℕ) → ((i : ℕ) → i < k → q i ≡ x → f i ≡ y) → NoneTo (last f y k) → NoneTo k
   unfolding last pick
   last_none f y zero a = λ h. h
   last_none f y (suc k) a = go (eqb (f k) y) refl (last_none f y k (λ i l. a i (omega arith)))
@@ -48,7 +48,7 @@ module _ (q : ℕ → Text) (x : Text) where
       differs e true c = absurd (eqb-false (f k) y e (a k (omega arith) (same_as-eq (q k) x c)))
       differs e false c = refl
 
-      go : (t : Bool) → eqb (f k) y ≡ t → (None (last f y k) → None k) → None (pick t (suc k) (last f y k)) → None (suc k)
+      go : (t : Bool) → eqb (f k) y ≡ t → (NoneTo (last f y k) → NoneTo k) → NoneTo (pick t (suc k) (last f y k)) → NoneTo (suc k)
       go true e i h = h
       go false e i h = none_more k (suc k) (omega arith) (i h) (differs e (same_as (q k) x) refl)
 
@@ -105,7 +105,7 @@ module _ (s w : List ℕ) (g : Ground) (n p : ℕ) (f : Form) (G : Grounded s w 
     pub trace_room : g.keys + 24 * (j - 1) + 24 ≤ length w
     trace_room = record_room s w g n (j - 1) G R trace_below
 
-    pub trace_found : (r : Bool) → r ≡ same_as (printed_at s w g (key_at w g (j - 1))) (printed_at s w g p) → r ≡ true → FindsKey s w g n p (Found.At (j - 1))
+    pub trace_found : (r : Bool) → r ≡ same_as (printed_at s w g (key_at w g (j - 1))) (printed_at s w g p) → r ≡ true → FindsKey s w g n p (Some (j - 1))
     unfolding FindsKey
     trace_found r e u = (trace_below, same_as-eq (printed_at s w g (key_at w g (j - 1))) (printed_at s w g p) (sym e ∙ u))
 
@@ -146,11 +146,11 @@ module _ (s w : List ℕ) (g : Ground) (n p : ℕ) where
       all = λ k. absurd (omega arith);
     }
 
-    pub rest_found : (r : Bool) → i < n → r ≡ same_as (printed_at s w g (key_at w g i)) (printed_at s w g p) → r ≡ true → FindsKey s w g n p (Found.At i)
+    pub rest_found : (r : Bool) → i < n → r ≡ same_as (printed_at s w g (key_at w g i)) (printed_at s w g p) → r ≡ true → FindsKey s w g n p (Some i)
     unfolding FindsKey
     rest_found r h e u = (h, same_as-eq (printed_at s w g (key_at w g i)) (printed_at s w g p) (sym e ∙ u))
 
-    pub rest_done : n ≤ i → FindsKey s w g n p Found.Nothing
+    pub rest_done : n ≤ i → FindsKey s w g n p None
     unfolding FindsKey
     rest_done h = go (ltb n i) refl
       where

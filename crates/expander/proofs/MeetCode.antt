@@ -1,11 +1,11 @@
 -- The code that holds a symbol against a text: the loop of `symbol_end`, `known`, the two ways out of `meet_known`, the loop of `meet_symbol`. Assumes nothing.
 use mathlib.Core.Path.{◌≡◌, refl, sym, ap, ◌∙◌, subst}
-use mathlib.Core.Bool.{Bool, true, false}
+use mathlib.Core.Bool.{Bool, true, false, not}
 use mathlib.Core.List.{List, append-nil}
 use Prim.Native.Nat.{ℕ, ◌+◌, ◌-◌, ◌*◌, ◌/◌, ◌%◌, ◌^◌, ◌<◌, ◌≤◌}
 use native.Mathlib.Omega.{arith}
 use borrow.Author.Rules.{rules}
-use borrow.Author.Tests.{eq-eqb, ne_eqb}
+use borrow.Author.Tests.{eq-eqb, ne_eqb, lt-ltb, le-ltb, not-true, not-false}
 use lib.ListN.{length, get_or}
 use mir.Syntax.{w64}
 use mir.Val.{Fits}
@@ -25,15 +25,17 @@ use Rattle.display.specs.declared.Met.{Met}
 use Rattle.display.specs.Standing.{SymStands, SomeSym}
 use Rattle.display.specs.Follow.{met_by, before_by, behind_by, between_by, Follows}
 use Rattle.display.proofs.StandsLaws.{standing, first_stands}
-use Rattle.display.proofs.FollowCode.{some_room, some_within, some_high, some_fits, Going, going_start, going_next, going_done}
+use Rattle.display.proofs.FollowCode.{some_room, some_within, some_high, some_fits, Going, start_lost, going_start, between_lost, inside_lost, going_next, behind_lost, going_done}
+use Rattle.std.specs.Prelude.{Option, Some, None}
 use Rattle.expander.specs.declared.Ground.{Ground}
-use Rattle.expander.specs.Ground.{size_in, slot_at, Grounded}
+use Rattle.expander.specs.declared.slots.Noted.{Noted}
+use Rattle.expander.specs.Ground.{size_in, slot_code, slot_at, Grounded}
 use Rattle.expander.specs.Replace.{expanded_code, keys_of, keys_of_all, StandAt}
-use Rattle.expander.specs.Meet.{SymbolLies, SomeEnd, EndsAt, SlotAt, text_known_at, NotedAt, SomeKnown, SomeInner}
+use Rattle.expander.specs.Meet.{SymbolLies, SomeEnd, EndsAt, SlotAt, table_text, text_known_at, NotedAt, SomeKnown, SomeInner}
 use Rattle.expander.proofs.StageReads.{grounded_readable}
 use Rattle.expander.proofs.NoteSlotCode.{place_room}
 use Rattle.expander.proofs.KeysLaws.{sym_length}
-use Rattle.expander.proofs.MeetLaws.{noted_parts, known_inner, known_lies, known_follows}
+use Rattle.expander.proofs.MeetLaws.{noted_parts, known_below, known_inner, known_lies, known_lost, known_follows}
 
 -- ---- `symbol_end`
 module _ (w : List ℕ) (wd : ℕ) where
@@ -130,20 +132,37 @@ pub ruleset ending = (rules, ending_start, ending_done, ending_within, ending_ro
 
 -- ---- `known`
 module _ (w : List ℕ) (g : Ground) (at : ℕ) (t : Bool) (e : t ≡ expanded_code (get_or w at 0)) where
-  pub known_plain : t ≡ false → g.m.count ≡ text_known_at w g at
+  pub known_other : not t ≡ true → None ≡ text_known_at w g at
   unfolding text_known_at pick
-  known_plain f = cc (e, f)
+  known_other h = let f = not-true t h in cc (e, f)
 
-  module _ (f : t ≡ true) (v : ℕ) (i : v ≡ slot_at w g (at - g.from)) where
-    pub known_even : v % 2 ≡ 0 → v / 2 ≡ text_known_at w g at
+  module _ (h : not t ≡ false) (x : Noted) (i : slot_code x ≡ slot_at w g (at - g.from)) where
+    f : t ≡ true
+    f = not-false t h
+
+    module _ (k : ℕ) (z : x ≡ Noted.Text k) where
+      text_told : table_text g k ≡ text_known_at w g at
+      unfolding text_known_at pick
+      text_told =
+          let v : slot_at w g (at - g.from) ≡ 2 * k = sym i ∙ ap slot_code z in
+          let y : 2 * k / 2 ≡ k = omega arith in
+          cc (e, f, v, y, eq-eqb (2 * k % 2) 0 (omega arith))
+
+      pub known_text : k < g.m.count → Some k ≡ text_known_at w g at
+      unfolding table_text pick
+      known_text l = cc (lt-ltb k g.m.count l, text_told)
+
+      pub known_later : g.m.count ≤ k → None ≡ text_known_at w g at
+      unfolding table_text pick
+      known_later l = cc (le-ltb k g.m.count l, text_told)
+
+    pub known_pushed : (j : ℕ) → x ≡ Noted.Pushed j → None ≡ text_known_at w g at
     unfolding text_known_at pick
-    known_even z = cc (e, f, i, eq-eqb (v % 2) 0 z)
+    known_pushed j z =
+        let v : slot_at w g (at - g.from) ≡ 2 * j + 1 = sym i ∙ ap slot_code z in
+        cc (e, f, v, ne_eqb ((2 * j + 1) % 2) 0 (λ q. omega arith))
 
-    pub known_odd : (v % 2 ≡ 0 → ⊥) → g.m.count ≡ text_known_at w g at
-    unfolding text_known_at pick
-    known_odd z = cc (e, f, i, ne_eqb (v % 2) 0 z)
-
-pub ruleset knowing = (rules, known_plain, known_even, known_odd)
+pub ruleset knowing = (rules, known_other, known_text, known_later, known_pushed)
 
 -- ---- `meet_known`
 pub known_slot : (s w : List ℕ) (g : Ground) (left at : ℕ) → Grounded s w g → SomeKnown s w g left at → SlotAt w g at
@@ -159,7 +178,7 @@ known_slot s w g left at G K =
       room = rw z (place_room s w g K.place G (omega (arith, l, K.inside)));
     }
 
-pub ruleset known_meeting = (rules, grounded_readable, known_slot, known_lies, known_inner, known_follows)
+pub ruleset known_meeting = (rules, grounded_readable, known_below, known_slot, known_lies, known_inner, known_lost, known_follows)
 
 -- ---- `meet_symbol`
 inner-stands : (s w : List ℕ) (g : Ground) (left at : ℕ) (S : SomeInner s w g left at) → SymStands s w g.m g.width S.four left at (g.from + S.end) S.symbol
@@ -168,11 +187,14 @@ inner-stands s w g left at S = rw S.is S.stands
 pub inner-some : (s w : List ℕ) (g : Ground) (left at : ℕ) → SomeInner s w g left at → SomeSym s w g.m g.width left at
 inner-some s w g left at S = record { four = S.four; end = g.from + S.end; symbol = S.symbol; stands = inner-stands s w g left at S }
 
-module _ (s w : List ℕ) (g : Ground) (left : ℕ) (t : Text) (at : ℕ) where
+module _ (s w : List ℕ) (g : Ground) (left : ℕ) (t : Text) (p : Met) where
+  abbrev at : ℕ
+  at = p.at
+
   -- the symbols that are left, and what is noted of them
-  pub record Meeting (c n b : ℕ) (q : Met) (k : ℕ) : Type 0 where
+  pub record Meeting (c n : ℕ) (q : Met) (k : ℕ) : Type 0 where
     pub ground : Grounded s w g
-    pub going : Going s w g.m g.width left t at c n b q k
+    pub going : Going s w g.m g.width left t p c n q k
     pub levels : left ≤ 64
     pub four : Bool
     pub place : ℕ
@@ -184,15 +206,16 @@ module _ (s w : List ℕ) (g : Ground) (left : ℕ) (t : Text) (at : ℕ) where
     pub stand : StandAt s w g four (left - 1) place end rest
     pub noted : NotedAt s w g (keys_of_all g.width (texts s w g.m) rest place)
 
-  pub meeting_start : (c n l b : ℕ) → Grounded s w g → SomeInner s w g left at → c ≡ get_or w at 0 → n ≡ inside_by g.width w at c → l ≡ long_of g.width c → Meeting c n b (record { at = at + l; i = b }) 0
-  meeting_start c n l b G S d e f =
+  pub meeting_start : (c n l b : ℕ) (u : Option ℕ) → Grounded s w g → SomeInner s w g left at → c ≡ get_or w at 0 → n ≡ inside_by g.width w at c → l ≡ long_of g.width c
+      → u ≡ met_by t (Some p.i) (before_by g.width (texts s w g.m) w at c) → u ≡ Some b → Meeting c n (record { at = at + l; i = b }) 0
+  meeting_start c n l b u G S d e f v z' =
       let h = inner-some s w g left at S in
       let o = standing s w g.m g.width S.four left at (g.from + S.end) S.symbol (inner-stands s w g left at S) in
       let y : l ≡ size_of g.width (sym_node (texts s w g.m) S.symbol) = f ∙ ap (long_of g.width) d ∙ o.reads.long in
       let z : at + long_of g.width (get_or w at 0) ≡ g.from + (S.place + size_of g.width (sym_node (texts s w g.m) S.symbol)) = omega (arith, S.is, o.reads.long) in
       record {
         ground = G;
-        going = going_start s w g.m g.width left t at c n l b (grounded_readable s w g G) h d e f;
+        going = going_start s w g.m g.width left t p c d u v n l b (grounded_readable s w g G) h e f z';
         levels = S.levels;
         four = S.four;
         place = S.place + size_of g.width (sym_node (texts s w g.m) S.symbol);
@@ -205,7 +228,7 @@ module _ (s w : List ℕ) (g : Ground) (left : ℕ) (t : Text) (at : ℕ) where
         noted = S.noted;
       }
 
-  module _ (c n b : ℕ) (q : Met) (k : ℕ) (M : Meeting c n b q k) where
+  module _ (c n : ℕ) (q : Met) (k : ℕ) (M : Meeting c n q k) where
     pub meeting_known : k < n → SomeKnown s w g (left - 1) q.at
     unfolding count keys_of_all syms_bytes
     meeting_known l = go M.rest M.many M.stand M.noted
@@ -227,11 +250,12 @@ module _ (s w : List ℕ) (g : Ground) (left : ℕ) (t : Text) (at : ℕ) where
               noted = (noted_parts s w g (keys_of g.width (texts s w g.m) y M.place) _ N).0;
             }
 
-    pub meeting_next : (i : ℕ) (r : Met) → k < n → i ≡ met_by t q.i (between_by c k) → Follows s w g.m g.width (left - 1) t (record { at = q.at; i = i }) r → Meeting c n b r (k + 1)
+    pub meeting_next : (o : Option ℕ) (i : ℕ) (u : Option Met) (r : Met) → k < n → o ≡ met_by t (Some q.i) (between_by c k) → o ≡ Some i → Follows s w g.m g.width (left - 1) t (record { at = q.at; i = i }) u → u ≡ Some r
+        → Meeting c n r (k + 1)
     unfolding count keys_of_all
-    meeting_next i r l d f = go M.rest M.many M.stand M.noted
+    meeting_next o i u r l d v f e = go M.rest M.many M.stand M.noted
       where
-        go : (xs : Syms) → k + count xs ≡ n → StandAt s w g M.four (left - 1) M.place M.end xs → NotedAt s w g (keys_of_all g.width (texts s w g.m) xs M.place) → Meeting c n b r (k + 1)
+        go : (xs : Syms) → k + count xs ≡ n → StandAt s w g M.four (left - 1) M.place M.end xs → NotedAt s w g (keys_of_all g.width (texts s w g.m) xs M.place) → Meeting c n r (k + 1)
         go nil j st N = absurd (omega arith)
         go (cons y ys) j st N =
             let fs = first_stands s w g.m g.width M.four (left - 1) (g.from + M.place) (g.from + M.end) y ys st in
@@ -239,21 +263,31 @@ module _ (s w : List ℕ) (g : Ground) (left : ℕ) (t : Text) (at : ℕ) where
             let h = subst (λ (a : ℕ). SymStands s w g.m g.width M.four (left - 1) a (g.from + M.place + length (sym_bytes g.width (texts s w g.m) y)) y) (sym M.is) fs.0 in
             record {
               ground = M.ground;
-              going = going_next s w g.m g.width left t at c n b q k M.going i r l d f;
+              going = going_next s w g.m g.width left t p c n q k M.going o l d i v u f r e;
               levels = M.levels;
               four = M.four;
               place = M.place + length (sym_bytes g.width (texts s w g.m) y);
               end = M.end;
               rest = ys;
-              is = f.place M.four (g.from + M.place + length (sym_bytes g.width (texts s w g.m) y)) y h ∙ z;
+              is = f.place r e M.four (g.from + M.place + length (sym_bytes g.width (texts s w g.m) y)) y h ∙ z;
               inside = M.inside;
               many = omega arith;
               stand = rw z at fs.1;
               noted = (noted_parts s w g (keys_of g.width (texts s w g.m) y M.place) _ N).1;
             }
 
-pub meeting_done : (s w : List ℕ) (g : Ground) (left : ℕ) (t : Text) (p : Met) (c n b : ℕ) (q : Met) (k i : ℕ) → Meeting s w g left t p.at c n b q k → n ≤ k
-    → b ≡ met_by t p.i (before_by g.width (texts s w g.m) w p.at c) → i ≡ met_by t q.i (behind_by w p.at c) → Follows s w g.m g.width left t p (record { at = q.at; i = i })
-meeting_done s w g left t p c n b q k i M l a d = going_done s w g.m g.width left t p c n b q k i M.going l a d
+    pub meeting_between : (o : Option ℕ) → k < n → o ≡ met_by t (Some q.i) (between_by c k) → o ≡ None → Follows s w g.m g.width left t p None
+    meeting_between o l d v = between_lost s w g.m g.width left t p c n q k M.going o l d v
 
-pub ruleset symbol_meeting = (rules, grounded_readable, inner-some, some_room, some_within, some_high, some_fits, meeting_start, meeting_known, meeting_done)
+    pub meeting_inside : (o : Option ℕ) (i : ℕ) (u : Option Met) → k < n → o ≡ met_by t (Some q.i) (between_by c k) → o ≡ Some i → Follows s w g.m g.width (left - 1) t (record { at = q.at; i = i }) u → u ≡ None
+        → Follows s w g.m g.width left t p None
+    meeting_inside o i u l d v f e = inside_lost s w g.m g.width left t p c n q k M.going o l d i v u f e
+
+    module _ (o : Option ℕ) (l : n ≤ k) (d : o ≡ met_by t (Some q.i) (behind_by w at c)) where
+      pub meeting_behind : o ≡ None → Follows s w g.m g.width left t p None
+      meeting_behind v = behind_lost s w g.m g.width left t p c n q k M.going l o d v
+
+      pub meeting_done : (i : ℕ) → o ≡ Some i → Follows s w g.m g.width left t p (Some (record { at = q.at; i = i }))
+      meeting_done i v = going_done s w g.m g.width left t p c n q k M.going l o d i v
+
+pub ruleset symbol_meeting = (rules, grounded_readable, inner-some, some_room, some_within, some_high, some_fits, start_lost, meeting_start, meeting_known, meeting_behind, meeting_done)

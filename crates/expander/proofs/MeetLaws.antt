@@ -4,8 +4,8 @@ use mathlib.Core.Bool.{Bool, true, false}
 use mathlib.Core.List.{List, [], ◌∷◌, ◌++◌}
 use Prim.Native.Nat.{ℕ, ◌+◌, ◌-◌, ◌/◌, ◌%◌, ◌<◌}
 use native.Mathlib.Omega.{arith}
-use borrow.Author.Tests.{eqb-true}
-use lib.Dec.{eqb}
+use borrow.Author.Tests.{eqb-true, ltb-true}
+use lib.Dec.{eqb, ltb}
 use lib.ListN.{get_or}
 use Rattle.octets.specs.Working.Choice.{pick}
 use Rattle.parse_tree.specs.Plain.Tree.{Text, Sym}
@@ -21,12 +21,14 @@ use Rattle.replacing.specs.Sound.{HasRef, Good}
 use Rattle.replacing.proofs.NumbersMean.{ref_good}
 use Rattle.display.specs.declared.Met.{Met}
 use Rattle.display.specs.Standing.{SymStands}
-use Rattle.display.specs.Follow.{met_by, Follows}
+use Rattle.std.specs.Prelude.{Option, Some, None}
+use Rattle.display.proofs.FollowCode.{lost}
+use Rattle.display.specs.Follow.{met_by, index_of, Follows}
 use Rattle.expander.specs.declared.Ground.{Ground}
 use Rattle.expander.specs.Ground.{slot_at, symbol_in, KeyAt, Grounded}
 use Rattle.expander.specs.Held.{ref_by, ref_in, followed, Held}
 use Rattle.expander.specs.Replace.{expanded_code}
-use Rattle.expander.specs.Meet.{SomeEnd, EndsAt, text_known_at, inner_keys, NotedAt, SomeKnown, SomeInner}
+use Rattle.expander.specs.Meet.{SomeEnd, EndsAt, table_text, text_known_at, inner_keys, NotedAt, SomeKnown, SomeInner}
 use Rattle.expander.proofs.SlotsCode.{followed-even, ref_text}
 use Rattle.expander.proofs.KeysLaws.{own_keys, keys_parts, sym_any, stands_code, stands_symbol}
 
@@ -53,15 +55,27 @@ pub record Tells (w : List ℕ) (g : Ground) (at k : ℕ) : Type 0 where
   pub code : expanded_code (get_or w at 0) ≡ true
   pub even : slot_at w g (at - g.from) % 2 ≡ 0
   pub is : k ≡ slot_at w g (at - g.from) / 2
+  pub below : k < g.m.count
 
-tells : (w : List ℕ) (g : Ground) (at k : ℕ) → k ≡ text_known_at w g at → k < g.m.count → Tells w g at k
-unfolding text_known_at pick
-tells w g at k e l = go (expanded_code (get_or w at 0)) (eqb (slot_at w g (at - g.from) % 2) 0) refl refl e
+tells : (w : List ℕ) (g : Ground) (at k : ℕ) → Some k ≡ text_known_at w g at → Tells w g at k
+unfolding text_known_at table_text pick
+tells w g at k e = go (expanded_code (get_or w at 0)) (eqb (slot_at w g (at - g.from) % 2) 0) (ltb (slot_at w g (at - g.from) / 2) g.m.count) refl refl refl e
   where
-    go : (b c : Bool) → expanded_code (get_or w at 0) ≡ b → eqb (slot_at w g (at - g.from) % 2) 0 ≡ c → k ≡ pick b (pick c (slot_at w g (at - g.from) / 2) g.m.count) g.m.count → Tells w g at k
-    go false c j o z = absurd (omega arith)
-    go true false j o z = absurd (omega arith)
-    go true true j o z = record { code = j; even = eqb-true (slot_at w g (at - g.from) % 2) 0 o; is = z }
+    some : (i : ℕ) → Some k ≡ Some i → k ≡ i
+    some i z = cc
+
+    none : {T : Type 0} → Some k ≡ None → T
+    none z = absurd cc
+
+    go : (b c d : Bool) → expanded_code (get_or w at 0) ≡ b → eqb (slot_at w g (at - g.from) % 2) 0 ≡ c → ltb (slot_at w g (at - g.from) / 2) g.m.count ≡ d
+        → Some k ≡ pick b (pick c (pick d (Some (slot_at w g (at - g.from) / 2)) None) None) None → Tells w g at k
+    go false c d j o q z = none z
+    go true false d j o q z = none z
+    go true true false j o q z = none z
+    go true true true j o q z = record { code = j; even = eqb-true (slot_at w g (at - g.from) % 2) 0 o; is = some _ z; below = let l = ltb-true (slot_at w g (at - g.from) / 2) g.m.count q in rw (some _ z) l }
+
+pub known_below : (w : List ℕ) (g : Ground) (at k : ℕ) (r : Option ℕ) → r ≡ text_known_at w g at → r ≡ Some k → k < g.m.count
+known_below w g at k r e j = (tells w g at k (sym j ∙ e)).below
 
 module _ (s w : List ℕ) (g : Ground) (G : Grounded s w g) where
   -- theorem: the text that an even slot tells of is the print
@@ -89,9 +103,9 @@ module _ (s w : List ℕ) (g : Ground) (G : Grounded s w g) where
     pub known_lies : SomeEnd w g.width at
     known_lies = record { end = g.from + K.end; lies = record { texts = texts s w g.m; four = K.four; left = left; symbol = K.symbol; within = here.within; lies = here.lies } }
 
-    module _ (k : ℕ) (e : k ≡ text_known_at w g at) (l : k < g.m.count) where
+    module _ (k : ℕ) (e : Some k ≡ text_known_at w g at) where
       told : Tells w g at k
-      told = tells w g at k e l
+      told = tells w g at k e
 
       expanded : is_key K.symbol ≡ true
       expanded = sym (stands_code s w g G K.four left K.place K.end K.symbol K.stands K.inside) ∙ ap (λ (a : ℕ). expanded_code (get_or w a 0)) (sym K.is) ∙ told.code
@@ -105,17 +119,24 @@ module _ (s w : List ℕ) (g : Ground) (G : Grounded s w g) where
       known_print =
           let z : at - g.from ≡ K.place = omega (arith, K.is) in
           let v = slot_at w g (at - g.from) in
-          let i = slot_print own.pushed own.new K.place (slot_at w g (at - g.from)) own.slots own.held own.noted.0 (ap (slot_at w g) z) told.even (omega (arith, told.is)) in
+          let i = slot_print own.pushed own.new K.place (slot_at w g (at - g.from)) own.slots own.held own.noted.0 (ap (slot_at w g) z) told.even (omega (arith, told.is, told.below)) in
           ap (λ (a : ℕ). get_or (texts s w g.m) a []) told.is ∙ i ∙ ap print (stands_symbol s w g G K.four left K.place K.end K.symbol K.stands K.inside K.levels)
 
 -- theorem: the text was held against t in its place
-pub known_follows : (s w : List ℕ) (g : Ground) (left : ℕ) (t : Text) (p : Met) (k a j : ℕ) (x : Text) → Grounded s w g → SomeKnown s w g left p.at → k ≡ text_known_at w g p.at → k < g.m.count
-    → x ≡ get_or (texts s w g.m) k [] → EndsAt w g.width p.at a → j ≡ met_by t p.i x → Follows s w g.m g.width left t p (record { at = a; i = j })
-unfolding EndsAt
-known_follows s w g left t p k a j x G K e l f d o =
-    let one : (four : Bool) (c : ℕ) (y : Sym) → SymStands s w g.m g.width four left p.at c y → (g.from + K.end ≡ c) × (K.symbol ≡ y) =
-    λ four c y i. one_symbol s w g.m g.width left p.at K.four (g.from + K.end) K.symbol four c y (here s w g G left p.at K) i in
-    record {
-      place = λ four c y i. d c (record { texts = texts s w g.m; four = four; left = left; symbol = y; within = i.within; lies = i.lies });
-      met = λ four c y i. o ∙ ap (met_by t p.i) (f ∙ known_print s w g G left p.at K k e l ∙ ap print (one four c y i).1);
-    }
+module _ (s w : List ℕ) (g : Ground) (left : ℕ) (t : Text) (p : Met) (k : ℕ) (x : Text) (G : Grounded s w g) (K : SomeKnown s w g left p.at) (y : Option ℕ) (e : y ≡ text_known_at w g p.at) (l : y ≡ Some k)
+    (f : x ≡ get_or (texts s w g.m) k []) (o : Option ℕ) (j : o ≡ met_by t (Some p.i) x) where
+  one : (four : Bool) (c : ℕ) (y : Sym) → SymStands s w g.m g.width four left p.at c y → (g.from + K.end ≡ c) × (K.symbol ≡ y)
+  one four c y i = one_symbol s w g.m g.width left p.at K.four (g.from + K.end) K.symbol four c y (here s w g G left p.at K) i
+
+  text_met : (four : Bool) (c : ℕ) (y : Sym) → SymStands s w g.m g.width four left p.at c y → o ≡ met_by t (Some p.i) (print y)
+  text_met four c y i = j ∙ ap (met_by t (Some p.i)) (f ∙ known_print s w g G left p.at K k (sym l ∙ e) ∙ ap print (one four c y i).1)
+
+  pub known_lost : o ≡ None → Follows s w g.m g.width left t p None
+  known_lost z = lost s w g.m g.width left t p (λ four c y i. sym z ∙ text_met four c y i)
+
+  pub known_follows : (a i : ℕ) → EndsAt w g.width p.at a → o ≡ Some i → Follows s w g.m g.width left t p (Some (record { at = a; i = i }))
+  unfolding EndsAt index_of
+  known_follows a i d z = record {
+    place = λ q u four c y h. let v : q ≡ record { at = a; i = i } = cc in rw v (d c (record { texts = texts s w g.m; four = four; left = left; symbol = y; within = h.within; lies = h.lies }));
+    met = λ four c y h. sym z ∙ text_met four c y h;
+  }

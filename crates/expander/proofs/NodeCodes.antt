@@ -12,7 +12,7 @@ use Rattle.octets.specs.Working.Choice.{pick}
 use Rattle.octets.specs.Plain.Numbers.{le_at, le, Bytes}
 use Rattle.octets.proofs.ChoiceLaws.{by_pick}
 use Rattle.octets.proofs.LiesLaws.{le_at-lt}
-use Rattle.octets.proofs.NumbersLaws.{read_64, le-64}
+use Rattle.octets.proofs.NumbersLaws.{halves_at, le-64}
 use Rattle.parse_tree.specs.Working.Nodes.{span_bytes, leaf_code, leaf_operand, symbol_bytes, node_bytes, size_of, if_whole, span_in, named_leaf, bare_leaf, symbol_node_at, text_node, nonterminal_node_at, terminal_node_at, argument_node_at, alternative_node_at, attribute_node_at, condition_node_at, node_by, node_at}
 use Rattle.parse_tree.specs.Working.Places.{class_of}
 use Rattle.parse_tree.specs.declared.syntax.Span.{Span}
@@ -290,7 +290,7 @@ module _ (wd : ℕ) (t : List ℕ) (p : ℕ) where
   span_bytes_lem b a =
       let l = le_at 4 t a in
       let h = le_at 4 t (a + 4) in
-      let q : l + h * 4294967296 ≡ le_at 8 t a = read_64 t a l h l h refl refl refl refl in
+      let q : l + h * 4294967296 ≡ le_at 8 t a = halves_at t a in
       let i : l < 4294967296 = le_at-lt 4 t a b in
       let x : le_at 8 t a % 4294967296 ≡ l = omega arith in
       let y : le_at 8 t a / 4294967296 ≡ h = omega arith in

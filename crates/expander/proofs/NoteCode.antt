@@ -10,7 +10,7 @@ use mir.Syntax.{w8, w64}
 use mir.Val.{Fits}
 use Rattle.octets.specs.Plain.Numbers.{le}
 use Rattle.octets.specs.Working.Stores.{store}
-use Rattle.texts.specs.declared.Found.{Found}
+use Rattle.std.specs.Prelude.{Option, Some, None}
 use Rattle.texts.specs.Table.{texts, Is, Finds}
 use Rattle.texts.proofs.TextCode.{length_texts}
 use Rattle.parse_tree.specs.Plain.Texts.{has}
@@ -55,42 +55,36 @@ module _ (s w : List ℕ) (g : Ground) (n p : ℕ) (d : Grounded s w g) (a : Not
   pub note_next_fits : Fits w64 (n + 1)
   note_next_fits = record { fits = omega (arith, room_small, note_room) }
 
-  pub note_twice_fits : Fits w64 (2 * n)
-  note_twice_fits = record { fits = omega (arith, room_small, note_room) }
-
-  pub note_odd_fits : Fits w64 (2 * n + 1)
-  note_odd_fits = record { fits = omega (arith, room_small, note_room) }
+  pub note_odd_small : 2 * n + 1 < 2 ^ 64
+  note_odd_small = omega (arith, room_small, note_room)
 
   -- of a text that was found
-  module _ (r : Found) (k : ℕ) (i : Finds (texts s w g.m) (printed_at s w g p) r) (e : r ≡ Found.At k) where
+  module _ (r : Option ℕ) (k : ℕ) (i : Finds (texts s w g.m) (printed_at s w g p) r) (e : r ≡ Some k) where
     pub found_below : k < g.m.count
     unfolding Finds
     found_below = text_below k (rw e at i)
 
-    pub found_fits : Fits w64 (2 * k)
-    found_fits = record { fits = even_small k found_below }
+    pub found_small : 2 * k < 2 ^ 64
+    found_small = even_small k found_below
 
   -- of a pushed symbol
-  module _ (r : Found) (j : ℕ) (i : FindsKey s w g n p r) (e : r ≡ Found.At j) where
+  module _ (r : Option ℕ) (j : ℕ) (i : FindsKey s w g n p r) (e : r ≡ Some j) where
     key_below : j < n
     unfolding FindsKey
     key_below = (rw e at i).0
 
-    pub key_twice_fits : Fits w64 (2 * j)
-    key_twice_fits = record { fits = omega (arith, room_small, note_room, key_below) }
-
-    pub key_odd_fits : Fits w64 (2 * j + 1)
-    key_odd_fits = record { fits = omega (arith, room_small, note_room, key_below) }
+    pub key_odd_small : 2 * j + 1 < 2 ^ 64
+    key_odd_small = omega (arith, room_small, note_room, key_below)
 
   -- or of none
-  pub key_none : (r : Found) → FindsKey s w g n p r → r ≡ Found.Nothing → NoneBefore s w g n p
+  pub key_none : (r : Option ℕ) → FindsKey s w g n p r → r ≡ None → NoneBefore s w g n p
   unfolding FindsKey
   key_none r i e = rw e at i
 
   -- ---- what is left
   module _ (bytes : (i : ℕ) → Fits w8 (get_or w i 0)) where
     -- theorem: the j-th pushed symbol prints so
-    pub noted_found : (r : Found) (j : ℕ) (w2 : List ℕ) → FindsKey s w g n p r → r ≡ Found.At j → w2 ≡ store w (slot_place g p) (le 8 (2 * j + 1)) → Notes s w g n p n w2
+    pub noted_found : (r : Option ℕ) (j : ℕ) (w2 : List ℕ) → FindsKey s w g n p r → r ≡ Some j → w2 ≡ store w (slot_place g p) (le 8 (2 * j + 1)) → Notes s w g n p n w2
     unfolding FindsKey Notes
     noted_found r j w2 i e o c x h off =
         let (l, f) : (j < n) × (printed_at s w g (key_at w g j) ≡ printed_at s w g p) = rw e at i in
@@ -99,7 +93,7 @@ module _ (s w : List ℕ) (g : Ground) (n p : ℕ) (d : Grounded s w g) (a : Not
 
     module _ (no : NoneBefore s w g n p) where
       -- theorem: its text was pushed in an earlier round
-      pub noted_marked : (r : Found) (k : ℕ) (t : Bool) (w2 : List ℕ) → Finds (texts s w g.m) (printed_at s w g p) r → r ≡ Found.At k → t ≡ pushed_text w g k → t ≡ true
+      pub noted_marked : (r : Option ℕ) (k : ℕ) (t : Bool) (w2 : List ℕ) → Finds (texts s w g.m) (printed_at s w g p) r → r ≡ Some k → t ≡ pushed_text w g k → t ≡ true
           → w2 ≡ store w (slot_place g p) (le 8 (2 * k)) → Notes s w g n p n w2
       unfolding Finds Notes
       noted_marked r k t w2 i e y b o c x h off =
@@ -110,7 +104,7 @@ module _ (s w : List ℕ) (g : Ground) (n p : ℕ) (d : Grounded s w g) (a : Not
 
       module _ (w1 : List ℕ) (u : Pushed s w g n p w1) where
         -- theorem: it wasn't
-        pub noted_text : (r : Found) (k : ℕ) (t : Bool) (w2 : List ℕ) → Finds (texts s w g.m) (printed_at s w g p) r → r ≡ Found.At k → t ≡ pushed_text w g k → t ≡ false
+        pub noted_text : (r : Option ℕ) (k : ℕ) (t : Bool) (w2 : List ℕ) → Finds (texts s w g.m) (printed_at s w g p) r → r ≡ Some k → t ≡ pushed_text w g k → t ≡ false
             → w2 ≡ store w1 (slot_place g p) (le 8 (2 * k)) → Notes s w g n p (n + 1) w2
         unfolding Finds Notes
         noted_text r k t w2 i e y b o c x h off =
@@ -121,7 +115,7 @@ module _ (s w : List ℕ) (g : Ground) (n p : ℕ) (d : Grounded s w g) (a : Not
             (note_pushed s w g (λ i. (bytes i).fits) d n c x h p no k f (sym b ∙ y))
 
         -- theorem: its print is no text
-        pub noted_new : (r : Found) (w2 : List ℕ) → Finds (texts s w g.m) (printed_at s w g p) r → r ≡ Found.Nothing → w2 ≡ store w1 (slot_place g p) (le 8 (2 * n + 1)) → Notes s w g n p (n + 1) w2
+        pub noted_new : (r : Option ℕ) (w2 : List ℕ) → Finds (texts s w g.m) (printed_at s w g p) r → r ≡ None → w2 ≡ store w1 (slot_place g p) (le 8 (2 * n + 1)) → Notes s w g n p (n + 1) w2
         unfolding Finds Notes
         noted_new r w2 i e o c x h off =
             let f : has (printed_at s w g p) (texts s w g.m) ≡ false = rw e at i in
@@ -129,4 +123,4 @@ module _ (s w : List ℕ) (g : Ground) (n p : ℕ) (d : Grounded s w g) (a : Not
             (enter (symbol_in s w g p) h.expander) (noted_sound s w g (λ i. (bytes i).fits) d n c x h p a.key) refl a.room u.here refl
             (note_new s w g (λ i. (bytes i).fits) d n c x h p no f)
 
-pub ruleset noting = (rules, note_slot, note_slot_pushed, note_next_fits, note_twice_fits, note_odd_fits, found_below, found_fits, key_twice_fits, key_odd_fits, key_none, noted_found, noted_marked, noted_text, noted_new)
+pub ruleset noting = (rules, note_slot, note_slot_pushed, note_next_fits, note_odd_small, found_below, found_small, key_odd_small, key_none, noted_found, noted_marked, noted_text, noted_new)

@@ -29,7 +29,7 @@ use Rattle.expander.proofs.GroundLaws.{kept-around, stage_around, texts-around}
 
 linked-more : (k : ℕ) → k < 4294967295 → linked (k + 1) ≡ k + 1
 unfolding linked
-linked-more k h = by_pick (λ r. r ≡ k + 1) (ltb (k + 1) 4294967295) (λ _. refl) (λ e. omega (arith, ltb-false (k + 1) 4294967295 e))
+linked-more k h = omega arith
 
 stop-small : (n : ℕ) → stop n < 4294967296
 unfolding stop

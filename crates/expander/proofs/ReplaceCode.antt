@@ -7,6 +7,8 @@ use native.Mathlib.Omega.{arith}
 use borrow.Author.Rules.{rules}
 use mir.Val.{Fits}
 use mir.Syntax.{w64}
+use borrow.Author.Tests.{ne_eqb, eqb-true, eqb-false}
+use lib.Dec.{eqb}
 use lib.ListN.{length, get_or}
 use Rattle.octets.specs.Working.Choice.{pick}
 use Rattle.parse_tree.specs.Plain.Tree.{Text, Sym, count}
@@ -40,27 +42,38 @@ use Rattle.expander.proofs.KeysLaws.{own_keys, keys_parts, keys_spread_all, Spre
 use Rattle.expander.proofs.ReplaceLaws.{kept-grounded, kept-texts, kept_byte, kept-stands, noted_plain, noted_own, held-inside}
 
 -- ---- is_expanded
-pub expanded_37 : (c : ℕ) → c ≡ 37 → true ≡ expanded_code c
-unfolding expanded_code pick
-expanded_37 c e = rw e refl
+module _ (c : ℕ) where
+  expanded_not : (c ≡ 37 → ⊥) → (c ≡ 38 → ⊥) → (c ≡ 41 → ⊥) → (c ≡ 42 → ⊥) → (c ≡ 43 → ⊥) → false ≡ expanded_code c
+  unfolding expanded_code pick
+  expanded_not a b d e f = cc (ne_eqb c 37 a, ne_eqb c 38 b, ne_eqb c 41 d, ne_eqb c 42 e, ne_eqb c 43 f)
 
-pub expanded_38 : (c : ℕ) → c ≡ 38 → true ≡ expanded_code c
-unfolding expanded_code pick
-expanded_38 c e = rw e refl
+  pub expanded_below : c < 37 → false ≡ expanded_code c
+  expanded_below h = expanded_not (λ z. absurd (omega arith)) (λ z. absurd (omega arith)) (λ z. absurd (omega arith)) (λ z. absurd (omega arith)) (λ z. absurd (omega arith))
 
-pub expanded_41 : (c : ℕ) → c ≡ 41 → true ≡ expanded_code c
-unfolding expanded_code pick
-expanded_41 c e = rw e refl
+  pub expanded_between : 38 < c → c < 41 → false ≡ expanded_code c
+  expanded_between h k = expanded_not (λ z. absurd (omega arith)) (λ z. absurd (omega arith)) (λ z. absurd (omega arith)) (λ z. absurd (omega arith)) (λ z. absurd (omega arith))
 
-pub expanded_42 : (c : ℕ) → c ≡ 42 → true ≡ expanded_code c
-unfolding expanded_code pick
-expanded_42 c e = rw e refl
+  pub expanded_above : 43 < c → false ≡ expanded_code c
+  expanded_above h = expanded_not (λ z. absurd (omega arith)) (λ z. absurd (omega arith)) (λ z. absurd (omega arith)) (λ z. absurd (omega arith)) (λ z. absurd (omega arith))
 
-pub expanded_43 : (c : ℕ) → c ≡ 43 → true ≡ expanded_code c
-unfolding expanded_code pick
-expanded_43 c e = rw e refl
+  pub expanded_first : 37 ≤ c → c ≤ 38 → true ≡ expanded_code c
+  unfolding expanded_code pick
+  expanded_first h k = go (eqb c 37) refl
+    where
+      go : (b : Bool) → eqb c 37 ≡ b → true ≡ expanded_code c
+      go true e = cc
+      go false e = let n = eqb-false c 37 e in let z : c ≡ 38 = omega arith in rw z refl
 
-pub ruleset expanding = (expanded_37, expanded_38, expanded_41, expanded_42, expanded_43)
+  pub expanded_second : 41 ≤ c → c ≤ 43 → true ≡ expanded_code c
+  unfolding expanded_code pick
+  expanded_second h k = go (eqb c 41) refl (eqb c 42) refl
+    where
+      go : (b : Bool) → eqb c 41 ≡ b → (d : Bool) → eqb c 42 ≡ d → true ≡ expanded_code c
+      go true e d f = let z = eqb-true c 41 e in rw z refl
+      go false e true f = let z = eqb-true c 42 f in rw z refl
+      go false e false f = let n = eqb-false c 41 e in let m = eqb-false c 42 f in let z : c ≡ 43 = omega arith in rw z refl
+
+pub ruleset expanding = (rules, expanded_below, expanded_between, expanded_above, expanded_first, expanded_second)
 
 -- ---- replace_symbol
 print-whole : (x : Sym) → print x ≡ before_text x ++ (shown_all (children x) (between_text x) [] ++ behind_text x)

@@ -2,11 +2,9 @@
 use mathlib.Core.Path.{◌≡◌, refl, sym, ap, ◌∙◌, subst}
 use mathlib.Core.Bool.{Bool}
 use mathlib.Core.List.{List, [], ◌++◌, append_assoc}
-use Prim.Native.Nat.{ℕ, zero, suc, ◌+◌, ◌-◌, ◌*◌, ◌<◌, ◌≤◌}
+use Prim.Native.Nat.{ℕ, ◌+◌, ◌-◌, ◌*◌, ◌<◌, ◌≤◌}
 use native.Mathlib.Omega.{arith}
 use borrow.Author.Rules.{rules}
-use borrow.Author.Tests.{ne_eqb}
-use lib.Dec.{eqb}
 use lib.ListN.{length}
 use Rattle.octets.specs.Working.Choice.{pick}
 use Rattle.parse_tree.specs.Plain.Tree.{Text, Sym, Syms, nil, cons, count}
@@ -23,37 +21,19 @@ use Rattle.expander.specs.declared.Ground.{Ground}
 use Rattle.expander.specs.declared.replace.Keyed.{Keyed}
 use Rattle.expander.specs.Ground.{size_in, Grounded, KeptAround}
 use Rattle.expander.specs.Replace.{keys_of, keys_of_all, StandsAt, StandAt, HeldBefore, SomeSymbol, SomeSymbols, NotedAll, ReplacesOne, ReplacesAll}
+use Rattle.display.proofs.FollowCode.{shown_from, shown_none, shown_later, shown_first}
 use Rattle.expander.proofs.KeysLaws.{keys_spread}
 use Rattle.expander.proofs.ReplaceLaws.{kept-grounded, kept-texts, kept-stand, noted_none, noted_then, held-behind}
 
--- ---- what is to come of symbols, d of which were met
-unfoldable pub shown_from : ℕ → Syms → Text → Text → Text
-shown_from d xs sep r = pick (eqb d 0) (shown_all xs sep r) (shown_more xs sep r)
-
-shown_none : (d : ℕ) (sep r : Text) → shown_from d nil sep r ≡ r
-unfolding shown_from pick shown_all shown_more
-shown_none zero sep r = refl
-shown_none (suc d) sep r = cc (ne_eqb (suc d) 0 (λ q. absurd (omega (arith, q))))
-
--- the first of them
-shown_first : (c d : ℕ) (x : Sym) (xs : Syms) (r : Text) → between_by c d ++ shown x (shown_more xs (between_by c 1) r) ≡ shown_from d (cons x xs) (between_by c 1) r
-unfolding shown_from pick shown_all shown_more between_by
-shown_first c zero x xs r = refl
-shown_first c (suc d) x xs r =
-    let z : between_by c (suc d) ≡ between_by c 1 = more c d ∙ sym (more c 0) in
-    let y : shown_from (suc d) (cons x xs) (between_by c 1) r ≡ between_by c 1 ++ shown x (shown_more xs (between_by c 1) r) = cc (ne_eqb (suc d) 0 (λ q. absurd (omega (arith, q)))) in
-    ap (λ (u : Text). u ++ shown x (shown_more xs (between_by c 1) r)) z ∙ sym y
-
 -- theorem: a form with a separator and a printed form joined goes on as with the symbol more
 join_more : (c d : ℕ) (x : Sym) (xs : Syms) (f h j : Form) → From f (between_by c d) h → SomeForm h → j ≡ join_of h (text_form (print x))
-    → form_from f (shown_from d (cons x xs) (between_by c 1) []) ≡ form_from j (shown_from 1 xs (between_by c 1) [])
-unfolding shown_from pick
+    → form_from f (shown_from d (cons x xs) (between_by c 1) []) ≡ form_from j (shown_from (d + 1) xs (between_by c 1) [])
 join_more c d x xs f h j a g e =
     let r = shown_more xs (between_by c 1) [] in
     let b : From f (between_by c d ++ print x) j = from_then a (from_join h (print x) j g e) in
     let z : between_by c d ++ shown x (shown_more xs (between_by c 1) []) ≡ (between_by c d ++ print x) ++ shown_more xs (between_by c 1) [] =
     ap (λ (y : Text). between_by c d ++ y) (sym (print-then x r)) ∙ sym (append_assoc (between_by c d) (print x) r) in
-    ap (form_from f) (sym (shown_first c d x xs []) ∙ z) ∙ from-append f (between_by c d ++ print x) r ∙ ap (λ (y : Form). form_from y r) (sym b.is)
+    ap (form_from f) (sym (shown_first c d x xs (between_by c 1) [] (λ i. more c i ∙ sym (more c 0))) ∙ z) ∙ from-append f (between_by c d ++ print x) r ∙ ap (λ (y : Form). form_from y r) (sym b.is) ∙ ap (form_from j) (sym (shown_later d xs (between_by c 1) []))
 
 -- ---- the first of symbols that stand in the items, and the others
 record Firsts (s w : List ℕ) (g : Ground) (four : Bool) (left p e : ℕ) (y : Sym) (ys : Syms) : Type 0 where
@@ -87,18 +67,23 @@ module _ (s w₀ : List ℕ) (g : Ground) (left p k c n : ℕ) (f : Form) where
     pub long : length w ≡ length w₀
     pub each : (four : Bool) (e : ℕ) (xs : Syms) → count xs ≡ k → StandAt s w₀ g four left p e xs → e ≤ size_in g → Onward w q d i four e xs
 
-  pub replacing_start : Grounded s w₀ g → SomeSymbols s w₀ g k left p n → SomeForm f → Replacing w₀ (record { at = p; form = f; pile = n }) 0 k
+  pub replacing_start : Grounded s w₀ g → SomeSymbols s w₀ g k left p n → SomeForm f → Replacing w₀ (record { at = p; form = f; pile = n }) 0 (k - 0)
   unfolding shown_from pick
-  replacing_start G S F = record {
-    ground = G;
-    some = S;
-    form = F;
-    long = refl;
-    each = λ four e xs m h i. record { ys = xs; many = m; stand = h; same = refl; carry = λ r w' x. x };
-  }
+  replacing_start G S F =
+      let z : k - 0 ≡ k = omega arith in
+      rw z (record {
+        ground = G;
+        some = S;
+        form = F;
+        long = refl;
+        each = λ four e xs m h i. record { ys = xs; many = m; stand = h; same = refl; carry = λ r w' x. x };
+      })
 
-  module _ (w : List ℕ) (q : Keyed) (d i : ℕ) (inv : Replacing w q d i) where
-    pub replacing_done : i ≤ 0 → ReplacesAll s w₀ g k left p c f n q w
+  module _ (w : List ℕ) (q : Keyed) (d : ℕ) (inv : Replacing w q d (k - d)) where
+    abbrev i : ℕ
+    i = k - d
+
+    pub replacing_done : k ≤ d → ReplacesAll s w₀ g k left p c f n q w
     unfolding ReplacesAll count keys_of_all form_from
     replacing_done z four e xs m h l = go (inv.each four e xs m h l)
       where
@@ -114,7 +99,7 @@ module _ (s w₀ : List ℕ) (g : Ground) (left p k c n : ℕ) (f : Form) where
         go : Onward w q d i four e xs → NotedAll s w₀ g p n e (keys_of_all g.width (texts s w₀ g.m) xs p) q w × (q.form ≡ form_from f (shown_all xs (between_by c 1) []))
         go o = last o.ys o.many o.stand o.same o.carry
 
-    module _ (positive : 0 < i) where
+    module _ (positive : d < k) where
       -- the nesting left falls
       pub replacing_falls : (t : ℕ) → 2 * left + 1 ≡ t → 2 * left < t
       replacing_falls t e = omega arith
@@ -142,11 +127,11 @@ module _ (s w₀ : List ℕ) (g : Ground) (left p k c n : ℕ) (f : Form) where
         next_ground : Grounded s v g
         next_ground = kept-grounded s w v g inv.ground first-kept
 
-        next-some : SomeSymbols s v g (i - 1) left x.at x.pile
+        next-some : SomeSymbols s v g (k - (d + 1)) left x.at x.pile
         unfolding count
         next-some = go inv.some.symbols inv.some.many inv.some.stand
           where
-            go : (ys : Syms) → count ys ≡ i → StandAt s w g inv.some.four left q.at inv.some.end ys → SomeSymbols s v g (i - 1) left x.at x.pile
+            go : (ys : Syms) → count ys ≡ i → StandAt s w g inv.some.four left q.at inv.some.end ys → SomeSymbols s v g (k - (d + 1)) left x.at x.pile
             go nil j st = absurd (omega arith)
             go (cons y ys) j st =
                 let a = firsts s w g inv.some.four left q.at inv.some.end y ys st in
@@ -172,13 +157,13 @@ module _ (s w₀ : List ℕ) (g : Ground) (left p k c n : ℕ) (f : Form) where
               let m = (met o.four o.end o.symbol o.stands o.inside).1 in
               (from_join h (print o.symbol) j between.form (joined ∙ ap (join_of h) m)).form
 
-          next_each : (four : Bool) (e : ℕ) (xs : Syms) → e ≤ size_in g → Onward w q d i four e xs → Onward v (record { at = x.at; form = j; pile = x.pile }) 1 (i - 1) four e xs
+          next_each : (four : Bool) (e : ℕ) (xs : Syms) → e ≤ size_in g → Onward w q d i four e xs → Onward v (record { at = x.at; form = j; pile = x.pile }) (d + 1) (k - (d + 1)) four e xs
           unfolding count keys_of_all
           next_each four e xs l o = go o.ys o.many o.stand o.same o.carry
             where
               go : (ys : Syms) → count ys ≡ i → StandAt s w g four left q.at e ys → form_from f (shown_all xs (between_by c 1) []) ≡ form_from q.form (shown_from d ys (between_by c 1) [])
                   → ((r : Keyed) (w' : List ℕ) → NotedAll s w g q.at q.pile e (keys_of_all g.width (texts s w g.m) ys q.at) r w' → NotedAll s w₀ g p n e (keys_of_all g.width (texts s w₀ g.m) xs p) r w')
-                  → Onward v (record { at = x.at; form = j; pile = x.pile }) 1 (i - 1) four e xs
+                  → Onward v (record { at = x.at; form = j; pile = x.pile }) (d + 1) (k - (d + 1)) four e xs
               go nil t st u y = absurd (omega arith)
               go (cons y ys) t st u rest =
                   let a = firsts s w g four left q.at e y ys st in
@@ -199,7 +184,7 @@ module _ (s w₀ : List ℕ) (g : Ground) (left p k c n : ℕ) (f : Form) where
                   }
 
           -- theorem: one turn
-          pub replacing_next : Replacing v (record { at = x.at; form = j; pile = x.pile }) 1 (i - 1)
+          pub replacing_next : Replacing v (record { at = x.at; form = j; pile = x.pile }) (d + 1) (k - (d + 1))
           replacing_next = record {
             ground = next_ground;
             some = next-some;

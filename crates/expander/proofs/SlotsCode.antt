@@ -18,7 +18,8 @@ use Rattle.texts.specs.Fields.{mark_at}
 use Rattle.replacing.specs.Slots.{text, like, Slots, among}
 use Rattle.replacing.specs.Sound.{HasRef}
 use Rattle.expander.specs.declared.Ground.{Ground}
-use Rattle.expander.specs.Ground.{size_in, top_of, slot_place, slot_at, list_place, key_at, new_at, Grounded}
+use Rattle.expander.specs.declared.slots.Noted.{Noted}
+use Rattle.expander.specs.Ground.{size_in, top_of, slot_code, slot_place, slot_at, list_place, key_at, new_at, Grounded}
 use Rattle.expander.specs.Held.{followed, ref_by, Refers, Held}
 use Rattle.expander.specs.Names.{Names, SomeNamed}
 use Rattle.expander.proofs.HeldLists.{each-down}
@@ -65,15 +66,15 @@ module _ (w : List ℕ) (g : Ground) (c : ℕ) (h : list_place g c + 8 ≤ lengt
     pub number_fits : Fits w64 (g.m.count + c)
     number_fits = record { fits = omega (arith, entry_room) }
 
-    pub twice_fits : Fits w64 (2 * (g.m.count + c))
-    twice_fits = record { fits = omega (arith, entry_room) }
+    pub twice_small : 2 * (g.m.count + c) < 2 ^ 64
+    twice_small = omega (arith, entry_room)
 
 pub new_stored : (w w1 w2 : List ℕ) (g : Ground) (c j q : ℕ) → w1 ≡ store w (g.m.base + 24 * g.m.count + 8 * c) (le 8 (2 * j)) → w2 ≡ store w1 (slot_place g q) (le 8 (2 * (g.m.count + c)))
     → w2 ≡ store (store w (list_place g c) (le 8 (2 * j))) (slot_place g q) (le 8 (2 * (g.m.count + c)))
 unfolding list_place
 new_stored w w1 w2 g c j q e f = f ∙ ap (λ (u : List ℕ). store u (slot_place g q) (le 8 (2 * (g.m.count + c)))) e
 
-pub ruleset listing = (rules, entry_room, counts_fit, base_fits, entries_fit, entry_fits, number_fits, twice_fits, new_stored)
+pub ruleset listing = (rules, entry_room, counts_fit, base_fits, entries_fit, entry_fits, number_fits, twice_small, new_stored)
 
 -- ---- references
 module _ (w : List ℕ) (g : Ground) (v : ℕ) where
@@ -193,4 +194,32 @@ module _ (s w : List ℕ) (g : Ground) (n c p : ℕ) (r : Grounded s w g) (k : S
         unfolding key_at
         odd_done u f = f ∙ ap (slot_at w g) m ∙ sym (followed-odd w g v o) ∙ ap (followed w g) e
 
-pub ruleset referring = (rules, own_room, even_done, key_room, key_slot_room, odd_done)
+  -- by what the slot tells
+  module _ (x : Noted) (e : slot_code x ≡ slot_at w g p) where
+    pub text_done : (k : ℕ) → x ≡ Noted.Text k → 2 * k ≡ followed w g (slot_at w g p)
+    text_done k i = even_done (2 * k) (sym (ap slot_code i) ∙ e) (omega arith)
+
+    module _ (j : ℕ) (i : x ≡ Noted.Pushed j) where
+      told : 2 * j + 1 ≡ slot_at w g p
+      told = sym (ap slot_code i) ∙ e
+
+      half : (2 * j + 1) / 2 ≡ j
+      half = omega arith
+
+      odd : (2 * j + 1) % 2 ≡ 0 → ⊥
+      odd z = omega arith
+
+      pub pushed_room : g.keys + 24 * j + 24 ≤ length w
+      pushed_room = subst (λ (k : ℕ). g.keys + 24 * k + 24 ≤ length w) half (key_room (2 * j + 1) told odd)
+
+      module _ (q : ℕ) (m : q ≡ mark_at w g.keys j) where
+        place_told : q ≡ mark_at w g.keys ((2 * j + 1) / 2)
+        place_told = m ∙ ap (mark_at w g.keys) (sym half)
+
+        pub pushed_slot_room : slot_place g q + 8 ≤ length w
+        pushed_slot_room = key_slot_room (2 * j + 1) told odd q place_told
+
+        pub pushed_done : (u : ℕ) → u ≡ slot_at w g q → u ≡ followed w g (slot_at w g p)
+        pushed_done = odd_done (2 * j + 1) told odd q place_told
+
+pub ruleset referring = (rules, own_room, text_done, pushed_room, pushed_slot_room, pushed_done)

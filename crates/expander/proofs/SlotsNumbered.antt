@@ -18,7 +18,8 @@ use Rattle.replacing.specs.Slots.{Ref, text, like, Slots, ref_at, among, place_i
 use Rattle.replacing.specs.Sound.{HasRef, Sound}
 use Rattle.replacing.proofs.NumbersMean.{numbered-sound}
 use Rattle.expander.specs.declared.Ground.{Ground}
-use Rattle.expander.specs.Ground.{slot_place, slot_at, key_at, list_place, new_at, symbol_in, KeyAt, Grounded}
+use Rattle.expander.specs.declared.slots.Noted.{Noted}
+use Rattle.expander.specs.Ground.{slot_code, slot_place, slot_at, key_at, list_place, new_at, symbol_in, KeyAt, Grounded}
 use Rattle.expander.specs.Held.{followed, ref_by, ref_in, Refers, Held, NumberedBy, Numbers}
 use Rattle.expander.specs.Names.{SomeNamed, NameRoom, NamesOne}
 use Rattle.expander.proofs.GroundLaws.{keys_slots, slots_top}
@@ -158,4 +159,62 @@ module _ (s w : List ℕ) (g : Ground) (n c p v : ℕ) (e : v ≡ followed w g (
       unfolding key_at
       mark_slot_room q m = rw m (named-slot s w g n c k.places r k.names (key_at w g (v / 2)) (k.names.pushed (v / 2) below))
 
-pub ruleset numbering = (rules, known_done, known_named, numbers_done, names_done, mark_room, half_room, mark_slot_room, list_room, sum_fits, next_fits)
+-- by what the reference tells
+module _ (s w : List ℕ) (g : Ground) (n c p : ℕ) (x : Noted) (e : slot_code x ≡ followed w g (slot_at w g p)) where
+  module _ (k : ℕ) (i : x ≡ Noted.Text k) where
+    told : 2 * k ≡ followed w g (slot_at w g p)
+    told = sym (ap slot_code i) ∙ e
+
+    half : 2 * k / 2 ≡ k
+    half = omega arith
+
+    pub text_done : Numbers s w g n c p (record { number = k; count = c }) w
+    text_done = subst (λ (h : ℕ). Numbers s w g n c p (record { number = h; count = c }) w) half (known_done s w g n c p (2 * k) told (omega arith))
+
+    pub text_named : NamesOne s w g n c p (record { number = k; count = c }) w
+    text_named = subst (λ (h : ℕ). NamesOne s w g n c p (record { number = h; count = c }) w) half (known_named s w g n c p (2 * k) told (omega arith))
+
+  module _ (r : Grounded s w g) (j : ℕ) (i : x ≡ Noted.Pushed j) where
+    odd_told : 2 * j + 1 ≡ followed w g (slot_at w g p)
+    odd_told = sym (ap slot_code i) ∙ e
+
+    odd_half : (2 * j + 1) / 2 ≡ j
+    odd_half = omega arith
+
+    odd : (2 * j + 1) % 2 ≡ 0 → ⊥
+    odd z = omega arith
+
+    module _ (room : NameRoom w g c p) where
+      pub pushed_list : list_place g c + 8 ≤ length w
+      pushed_list = list_room s w g c p room r (2 * j + 1) odd_told odd
+
+      pub pushed_sum : length w < 2 ^ 64 → Fits w64 (g.m.count + c)
+      pushed_sum = sum_fits s w g c p room r (2 * j + 1) odd_told odd
+
+      pub pushed_next : length w < 2 ^ 64 → Fits w64 (c + 1)
+      pushed_next = next_fits s w g c p room r (2 * j + 1) odd_told odd
+
+      module _ (q : ℕ) (m : q ≡ mark_at w g.keys j) (w' : List ℕ) (d : w' ≡ store (store w (list_place g c) (le 8 (2 * j))) (slot_place g q) (le 8 (2 * (g.m.count + c)))) where
+        place_told : q ≡ mark_at w g.keys ((2 * j + 1) / 2)
+        place_told = m ∙ ap (mark_at w g.keys) (sym odd_half)
+
+        stored : w' ≡ store (store w (list_place g c) (le 8 (2 * ((2 * j + 1) / 2)))) (slot_place g q) (le 8 (2 * (g.m.count + c)))
+        stored = d ∙ ap (λ (h : ℕ). store (store w (list_place g c) (le 8 (2 * h))) (slot_place g q) (le 8 (2 * (g.m.count + c)))) (sym odd_half)
+
+        pub pushed_numbers : Numbers s w g n c p (record { number = g.m.count + c; count = c + 1 }) w'
+        pushed_numbers = numbers_done s w g n c p (2 * j + 1) odd_told r odd room q place_told w' stored
+
+        pub pushed_names : NamesOne s w g n c p (record { number = g.m.count + c; count = c + 1 }) w'
+        pushed_names = names_done s w g n c p (2 * j + 1) odd_told r odd room q place_told w' stored
+
+    module _ (k : SomeNamed s w g n c p) where
+      pub pushed_mark : g.keys + 24 * j + 24 ≤ length w
+      pushed_mark = subst (λ (h : ℕ). g.keys + 24 * h + 24 ≤ length w) odd_half (mark_room s w g n c p (2 * j + 1) odd_told r odd k)
+
+      pub pushed_half : 24 * j ≤ length w
+      pushed_half = omega (arith, pushed_mark)
+
+      pub pushed_mark_slot : (q : ℕ) → q ≡ mark_at w g.keys j → slot_place g q + 8 ≤ length w
+      pushed_mark_slot q m = mark_slot_room s w g n c p (2 * j + 1) odd_told r odd k q (m ∙ ap (mark_at w g.keys) (sym odd_half))
+
+pub ruleset numbering = (rules, text_done, text_named, pushed_numbers, pushed_names, pushed_mark, pushed_half, pushed_mark_slot, pushed_list, pushed_sum, pushed_next)

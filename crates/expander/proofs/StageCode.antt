@@ -8,8 +8,8 @@ use native.Mathlib.Omega.{arith}
 use mir.Syntax.{w64}
 use mir.Val.{Fits}
 use borrow.Author.Rules.{rules}
-use borrow.Author.Tests.{ne_eqb, lt-leb, le-leb}
-use lib.Dec.{ltb}
+use borrow.Author.Tests.{ne_eqb, eqb-true, eqb-false, lt-leb, le-leb}
+use lib.Dec.{eqb, ltb}
 use lib.ListN.{length, get_or, drop}
 use lib.Seq.{get_or-take, get_or-drop}
 use Rattle.octets.specs.Working.Choice.{pick}
@@ -49,23 +49,29 @@ pub ruleset lengthening = (rules, long_16, long_17, long_48, long_49, long_other
 
 -- ---- `is_item`
 module _ (c : ℕ) where
-  pub item_16 : c ≡ 16 → true ≡ item_code c
-  unfolding item_code pick
-  item_16 e = rw e refl
-
-  pub item_48 : c ≡ 48 → true ≡ item_code c
-  unfolding item_code pick
-  item_48 e = rw e refl
-
-  pub item_49 : c ≡ 49 → true ≡ item_code c
-  unfolding item_code pick
-  item_49 e = rw e refl
-
-  pub item_not : (c ≡ 16 → ⊥) → (c ≡ 48 → ⊥) → (c ≡ 49 → ⊥) → false ≡ item_code c
+  item_not : (c ≡ 16 → ⊥) → (c ≡ 48 → ⊥) → (c ≡ 49 → ⊥) → false ≡ item_code c
   unfolding item_code pick
   item_not a b d = cc (ne_eqb c 16 a, ne_eqb c 48 b, ne_eqb c 49 d)
 
-pub ruleset beginning = (item_16, item_48, item_49, item_not)
+  pub item_first : c ≡ 16 → true ≡ item_code c
+  unfolding item_code pick
+  item_first e = rw e refl
+
+  pub item_second : 48 ≤ c → c ≤ 49 → true ≡ item_code c
+  unfolding item_code pick
+  item_second h k = go (eqb c 48) refl
+    where
+      go : (b : Bool) → eqb c 48 ≡ b → true ≡ item_code c
+      go true e = let z = eqb-true c 48 e in rw z refl
+      go false e = let n = eqb-false c 48 e in let z : c ≡ 49 = omega arith in rw z refl
+
+  pub item_between : (c ≡ 16 → ⊥) → c < 48 → false ≡ item_code c
+  item_between h k = item_not h (λ z. absurd (omega arith)) (λ z. absurd (omega arith))
+
+  pub item_above : (c ≡ 16 → ⊥) → 49 < c → false ≡ item_code c
+  item_above h k = item_not h (λ z. absurd (omega arith)) (λ z. absurd (omega arith))
+
+pub ruleset beginning = (rules, item_first, item_second, item_between, item_above)
 
 -- ---- `is_macro`
 module _ (wd : ℕ) (w : List ℕ) (at c : ℕ) where

@@ -2,7 +2,7 @@
 use Rattle.std.specs.Prelude.{◌≡◌, false, List, ℕ, ◌<◌}
 use Rattle.octets.specs.Plain.Runs.{same_as}
 use Rattle.parse_tree.specs.Plain.Texts.{has}
-use Rattle.texts.specs.declared.Found.{Found}
+use Rattle.std.specs.Prelude.{Option, Some, None}
 use Rattle.texts.specs.Texts.{texts_of}
 use Rattle.expander.specs.declared.Ground.{Ground}
 use Rattle.expander.specs.Ground.{printed_at, key_at}
@@ -13,9 +13,9 @@ module _ (s w : List ℕ) (g : Ground) where
   NoneBefore n p = (i : ℕ) → i < n → same_as (printed_at s w g (key_at w g i)) (printed_at s w g p) ≡ false
 
   -- it is one of n that prints so, or none does
-  unfoldable pub FindsKey : ℕ → ℕ → Found → Type 0
-  FindsKey n p (Found.At i) = (i < n) × (printed_at s w g (key_at w g i) ≡ printed_at s w g p)
-  FindsKey n p Found.Nothing = NoneBefore n p
+  unfoldable pub FindsKey : ℕ → ℕ → Option ℕ → Type 0
+  FindsKey n p (Some i) = (i < n) × (printed_at s w g (key_at w g i) ≡ printed_at s w g p)
+  FindsKey n p None = NoneBefore n p
 
   -- none of the first n texts is the print of the symbol at p
   abbrev pub HasNot : ℕ → ℕ → Type 0

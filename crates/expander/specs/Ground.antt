@@ -13,6 +13,7 @@ use Rattle.resolve.specs.Whole.{Apart}
 use Rattle.replacing.specs.Prints.{sym_at, print_at, same_print, text_is}
 use Rattle.replacing.specs.Sound.{Firm}
 use Rattle.expander.specs.declared.Ground.{Ground}
+use Rattle.expander.specs.declared.slots.Noted.{Noted}
 
 -- ---- where things stand
 
@@ -22,6 +23,11 @@ size_in g = g.end - g.from
 
 unfoldable pub stage_in : List ℕ → Ground → List ℕ
 stage_in w g = part g.from g.end w
+
+-- a slot as it stands in work: twice the number of a text, or twice that of a record, and one
+abbrev pub slot_code : Noted → ℕ
+slot_code (Noted.Text k) = 2 * k
+slot_code (Noted.Pushed j) = 2 * j + 1
 
 -- the slot of the symbol at a place
 unfoldable pub slot_place : Ground → ℕ → ℕ

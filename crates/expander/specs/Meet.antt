@@ -1,5 +1,5 @@
 -- Symbols inside which all that are expanded were noted, so that some are known to print as a text. s is the tape, w is work. Assumes nothing: these are definitions.
-use Rattle.std.specs.Prelude.{◌≡◌, Bool, List, ℕ, ◌+◌, ◌-◌, ◌/◌, ◌%◌, ◌≤◌, ◌<◌, eqb, length, get_or}
+use Rattle.std.specs.Prelude.{◌≡◌, Bool, Option, Some, None, List, ℕ, ◌+◌, ◌-◌, ◌/◌, ◌%◌, ◌≤◌, ◌<◌, eqb, ltb, length, get_or}
 use Rattle.octets.specs.Working.Choice.{pick}
 use Rattle.octets.specs.Plain.Runs.{Lies}
 use Rattle.parse_tree.specs.Plain.Tree.{Text, Sym}
@@ -39,10 +39,14 @@ pub record SlotAt (w : List ℕ) (g : Ground) (at : ℕ) : Type 0 where
   pub within : at < length w
   pub room : slot_place g (at - g.from) + 8 ≤ length w
 
--- the number of the text that the slot of a symbol tells of; one from the table's count on if the symbol is not expanded, or its slot tells of none
-unfoldable pub text_known_at : List ℕ → Ground → ℕ → ℕ
+-- k, if it is the number of a text of the table
+unfoldable pub table_text : Ground → ℕ → Option ℕ
+table_text g k = pick (ltb k g.m.count) (Some k) None
+
+-- the number of the text of the table that the slot of a symbol tells of; none if the symbol is not expanded, or its slot tells of none
+unfoldable pub text_known_at : List ℕ → Ground → ℕ → Option ℕ
 text_known_at w g at =
-    pick (expanded_code (get_or w at 0)) (pick (eqb (slot_at w g (at - g.from) % 2) 0) (slot_at w g (at - g.from) / 2) g.m.count) g.m.count
+    pick (expanded_code (get_or w at 0)) (pick (eqb (slot_at w g (at - g.from) % 2) 0) (table_text g (slot_at w g (at - g.from) / 2)) None) None
 
 module _ (s w : List ℕ) (g : Ground) where
   -- the places of the symbols that are expanded inside y, which stands at p

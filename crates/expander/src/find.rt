@@ -13,11 +13,10 @@ use crate::meet::meet_symbol;
 use display::Met;
 use display::form::Form;
 use display::window::same_print;
-use octets::wide::from32;
+use texts::Map;
 use texts::fields::{cell, hash, head, link, mark};
 use texts::hash::bucket;
 use texts::text::text;
-use texts::{Found, Map};
 
 // Whether the i-th pushed symbol prints as the one at p, whose form is f.
 fn is_key<'a>(
@@ -32,10 +31,7 @@ fn is_key<'a>(
     requires { Grounded tape.now work.now g × Records tape.now work.now g n × (i < n) × KeyAt tape.now work.now g p × (f ≡ text_form (printed_at tape.now work.now g p)) }
     ensures { result ≡ same_as (printed_at tape.now work.now g (key_at work.now g i)) (printed_at tape.now work.now g p) }
 {
-    if hash(work, g.keys, i) != f.hash {
-        return false;
-    }
-    if from32(cell(work, g.keys, i)) != f.len {
+    if hash(work, g.keys, i) != f.hash || cell(work, g.keys, i) as usize != f.len {
         return false;
     }
     let q = mark(work, g.keys, i);
@@ -43,31 +39,36 @@ fn is_key<'a>(
 }
 
 // Among those that are in no chain.
-fn rest<'a>(tape: &'a [u8], work: &'a [u8], g: Ground, n: usize, p: usize, f: Form) -> Found
+fn rest<'a>(tape: &'a [u8], work: &'a [u8], g: Ground, n: usize, p: usize, f: Form) -> Option<usize>
     requires { Grounded tape.now work.now g × Records tape.now work.now g n × KeyAt tape.now work.now g p × (f ≡ text_form (printed_at tape.now work.now g p)) × NoneBefore tape.now work.now g (linked n) p }
     ensures { FindsKey tape.now work.now g n p result }
 {
-    let mut i: usize = 4294967295;
-    while i < n {
+    for i in 4294967295..n {
         if is_key(tape, work, g, n, i, p, f) {
-            return Found::At(i);
+            return Some(i);
         }
-        i += 1;
     }
-    Found::Nothing
+    None
 }
 
 // The number of the symbol pushed this round that prints as the one at p.
-pub fn pending<'a>(tape: &'a [u8], work: &'a [u8], g: Ground, n: usize, p: usize, f: Form) -> Found
+pub fn pending<'a>(
+    tape: &'a [u8],
+    work: &'a [u8],
+    g: Ground,
+    n: usize,
+    p: usize,
+    f: Form,
+) -> Option<usize>
     requires { Grounded tape.now work.now g × Records tape.now work.now g n × KeyAt tape.now work.now g p × (f ≡ text_form (printed_at tape.now work.now g p)) }
     ensures { FindsKey tape.now work.now g n p result }
 {
     let y = bucket(f.hash, g.buckets);
-    let mut j = from32(head(work, g.keys, y));
+    let mut j = head(work, g.keys, y) as usize;
     while 0 < j {
         let i = j - 1;
         if is_key(tape, work, g, n, i, p, f) {
-            return Found::At(i);
+            return Some(i);
         }
         j = link(work, g.keys, i);
     }
@@ -87,36 +88,36 @@ fn is_text<'a>(tape: &'a [u8], work: &'a [u8], g: Ground, k: usize, p: usize, f:
         at: g.from + p,
         i: 0,
     };
-    let q = meet_symbol(tape, work, g, 64, t, start);
-    q.i == t.len()
+    match meet_symbol(tape, work, g, 64, t, start) {
+        Some(q) => q.i == t.len(),
+        None => false,
+    }
 }
 
 // Among the texts that are in no chain.
-fn rest_text<'a>(tape: &'a [u8], work: &'a [u8], g: Ground, p: usize, f: Form) -> Found
+fn rest_text<'a>(tape: &'a [u8], work: &'a [u8], g: Ground, p: usize, f: Form) -> Option<usize>
     requires { Grounded tape.now work.now g × KeyAt tape.now work.now g p × InnerNoted tape.now work.now g p × (f ≡ text_form (printed_at tape.now work.now g p)) × HasNot tape.now work.now g (linked g.m.count) p }
     ensures { Finds (texts tape.now work.now g.m) (printed_at tape.now work.now g p) result }
 {
-    let mut i: usize = 4294967295;
-    while i < g.m.count {
+    for i in 4294967295..g.m.count {
         if is_text(tape, work, g, i, p, f) {
-            return Found::At(i);
+            return Some(i);
         }
-        i += 1;
     }
-    Found::Nothing
+    None
 }
 
 // The number of the text that is the printed form of the symbol at p.
-pub fn written<'a>(tape: &'a [u8], work: &'a [u8], g: Ground, p: usize, f: Form) -> Found
+pub fn written<'a>(tape: &'a [u8], work: &'a [u8], g: Ground, p: usize, f: Form) -> Option<usize>
     requires { Grounded tape.now work.now g × KeyAt tape.now work.now g p × InnerNoted tape.now work.now g p × (f ≡ text_form (printed_at tape.now work.now g p)) }
     ensures { Finds (texts tape.now work.now g.m) (printed_at tape.now work.now g p) result }
 {
     let y = bucket(f.hash, g.m.buckets);
-    let mut j = from32(head(work, g.m.base, y));
+    let mut j = head(work, g.m.base, y) as usize;
     while 0 < j {
         let i = j - 1;
         if is_text(tape, work, g, i, p, f) {
-            return Found::At(i);
+            return Some(i);
         }
         j = link(work, g.m.base, i);
     }

@@ -6,14 +6,14 @@ ghost use Rattle.expander.specs.Meet.{SomeEnd, EndsAt, SlotAt, text_known_at, So
 
 use crate::Ground;
 use crate::replace::is_expanded;
-use crate::slots::slot;
+use crate::slots::{Noted, tells};
 use display::Met;
 use display::follow::{before, behind, between, inside, meet};
 use resolve::commands::long;
 use texts::text::text;
 
 // The place behind the symbol at a place: a flat run, k symbols are to come. (`grades::skip` asks for bytes behind the items, which need not be there.)
-fn symbol_end(work: &[u8], width: usize, at: usize) -> usize
+pub fn symbol_end(work: &[u8], width: usize, at: usize) -> usize
     requires { (2 ≤ width) × (width ≤ 3) × SomeEnd work.now width at }
     ensures { EndsAt work.now width at result }
 {
@@ -27,35 +27,41 @@ fn symbol_end(work: &[u8], width: usize, at: usize) -> usize
     p
 }
 
-// The number of the text that the symbol at a place is known to print as; one from the table's count on if none is known.
-fn known(work: &[u8], g: Ground, at: usize) -> usize
+// The number of the text of the table that the symbol at a place is known to print as.
+fn known(work: &[u8], g: Ground, at: usize) -> Option<usize>
     requires { SlotAt work.now g at }
     ensures { result ≡ text_known_at work.now g at }
 {
-    if is_expanded(work[at]) {
-        let v = slot(work, g, at - g.from);
-        if v % 2 == 0 {
-            return v / 2;
-        }
+    if !is_expanded(work[at]) {
+        return None;
     }
-    g.m.count
+    match tells(work, g, at - g.from) {
+        Noted::Text(k) => { if k < g.m.count { Some(k) } else { None } }
+        Noted::Pushed(_) => None,
+    }
 }
 
-// The symbol at a place, which was noted if it is one that is expanded; `left` levels of nesting are left.
+// The symbol at a place, which was noted if it is one that is expanded; `left` levels of nesting are left. None after a difference.
 #[cycle(meet_known_meet_symbol)]
-fn meet_known<'a>(tape: &'a [u8], work: &'a [u8], g: Ground, left: usize, t: &[u8], p: Met) -> Met
+fn meet_known<'a>(
+    tape: &'a [u8],
+    work: &'a [u8],
+    g: Ground,
+    left: usize,
+    t: &[u8],
+    p: Met,
+) -> Option<Met>
     requires { Grounded tape.now work.now g × SomeKnown tape.now work.now g left p.at }
     ensures { Follows tape.now work.now g.m g.width left t.now p result }
 {
-    let k = known(work, g, p.at);
-    if k < g.m.count {
-        let x = text(tape, work, g.m, k);
-        return Met {
-            at: symbol_end(work, g.width, p.at),
-            i: meet(t, p.i, x),
-        };
+    match known(work, g, p.at) {
+        Some(k) => {
+            let i = meet(t, p.i, text(tape, work, g.m, k))?;
+            let at = symbol_end(work, g.width, p.at);
+            Some(Met { at, i })
+        }
+        None => meet_symbol(tape, work, g, left, t, p),
     }
-    meet_symbol(tape, work, g, left, t, p)
 }
 
 // The symbol at a place, inside which all that are expanded were noted.
@@ -67,28 +73,22 @@ pub fn meet_symbol<'a>(
     left: usize,
     t: &[u8],
     p: Met,
-) -> Met
+) -> Option<Met>
     requires { Grounded tape.now work.now g × SomeInner tape.now work.now g left p.at }
     ensures { Follows tape.now work.now g.m g.width left t.now p result }
 {
     let at = p.at;
     let c = work[at];
     let n = inside(work, g.width, at, c);
+    let b = before(tape, work, g.m, g.width, at, c, t, p.i)?;
     let mut q = Met {
         at: at + long(c, g.width),
-        i: before(tape, work, g.m, g.width, at, c, t, p.i),
+        i: b,
     };
-    let mut k = 0;
-    while k < n {
-        let start = Met {
-            at: q.at,
-            i: between(t, q.i, c, k),
-        };
-        q = meet_known(tape, work, g, left - 1, t, start);
-        k += 1;
+    for k in 0..n {
+        let i = between(t, q.i, c, k)?;
+        q = meet_known(tape, work, g, left - 1, t, Met { at: q.at, i })?;
     }
-    Met {
-        at: q.at,
-        i: behind(work, g.width, at, c, t, q.i),
-    }
+    let e = behind(work, g.width, at, c, t, q.i)?;
+    Some(Met { at: q.at, i: e })
 }

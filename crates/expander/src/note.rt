@@ -9,9 +9,8 @@ ghost use Rattle.expander.specs.Note.{Pushed};
 
 use crate::Ground;
 use crate::find::{is_pushed, pending, written};
-use crate::slots::put_slot;
+use crate::slots::{Noted, put_slot};
 use display::form::Form;
-use texts::Found;
 use texts::fields::write;
 
 // The symbol at p, whose form is f, as the n-th pushed one.
@@ -31,18 +30,18 @@ fn push_new(tape: &[u8], work: &mut [u8], g: Ground, n: usize, p: usize, f: Form
     ensures { Notes tape.now work.old g n p result work.new }
 {
     match written(tape, work, g, p, f) {
-        Found::At(k) => {
+        Some(k) => {
             if is_pushed(tape, work, g, k) {
-                put_slot(work, g, p, 2 * k);
+                put_slot(work, g, p, Noted::Text(k));
                 return n;
             }
             push(tape, work, g, n, p, f);
-            put_slot(work, g, p, 2 * k);
+            put_slot(work, g, p, Noted::Text(k));
             n + 1
         }
-        Found::Nothing => {
+        None => {
             push(tape, work, g, n, p, f);
-            put_slot(work, g, p, 2 * n + 1);
+            put_slot(work, g, p, Noted::Pushed(n));
             n + 1
         }
     }
@@ -54,10 +53,10 @@ pub fn note(tape: &[u8], work: &mut [u8], g: Ground, n: usize, p: usize, f: Form
     ensures { Notes tape.now work.old g n p result work.new }
 {
     match pending(tape, work, g, n, p, f) {
-        Found::At(j) => {
-            put_slot(work, g, p, 2 * j + 1);
+        Some(j) => {
+            put_slot(work, g, p, Noted::Pushed(j));
             n
         }
-        Found::Nothing => push_new(tape, work, g, n, p, f),
+        None => push_new(tape, work, g, n, p, f),
     }
 }

@@ -22,14 +22,7 @@ pub struct Keyed {
 pub fn is_expanded(c: u8) -> bool
     ensures { result ≡ expanded_code c }
 {
-    match c {
-        37 => true,
-        38 => true,
-        41 => true,
-        42 => true,
-        43 => true,
-        _ => false,
-    }
+    matches!(c, 37..=38 | 41..=43)
 }
 
 // The symbol at p, with `left` levels of nesting left; n are pushed.
@@ -87,17 +80,13 @@ pub fn replace_symbols(
         form: f,
         pile: n,
     };
-    let mut d = 0;
-    let mut i = k;
-    while 0 < i {
+    for i in 0..k {
         let x = replace_symbol(tape, work, g, left, q.at, q.pile);
         q = Keyed {
             at: x.at,
-            form: join(separated(q.form, c, d), x.form),
+            form: join(separated(q.form, c, i), x.form),
             pile: x.pile,
         };
-        d = 1;
-        i -= 1;
     }
     q
 }

@@ -1,9 +1,8 @@
-// Slots: what is known of a symbol that is expanded, by its place; and the numbers of texts. A slot is twice the number of the symbol's text, or twice the number of the record of a
-// pushed symbol that prints so, and one.
-ghost use Rattle.std.specs.Prelude.{◌≡◌, ◌+◌, ◌*◌, ◌≤◌, length};
+// Slots: what is known of a symbol that is expanded, by its place; and the numbers of texts.
+ghost use Rattle.std.specs.Prelude.{◌≡◌, ◌+◌, ◌*◌, ◌^◌, ◌≤◌, ◌<◌, length};
 ghost use Rattle.octets.specs.Plain.Numbers.{le};
 ghost use Rattle.octets.specs.Working.Stores.{store};
-ghost use Rattle.expander.specs.Ground.{slot_place, slot_at, list_place, Grounded};
+ghost use Rattle.expander.specs.Ground.{slot_code, slot_place, slot_at, list_place, Grounded};
 ghost use Rattle.expander.specs.Held.{followed, Numbers};
 ghost use Rattle.expander.specs.Names.{SomeNamed, NameRoom, NamesOne};
 
@@ -18,6 +17,24 @@ pub struct Numbered {
     pub count: usize,
 }
 
+// What a slot tells: the number of the symbol's text, or of the record of a pushed symbol that prints so.
+#[derive(Clone, Copy)]
+pub enum Noted {
+    Text(usize),
+    Pushed(usize),
+}
+
+// A slot as it stands in work: twice the number, and one more for a record.
+fn code(x: Noted) -> usize
+    requires { slot_code x < 2 ^ 64 }
+    ensures { result ≡ slot_code x }
+{
+    match x {
+        Noted::Text(k) => 2 * k,
+        Noted::Pushed(j) => 2 * j + 1,
+    }
+}
+
 pub fn slot(work: &[u8], g: Ground, p: usize) -> usize
     requires { slot_place g p + 8 ≤ length work.now }
     ensures { result ≡ slot_at work.now g p }
@@ -25,14 +42,27 @@ pub fn slot(work: &[u8], g: Ground, p: usize) -> usize
     u64_at(work, g.slots + 8 * (p / 9)) as usize
 }
 
-pub fn put_slot(work: &mut [u8], g: Ground, p: usize, v: usize)
-    requires { slot_place g p + 8 ≤ length work.old }
-    ensures { work.new ≡ store work.old (slot_place g p) (le 8 v) }
+// What the slot of the symbol at a place tells.
+pub fn tells(work: &[u8], g: Ground, p: usize) -> Noted
+    requires { slot_place g p + 8 ≤ length work.now }
+    ensures { slot_code result ≡ slot_at work.now g p }
 {
-    store64(work, g.slots + 8 * (p / 9), v as u64);
+    let v = slot(work, g, p);
+    if v % 2 == 0 {
+        Noted::Text(v / 2)
+    } else {
+        Noted::Pushed(v / 2)
+    }
 }
 
-// The slot of the symbol at a place, or of the pushed one that it refers to.
+pub fn put_slot(work: &mut [u8], g: Ground, p: usize, x: Noted)
+    requires { (slot_place g p + 8 ≤ length work.old) × (slot_code x < 2 ^ 64) }
+    ensures { work.new ≡ store work.old (slot_place g p) (le 8 (slot_code x)) }
+{
+    store64(work, g.slots + 8 * (p / 9), code(x) as u64);
+}
+
+// What the slot of the symbol at a place tells, or that of the pushed one that it refers to.
 pub fn reference<'a>(
     tape: &'a [u8],
     work: &'a [u8],
@@ -40,15 +70,14 @@ pub fn reference<'a>(
     n: usize,
     c: usize,
     p: usize,
-) -> usize
+) -> Noted
     requires { Grounded tape.now work.now g × SomeNamed tape.now work.now g n c p }
-    ensures { result ≡ followed work.now g (slot_at work.now g p) }
+    ensures { slot_code result ≡ followed work.now g (slot_at work.now g p) }
 {
-    let v = slot(work, g, p);
-    if v % 2 == 0 {
-        return v;
+    match tells(work, g, p) {
+        Noted::Text(k) => Noted::Text(k),
+        Noted::Pushed(j) => tells(work, g, mark(work, g.keys, j)),
     }
-    slot(work, g, mark(work, g.keys, v / 2))
 }
 
 // The text of the j-th pushed symbol, which stands at q, is the c-th new one.
@@ -57,7 +86,7 @@ fn put_new(work: &mut [u8], g: Ground, c: usize, j: usize, q: usize)
     ensures { work.new ≡ store (store work.old (list_place g c) (le 8 (2 * j))) (slot_place g q) (le 8 (2 * (g.m.count + c))) }
 {
     store64(work, g.m.base + 24 * g.m.count + 8 * c, (2 * j) as u64);
-    put_slot(work, g, q, 2 * (g.m.count + c));
+    put_slot(work, g, q, Noted::Text(g.m.count + c));
 }
 
 // The number of the text of the symbol at a place: the next one, if it has none yet. n symbols were pushed, c texts are new.
@@ -65,18 +94,18 @@ pub fn number(tape: &[u8], work: &mut [u8], g: Ground, n: usize, c: usize, p: us
     requires { Grounded tape.now work.old g × SomeNamed tape.now work.old g n c p × NameRoom work.old g c p }
     ensures { Numbers tape.now work.old g n c p result work.new × NamesOne tape.now work.old g n c p result work.new }
 {
-    let v = reference(tape, work, g, n, c, p);
-    if v % 2 == 0 {
-        return Numbered {
-            number: v / 2,
+    match reference(tape, work, g, n, c, p) {
+        Noted::Text(k) => Numbered {
+            number: k,
             count: c,
-        };
-    }
-    let j = v / 2;
-    let q = mark(work, g.keys, j);
-    put_new(work, g, c, j, q);
-    Numbered {
-        number: g.m.count + c,
-        count: c + 1,
+        },
+        Noted::Pushed(j) => {
+            let q = mark(work, g.keys, j);
+            put_new(work, g, c, j, q);
+            Numbered {
+                number: g.m.count + c,
+                count: c + 1,
+            }
+        }
     }
 }

@@ -38,12 +38,7 @@ pub fn command_long(c: u8, width: usize) -> usize
 pub fn is_item(c: u8) -> bool
     ensures { result ≡ item_code c }
 {
-    match c {
-        16 => true,
-        48 => true,
-        49 => true,
-        _ => false,
-    }
+    matches!(c, 16 | 48..=49)
 }
 
 // Whether the definition of a macro begins at a place of work, where a command of the code c stands.
@@ -51,10 +46,7 @@ fn is_macro(work: &[u8], width: usize, at: usize, c: u8) -> bool
     requires { (2 ≤ width) × (width ≤ 3) × (at + command_long width c ≤ length work.now) }
     ensures { result ≡ macro_at width work.now at c }
 {
-    if c == 16 {
-        return 0 < work[at + 10 + width];
-    }
-    false
+    c == 16 && 0 < work[at + 10 + width]
 }
 
 // The place of the next item from p on, or the end.
@@ -78,10 +70,7 @@ fn next_item<'a>(tape: &'a [u8], work: &'a [u8], g: Ground, p: usize) -> usize
 fn is_name(c: u8) -> bool
     ensures { result ≡ name_code c }
 {
-    if c < 32 {
-        return false;
-    }
-    c <= 36
+    32 <= c && c <= 36
 }
 
 // Whether what begins at a place of work with the code c is not copied as it stands.
@@ -89,10 +78,7 @@ fn is_left(work: &[u8], width: usize, at: usize, c: u8) -> bool
     requires { (2 ≤ width) × (width ≤ 3) × RoomFor width work.now at c }
     ensures { result ≡ left_at width work.now at c }
 {
-    if is_expanded(c) {
-        return true;
-    }
-    is_macro(work, width, at, c)
+    is_expanded(c) || is_macro(work, width, at, c)
 }
 
 // The place behind the commands from p on that are copied: of a symbol that is expanded, of the definition of a macro, or the end.
@@ -142,8 +128,7 @@ fn copy_run(tape: &[u8], work: &mut [u8], g: Ground, r: Replaced, n: usize) -> R
     Replaced {
         at: e,
         to: r.to + (e - r.at),
-        pile: r.pile,
-        count: r.count,
+        ..r
     }
 }
 
@@ -162,9 +147,7 @@ fn replace_next(tape: &[u8], work: &mut [u8], g: Ground, r: Replaced) -> Replace
     if is_macro(work, g.width, at, c) {
         return Replaced {
             at: next_item(tape, work, g, r.at + n),
-            to: r.to,
-            pile: r.pile,
-            count: r.count,
+            ..r
         };
     }
     copy_run(tape, work, g, r, n)
@@ -178,7 +161,7 @@ pub fn replace_items(tape: &[u8], work: &mut [u8], g: Ground, to: usize) -> Repl
     let end = g.end - g.from;
     let mut r = Replaced {
         at: 0,
-        to: to,
+        to,
         pile: 0,
         count: 0,
     };

@@ -5,22 +5,15 @@ ghost use Rattle.output.specs.Plain.Answers.{Exported, CheckedWords};
 ghost use Rattle.output.specs.Working.Handing.{words_of};
 
 use normalize::calls::{levels, macros, resolve, validate, whole};
-use octets::wide::from16;
-use output::Answer;
-
-fn word(x: usize) -> u64
-    ensures { result ≡ x }
-{
-    x as u64
-}
+use parse_tree::refusal::Refusal;
 
 // 1, length, 0, 0, 0 or 0, number, place, place, 0.
-fn words(r: Answer) -> [u64; 5]
+fn words(r: Result<usize, Refusal>) -> [u64; 5]
     ensures { result ≡ words_of r }
 {
     match r {
-        Answer::Yes(n) => [1, word(n), 0, 0, 0],
-        Answer::No(why) => [0, word(why.number), word(why.from), word(why.to), 0],
+        Ok(n) => [1, n as u64, 0, 0, 0],
+        Err(why) => [0, why.number as u64, why.from as u64, why.to as u64, 0],
     }
 }
 
@@ -69,7 +62,7 @@ pub extern "C" fn normalize_macros(
 )
     ensures { Exported (macros_call true 2 tape.now limit (length output.old) (length work.old)) tape.now output.old work.old answer.new output.new work.new }
 {
-    *answer = words(macros(tape, from16(limit), output, work));
+    *answer = words(macros(tape, usize::from(limit), output, work));
 }
 
 // Resolving, precedence levels and macro expansion, within so many rounds; answer becomes the words of the answer.
@@ -83,5 +76,5 @@ pub extern "C" fn normalize_whole(
 )
     ensures { Exported (whole true 2 tape.now limit (length output.old) (length work.old)) tape.now output.old work.old answer.new output.new work.new }
 {
-    *answer = words(whole(tape, from16(limit), output, work));
+    *answer = words(whole(tape, usize::from(limit), output, work));
 }

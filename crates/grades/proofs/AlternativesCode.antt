@@ -8,8 +8,10 @@ use native.Mathlib.Omega.{arith}
 use native.Mathlib.Nat.{mul_comm}
 use borrow.Author.Rules.{rules}
 use borrow.Author.Tests.{not-true, not-false, lt-ltb, le-ltb, le-leb, lt-leb, leb-false, eq-eqb, ne_eqb}
+use denote.Enum.Declared.{tag_of}
 use lib.Dec.{eqb, leb, ltb}
 use lib.ListN.{length, get_or}
+use Rattle.std.specs.Prelude.{Option, Some, None, Result, Ok, Err}
 use Rattle.octets.specs.Working.Choice.{pick}
 use Rattle.octets.specs.Plain.Numbers.{le_at, le}
 use Rattle.octets.specs.Working.Stores.{store}
@@ -21,44 +23,37 @@ use Rattle.texts.specs.declared.Map.{Map}
 use Rattle.texts.specs.Table.{Above, Agree, texts}
 use Rattle.resolve.specs.Whole.{Apart}
 use Rattle.grades.specs.declared.Assoc.{Assoc}
-use Rattle.grades.specs.declared.GradeRead.{GradeRead}
+use Rattle.grades.specs.contracts.Assoc.{the_type as assoc_type}
 use Rattle.grades.specs.declared.Graded.{Graded}
 use Rattle.grades.specs.declared.Ids.{Ids}
-use Rattle.grades.specs.declared.Lowest.{Lowest}
 use Rattle.grades.specs.Annotations.{attributes_long, attributes_end, conditions_from, symbols_from, alternative_end}
 use Rattle.grades.specs.Grading.{Worded, graded_at, ReadsGrade}
 use Rattle.grades.specs.Sort.{level_at}
-use Rattle.grades.specs.Alternatives.{side_number, grade_key, next_grade, stored_grade, OffTable, Gradable, grade_then, grade_from, Grades, still_ascends, place_of_key, lowest_from}
+use Rattle.grades.specs.Alternatives.{ungraded_as, side_number, grade_key, next_grade, stored_grade, OffTable, Gradable, grade_then, grade_from, Grades, still_ascends, place_of_key, lowest_from}
 use Rattle.grades.proofs.WordedLaws.{worded_stays}
 
--- ---- side_number
-module _ (s : Assoc) where
-  pub side_left : s ≡ Assoc.Left → 0 ≡ side_number s
-  unfolding side_number
-  side_left e = cc
+-- ---- a side in a key: the number of its variant
+tagged : (s : Assoc) → tag_of assoc_type s ≡ side_number s
+unfolding side_number
+tagged Assoc.Left = refl
+tagged Assoc.Right = refl
+tagged Assoc.NonAssoc = refl
+tagged Assoc.FullyAssoc = refl
 
-  pub side_right : s ≡ Assoc.Right → 1 ≡ side_number s
-  unfolding side_number
-  side_right e = cc
-
-  pub side_non : s ≡ Assoc.NonAssoc → 2 ≡ side_number s
-  unfolding side_number
-  side_non e = cc
-
-  pub side_all : s ≡ Assoc.FullyAssoc → 3 ≡ side_number s
-  unfolding side_number
-  side_all e = cc
-
-pub ruleset numbering = (rules, side_left, side_right, side_non, side_all)
+pub tag_small : (s : Assoc) → tag_of assoc_type s < 4
+tag_small Assoc.Left = omega arith
+tag_small Assoc.Right = omega arith
+tag_small Assoc.NonAssoc = omega arith
+tag_small Assoc.FullyAssoc = omega arith
 
 -- ---- next_grade
 module _ (wd : ℕ) (ids : Ids) (ts : List Text) (w : List ℕ) (at e level : ℕ) (side : Assoc) where
-  pub next-none : e ≤ at → ReadsGrade (next_grade wd ids ts w at e level side) (GradeRead.Refused 0)
+  pub next-none : e ≤ at → ReadsGrade (next_grade wd ids ts w at e level side) (Err 0)
   unfolding next_grade pick
   next-none h = record { answered = cc (le-leb e at h); small = tt }
 
   module _ (h : at < e) (x : ℕ) (q : x ≡ symbols_from wd w at) where
-    pub next_short : e < x → ReadsGrade (next_grade wd ids ts w at e level side) (GradeRead.Refused 0)
+    pub next_short : e < x → ReadsGrade (next_grade wd ids ts w at e level side) (Err 0)
     unfolding next_grade pick
     next_short l = record { answered = cc (lt-leb e at h, lt-ltb e x l); small = tt }
 
@@ -66,7 +61,7 @@ module _ (wd : ℕ) (ids : Ids) (ts : List Text) (w : List ℕ) (at e level : �
     unfolding next_grade pick
     there l = cc (lt-leb e at h, le-ltb e x l)
 
-    pub next_there : x ≤ e → (r : GradeRead) → ReadsGrade (graded_at wd ids ts w at level side) r → ReadsGrade (next_grade wd ids ts w at e level side) r
+    pub next_there : x ≤ e → (r : Result Graded ℕ) → ReadsGrade (graded_at wd ids ts w at level side) r → ReadsGrade (next_grade wd ids ts w at e level side) r
     next_there l r g = rw (there l) g
 
 before-ends : (wd : ℕ) (w : List ℕ) (at : ℕ) → attributes_end wd w at ≤ symbols_from wd w at
@@ -79,12 +74,12 @@ next_fits wd w at e x q l k = omega (arith, before-ends wd w at)
 pub ruleset nexting = (rules, next-none, next_short, next_there, next_fits)
 
 -- ---- put_grade
-pub put_is : (w w1 w2 : List ℕ) (places keys i at level n : ℕ) (side : Assoc) → n ≡ side_number side → w1 ≡ store w (places + 8 * i) (le 8 at) → w2 ≡ store w1 (keys + 8 * i) (le 8 ((level * 65536 + i) * 4 + n))
+pub put_is : (w w1 w2 : List ℕ) (places keys i at level : ℕ) (side : Assoc) → w1 ≡ store w (places + 8 * i) (le 8 at) → w2 ≡ store w1 (keys + 8 * i) (le 8 ((level * 65536 + i) * 4 + tag_of assoc_type side))
     → w2 ≡ stored_grade w places keys i at level side
 unfolding stored_grade grade_key
-put_is w w1 w2 places keys i at level n side a b c = cc
+put_is w w1 w2 places keys i at level side b c = cc (tagged side)
 
-pub ruleset putting_grades = (rules, put_is)
+pub ruleset putting_grades = (rules, tag_small, put_is)
 
 -- ---- ascends
 pub ascends_not : (b : Bool) (level v : ℕ) → v < level → false ≡ still_ascends b level v
@@ -163,22 +158,22 @@ pub walk_start : (s w : List ℕ) (m : Map) (wd : ℕ) (ids : Ids) (places keys 
     → Walking s w m wd ids places keys n at e w at 0 0 Assoc.FullyAssoc true
 walk_start s w m wd ids places keys n at e h k g = record { narrow = h; wide = k; gradable = g; small = omega arith; left = n; many = omega arith; same = refl; carry = refl }
 
-pub read_small : (x r : GradeRead) → ReadsGrade x r → (v : ℕ) (t : Assoc) → r ≡ GradeRead.Is v t → v < 4294967296
-read_small x r f v t q = let z = f.small in rw q at z
+pub read_small : (x r : Result Graded ℕ) → ReadsGrade x r → (k : Graded) → r ≡ Ok k → k.level < 4294967296
+read_small x r f k q = let z = f.small in rw q at z
 
 -- what was read stands before e
-abbrev IsBefore : ℕ → ℕ → GradeRead → Type 0
-IsBefore p e (GradeRead.Is v t) = p < e
-IsBefore p e (GradeRead.Refused q) = Unit {0}
+abbrev IsBefore : ℕ → ℕ → Result Graded ℕ → Type 0
+IsBefore p e (Ok k) = p < e
+IsBefore p e (Err q) = Unit {0}
 
-any_before : (p e : ℕ) (r : GradeRead) → p < e → IsBefore p e r
-any_before p e (GradeRead.Is v t) h = h
-any_before p e (GradeRead.Refused q) h = tt
+any_before : (p e : ℕ) (r : Result Graded ℕ) → p < e → IsBefore p e r
+any_before p e (Ok k) h = h
+any_before p e (Err q) h = tt
 
-module _ (wd : ℕ) (ids : Ids) (ts : List Text) (w : List ℕ) (p e level : ℕ) (side : Assoc) (r : GradeRead) (f : ReadsGrade (next_grade wd ids ts w p e level side) r) (v : ℕ) (t : Assoc) (q : r ≡ GradeRead.Is v t) where
+module _ (wd : ℕ) (ids : Ids) (ts : List Text) (w : List ℕ) (p e level : ℕ) (side : Assoc) (r : Result Graded ℕ) (f : ReadsGrade (next_grade wd ids ts w p e level side) r) (k : Graded) (q : r ≡ Ok k) where
   next_before : IsBefore p e (next_grade wd ids ts w p e level side)
   unfolding next_grade
-  next_before = by_pick (IsBefore p e) (leb e p) (λ h. tt) (λ h. any_before p e (pick (ltb e (symbols_from wd w p)) (GradeRead.Refused 0) (graded_at wd ids ts w p level side)) (leb-false e p h))
+  next_before = by_pick (IsBefore p e) (leb e p) (λ h. tt) (λ h. any_before p e (pick (ltb e (symbols_from wd w p)) (Err 0) (graded_at wd ids ts w p level side)) (leb-false e p h))
 
   pub read_before : p < e
   read_before = let z : IsBefore p e r = rw f.answered next_before in rw q at z
@@ -191,12 +186,12 @@ module _ (s w₀ : List ℕ) (m : Map) (wd : ℕ) (ids : Ids) (places keys n at 
   pub walk_inside : e + 16 ≤ length w
   walk_inside = g.gradable.inside
 
-  pub walk_last : n ≤ i → places + 8 * i + 8 ≤ length w
-  walk_last h = omega (arith, g.many, g.gradable.places-off.inside)
+  pub walk_last : places + 8 * n + 8 ≤ length w
+  walk_last = g.gradable.places-off.inside
 
-  pub walk_done : n ≤ i → (w1 : List ℕ) → w1 ≡ store w (places + 8 * i) (le 8 p) → Grades (grade_from wd ids s m e places keys n 0 at 0 Assoc.FullyAssoc true w₀) (Graded.Is b) w1
+  pub walk_done : n ≤ i → (w1 : List ℕ) → w1 ≡ store w (places + 8 * n) (le 8 p) → Grades (grade_from wd ids s m e places keys n 0 at 0 Assoc.FullyAssoc true w₀) (Ok b) w1
   unfolding grade_from
-  walk_done h w1 o = let z : g.left ≡ 0 = omega (arith, g.many) in record { is = sym g.carry ∙ cc (z, o) }
+  walk_done h w1 o = let z : g.left ≡ 0 = omega (arith, g.many) in let y : i ≡ n = omega (arith, g.many) in record { is = sym g.carry ∙ cc (z, o, y) }
 
   module _ (h : i < n) where
     pub walk_few : i < 65536
@@ -211,37 +206,37 @@ module _ (s w₀ : List ℕ) (m : Map) (wd : ℕ) (ids : Ids) (places keys n at 
     one : g.left ≡ suc (g.left - 1)
     one = omega (arith, g.many)
 
-    module _ (r : GradeRead) (f : ReadsGrade (next_grade wd ids (texts s w m) w p e level side) r) where
-      pub walk_refused : (q : ℕ) → r ≡ GradeRead.Refused q → Grades (grade_from wd ids s m e places keys n 0 at 0 Assoc.FullyAssoc true w₀) (Graded.Refused q p) w
+    module _ (r : Result Graded ℕ) (f : ReadsGrade (next_grade wd ids (texts s w m) w p e level side) r) where
+      pub walk_refused : (q : ℕ) → r ≡ Err q → Grades (grade_from wd ids s m e places keys n 0 at 0 Assoc.FullyAssoc true w₀) (ungraded_as q p) w
       unfolding grade_from grade_then
       walk_refused q z = record { is = sym g.carry ∙ cc (one, f.answered, z) }
 
-      module _ (v : ℕ) (t : Assoc) (z : r ≡ GradeRead.Is v t) (end : ℕ) (a : end ≡ alternative_end wd w p e) (w1 : List ℕ) (o : w1 ≡ stored_grade w places keys i p v t) where
+      module _ (k : Graded) (z : r ≡ Ok k) (end : ℕ) (a : end ≡ alternative_end wd w p e) (w1 : List ℕ) (o : w1 ≡ stored_grade w places keys i p k.level k.side) where
         pub walk_same : length w1 ≡ length w₀
-        walk_same = rw o (stored_long w places keys i p v t) ∙ g.same
+        walk_same = rw o (stored_long w places keys i p k.level k.side) ∙ g.same
 
-        pub walk-next : (c : Bool) → c ≡ still_ascends b level v → Walking s w₀ m wd ids places keys n at e w1 end (i + 1) v t c
+        pub walk-next : (c : Bool) → c ≡ still_ascends b level k.level → Walking s w₀ m wd ids places keys n at e w1 end (i + 1) k.level k.side c
         unfolding grade_from grade_then
-        walk-next c k = record {
+        walk-next c j = record {
           narrow = g.narrow;
           wide = g.wide;
-          gradable = rw o (gradable_stays s w m places keys n e g.gradable i p v t h);
-          small = read_small (next_grade wd ids (texts s w m) w p e level side) r f v t z;
+          gradable = rw o (gradable_stays s w m places keys n e g.gradable i p k.level k.side h);
+          small = read_small (next_grade wd ids (texts s w m) w p e level side) r f k z;
           left = g.left - 1;
           many = omega (arith, g.many);
           same = walk_same;
-          carry = cc (one, f.answered, z, a, o, k) ∙ g.carry;
+          carry = cc (one, f.answered, z, a, o, j) ∙ g.carry;
         }
 
 pub ruleset walking = (rules, walk_start, read_small, read_before, walk_worded, walk_inside, walk_last, walk_done, walk_few, walk_place, walk_key, walk_refused, walk_same, walk-next)
 
 -- ---- place_of
 module _ (w : List ℕ) (places n k i : ℕ) (e : i ≡ k / 4 % 65536) where
-  pub place_there : i < n → (x : ℕ) → x ≡ le_at 8 w (places + 8 * i) → Lowest.At x ≡ place_of_key w places n k
+  pub place_there : i < n → (x : ℕ) → x ≡ le_at 8 w (places + 8 * i) → Some x ≡ place_of_key w places n k
   unfolding place_of_key pick
   place_there h x q = cc (lt-ltb i n h)
 
-  pub place_none : n ≤ i → Lowest.Nothing ≡ place_of_key w places n k
+  pub place_none : n ≤ i → None ≡ place_of_key w places n k
   unfolding place_of_key pick
   place_none h = cc (le-ltb i n h)
 
@@ -257,7 +252,7 @@ pub low_start : (w : List ℕ) (keys places n : ℕ) → Lowering w keys places 
 low_start w keys places n = record { left = n; many = omega arith; rest = refl }
 
 module _ (w : List ℕ) (keys places n i : ℕ) (g : Lowering w keys places n i) where
-  pub low_done : n ≤ i → Lowest.Nothing ≡ lowest_from w keys places n 0 n
+  pub low_done : n ≤ i → None ≡ lowest_from w keys places n 0 n
   unfolding lowest_from
   low_done h = let z : g.left ≡ 0 = omega (arith, g.many) in sym (cc z) ∙ g.rest
 
@@ -265,12 +260,12 @@ module _ (w : List ℕ) (keys places n i : ℕ) (g : Lowering w keys places n i)
     low_one : g.left ≡ suc (g.left - 1)
     low_one = omega (arith, g.many)
 
-    pub low_other : not c ≡ true → Lowest.Nothing ≡ lowest_from w keys places n 0 n
+    pub low_other : not c ≡ true → None ≡ lowest_from w keys places n 0 n
     unfolding lowest_from pick
     low_other z = cc (low_one, q, not-true c z) ∙ g.rest
 
     module _ (z : not c ≡ false) (k : ℕ) (l : k ≡ le_at 8 w (keys + 8 * i)) where
-      pub low_place : (k % 4 ≡ 3 → ⊥) → (r : Lowest) → r ≡ place_of_key w places n k → r ≡ lowest_from w keys places n 0 n
+      pub low_place : (k % 4 ≡ 3 → ⊥) → (r : Option ℕ) → r ≡ place_of_key w places n k → r ≡ lowest_from w keys places n 0 n
       unfolding lowest_from pick
       low_place x r o = cc (low_one, q, not-false c z, ne_eqb (k % 4) 3 x, l, o) ∙ g.rest
 

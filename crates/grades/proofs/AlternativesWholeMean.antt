@@ -7,6 +7,7 @@ use Prim.Native.Nat.{ℕ, suc, ◌+◌, ◌*◌, ◌^◌, ◌≤◌, ◌<◌}
 use native.Mathlib.Omega.{arith}
 use borrow.Author.Tests.{lt-leb, le-ltb}
 use lib.ListN.{length, get_or}
+use Rattle.std.specs.Prelude.{Result, Ok, Err}
 use Rattle.octets.specs.Plain.Numbers.{le_at, le}
 use Rattle.octets.specs.Plain.Runs.{Lies}
 use Rattle.octets.specs.Working.Choice.{pick}
@@ -31,13 +32,13 @@ use Rattle.laws.specs.Sort.{keys_from}
 use Rattle.resolve.specs.Whole.{Apart}
 use Rattle.resolve.proofs.CellsLaws.{lies_agree, part_apart}
 use Rattle.grades.specs.declared.Assoc.{Assoc}
-use Rattle.grades.specs.declared.GradeRead.{GradeRead}
-use Rattle.grades.specs.declared.Graded.{Graded}
+use Rattle.grades.specs.declared.Ungraded.{Ungraded}
 use Rattle.grades.specs.Annotations.{conditions_from, symbols_from, alternative_end}
 use Rattle.grades.specs.Grade.{assoc_of}
 use Rattle.grades.specs.Ids.{ids_in}
 use Rattle.grades.specs.Sort.{keys_at}
-use Rattle.grades.specs.Alternatives.{grade_key, next_grade, stored_grade, Gradable, GradesOut, grades_out, grade_then, grade_from, Grades, still_ascends}
+use Rattle.grades.specs.Grading.{graded_as}
+use Rattle.grades.specs.Alternatives.{ungraded_as, grade_key, next_grade, stored_grade, Gradable, GradesOut, grades_out, grade_then, grade_from, Grades, still_ascends}
 use Rattle.grades.proofs.AlternativesMean.{AlternativeAt, alternative_read, end_means}
 use Rattle.grades.proofs.GradingMean.{grade_says, graded-means}
 use Rattle.grades.proofs.AlternativesCode.{stored_long, texts-kept, gradable_stays}
@@ -64,7 +65,7 @@ module _ (four : Bool) (wd : ℕ) (ts : List Text) (s : List ℕ) (m : Map) (pla
   places_from p [] = p ∷ []
   places_from p (a ∷ rest) = p ∷ places_from (p + length (alternative_bytes wd ts a)) rest
 
-  abbrev pub answer_of : GradesOut → Graded
+  abbrev pub answer_of : GradesOut → Result Bool Ungraded
   answer_of (grades_out r w) = r
 
   abbrev pub work_of : GradesOut → List ℕ
@@ -76,7 +77,7 @@ module _ (four : Bool) (wd : ℕ) (ts : List Text) (s : List ℕ) (m : Map) (pla
 
   -- all are stored
   pub record AllStored (w : List ℕ) (i p level : ℕ) (side : Side) (b : Bool) (cs : List Alternative) (x : GradesOut) : Type 0 where
-    pub answer : answer_of x ≡ Graded.Is (ascends_from b level (with_levels level cs))
+    pub answer : answer_of x ≡ Ok (ascends_from b level (with_levels level cs))
     pub long : length (work_of x) ≡ length w
     pub keys_are : keys_at (work_of x) (keys + 8 * i) (length cs) ≡ keys_from code_of i (with_sides side (with_levels level cs))
     pub places-are : keys_at (work_of x) (places + 8 * i) (suc (length cs)) ≡ places_from p cs
@@ -86,7 +87,7 @@ module _ (four : Bool) (wd : ℕ) (ts : List Text) (s : List ℕ) (m : Map) (pla
   pub record OneRefused (w : List ℕ) (i q : ℕ) (sp : Span) (x : GradesOut) : Type 0 where
     pub place : ℕ
     pub inside : place + 14 ≤ e
-    pub answer : answer_of x ≡ Graded.Refused q place
+    pub answer : answer_of x ≡ ungraded_as q place
     pub span : span_in (work_of x) (place + 1) ≡ sp
     pub long : length (work_of x) ≡ length w
     pub others : Others w i (work_of x)
@@ -161,18 +162,18 @@ module _ (four : Bool) (wd : ℕ) (ts : List Text) (s : List ℕ) (m : Map) (pla
     unfolding alternative_bytes alternative_node node_bytes span_bytes le
     span_is = let c = byte_read w _ p (p + 1) refl lies_all in (span_read w _ (p + 1) (p + 9) {sp = a.span} (omega arith) r.within.0.span c.1).0
 
-    stepped : next_grade wd (ids_in ts) (texts s w m) w p e level (assoc_of side) ≡ GradeRead.Is v (assoc_of t)
+    stepped : next_grade wd (ids_in ts) (texts s w m) w p e level (assoc_of side) ≡ graded_as v (assoc_of t)
         → grade_from wd (ids_in ts) s m e places keys (suc (length rest)) i p level (assoc_of side) b w
         ≡ grade_from wd (ids_in ts) s m e places keys (length rest) (i + 1) next v (assoc_of t) (still_ascends b level v) w1
     unfolding grade_from grade_then
     stepped z = cc (z, end_is)
 
-    refused_is : (q : ℕ) → next_grade wd (ids_in ts) (texts s w m) w p e level (assoc_of side) ≡ GradeRead.Refused q
-        → grade_from wd (ids_in ts) s m e places keys (suc (length rest)) i p level (assoc_of side) b w ≡ grades_out (Graded.Refused q p) w
+    refused_is : (q : ℕ) → next_grade wd (ids_in ts) (texts s w m) w p e level (assoc_of side) ≡ Err q
+        → grade_from wd (ids_in ts) s m e places keys (suc (length rest)) i p level (assoc_of side) b w ≡ grades_out (ungraded_as q p) w
     unfolding grade_from grade_then
     refused_is q z = cc z
 
-    refused : (q : ℕ) (x : GradesOut) → x ≡ grades_out (Graded.Refused q p) w → OneRefused w i q a.span x
+    refused : (q : ℕ) (x : GradesOut) → x ≡ grades_out (ungraded_as q p) w → OneRefused w i q a.span x
     refused q x z = rw z (record { place = p; inside = before; answer = refl; span = span_is; long = refl; others = λ j c d. refl })
 
     fewer : i < n
@@ -281,7 +282,7 @@ module _ (four : Bool) (wd : ℕ) (ts : List Text) (s : List ℕ) (m : Map) (pla
 
     -- the two questions, and then the rest
     asked : (c d : Bool) (o : Outcome (Unit {0}))
-        → next_grade wd (ids_in ts) (texts s w m) w p e level (assoc_of side) ≡ elim (cond c (cond d (yes (tt {0})) (no 15 a.span)) (no 14 a.span)) [ yes u ↦ GradeRead.Is v (assoc_of t) | no q z ↦ GradeRead.Refused q ]
+        → next_grade wd (ids_in ts) (texts s w m) w p e level (assoc_of side) ≡ elim (cond c (cond d (yes (tt {0})) (no 15 a.span)) (no 14 a.span)) [ yes u ↦ graded_as v (assoc_of t) | no q z ↦ Err q ]
         → GradesMean w1 (i + 1) next v t (still_ascends b level v) rest (grade_from wd (ids_in ts) s m e places keys (length rest) (i + 1) next v (assoc_of t) (still_ascends b level v) w1) o
         → GradesMean w i p level side b (a ∷ rest) (grade_from wd (ids_in ts) s m e places keys (suc (length rest)) i p level (assoc_of side) b w) (cond c (cond d o (no 15 a.span)) (no 14 a.span))
     asked true true o z f = mean_same w i p level side b (a ∷ rest) o _ _ (stepped z) (mean_next _ o f)
@@ -299,18 +300,18 @@ module _ (four : Bool) (wd : ℕ) (ts : List Text) (s : List ℕ) (m : Map) (pla
       (still_ascends b level (v w i p level side b a rest r)) (ready w i p level side b a rest r))
 
   -- the same, of all alternatives: what `grade` answers and leaves
-  pub record Keyed (w : List ℕ) (at : ℕ) (cs : List Alternative) (r : Graded) (w' : List ℕ) : Type 0 where
-    pub answer : r ≡ Graded.Is (ascends_from true 0 (with_levels 0 cs))
+  pub record Keyed (w : List ℕ) (at : ℕ) (cs : List Alternative) (r : Result Bool Ungraded) (w' : List ℕ) : Type 0 where
+    pub answer : r ≡ Ok (ascends_from true 0 (with_levels 0 cs))
     pub keys_are : keys_at w' keys n ≡ keys_from code_of 0 (with_sides all (with_levels 0 cs))
     pub places-are : keys_at w' places (n + 1) ≡ places_from at cs
     pub long : length w' ≡ length w
     pub others : Others w 0 w'
 
-  abbrev pub GradeMeans : List ℕ → ℕ → List Alternative → Graded → List ℕ → Outcome (Unit {0}) → Type 0
+  abbrev pub GradeMeans : List ℕ → ℕ → List Alternative → Result Bool Ungraded → List ℕ → Outcome (Unit {0}) → Type 0
   GradeMeans w at cs r w' (yes u) = Keyed w at cs r w'
   GradeMeans w at cs r w' (no q sp) = OneRefused w 0 q sp (grades_out r w')
 
-  keyed : (cs : List Alternative) (w : List ℕ) (at : ℕ) → length cs ≡ n → (r : Graded) (w' : List ℕ) (o : Outcome (Unit {0})) → GradesMean w 0 at 0 all true cs (grades_out r w') o → GradeMeans w at cs r w' o
+  keyed : (cs : List Alternative) (w : List ℕ) (at : ℕ) → length cs ≡ n → (r : Result Bool Ungraded) (w' : List ℕ) (o : Outcome (Unit {0})) → GradesMean w 0 at 0 all true cs (grades_out r w') o → GradeMeans w at cs r w' o
   keyed cs w at h r w' (yes u) f = record {
     answer = f.answer;
     keys_are = let y : keys + 8 * 0 ≡ keys = omega arith in let z : n ≡ length cs = sym h in ap (keys_at w' keys) z ∙ (rw y at f.keys_are);
@@ -321,7 +322,7 @@ module _ (four : Bool) (wd : ℕ) (ts : List Text) (s : List ℕ) (m : Map) (pla
   keyed cs w at h r w' (no q sp) f = f
 
   -- theorem: `grade`, whose contract is Grades, refuses as check_attributes does, else the keys and the places are stored
-  pub grade_means : (cs : List Alternative) (w : List ℕ) (at : ℕ) → Ready w 0 at 0 cs → (r : Graded) (w' : List ℕ) → Grades (grade_from wd (ids_in ts) s m e places keys n 0 at 0 Assoc.FullyAssoc true w) r w'
+  pub grade_means : (cs : List Alternative) (w : List ℕ) (at : ℕ) → Ready w 0 at 0 cs → (r : Result Bool Ungraded) (w' : List ℕ) → Grades (grade_from wd (ids_in ts) s m e places keys n 0 at 0 Assoc.FullyAssoc true w) r w'
       → GradeMeans w at cs r w' (check_attributes cs)
   grade_means cs w at h r w' g =
       let k : length cs ≡ n = omega (arith, h.many) in

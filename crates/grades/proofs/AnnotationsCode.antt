@@ -1,6 +1,6 @@
 -- Looking for the attributes `precedence` and `assoc`: the ways out of the code. Assumes nothing.
 use mathlib.Core.Path.{◌≡◌, refl, sym, ap, ◌∙◌}
-use mathlib.Core.Bool.{Bool, true, false}
+use mathlib.Core.Bool.{Bool, false}
 use mathlib.Core.List.{List}
 use Prim.Native.Nat.{ℕ, suc, ◌+◌, ◌-◌, ◌*◌, ◌^◌, ◌≤◌, ◌<◌}
 use native.Mathlib.Omega.{arith}
@@ -45,8 +45,8 @@ unfolding first_with
 none_left wd id w p l e = cc
 
 module _ (wd id : ℕ) (w : List ℕ) (at n size p i : ℕ) (g : Looking wd id w at n size p i) where
-  pub look_done : n ≤ i → Finding wd id w at n i
-  look_done h = record { index = omega (arith, none_left wd id w p g.left (omega (arith, g.many)), g.rest); upto = omega (arith, g.many) }
+  pub look_done : n ≤ i → Finding wd id w at n n
+  look_done h = record { index = omega (arith, g.many, none_left wd id w p g.left (omega (arith, g.many)), g.rest); upto = omega arith }
 
   module _ (h : i < n) where
     abbrev next : ℕ
@@ -96,7 +96,7 @@ pub end_whole : (wd : ℕ) (w : List ℕ) (at x n : ℕ) → attributes_end wd w
 end_whole wd w at x n h p q = let z : n ≡ get_or w (at + 9) 0 = q ∙ p in rw z h
 
 module _ (wd : ℕ) (ids : Ids) (w : List ℕ) (at x n : ℕ) (p : x ≡ get_or w (at + 9) 0) (q : n ≡ x) (f : Ids) (a : Annotates wd ids w (at + 14 + wd) n f) where
-  pub annotated-level : f.precedence < n → true ≡ annotated_at wd ids w at
+  pub annotated-level : f.precedence < n → ltb f.precedence n ≡ annotated_at wd ids w at
   unfolding annotated_at pick
   annotated-level h = cc (a.precedence.index, lt-ltb f.precedence n h)
 

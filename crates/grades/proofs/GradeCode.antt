@@ -3,19 +3,18 @@ use mathlib.Core.Path.{◌≡◌, refl, sym, ap, ◌∙◌}
 use mathlib.Core.Bool.{Bool, true, false, cond, ◌&&◌}
 use mathlib.Core.List.{List, [], ◌∷◌}
 use mathlib.Core.Option.{none, some}
-use Prim.Native.Nat.{ℕ, ◌+◌, ◌*◌, ◌-◌, ◌≤◌, ◌<◌}
+use Prim.Native.Nat.{ℕ, suc, ◌+◌, ◌*◌, ◌-◌, ◌≤◌, ◌<◌}
 use native.Mathlib.Omega.{arith}
 use native.Mathlib.Numerals.{add-one}
 use borrow.Author.Rules.{rules}
-use borrow.Author.Tests.{le-leb, lt-leb, eq-eqb, ne_eqb}
-use lib.Dec.{leb}
-use lib.ListN.{length, get_or, drop, drop_of_length-le}
-use lib.Seq.{drop-cons}
+use borrow.Author.Tests.{le-leb, lt-leb, eq-eqb, ne_eqb, eqb-true, eqb-false}
+use lib.Dec.{leb, eqb}
+use lib.ListN.{length, get_or, take, drop, drop_of_length-le}
+use lib.Seq.{drop-cons, take-length}
+use Rattle.std.specs.Prelude.{Option, Some, None}
 use Rattle.octets.specs.Plain.Runs.{same_as}
 use Rattle.passes.specs.Grades.{is_digit, digits, unsigned}
 use Rattle.grades.specs.declared.Assoc.{Assoc}
-use Rattle.grades.specs.declared.LevelRead.{LevelRead}
-use Rattle.grades.specs.declared.AssocRead.{AssocRead}
 use Rattle.grades.specs.Grade.{level_answer, level_said, digits_said, ReadsLevel, assoc_said}
 
 -- ---- digits
@@ -44,40 +43,39 @@ digits-over (b ∷ bs) v h = go (is_digit b) refl (digits-over bs (v * 10 + (b -
     go false e i = not_digit b v bs e
 
 -- what is left from i on, behind the number v, says what the whole says
-pub record Reading (t : List ℕ) (x : LevelRead) (i v : ℕ) : Type 0 where
+pub record Reading (t : List ℕ) (x : Option ℕ) (i v : ℕ) : Type 0 where
   pub rest : level_answer (digits v (drop i t)) ≡ x
   pub fits : v < 4294967296
 
 open_text : (t : List ℕ) (i : ℕ) → i < length t → drop i t ≡ get_or t i 0 ∷ drop (i + 1) t
 open_text t i h = rw add-one (drop-cons t i 0 h)
 
-module _ (t : List ℕ) (at : ℕ) where
-  pub digits-none : length t ≤ at → ReadsLevel (digits_said (drop at t)) LevelRead.Nothing
+module _ (r : Bool) where
+  pub digits-none : (t : List ℕ) → r ≡ eqb (length t) 0 → r ≡ true → ReadsLevel (digits_said t) None
   unfolding digits_said
-  digits-none h = record { answered = sym (ap (λ (l : List ℕ). level_answer (unsigned l)) (drop_of_length-le t {i = at} h)); small = tt }
+  digits-none [] e h = record { answered = refl; small = tt }
+  digits-none (b ∷ t) e h = let z = eqb-true (length (b ∷ t)) 0 (sym e ∙ h) in absurd (omega arith)
 
-  pub digits-start : at < length t → Reading t (digits_said (drop at t)) at 0
+  pub digits-start : (t : List ℕ) → r ≡ eqb (length t) 0 → r ≡ false → Reading t (digits_said t) 0 0
   unfolding digits_said
-  digits-start h = record {
-    rest = let e = open_text t at h in ap (λ (l : List ℕ). level_answer (digits 0 l)) e ∙ sym (ap (λ (l : List ℕ). level_answer (unsigned l)) e);
-    fits = omega arith;
-  }
+  digits-start [] e h = absurd (eqb-false 0 0 (sym e ∙ h) refl)
+  digits-start (b ∷ t) e h = record { rest = refl; fits = omega arith }
 
-module _ (t : List ℕ) (x : LevelRead) (i v : ℕ) (c : Reading t x i v) where
+module _ (t : List ℕ) (x : Option ℕ) (i v : ℕ) (c : Reading t x i v) where
   opened : (b : ℕ) → b ≡ get_or t i 0 → i < length t → level_answer (digits v (b ∷ drop (i + 1) t)) ≡ x
   opened b e h = rw e (ap (λ (l : List ℕ). level_answer (digits v l)) (sym (open_text t i h)) ∙ c.rest)
 
-  refused : (l : List ℕ) → level_answer (digits v l) ≡ x → digits v l ≡ none → ReadsLevel x LevelRead.Nothing
+  refused : (l : List ℕ) → level_answer (digits v l) ≡ x → digits v l ≡ none → ReadsLevel x None
   refused l p e = record { answered = sym (ap level_answer e) ∙ p; small = tt }
 
   module _ (h : i < length t) (b : ℕ) (e : b ≡ get_or t i 0) where
-    pub digits_low : b < 48 → ReadsLevel x LevelRead.Nothing
+    pub digits_low : b < 48 → ReadsLevel x None
     digits_low l = refused (b ∷ drop (i + 1) t) (opened b e h) (not_digit b v (drop (i + 1) t) (low-is b l))
 
-    pub digits-high : 48 ≤ b → 57 < b → ReadsLevel x LevelRead.Nothing
+    pub digits-high : 48 ≤ b → 57 < b → ReadsLevel x None
     digits-high l k = refused (b ∷ drop (i + 1) t) (opened b e h) (not_digit b v (drop (i + 1) t) (high_is b l k))
 
-    pub digits-large : 48 ≤ b → b ≤ 57 → 4294967295 < v * 10 + (b - 48) → ReadsLevel x LevelRead.Nothing
+    pub digits-large : 48 ≤ b → b ≤ 57 → 4294967295 < v * 10 + (b - 48) → ReadsLevel x None
     digits-large l k o =
         refused (b ∷ drop (i + 1) t) (opened b e h) (is_digit_lem b v (drop (i + 1) t) (digit_is b l k) ∙ digits-over (drop (i + 1) t) (v * 10 + (b - 48)) o)
 
@@ -87,7 +85,7 @@ module _ (t : List ℕ) (x : LevelRead) (i v : ℕ) (c : Reading t x i v) where
       fits = omega arith;
     }
 
-  pub digits-done : length t ≤ i → ReadsLevel x (LevelRead.Is v)
+  pub digits-done : length t ≤ i → ReadsLevel x (Some v)
   digits-done h = record {
     answered = sym (ap level_answer (ap (digits v) (drop_of_length-le t {i = i} h) ∙ ap (λ (y : Bool). cond y (some v) none) (le-leb v 4294967295 (omega (arith, c.fits))))) ∙ c.rest;
     small = c.fits;
@@ -96,23 +94,27 @@ module _ (t : List ℕ) (x : LevelRead) (i v : ℕ) (c : Reading t x i v) where
 pub ruleset digiting = (rules, digits-none, digits-start, digits_low, digits-high, digits-large, digits-next, digits-done)
 
 -- ---- read_level
-pub level_none : (t : List ℕ) → length t ≡ 0 → ReadsLevel (level_said t) LevelRead.Nothing
-unfolding level_said
-level_none [] h = record { answered = refl; small = tt }
-level_none (b ∷ t) h = absurd (omega arith)
+whole : (t : List ℕ) → take (suc (length t) - 1) t ≡ t
+whole t = let z : suc (length t) - 1 ≡ length t = omega arith in rw z (take-length t)
 
-pub level_plus : (t : List ℕ) (r : LevelRead) → (length t ≡ 0 → ⊥) → get_or t 0 0 ≡ 43 → ReadsLevel (digits_said (drop 1 t)) r → ReadsLevel (level_said t) r
+module _ (k : Bool) where
+  pub level_none : (t : List ℕ) → k ≡ eqb (length t) 0 → k ≡ true → ReadsLevel (level_said t) None
+  unfolding level_said
+  level_none [] h e = record { answered = refl; small = tt }
+  level_none (b ∷ t) h e = let z = eqb-true (length (b ∷ t)) 0 (sym h ∙ e) in absurd (omega arith)
+
+pub level_plus : (t : List ℕ) (r : Option ℕ) (k : Bool) → k ≡ eqb (length t) 0 → k ≡ false → get_or t 0 0 ≡ 43 → ReadsLevel (digits_said (take (length t - 1) (drop 1 t))) r → ReadsLevel (level_said t) r
 unfolding level_said digits_said
-level_plus [] r h e c = absurd (h refl)
-level_plus (b ∷ t) r h e c = record {
-  answered = c.answered ∙ sym (ap (λ (x : Bool). level_answer (cond x (unsigned t) (unsigned (b ∷ t)))) (eq-eqb b 43 e));
+level_plus [] r k h g e c = absurd (eqb-false 0 0 (sym h ∙ g) refl)
+level_plus (b ∷ t) r k h g e c = record {
+  answered = c.answered ∙ ap (λ (l : List ℕ). level_answer (unsigned l)) (whole t) ∙ sym (ap (λ (x : Bool). level_answer (cond x (unsigned t) (unsigned (b ∷ t)))) (eq-eqb b 43 e));
   small = c.small;
 }
 
-pub level_plain : (t : List ℕ) (r : LevelRead) → (length t ≡ 0 → ⊥) → (get_or t 0 0 ≡ 43 → ⊥) → ReadsLevel (digits_said (drop 0 t)) r → ReadsLevel (level_said t) r
+pub level_plain : (t : List ℕ) (r : Option ℕ) (k : Bool) → k ≡ eqb (length t) 0 → k ≡ false → (get_or t 0 0 ≡ 43 → ⊥) → ReadsLevel (digits_said t) r → ReadsLevel (level_said t) r
 unfolding level_said digits_said
-level_plain [] r h e c = absurd (h refl)
-level_plain (b ∷ t) r h e c = record {
+level_plain [] r k h g e c = absurd (eqb-false 0 0 (sym h ∙ g) refl)
+level_plain (b ∷ t) r k h g e c = record {
   answered = c.answered ∙ sym (ap (λ (x : Bool). level_answer (cond x (unsigned t) (unsigned (b ∷ t)))) (ne_eqb b 43 e));
   small = c.small;
 }
@@ -121,26 +123,26 @@ pub ruleset levelling = (rules, level_none, level_plus, level_plain)
 
 -- ---- read_assoc
 module _ (t : List ℕ) (a : Bool) (p : a ≡ same_as t (97 ∷ 108 ∷ 108 ∷ [])) where
-  pub assoc-all : a ≡ true → AssocRead.Is Assoc.FullyAssoc ≡ assoc_said t
+  pub assoc-all : a ≡ true → Some Assoc.FullyAssoc ≡ assoc_said t
   unfolding assoc_said
   assoc-all h = cc
 
   module _ (h : a ≡ false) (b : Bool) (q : b ≡ same_as t (110 ∷ 111 ∷ 110 ∷ 101 ∷ [])) where
-    pub assoc-non : b ≡ true → AssocRead.Is Assoc.NonAssoc ≡ assoc_said t
+    pub assoc-non : b ≡ true → Some Assoc.NonAssoc ≡ assoc_said t
     unfolding assoc_said
     assoc-non i = cc
 
     module _ (i : b ≡ false) (c : Bool) (r : c ≡ same_as t (108 ∷ 101 ∷ 102 ∷ 116 ∷ [])) where
-      pub assoc-left : c ≡ true → AssocRead.Is Assoc.Left ≡ assoc_said t
+      pub assoc-left : c ≡ true → Some Assoc.Left ≡ assoc_said t
       unfolding assoc_said
       assoc-left j = cc
 
       module _ (j : c ≡ false) (d : Bool) (s : d ≡ same_as t (114 ∷ 105 ∷ 103 ∷ 104 ∷ 116 ∷ [])) where
-        pub assoc-right : d ≡ true → AssocRead.Is Assoc.Right ≡ assoc_said t
+        pub assoc-right : d ≡ true → Some Assoc.Right ≡ assoc_said t
         unfolding assoc_said
         assoc-right k = cc
 
-        pub assoc-nothing : d ≡ false → AssocRead.Nothing ≡ assoc_said t
+        pub assoc-nothing : d ≡ false → None ≡ assoc_said t
         unfolding assoc_said
         assoc-nothing k = cc
 

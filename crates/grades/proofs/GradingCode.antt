@@ -9,6 +9,7 @@ use borrow.Author.Tests.{lt-ltb, le-ltb, ne_eqb}
 use mir.Val.{Fits}
 use mir.Syntax.{w64}
 use lib.ListN.{length, get_or, get_or-eq_default}
+use Rattle.std.specs.Prelude.{Option, Some, None, Result, Ok, Err}
 use Rattle.octets.specs.Working.Choice.{pick}
 use Rattle.octets.specs.Plain.Numbers.{le_at}
 use Rattle.parse_tree.specs.Plain.Tree.{Text}
@@ -18,13 +19,11 @@ use Rattle.texts.specs.Texts.{marked_text, Whole}
 use Rattle.texts.specs.Table.{texts}
 use Rattle.texts.proofs.TextCode.{length_texts, texts-at}
 use Rattle.grades.specs.declared.Assoc.{Assoc}
-use Rattle.grades.specs.declared.AssocRead.{AssocRead}
-use Rattle.grades.specs.declared.LevelRead.{LevelRead}
-use Rattle.grades.specs.declared.GradeRead.{GradeRead}
+use Rattle.grades.specs.declared.Graded.{Graded}
 use Rattle.grades.specs.declared.Ids.{Ids}
 use Rattle.grades.specs.Annotations.{attributes_long, Annotates, value_text}
 use Rattle.grades.specs.Grade.{level_said, assoc_said, ReadsLevel}
-use Rattle.grades.specs.Grading.{Worded, side_said, sided_at, level_then, graded_by, graded_at, ReadsGrade}
+use Rattle.grades.specs.Grading.{Worded, graded_as, side_said, sided_at, level_then, graded_by, graded_at, ReadsGrade}
 use Rattle.grades.proofs.AnnotationsCode.{long_more, end_whole}
 
 -- ---- value
@@ -82,24 +81,24 @@ module _ (wd n j : ℕ) (l : j < n) where
 pub ruleset choosing = (rules, one_fits, one_behind, one_inside, one_is)
 
 -- ---- sided
-module _ (wd : ℕ) (ts : List Text) (w : List ℕ) (at n j level : ℕ) (side : Assoc) where
-  pub sided_same : n ≤ j → level < 4294967296 → ReadsGrade (sided_at wd ts w at n j level side) (GradeRead.Is level side)
+module _ (wd : ℕ) (ts : List Text) (w : List ℕ) (at n j : ℕ) (g : Graded) where
+  pub sided_same : n ≤ j → g.level < 4294967296 → ReadsGrade (sided_at wd ts w at n j g.level g.side) (Ok g)
   unfolding sided_at pick
   sided_same h k = record { answered = cc (le-ltb j n h); small = k }
 
-  module _ (h : j < n) (t : List ℕ) (i : t ≡ value_text wd ts w (at + attributes_long wd j)) (x : AssocRead) (e : x ≡ assoc_said t) where
-    pub sided_bad : x ≡ AssocRead.Nothing → ReadsGrade (sided_at wd ts w at n j level side) (GradeRead.Refused 15)
+  module _ (h : j < n) (t : List ℕ) (i : t ≡ value_text wd ts w (at + attributes_long wd j)) (x : Option Assoc) (e : x ≡ assoc_said t) where
+    pub sided_bad : x ≡ None → ReadsGrade (sided_at wd ts w at n j g.level g.side) (Err 15)
     unfolding sided_at side_said pick
     sided_bad z = record { answered = cc (lt-ltb j n h); small = tt }
 
-    pub sided_is : (s : Assoc) → x ≡ AssocRead.Is s → level < 4294967296 → ReadsGrade (sided_at wd ts w at n j level side) (GradeRead.Is level s)
+    pub sided_is : (s : Assoc) → x ≡ Some s → g.level < 4294967296 → ReadsGrade (sided_at wd ts w at n j g.level g.side) (graded_as g.level s)
     unfolding sided_at side_said pick
     sided_is s z k = record { answered = cc (lt-ltb j n h); small = k }
 
 pub ruleset siding = (rules, sided_same, sided_bad, sided_is)
 
 -- ---- graded
-pub level_small : (x l : LevelRead) (v : ℕ) → ReadsLevel x l → l ≡ LevelRead.Is v → v < 4294967296
+pub level_small : (x l : Option ℕ) (v : ℕ) → ReadsLevel x l → l ≡ Some v → v < 4294967296
 level_small x l v r e = (rw e at r).small
 
 module _ (wd : ℕ) (ids : Ids) (ts : List Text) (w : List ℕ) (at level : ℕ) (side : Assoc) (x n : ℕ) (p : x ≡ get_or w (at + 9) 0) (q : n ≡ x) (f : Ids)
@@ -112,26 +111,26 @@ module _ (wd : ℕ) (ids : Ids) (ts : List Text) (w : List ℕ) (at level : ℕ)
   unfolding graded_by pick
   same h = cc (le-ltb f.precedence n h)
 
-  pub graded-same : n ≤ f.precedence → (r : GradeRead) → ReadsGrade (sided_at wd ts w (at + 14 + wd) n f.assoc level side) r → ReadsGrade (graded_at wd ids ts w at level side) r
+  pub graded-same : n ≤ f.precedence → (r : Result Graded ℕ) → ReadsGrade (sided_at wd ts w (at + 14 + wd) n f.assoc level side) r → ReadsGrade (graded_at wd ids ts w at level side) r
   graded-same h r s = rw (opened, same h) s
 
-  module _ (h : f.precedence < n) (t : List ℕ) (i : t ≡ value_text wd ts w (at + 14 + wd + attributes_long wd f.precedence)) (l : LevelRead) (e : ReadsLevel (level_said t) l) where
+  module _ (h : f.precedence < n) (t : List ℕ) (i : t ≡ value_text wd ts w (at + 14 + wd + attributes_long wd f.precedence)) (l : Option ℕ) (e : ReadsLevel (level_said t) l) where
     said : graded_by wd ts w (at + 14 + wd) n f.precedence f.assoc level side ≡ level_then (sided_at wd ts w (at + 14 + wd) n f.assoc) l
     unfolding graded_by pick
     said = cc (lt-ltb f.precedence n h, e.answered)
 
-    bad : l ≡ LevelRead.Nothing → level_then (sided_at wd ts w (at + 14 + wd) n f.assoc) l ≡ GradeRead.Refused 14
+    bad : l ≡ None → level_then (sided_at wd ts w (at + 14 + wd) n f.assoc) l ≡ Err 14
     unfolding level_then
     bad z = cc
 
-    pub graded-bad : l ≡ LevelRead.Nothing → ReadsGrade (graded_at wd ids ts w at level side) (GradeRead.Refused 14)
+    pub graded-bad : l ≡ None → ReadsGrade (graded_at wd ids ts w at level side) (Err 14)
     graded-bad z = record { answered = sym (opened ∙ said ∙ bad z); small = tt }
 
-    is : (v : ℕ) → l ≡ LevelRead.Is v → level_then (sided_at wd ts w (at + 14 + wd) n f.assoc) l ≡ sided_at wd ts w (at + 14 + wd) n f.assoc v Assoc.FullyAssoc
+    is : (v : ℕ) → l ≡ Some v → level_then (sided_at wd ts w (at + 14 + wd) n f.assoc) l ≡ sided_at wd ts w (at + 14 + wd) n f.assoc v Assoc.FullyAssoc
     unfolding level_then
     is v z = cc
 
-    pub graded-is : (v : ℕ) → l ≡ LevelRead.Is v → (r : GradeRead) → ReadsGrade (sided_at wd ts w (at + 14 + wd) n f.assoc v Assoc.FullyAssoc) r → ReadsGrade (graded_at wd ids ts w at level side) r
+    pub graded-is : (v : ℕ) → l ≡ Some v → (r : Result Graded ℕ) → ReadsGrade (sided_at wd ts w (at + 14 + wd) n f.assoc v Assoc.FullyAssoc) r → ReadsGrade (graded_at wd ids ts w at level side) r
     graded-is v z r s = rw (opened, said, is v z) s
 
 pub ruleset grading = (rules, end_whole, level_small, graded-same, graded-bad, graded-is)

@@ -7,6 +7,7 @@ use Prim.Native.Nat.{ℕ, ◌+◌, ◌≤◌}
 use borrow.Author.Tests.{ltb-true}
 use lib.Dec.{ltb}
 use lib.ListN.{length}
+use Rattle.std.specs.Prelude.{Option as Maybe, Some, None, Result, Err}
 use Rattle.octets.specs.Working.Choice.{pick}
 use Rattle.octets.specs.Plain.Runs.{Lies, same_as}
 use Rattle.octets.proofs.SameLaws.{same_as-eq}
@@ -18,28 +19,27 @@ use Rattle.passes.specs.Outcome.{yes, no}
 use Rattle.passes.specs.Grades.{Side, all, precedence, assoc, value_of, is_given, level_in, side_in, level_of, side_of, without_first, with_levels, with_sides, Graded}
 use Rattle.passes.specs.Levels.{is_readable, check_attributes}
 use Rattle.grades.specs.declared.Assoc.{Assoc}
-use Rattle.grades.specs.declared.LevelRead.{LevelRead}
-use Rattle.grades.specs.declared.GradeRead.{GradeRead}
+use Rattle.grades.specs.declared.Graded.{Graded as GradeRead}
 use Rattle.grades.specs.Annotations.{attributes_long, value_text, first_index}
 use Rattle.grades.specs.Grade.{assoc_of, level_answer, assoc_answer, level_said, assoc_said}
 use Rattle.grades.specs.Ids.{ids_in}
-use Rattle.grades.specs.Grading.{side_said, sided_at, level_then, graded_by, graded_at}
+use Rattle.grades.specs.Grading.{graded_as, side_said, sided_at, level_then, graded_by, graded_at}
 use Rattle.grades.proofs.AnnotationsMean.{text_given, Value}
 use Rattle.grades.proofs.AlternativesMean.{Annotations, alternative_means}
 
 -- ---- on values: what the code says of them
-abbrev sided_on : Option (Option Text) → ℕ → Assoc → GradeRead
-sided_on va l s = pick (is_given va) (side_said l (assoc_said (text_given va))) (GradeRead.Is l s)
+abbrev sided_on : Option (Option Text) → ℕ → Assoc → Result GradeRead ℕ
+sided_on va l s = pick (is_given va) (side_said l (assoc_said (text_given va))) (graded_as l s)
 
-abbrev graded_on : Option (Option Text) → Option (Option Text) → ℕ → Assoc → GradeRead
+abbrev graded_on : Option (Option Text) → Option (Option Text) → ℕ → Assoc → Result GradeRead ℕ
 graded_on vp va l s = pick (is_given vp) (level_then (sided_on va) (level_said (text_given vp))) (sided_on va l s)
 
 -- and what Grades says
-abbrev side_on : Option (Option Text) → ℕ → Side → GradeRead
-side_on va l s = cond (is_readable va (λ t. is_given (side_in t))) (GradeRead.Is l (assoc_of (side_of s va))) (GradeRead.Refused 15)
+abbrev side_on : Option (Option Text) → ℕ → Side → Result GradeRead ℕ
+side_on va l s = cond (is_readable va (λ t. is_given (side_in t))) (graded_as l (assoc_of (side_of s va))) (Err 15)
 
-abbrev grade_on : Option (Option Text) → Option (Option Text) → ℕ → Side → GradeRead
-grade_on vp va l s = cond (is_readable vp (λ t. is_given (level_in t))) (side_on va (level_of l vp) (cond (is_given vp) all s)) (GradeRead.Refused 14)
+abbrev grade_on : Option (Option Text) → Option (Option Text) → ℕ → Side → Result GradeRead ℕ
+grade_on vp va l s = cond (is_readable vp (λ t. is_given (level_in t))) (side_on va (level_of l vp) (cond (is_given vp) all s)) (Err 14)
 
 sided_on_lem : (va : Option (Option Text)) (l : ℕ) (s : Side) → sided_on va l (assoc_of s) ≡ side_on va l s
 unfolding pick side_said assoc_said same_as
@@ -47,7 +47,7 @@ sided_on_lem none l s = refl
 sided_on_lem (some none) l s = refl
 sided_on_lem (some (some t)) l s = go (side_in t)
   where
-    go : (o : Option Side) → side_said l (assoc_answer o) ≡ cond (is_given o) (GradeRead.Is l (assoc_of (elim o [ none ↦ s | some v ↦ v ]))) (GradeRead.Refused 15)
+    go : (o : Option Side) → side_said l (assoc_answer o) ≡ cond (is_given o) (graded_as l (assoc_of (elim o [ none ↦ s | some v ↦ v ]))) (Err 15)
     go none = refl
     go (some v) = refl
 
@@ -57,17 +57,17 @@ graded-on none va l s = sided_on_lem va l s
 graded-on (some none) va l s = refl
 graded-on (some (some t)) va l s = go (level_in t)
   where
-    go : (o : Option ℕ) → level_then (sided_on va) (level_answer o) ≡ cond (is_given o) (side_on va (elim o [ none ↦ l | some v ↦ v ]) all) (GradeRead.Refused 14)
+    go : (o : Option ℕ) → level_then (sided_on va) (level_answer o) ≡ cond (is_given o) (side_on va (elim o [ none ↦ l | some v ↦ v ]) all) (Err 14)
     go none = refl
     go (some v) = sided_on_lem va v all
 
 -- ---- what Grades says of an alternative alone
-abbrev pub first_grade : List Graded → GradeRead
-first_grade [] = GradeRead.Refused 0
-first_grade (g ∷ rest) = GradeRead.Is g.level (assoc_of g.side)
+abbrev pub first_grade : List Graded → Result GradeRead ℕ
+first_grade [] = Err 0
+first_grade (g ∷ rest) = graded_as g.level (assoc_of g.side)
 
-abbrev pub grade_says : ℕ → Side → Alternative → GradeRead
-grade_says l s a = elim (check_attributes (a ∷ [])) [ yes u ↦ first_grade (with_sides s (with_levels l (a ∷ []))) | no q z ↦ GradeRead.Refused q ]
+abbrev pub grade_says : ℕ → Side → Alternative → Result GradeRead ℕ
+grade_says l s a = elim (check_attributes (a ∷ [])) [ yes u ↦ first_grade (with_sides s (with_levels l (a ∷ []))) | no q z ↦ Err q ]
 
 apart : same_as assoc precedence ≡ false
 unfolding same_as
@@ -86,8 +86,8 @@ assoc-stays (a ∷ rest) = go (same_as precedence a.id) refl (assoc-stays rest)
     go true e i = sym (ap (λ (x : Bool). cond x (some value) (value_of assoc rest)) (ap (same_as assoc) (sym (same_as-eq precedence a.id e)) ∙ apart))
     go false e i = ap (λ (x : Option (Option Text)). cond (same_as assoc a.id) (some value) x) i
 
-outcomes : (b c : Bool) (g : GradeRead) (z : Span)
-    → cond b (cond c g (GradeRead.Refused 15)) (GradeRead.Refused 14) ≡ elim (cond b (cond c (yes (tt {0})) (no 15 z)) (no 14 z)) [ yes u ↦ g | no q z ↦ GradeRead.Refused q ]
+outcomes : (b c : Bool) (g : Result GradeRead ℕ) (z : Span)
+    → cond b (cond c g (Err 15)) (Err 14) ≡ elim (cond b (cond c (yes (tt {0})) (no 15 z)) (no 14 z)) [ yes u ↦ g | no q z ↦ Err q ]
 outcomes true true g z = refl
 outcomes true false g z = refl
 outcomes false c g z = refl
@@ -96,15 +96,15 @@ says_is : (l : ℕ) (s : Side) (a : Alternative) → grade_on (value_of preceden
 says_is l s a =
     ap (λ (v : Option (Option Text)). cond (is_readable (value_of precedence a.attributes) (λ t. is_given (level_in t)))
     (cond (is_readable (value_of assoc a.attributes) (λ t. is_given (side_in t)))
-    (GradeRead.Is (level_of l (value_of precedence a.attributes)) (assoc_of (side_of (cond (is_given (value_of precedence a.attributes)) all s) v))) (GradeRead.Refused 15))
-    (GradeRead.Refused 14)) (sym (assoc-stays a.attributes))
+    (graded_as (level_of l (value_of precedence a.attributes)) (assoc_of (side_of (cond (is_given (value_of precedence a.attributes)) all s) v))) (Err 15))
+    (Err 14)) (sym (assoc-stays a.attributes))
     ∙ outcomes (is_readable (value_of precedence a.attributes) (λ t. is_given (level_in t))) (is_readable (value_of assoc a.attributes) (λ t. is_given (side_in t))) _ a.span
 
 -- ---- on the bytes
-then_same : (f g : ℕ → Assoc → GradeRead) → ((v : ℕ) (c : Assoc) → f v c ≡ g v c) → (x : LevelRead) → level_then f x ≡ level_then g x
+then_same : (f g : ℕ → Assoc → Result GradeRead ℕ) → ((v : ℕ) (c : Assoc) → f v c ≡ g v c) → (x : Maybe ℕ) → level_then f x ≡ level_then g x
 unfolding level_then
-then_same f g h LevelRead.Nothing = refl
-then_same f g h (LevelRead.Is v) = h v Assoc.FullyAssoc
+then_same f g h None = refl
+then_same f g h (Some v) = h v Assoc.FullyAssoc
 
 module _ (four : Bool) (wd : ℕ) (ts : List Text) (w : List ℕ) (at : ℕ) (xs : List Attribute) where
   -- a text is looked at only where there is an attribute
@@ -120,14 +120,14 @@ module _ (four : Bool) (wd : ℕ) (ts : List Text) (w : List ℕ) (at : ℕ) (xs
 
   sided_at_lem : Value four wd ts w at assoc xs → (l : ℕ) (c : Assoc) → sided_at wd ts w at (length xs) (first_index assoc xs) l c ≡ sided_on (value_of assoc xs) l c
   unfolding sided_at
-  sided_at_lem v l c = given_text (λ (t : Text). side_said l (assoc_said t)) (GradeRead.Is l c) assoc v
+  sided_at_lem v l c = given_text (λ (t : Text). side_said l (assoc_said t)) (graded_as l c) assoc v
 
   graded-by : Value four wd ts w at precedence xs → Value four wd ts w at assoc xs → (l : ℕ) (c : Assoc)
       → graded_by wd ts w at (length xs) (first_index precedence xs) (first_index assoc xs) l c ≡ graded_on (value_of precedence xs) (value_of assoc xs) l c
   unfolding graded_by
   graded-by u v l c =
       given_text (λ (t : Text). level_then (sided_at wd ts w at (length xs) (first_index assoc xs)) (level_said t)) (sided_at wd ts w at (length xs) (first_index assoc xs) l c) precedence u
-      ∙ ap (λ (x : GradeRead). pick (is_given (value_of precedence xs)) x (sided_at wd ts w at (length xs) (first_index assoc xs) l c))
+      ∙ ap (λ (x : Result GradeRead ℕ). pick (is_given (value_of precedence xs)) x (sided_at wd ts w at (length xs) (first_index assoc xs) l c))
       (then_same (sided_at wd ts w at (length xs) (first_index assoc xs)) (sided_on (value_of assoc xs)) (sided_at_lem v) (level_said (text_given (value_of precedence xs))))
       ∙ ap (pick (is_given (value_of precedence xs)) (level_then (sided_on (value_of assoc xs)) (level_said (text_given (value_of precedence xs))))) (sided_at_lem v l c)
 

@@ -9,6 +9,7 @@ use native.Mathlib.Omega.{arith}
 use borrow.Author.Tests.{eq-eqb, ne_eqb, eqb-false, lt-ltb}
 use lib.Dec.{eqb, ltb}
 use lib.ListN.{length}
+use Rattle.std.specs.Prelude.{Option as Maybe, Some, None}
 use Rattle.octets.specs.Plain.Numbers.{le_at}
 use Rattle.octets.specs.Working.Choice.{pick}
 use Rattle.parse_tree.specs.Plain.Tree.{Text}
@@ -20,7 +21,6 @@ use Rattle.passes.specs.Grades.{Side, all, non, left, right, Graded}
 use Rattle.passes.specs.Levels.{insert, levels_of, of_level, groups_of, grouped, is_all, all_all, check_lowest}
 use Rattle.laws.specs.Sort.{Ascends, key_of, level_keys, by_levels}
 use Rattle.laws.proofs.Levels.{levels-ascend}
-use Rattle.grades.specs.declared.Lowest.{Lowest}
 use Rattle.grades.specs.Grade.{assoc_of}
 use Rattle.grades.specs.Sort.{keys_at, level_at}
 use Rattle.grades.specs.Alternatives.{side_number, place_of_key, lowest_from}
@@ -32,11 +32,11 @@ first_in l [] = none
 first_in l (k ∷ ks) = pick (eqb (k / 262144) l) (pick (eqb (k % 4) 3) (first_in l ks) (some k)) none
 
 module _ (w : List ℕ) (keys places n : ℕ) where
-  abbrev as_place : Option ℕ → Lowest
-  as_place none = Lowest.Nothing
+  abbrev as_place : Option ℕ → Maybe ℕ
+  as_place none = None
   as_place (some k) = place_of_key w places n k
 
-  picked : (c d : Bool) (x : Lowest) (o : Option ℕ) (k : ℕ) → x ≡ as_place o → pick c (pick d x (place_of_key w places n k)) Lowest.Nothing ≡ as_place (pick c (pick d o (some k)) none)
+  picked : (c d : Bool) (x : Maybe ℕ) (o : Option ℕ) (k : ℕ) → x ≡ as_place o → pick c (pick d x (place_of_key w places n k)) None ≡ as_place (pick c (pick d o (some k)) none)
   unfolding pick
   picked true true x o k h = h
   picked true false x o k h = refl
@@ -201,21 +201,21 @@ head_at_lem w keys v (suc n) h = ap (λ (z : ℕ). le_at 8 w z / 262144) (omega 
 -- ---- all of it
 module _ (w : List ℕ) (keys places n : ℕ) (gs : List Graded) (few : length gs ≤ 65536) (upto : length gs ≤ n) where
   -- the place of the alternative that is refused
-  pub record LowRefused (q : ℕ) (sp : Span) (r : Lowest) : Type 0 where
+  pub record LowRefused (q : ℕ) (sp : Span) (r : Maybe ℕ) : Type 0 where
     pub index : ℕ
-    pub answer : r ≡ Lowest.At (le_at 8 w (places + 8 * index))
+    pub answer : r ≡ Some (le_at 8 w (places + 8 * index))
     pub span : SpanAt gs index sp
     pub question : q ≡ 16
 
-  abbrev pub LowestMeans : Lowest → Outcome (Unit {0}) → Type 0
-  LowestMeans r (yes u) = r ≡ Lowest.Nothing
+  abbrev pub LowestMeans : Maybe ℕ → Outcome (Unit {0}) → Type 0
+  LowestMeans r (yes u) = r ≡ None
   LowestMeans r (no q sp) = LowRefused q sp r
 
-  place_of : (k j : ℕ) → k / 4 % 65536 ≡ j → j < n → place_of_key w places n k ≡ Lowest.At (le_at 8 w (places + 8 * j))
+  place_of : (k j : ℕ) → k / 4 % 65536 ≡ j → j < n → place_of_key w places n k ≡ Some (le_at 8 w (places + 8 * j))
   unfolding place_of_key pick
   place_of k j e h = cc (lt-ltb j n h, e)
 
-  as_lowest : (v : ℕ) (r : Lowest) (o : Option ℕ) (x : Outcome (Unit {0})) → r ≡ as_place w keys places n o → FirstMeans gs 0 v o x → LowestMeans r x
+  as_lowest : (v : ℕ) (r : Maybe ℕ) (o : Option ℕ) (x : Outcome (Unit {0})) → r ≡ as_place w keys places n o → FirstMeans gs 0 v o x → LowestMeans r x
   as_lowest v r o (yes u) e f = e ∙ ap (as_place w keys places n) f
   as_lowest v r o (no q sp) e f = record {
     index = f.index;

@@ -1,33 +1,31 @@
 -- What the texts of `precedence` and `assoc` say, as the code's answers, and a level's digits. Assumes nothing: these are definitions.
-use Rattle.std.specs.Prelude.{◌≡◌, List, ℕ, ◌+◌, ◌<◌, length}
+use Rattle.std.specs.Prelude.{◌≡◌, List, ℕ, ◌+◌, ◌<◌, length, Option as Maybe, Some, None}
 use Rattle.std.proofs.Math.Option.{Option, none, some}
 use Rattle.octets.specs.Working.Stores.{store}
 use Rattle.passes.specs.Grades.{Side, all, non, left, right, unsigned, level_in, side_in}
 use Rattle.passes.specs.Levels.{decimal}
 use Rattle.grades.specs.declared.Assoc.{Assoc}
-use Rattle.grades.specs.declared.LevelRead.{LevelRead}
-use Rattle.grades.specs.declared.AssocRead.{AssocRead}
 
 -- a level or nothing, as the code's answer
-abbrev pub level_answer : Option ℕ → LevelRead
-level_answer none = LevelRead.Nothing
-level_answer (some v) = LevelRead.Is v
+abbrev pub level_answer : Option ℕ → Maybe ℕ
+level_answer none = None
+level_answer (some v) = Some v
 
 -- what the text of `precedence` says
-unfoldable pub level_said : List ℕ → LevelRead
+unfoldable pub level_said : List ℕ → Maybe ℕ
 level_said t = level_answer (level_in t)
 
 -- and what it says behind a plus
-unfoldable pub digits_said : List ℕ → LevelRead
+unfoldable pub digits_said : List ℕ → Maybe ℕ
 digits_said t = level_answer (unsigned t)
 
 -- a level that was read is a `u32`
-abbrev pub IsSmall : LevelRead → Type 0
-IsSmall LevelRead.Nothing = Unit {0}
-IsSmall (LevelRead.Is v) = v < 4294967296
+abbrev pub IsSmall : Maybe ℕ → Type 0
+IsSmall None = Unit {0}
+IsSmall (Some v) = v < 4294967296
 
 -- r is the answer x, and small
-pub record ReadsLevel (x r : LevelRead) : Type 0 where
+pub record ReadsLevel (x r : Maybe ℕ) : Type 0 where
   pub answered : r ≡ x
   pub small : IsSmall r
 
@@ -39,12 +37,12 @@ assoc_of left = Assoc.Left
 assoc_of right = Assoc.Right
 
 -- a side or nothing, as the code's answer
-abbrev pub assoc_answer : Option Side → AssocRead
-assoc_answer none = AssocRead.Nothing
-assoc_answer (some s) = AssocRead.Is (assoc_of s)
+abbrev pub assoc_answer : Option Side → Maybe Assoc
+assoc_answer none = None
+assoc_answer (some s) = Some (assoc_of s)
 
 -- what the text of `assoc` says
-unfoldable pub assoc_said : List ℕ → AssocRead
+unfoldable pub assoc_said : List ℕ → Maybe Assoc
 assoc_said t = assoc_answer (side_in t)
 
 -- a level's digits: `decimal`, shut, since it is long where it is open

@@ -5,27 +5,16 @@ ghost use Rattle.octets.specs.Plain.Numbers.{le};
 ghost use Rattle.octets.specs.Working.Stores.{store};
 ghost use Rattle.texts.specs.Table.{texts};
 ghost use Rattle.grades.specs.Grading.{Worded, ReadsGrade};
-ghost use Rattle.grades.specs.Alternatives.{side_number, grade_key, next_grade, stored_grade, Gradable, grade_from, Grades, still_ascends, place_of_key, lowest_from};
+ghost use Rattle.grades.specs.Alternatives.{next_grade, stored_grade, Gradable, grade_from, Grades, still_ascends, place_of_key, lowest_from};
 
 use crate::annotations::{alternative_end, symbols};
 use crate::grading::graded;
 use crate::sort::same_level;
-use crate::{Assoc, GradeRead, Graded, Ids, Lowest};
+use crate::{Assoc, Graded, Ids, Ungraded};
 use octets::numbers::{store64, u64_at};
 use texts::Map;
 
-fn side_number(side: Assoc) -> usize
-    ensures { (result ≡ side_number side) × (result < 4) }
-{
-    match side {
-        Assoc::Left => 0,
-        Assoc::Right => 1,
-        Assoc::NonAssoc => 2,
-        Assoc::FullyAssoc => 3,
-    }
-}
-
-// Level and side of the alternative at a place, which stands before e.
+// Level and side of the alternative at a place, behind one of those before; the error is the question, 0 where none stands there before e.
 fn next_grade<'a>(
     tape: &'a [u8],
     work: &'a [u8],
@@ -34,35 +23,23 @@ fn next_grade<'a>(
     e: usize,
     width: usize,
     ids: Ids,
-    level: usize,
-    side: Assoc,
-) -> GradeRead
-    requires { Worded tape.now work.now m × (2 ≤ width) × (width ≤ 3) × (level < 4294967296) × (e + 16 ≤ length work.now) }
-    ensures { ReadsGrade (next_grade width ids (texts tape.now work.now m) work.now at e level side) result }
+    before: Graded,
+) -> Result<Graded, usize>
+    requires { Worded tape.now work.now m × (2 ≤ width) × (width ≤ 3) × (before.level < 4294967296) × (e + 16 ≤ length work.now) }
+    ensures { ReadsGrade (next_grade width ids (texts tape.now work.now m) work.now at e before.level before.side) result }
 {
-    if e <= at {
-        return GradeRead::Refused(0);
+    if e <= at || e < symbols(work, at, width) {
+        return Err(0);
     }
-    if e < symbols(work, at, width) {
-        return GradeRead::Refused(0);
-    }
-    graded(tape, work, m, at, width, ids, level, side)
+    graded(tape, work, m, at, width, ids, before)
 }
 
 // Place and key of the i-th alternative.
-fn put_grade(
-    work: &mut [u8],
-    places: usize,
-    keys: usize,
-    i: usize,
-    at: usize,
-    level: usize,
-    side: Assoc,
-)
-    requires { (i < 65536) × (level < 4294967296) × (places + 8 * i + 8 ≤ length work.old) × (keys + 8 * i + 8 ≤ length work.old) }
-    ensures { work.new ≡ stored_grade work.old places keys i at level side }
+fn put_grade(work: &mut [u8], places: usize, keys: usize, i: usize, at: usize, grade: Graded)
+    requires { (i < 65536) × (grade.level < 4294967296) × (places + 8 * i + 8 ≤ length work.old) × (keys + 8 * i + 8 ≤ length work.old) }
+    ensures { work.new ≡ stored_grade work.old places keys i at grade.level grade.side }
 {
-    let k = (level * 65536 + i) * 4 + side_number(side);
+    let k = (grade.level * 65536 + i) * 4 + grade.side as usize;
     store64(work, places + 8 * i, at as u64);
     store64(work, keys + 8 * i, k as u64);
 }
@@ -71,13 +48,10 @@ fn put_grade(
 fn ascends(before: bool, level: usize, next: usize) -> bool
     ensures { result ≡ still_ascends before level next }
 {
-    if next < level {
-        return false;
-    }
-    before
+    before && level <= next
 }
 
-// n alternatives from a place on, before e. An alternative that does not stand there is question 0.
+// n alternatives from a place on, before e: whether their levels ascend. An alternative that does not stand there is question 0.
 pub fn grade(
     tape: &[u8],
     work: &mut [u8],
@@ -89,60 +63,58 @@ pub fn grade(
     n: usize,
     at: usize,
     e: usize,
-) -> Graded
+) -> Result<bool, Ungraded>
     requires { (2 ≤ width) × (width ≤ 3) × Gradable tape.now work.old m places keys n e }
     ensures { Grades (grade_from width ids tape.now m e places keys n 0 at 0 Assoc.FullyAssoc true work.old) result work.new }
 {
     let mut p = at;
-    let mut i = 0;
-    let mut level = 0;
-    let mut side = Assoc::FullyAssoc;
+    let mut before = Graded {
+        level: 0,
+        side: Assoc::FullyAssoc,
+    };
     let mut ascending = true;
-    while i < n {
-        match next_grade(tape, work, m, p, e, width, ids, level, side) {
-            GradeRead::Refused(q) => return Graded::Refused(q, p),
-            GradeRead::Is(v, s) => {
+    for i in 0..n {
+        match next_grade(tape, work, m, p, e, width, ids, before) {
+            Err(question) => return Err(Ungraded { question, at: p }),
+            Ok(grade) => {
                 let end = alternative_end(work, p, e, width);
-                put_grade(work, places, keys, i, p, v, s);
-                ascending = ascends(ascending, level, v);
+                put_grade(work, places, keys, i, p, grade);
+                ascending = ascends(ascending, before.level, grade.level);
                 p = end;
-                level = v;
-                side = s;
-                i += 1;
+                before = grade;
             }
         }
     }
-    store64(work, places + 8 * i, p as u64);
-    Graded::Is(ascending)
+    store64(work, places + 8 * n, p as u64);
+    Ok(ascending)
 }
 
-// Where the alternative of a key stands, of n places; Nothing where the key is of none of them.
-fn place_of(work: &[u8], places: usize, n: usize, k: u64) -> Lowest
+// Where the alternative of a key stands, of n places; None where the key is of none of them.
+fn place_of(work: &[u8], places: usize, n: usize, k: u64) -> Option<usize>
     requires { places + 8 * n ≤ length work.now }
     ensures { result ≡ place_of_key work.now places n k }
 {
     let i = (k / 4 % 65536) as usize;
     if i < n {
-        return Lowest::At(u64_at(work, places + 8 * i) as usize);
+        Some(u64_at(work, places + 8 * i) as usize)
+    } else {
+        None
     }
-    Lowest::Nothing
 }
 
 // Among n sorted keys the first of the lowest level whose side is not FullyAssoc.
-pub fn lowest(work: &[u8], keys: usize, n: usize, places: usize) -> Lowest
+pub fn lowest(work: &[u8], keys: usize, n: usize, places: usize) -> Option<usize>
     requires { (keys + 8 * n ≤ length work.now) × (places + 8 * n ≤ length work.now) }
     ensures { result ≡ lowest_from work.now keys places n 0 n }
 {
-    let mut i = 0;
-    while i < n {
+    for i in 0..n {
         if !same_level(work, keys, 0, i) {
-            return Lowest::Nothing;
+            return None;
         }
         let k = u64_at(work, keys + 8 * i);
         if k % 4 != 3 {
             return place_of(work, places, n, k);
         }
-        i += 1;
     }
-    Lowest::Nothing
+    None
 }

@@ -5,24 +5,21 @@ ghost use Rattle.grades.specs.Annotations.{attributes_long, Finding, Annotates, 
 use crate::Ids;
 use crate::skip::skip;
 use octets::numbers::{atom_at, u16_at};
-use octets::wide::{from8, from16, from32};
 
-// The index of the first attribute of an id among the n that stand from a place on; n where there is none.
+// The index of the first attribute of an id among the n that stand from a place on; n, no Option, where there is none: loops over attributes compare with it.
 fn position(work: &[u8], at: usize, n: usize, width: usize, id: usize) -> usize
     requires { (2 ≤ width) × (width ≤ 3) × (at + attributes_long width n ≤ length work.now) }
     ensures { Finding width id work.now at n result }
 {
     let size = 2 + 3 * width;
     let mut p = at;
-    let mut i = 0;
-    while i < n {
-        if id == from32(atom_at(work, p + 1, width)) {
+    for i in 0..n {
+        if id == atom_at(work, p + 1, width) as usize {
             return i;
         }
         p += size;
-        i += 1;
     }
-    i
+    n
 }
 
 // Of both ids.
@@ -30,11 +27,9 @@ pub fn annotations(work: &[u8], at: usize, n: usize, width: usize, ids: Ids) -> 
     requires { (2 ≤ width) × (width ≤ 3) × (at + attributes_long width n ≤ length work.now) }
     ensures { Annotates width ids work.now at n result }
 {
-    let i = position(work, at, n, width, ids.precedence);
-    let j = position(work, at, n, width, ids.assoc);
     Ids {
-        precedence: i,
-        assoc: j,
+        precedence: position(work, at, n, width, ids.precedence),
+        assoc: position(work, at, n, width, ids.assoc),
     }
 }
 
@@ -43,12 +38,9 @@ fn annotated(work: &[u8], at: usize, width: usize, ids: Ids) -> bool
     requires { (2 ≤ width) × (width ≤ 3) × (attributes_end width work.now at ≤ length work.now) }
     ensures { result ≡ annotated_at width ids work.now at }
 {
-    let n = from8(work[at + 9]);
+    let n = usize::from(work[at + 9]);
     let f = annotations(work, at + 14 + width, n, width, ids);
-    if f.precedence < n {
-        return true;
-    }
-    f.assoc < n
+    f.precedence < n || f.assoc < n
 }
 
 // Where the first alternative of the nonterminal at a place stands.
@@ -56,7 +48,7 @@ pub fn first_alternative(work: &[u8], at: usize, width: usize) -> usize
     requires { (2 ≤ width) × (width ≤ 3) × (at + 16 ≤ length work.now) }
     ensures { result ≡ first_alternative width work.now at }
 {
-    let args = from8(work[at + 10 + width]);
+    let args = usize::from(work[at + 10 + width]);
     at + 13 + width + (1 + width) * args
 }
 
@@ -65,15 +57,9 @@ pub fn has_prec_attr(work: &[u8], at: usize, width: usize, ids: Ids) -> bool
     requires { (2 ≤ width) × (width ≤ 3) × HeadInside width work.now at }
     ensures { result ≡ has_prec_attr width ids work.now at }
 {
-    let c = work[at];
-    if c == 16 {
-        if u16_at(work, at + 11 + width) == 0 {
-            return false;
-        }
-        let a = first_alternative(work, at, width);
-        return annotated(work, a, width, ids);
-    }
-    false
+    work[at] == 16
+        && u16_at(work, at + 11 + width) != 0
+        && annotated(work, first_alternative(work, at, width), width, ids)
 }
 
 // Where the symbols of the alternative at p begin.
@@ -81,8 +67,8 @@ pub fn symbols(work: &[u8], p: usize, width: usize) -> usize
     requires { (2 ≤ width) × (width ≤ 3) × (p + 11 ≤ length work.now) }
     ensures { result ≡ symbols_from width work.now p }
 {
-    let n = from8(work[p + 9]);
-    let c = from8(work[p + 10]);
+    let n = usize::from(work[p + 9]);
+    let c = usize::from(work[p + 10]);
     p + (14 + width) + n * (2 + 3 * width) + c * (10 + 2 * width)
 }
 
@@ -92,5 +78,11 @@ pub fn alternative_end(work: &[u8], at: usize, e: usize, width: usize) -> usize
     ensures { result ≡ alternative_end width work.now at e }
 {
     let s = symbols(work, at, width);
-    skip(work, s, e, from16(u16_at(work, at + 12 + width)), width)
+    skip(
+        work,
+        s,
+        e,
+        usize::from(u16_at(work, at + 12 + width)),
+        width,
+    )
 }

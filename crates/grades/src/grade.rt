@@ -1,66 +1,57 @@
 // What the texts of the attributes `precedence` and `assoc` say, and a level written in decimal.
-ghost use Rattle.std.specs.Prelude.{◌≡◌, ◌+◌, ◌≤◌, ◌<◌, length, drop};
+ghost use Rattle.std.specs.Prelude.{◌≡◌, ◌+◌, ◌≤◌, ◌<◌, length};
 ghost use Rattle.grades.specs.Grade.{ReadsLevel, level_said, digits_said, assoc_said, level_digits, PutsDecimal};
 
-use crate::{Assoc, AssocRead, LevelRead};
+use crate::Assoc;
 use octets::runs::equal;
-use octets::wide::from8;
 
 // A `u32` as Rust parses it: perhaps a plus, then one digit or more.
-pub fn read_level(t: &[u8]) -> LevelRead
+pub fn read_level(t: &[u8]) -> Option<usize>
     ensures { ReadsLevel (level_said t.now) result }
 {
-    if t.len() == 0 {
-        return LevelRead::Nothing;
+    if t.is_empty() {
+        None
+    } else if t[0] == b'+' {
+        read_digits(&t[1..])
+    } else {
+        read_digits(t)
     }
-    if t[0] == 43 {
-        return read_digits(t, 1);
-    }
-    read_digits(t, 0)
 }
 
 // One digit or more. Stops where the number is too large for a `u32`: what follows doesn't make it smaller.
-fn read_digits(t: &[u8], at: usize) -> LevelRead
-    ensures { ReadsLevel (digits_said (drop at t.now)) result }
+fn read_digits(t: &[u8]) -> Option<usize>
+    ensures { ReadsLevel (digits_said t.now) result }
 {
-    if t.len() <= at {
-        return LevelRead::Nothing;
+    if t.is_empty() {
+        return None;
     }
-    let mut i = at;
     let mut v = 0;
-    while i < t.len() {
-        let b = from8(t[i]);
-        if b < 48 {
-            return LevelRead::Nothing;
+    for b in t {
+        if *b < b'0' || b'9' < *b {
+            return None;
         }
-        if 57 < b {
-            return LevelRead::Nothing;
-        }
-        v = v * 10 + (b - 48);
+        v = v * 10 + usize::from(*b - b'0');
         if 4294967295 < v {
-            return LevelRead::Nothing;
+            return None;
         }
-        i += 1;
     }
-    LevelRead::Is(v)
+    Some(v)
 }
 
-pub fn read_assoc(t: &[u8]) -> AssocRead
+pub fn read_assoc(t: &[u8]) -> Option<Assoc>
     ensures { result ≡ assoc_said t.now }
 {
     if equal(t, b"all") {
-        return AssocRead::Is(Assoc::FullyAssoc);
+        Some(Assoc::FullyAssoc)
+    } else if equal(t, b"none") {
+        Some(Assoc::NonAssoc)
+    } else if equal(t, b"left") {
+        Some(Assoc::Left)
+    } else if equal(t, b"right") {
+        Some(Assoc::Right)
+    } else {
+        None
     }
-    if equal(t, b"none") {
-        return AssocRead::Is(Assoc::NonAssoc);
-    }
-    if equal(t, b"left") {
-        return AssocRead::Is(Assoc::Left);
-    }
-    if equal(t, b"right") {
-        return AssocRead::Is(Assoc::Right);
-    }
-    AssocRead::Nothing
 }
 
 // How many digits a level has.
@@ -90,10 +81,8 @@ pub fn put_decimal(out: &mut [u8], to: usize, v: usize) -> usize
     ensures { PutsDecimal out.old to v result out.new }
 {
     let end = to + decimal_size(v);
-    let mut at = end;
     let mut q = v;
-    while to < at {
-        at -= 1;
+    for at in (to..end).rev() {
         out[at] = digit(q % 10);
         q /= 10;
     }

@@ -6,9 +6,8 @@ ghost use Rattle.grades.specs.Grading.{Worded, sided_at, graded_at, ReadsGrade};
 
 use crate::annotations::annotations;
 use crate::grade::{read_assoc, read_level};
-use crate::{Assoc, AssocRead, GradeRead, Ids, LevelRead};
+use crate::{Assoc, Graded, Ids};
 use octets::numbers::atom_at;
-use octets::wide::{from8, from32};
 use texts::Map;
 use texts::fields::mark;
 use texts::text::text_at;
@@ -19,7 +18,7 @@ fn value<'a>(tape: &'a [u8], work: &'a [u8], m: Map, at: usize, width: usize) ->
     ensures { result.now ≡ value_text width (texts tape.now work.now m) work.now at }
 {
     let kind = work[at + 1 + width];
-    let k = from32(atom_at(work, at + 2 + width + width, width));
+    let k = atom_at(work, at + 2 + width + width, width) as usize;
     if kind == 0 {
         &tape[0..0]
     } else if m.count <= k {
@@ -46,7 +45,7 @@ fn nth_value<'a>(
     value(tape, work, m, at + (2 + 3 * width) * i, width)
 }
 
-// The side of an alternative whose level is known: the j-th of its n attributes says it, or it is handed on.
+// The side of an alternative whose level is known: the j-th of its n attributes says it, or it is handed on. The error is the question.
 fn sided<'a>(
     tape: &'a [u8],
     work: &'a [u8],
@@ -55,22 +54,24 @@ fn sided<'a>(
     width: usize,
     n: usize,
     j: usize,
-    level: usize,
-    side: Assoc,
-) -> GradeRead
-    requires { Worded tape.now work.now m × (2 ≤ width) × (width ≤ 3) × (n < 256) × (level < 4294967296) × (at + attributes_long width n ≤ length work.now) }
-    ensures { ReadsGrade (sided_at width (texts tape.now work.now m) work.now at n j level side) result }
+    grade: Graded,
+) -> Result<Graded, usize>
+    requires { Worded tape.now work.now m × (2 ≤ width) × (width ≤ 3) × (n < 256) × (grade.level < 4294967296) × (at + attributes_long width n ≤ length work.now) }
+    ensures { ReadsGrade (sided_at width (texts tape.now work.now m) work.now at n j grade.level grade.side) result }
 {
-    if j < n {
-        match read_assoc(nth_value(tape, work, m, at, width, n, j)) {
-            AssocRead::Nothing => return GradeRead::Refused(15),
-            AssocRead::Is(s) => return GradeRead::Is(level, s),
-        }
+    if n <= j {
+        return Ok(grade);
     }
-    GradeRead::Is(level, side)
+    match read_assoc(nth_value(tape, work, m, at, width, n, j)) {
+        None => Err(15),
+        Some(side) => Ok(Graded {
+            level: grade.level,
+            side,
+        }),
+    }
 }
 
-// Level and side of the alternative at a place; those of the one before are handed on, but a level that is said resets the side.
+// Level and side of the alternative at a place; those of the one before are handed on, but a level that is said resets the side. The error is the question.
 pub fn graded<'a>(
     tape: &'a [u8],
     work: &'a [u8],
@@ -78,23 +79,26 @@ pub fn graded<'a>(
     at: usize,
     width: usize,
     ids: Ids,
-    level: usize,
-    side: Assoc,
-) -> GradeRead
-    requires { Worded tape.now work.now m × (2 ≤ width) × (width ≤ 3) × (level < 4294967296) × (attributes_end width work.now at ≤ length work.now) }
-    ensures { ReadsGrade (graded_at width ids (texts tape.now work.now m) work.now at level side) result }
+    before: Graded,
+) -> Result<Graded, usize>
+    requires { Worded tape.now work.now m × (2 ≤ width) × (width ≤ 3) × (before.level < 4294967296) × (attributes_end width work.now at ≤ length work.now) }
+    ensures { ReadsGrade (graded_at width ids (texts tape.now work.now m) work.now at before.level before.side) result }
 {
-    let n = from8(work[at + 9]);
+    let n = usize::from(work[at + 9]);
     let a = at + 14 + width;
     let f = annotations(work, a, n, width, ids);
     let i = f.precedence;
-    if i < n {
-        match read_level(nth_value(tape, work, m, a, width, n, i)) {
-            LevelRead::Nothing => return GradeRead::Refused(14),
-            LevelRead::Is(v) => {
-                return sided(tape, work, m, a, width, n, f.assoc, v, Assoc::FullyAssoc);
-            }
+    if n <= i {
+        return sided(tape, work, m, a, width, n, f.assoc, before);
+    }
+    match read_level(nth_value(tape, work, m, a, width, n, i)) {
+        None => Err(14),
+        Some(level) => {
+            let grade = Graded {
+                level,
+                side: Assoc::FullyAssoc,
+            };
+            sided(tape, work, m, a, width, n, f.assoc, grade)
         }
     }
-    sided(tape, work, m, a, width, n, f.assoc, level, side)
 }

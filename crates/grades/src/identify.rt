@@ -4,19 +4,16 @@ ghost use Rattle.texts.specs.Table.{Table, texts};
 ghost use Rattle.grades.specs.Ids.{IdFound, Identified};
 
 use crate::Ids;
+use texts::Map;
 use texts::hash::hash;
 use texts::table::find;
-use texts::{Found, Map};
 
-// The number of a text.
+// The number of a text; 2^32 and no Option where it is not there, so that the loop over attributes compares one number.
 fn id<'a>(tape: &'a [u8], work: &'a [u8], m: Map, t: &[u8]) -> usize
     requires { Table tape.now work.now m × (0 < m.buckets) }
     ensures { IdFound (texts tape.now work.now m) t.now result }
 {
-    match find(tape, work, m, t, hash(t)) {
-        Found::At(k) => k,
-        Found::Nothing => 4294967296,
-    }
+    find(tape, work, m, t, hash(t)).unwrap_or(4294967296)
 }
 
 // The numbers of the texts `precedence` and `assoc`.

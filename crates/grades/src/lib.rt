@@ -9,27 +9,13 @@ pub mod identify;
 pub mod skip;
 pub mod sort;
 
-// Which occurrences of the nonterminal itself keep an alternative's level: the first, the last, none, all.
-#[derive(Clone, Copy)]
+// Which occurrences of the nonterminal itself keep an alternative's level: the first, the last, none, all. A key has them as the numbers 0 to 3.
+#[derive(Clone, Copy, PartialEq, Eq)]
 pub enum Assoc {
     Left,
     Right,
     NonAssoc,
     FullyAssoc,
-}
-
-// What the text of `precedence` says.
-#[derive(Clone, Copy)]
-pub enum LevelRead {
-    Is(usize),
-    Nothing,
-}
-
-// What the text of `assoc` says.
-#[derive(Clone, Copy)]
-pub enum AssocRead {
-    Is(Assoc),
-    Nothing,
 }
 
 // The numbers of the texts `precedence` and `assoc`, or the indices of the first attributes of these ids.
@@ -39,23 +25,16 @@ pub struct Ids {
     pub assoc: usize,
 }
 
-// The level and the side of an alternative, or the question that its attributes fail.
+// The level and the side of an alternative.
 #[derive(Clone, Copy)]
-pub enum GradeRead {
-    Is(usize, Assoc),
-    Refused(u32),
+pub struct Graded {
+    pub level: usize,
+    pub side: Assoc,
 }
 
-// How grading all alternatives went: whether their levels ascend; or the question that fails, and the alternative's place.
+// The question that an alternative's attributes fail, and its place.
 #[derive(Clone, Copy)]
-pub enum Graded {
-    Is(bool),
-    Refused(u32, usize),
-}
-
-// The place of an alternative of the lowest level whose side is not FullyAssoc.
-#[derive(Clone, Copy)]
-pub enum Lowest {
-    At(usize),
-    Nothing,
+pub struct Ungraded {
+    pub question: usize,
+    pub at: usize,
 }

@@ -3,7 +3,6 @@ ghost use Rattle.std.specs.Prelude.{◌≡◌, ◌+◌, ◌≤◌, ◌<◌, leng
 ghost use Rattle.grades.specs.Skip.{inside_at, skip_out};
 
 use octets::numbers::u16_at;
-use octets::wide::{from8, from16};
 use resolve::commands::long;
 
 // How many symbols stand straight inside the symbol at a place.
@@ -11,20 +10,12 @@ pub fn inside(work: &[u8], at: usize, width: usize) -> usize
     requires { (2 ≤ width) × (width ≤ 3) × (at + 16 ≤ length work.now) }
     ensures { (result ≡ inside_at width work.now at) × (result < 65536) }
 {
-    let c = work[at];
-    if c == 37 {
-        return from8(work[at + 9 + width]);
+    match work[at] {
+        37 => usize::from(work[at + 9 + width]),
+        41 => usize::from(u16_at(work, at + 9)),
+        38..=40 => 1,
+        _ => 0,
     }
-    if c == 41 {
-        return from16(u16_at(work, at + 9));
-    }
-    if c < 38 {
-        return 0;
-    }
-    if 40 < c {
-        return 0;
-    }
-    1
 }
 
 // The place behind n symbols, before e. There are never more to come than bytes.
@@ -35,10 +26,7 @@ pub fn skip(work: &[u8], at: usize, e: usize, n: usize, width: usize) -> usize
     let mut p = at;
     let mut k = n;
     while p < e {
-        if k == 0 {
-            return p;
-        }
-        if e - p < k {
+        if k == 0 || e - p < k {
             return p;
         }
         k = k - 1 + inside(work, p, width);

@@ -1,11 +1,12 @@
 -- An annotated nonterminal that stands in work can be graded; what `grade` then says of it. Assumes nothing.
-use mathlib.Core.Path.{◌≡◌, refl, sym, ◌∙◌}
+use mathlib.Core.Path.{ap, ◌≡◌, refl, sym, ◌∙◌}
 use mathlib.Core.Bool.{Bool, true}
 use mathlib.Core.Logic.{inl}
 use mathlib.Core.List.{List}
 use Prim.Native.Nat.{ℕ, ◌+◌, ◌*◌, ◌≤◌}
 use native.Mathlib.Omega.{arith}
 use lib.ListN.{length}
+use Rattle.std.specs.Prelude.{Result, Ok, Err}
 use Rattle.octets.specs.Plain.Numbers.{le_at}
 use Rattle.parse_tree.specs.Plain.Tree.{Nonterminal}
 use Rattle.parse_tree.specs.declared.refusal.Refusal.{Refusal}
@@ -17,21 +18,29 @@ use Rattle.passes.specs.Outcome.{Outcome, yes, no, after}
 use Rattle.passes.specs.Levels.{check_attributes}
 use Rattle.resolve.proofs.GrammarLaws.{Headed, headed}
 use Rattle.grades.specs.declared.Assoc.{Assoc}
-use Rattle.grades.specs.declared.Graded.{Graded}
+use Rattle.grades.specs.declared.Ungraded.{Ungraded}
 use Rattle.grades.specs.declared.Ids.{Ids}
 use Rattle.grades.specs.Annotations.{first_alternative}
 use Rattle.grades.specs.Ids.{ids_in}
-use Rattle.grades.specs.Alternatives.{OffTable, Gradable, grade_from, Grades}
+use Rattle.grades.specs.Alternatives.{ungraded_as, OffTable, Gradable, grade_from, Grades}
 use Rattle.grades.proofs.AlternativesMean.{first_means}
 use Rattle.grades.proofs.AlternativesWholeMean.{Ready, GradeMeans, grade_means}
 use Rattle.precedence.proofs.NamesMean.{naming-worded}
 use Rattle.levels.specs.declared.Room.{Room}
 use Rattle.levels.specs.declared.Written.{Written}
-use Rattle.levels.specs.declared.Levelled.{Levelled}
 use Rattle.levels.specs.Expand.{Expandable, ExpandedBy, alternatives_at}
 
 -- an answer is not a refusal
-pub is_not : {b : Bool} {q a : ℕ} → Graded.Is b ≡ Graded.Refused q a → ⊥
+-- what a refusal says
+abbrev question_said : Result Bool Ungraded → ℕ
+question_said (Ok b) = 0
+question_said (Err u) = u.question
+
+abbrev place_said : Result Bool Ungraded → ℕ
+place_said (Ok b) = 0
+place_said (Err u) = u.at
+
+pub is_not : {b : Bool} {q a : ℕ} → Ok b ≡ ungraded_as q a → ⊥
 is_not {b} {q} {a} e = let z : ◌≡◌ {A = ℕ} 0 1 = cc in omega arith
 
 -- where the keys stand: behind the places of n alternatives and of what is behind them
@@ -100,7 +109,7 @@ module _ (s : List ℕ) (m : Map) (room : Room) (wd : ℕ) (ids : Ids) (p e : �
         stands_at = first ∙ first_means four wd (texts s w m) w p e d stands_headed
 
         -- theorem: `grade` says what check_attributes says, and leaves the keys and the places
-        pub stands_graded : (g : Graded) (w1 : List ℕ) → Grades (grade_from wd ids s m e room.arrays (keys_place room n) n 0 at 0 Assoc.FullyAssoc true w) g w1
+        pub stands_graded : (g : Result Bool Ungraded) (w1 : List ℕ) → Grades (grade_from wd ids s m e room.arrays (keys_place room n) n 0 at 0 Assoc.FullyAssoc true w) g w1
             → GradeMeans four wd (texts s w m) s m room.arrays (keys_place room n) n e w (alternatives_at wd (texts s w m) p d) d.alternatives g w1 (check_attributes d.alternatives)
         stands_graded g w1 x =
             let i = S.names.ids_table in
@@ -111,22 +120,22 @@ module _ (s : List ℕ) (m : Map) (room : Room) (wd : ℕ) (ids : Ids) (p e : �
   module _ (n at : ℕ) (w1 : List ℕ) (q a : ℕ) where
     -- what it says of the nonterminal
     abbrev Said : Outcome (Unit {0}) → Type 0
-    Said o = GradeMeans four wd (texts s w m) s m room.arrays (keys_place room n) n e w at d.alternatives (Graded.Refused q a) w1 o
+    Said o = GradeMeans four wd (texts s w m) s m room.arrays (keys_place room n) n e w at d.alternatives (ungraded_as q a) w1 o
 
     -- theorem: the alternative that is refused stands in work
     pub refused_inside : (o : Outcome (Unit {0})) → Said o → a + 9 ≤ length w1
     refused_inside (yes u) k = absurd (is_not (sym k.answer))
     refused_inside (no r sp) k = let z : a ≡ k.place = same_place k.answer in omega (arith, k.inside, k.long, stands_before.2)
       where
-        same_place : {x y : ℕ} → Graded.Refused q a ≡ Graded.Refused x y → a ≡ y
-        same_place z = cc
+        same_place : {x y : ℕ} → ungraded_as q a ≡ ungraded_as x y → a ≡ y
+        same_place z = ap place_said z
 
     -- theorem: and it is refused as it should be
     pub refused_means : (o : Outcome (Unit {0})) (f : Unit {0} → Outcome (Unit {0})) → Said o → (why : Refusal) → why ≡ refusal_over q (span_in w1 (a + 1))
-        → ExpandedBy s m room wd ids p e (after o f) d v w (Levelled.Refused why) w1
+        → ExpandedBy s m room wd ids p e (after o f) d v w (Err why) w1
     unfolding ExpandedBy
     refused_means (yes u) f k why z = absurd (is_not (sym k.answer))
     refused_means (no r sp) f k why z = go k.place k.answer k.span
       where
-        go : (x : ℕ) → Graded.Refused q a ≡ Graded.Refused r x → span_in w1 (x + 1) ≡ sp → Levelled.Refused why ≡ Levelled.Refused (refusal_over r sp)
-        go x i j = let y : a ≡ x = cc in let t : q ≡ r = cc in cc (z, y, t, j)
+        go : (x : ℕ) → ungraded_as q a ≡ ungraded_as r x → span_in w1 (x + 1) ≡ sp → ◌≡◌ {A = Result Written Refusal} (Err why) (Err (refusal_over r sp))
+        go x i j = let y : a ≡ x = ap place_said i in let t : q ≡ r = ap question_said i in cc (z, y, t, j)

@@ -1,5 +1,5 @@
 -- The ways out of `expand_nonterm`: refused by `grade`, refused by `lowest`, or written level by level. Assumes nothing.
-use mathlib.Core.Path.{◌≡◌, refl, sym, ap, ◌∙◌}
+use mathlib.Core.Path.{◌≡◌, refl, sym, ◌∙◌}
 use mathlib.Core.Bool.{Bool, true}
 use mathlib.Core.Logic.{inl}
 use mathlib.Core.List.{List}
@@ -8,6 +8,7 @@ use Prim.Native.Nat.{ℕ, ◌+◌, ◌*◌, ◌≤◌}
 use native.Mathlib.Omega.{arith}
 use borrow.Author.Rules.{rules}
 use lib.ListN.{length}
+use Rattle.std.specs.Prelude.{Option as Maybe, Some, None, Result, Ok, Err}
 use Rattle.octets.specs.Plain.Numbers.{le_at}
 use Rattle.parse_tree.specs.Plain.Tree.{Nonterminal}
 use Rattle.parse_tree.specs.declared.refusal.Refusal.{Refusal}
@@ -19,16 +20,14 @@ use Rattle.passes.specs.Outcome.{Outcome, yes, no, after}
 use Rattle.passes.specs.Grades.{graded}
 use Rattle.passes.specs.Levels.{levels_of, grouped, check_attributes, check_lowest}
 use Rattle.grades.specs.declared.Assoc.{Assoc}
-use Rattle.grades.specs.declared.Graded.{Graded}
+use Rattle.grades.specs.declared.Ungraded.{Ungraded}
 use Rattle.grades.specs.declared.Ids.{Ids}
-use Rattle.grades.specs.declared.Lowest.{Lowest}
 use Rattle.grades.specs.Annotations.{first_alternative}
 use Rattle.grades.specs.Sort.{Arrays}
-use Rattle.grades.specs.Alternatives.{Gradable, grade_from, Grades, lowest_from}
+use Rattle.grades.specs.Alternatives.{ungraded_as, Gradable, grade_from, Grades, lowest_from}
 use Rattle.grades.proofs.AlternativesWholeMean.{Keyed, GradeMeans}
 use Rattle.levels.specs.declared.Room.{Room}
 use Rattle.levels.specs.declared.Written.{Written}
-use Rattle.levels.specs.declared.Levelled.{Levelled}
 use Rattle.levels.specs.Expand.{SortsKeys, SomeLeft, Finishes, Expandable, SomeExpandable, ExpandedBy, ExpandsOne, alternatives_at}
 use Rattle.levels.proofs.ExpandMean.{keys_place, is_not, stands_before, stands_many, stands_roomy, stands_gradable, stands_graded, refused_inside, refused_means}
 use Rattle.levels.proofs.ExpandMeanSorted.{Ordered, keys_ordered, lowest_says, low_inside, low_means, low_none}
@@ -37,15 +36,15 @@ use Rattle.levels.proofs.ExpandMeanLeft.{all_left, all_written}
 -- ---- of one nonterminal that `grade` has not refused
 module _ (s : List ℕ) (m : Map) (room : Room) (wd : ℕ) (ids : Ids) (p e : ℕ) (v : Written) (w : List ℕ) (four : Bool) (d : Nonterminal) (S : Expandable s m room wd ids p e v w four d)
     (n : ℕ) (many : n ≡ le_at 2 w (p + 11 + wd)) (wide : wd ≤ 3) (at : ℕ) (first : at ≡ first_alternative wd w p) (b : Bool) (w1 : List ℕ)
-    (x : Grades (grade_from wd ids s m e room.arrays (keys_place room n) n 0 at 0 Assoc.FullyAssoc true w) (Graded.Is b) w1) where
+    (x : Grades (grade_from wd ids s m e room.arrays (keys_place room n) n 0 at 0 Assoc.FullyAssoc true w) (Ok b) w1) where
   abbrev Said : Outcome (Unit {0}) → Type 0
-  Said o = GradeMeans four wd (texts s w m) s m room.arrays (keys_place room n) n e w (alternatives_at wd (texts s w m) p d) d.alternatives (Graded.Is b) w1 o
+  Said o = GradeMeans four wd (texts s w m) s m room.arrays (keys_place room n) n e w (alternatives_at wd (texts s w m) p d) d.alternatives (Ok b) w1 o
 
   said : Said (check_attributes d.alternatives)
-  said = stands_graded s m room wd ids p e v w four d S n many wide at first (Graded.Is b) w1 x
+  said = stands_graded s m room wd ids p e v w four d S n many wide at first (Ok b) w1 x
 
   -- theorem: its keys and places are stored
-  pub keyed-of : Keyed four wd (texts s w m) s m room.arrays (keys_place room n) n e w (alternatives_at wd (texts s w m) p d) d.alternatives (Graded.Is b) w1
+  pub keyed-of : Keyed four wd (texts s w m) s m room.arrays (keys_place room n) n e w (alternatives_at wd (texts s w m) p d) d.alternatives (Ok b) w1
   keyed-of = go (check_attributes d.alternatives) said
     where
       go : (o : Outcome (Unit {0})) → Said o → Said (yes tt)
@@ -58,7 +57,7 @@ module _ (s : List ℕ) (m : Map) (room : Room) (wd : ℕ) (ids : Ids) (p e : �
       keys_ordered s m room wd p e w four d n S.stood.within.fewer (stands_roomy s m room wd ids p e v w four d S n many) b w1 keyed-of k w2 y
 
   -- theorem: the answer of check_lowest is the answer
-  pub after-attributes : (r : Levelled) (w3 : List ℕ) → ExpandedBy s m room wd ids p e (check_lowest (grouped d.name (graded d))) d v w r w3
+  pub after-attributes : (r : Result Written Refusal) (w3 : List ℕ) → ExpandedBy s m room wd ids p e (check_lowest (grouped d.name (graded d))) d v w r w3
       → ExpandedBy s m room wd ids p e (after (check_attributes d.alternatives) (λ u. check_lowest (grouped d.name (graded d)))) d v w r w3
   after-attributes r w3 f = go (check_attributes d.alternatives) said
     where
@@ -93,28 +92,33 @@ module _ {s : List ℕ} {m : Map} {room : Room} {wd : ℕ} {ids : Ids} {p e : �
     pub expand_gradable : Gradable s w m room.arrays (room.arrays + 8 * n + 8) n e
     expand_gradable = stands_gradable s m room wd ids p e v w four d S n many
 
-    module _ {at : ℕ} (first : at ≡ first_alternative wd w p) {g : Graded} {w1 : List ℕ}
+    module _ {at : ℕ} (first : at ≡ first_alternative wd w p) {g : Result Bool Ungraded} {w1 : List ℕ}
         (x : Grades (grade_from wd ids s m e room.arrays (room.arrays + 8 * n + 8) n 0 at 0 Assoc.FullyAssoc true w) g w1) where
       -- ---- `grade` refuses
-      module _ {q a : ℕ} (z : g ≡ Graded.Refused q a) where
+      module _ {u : Ungraded} (z : g ≡ Err u) where
+        abbrev q : ℕ
+        q = u.question
+
+        abbrev a : ℕ
+        a = u.at
+
         says : (four' : Bool) (d' : Nonterminal) → Expandable s m room wd ids p e v w four' d'
-            → GradeMeans four' wd (texts s w m) s m room.arrays (keys_place room n) n e w (alternatives_at wd (texts s w m) p d') d'.alternatives (Graded.Refused q a) w1 (check_attributes d'.alternatives)
-        says four' d' S' = stands_graded s m room wd ids p e v w four' d' S' n many wide at first (Graded.Refused q a) w1 (rw z at x)
+            → GradeMeans four' wd (texts s w m) s m room.arrays (keys_place room n) n e w (alternatives_at wd (texts s w m) p d') d'.alternatives (ungraded_as q a) w1 (check_attributes d'.alternatives)
+        says four' d' S' = stands_graded s m room wd ids p e v w four' d' S' n many wide at first (ungraded_as q a) w1 (rw z at x)
 
         -- theorem: the place that it answers lies in work
         pub expand_refused_inside : a + 9 ≤ length w1
         expand_refused_inside = refused_inside s m room wd ids p e v w four d S n _ w1 q a (check_attributes d.alternatives) (says four d S)
 
         -- theorem: each nonterminal that stands there is refused so
-        pub expand_refused : {i : ℕ} → i ≡ q → {why : Refusal} → why ≡ refusal_over i (span_in w1 (a + 1)) → ExpandsOne s m room wd ids p e v w (Levelled.Refused why) w1
+        pub expand_refused : {why : Refusal} → why ≡ refusal_over q (span_in w1 (a + 1)) → ExpandsOne s m room wd ids p e v w (Err why) w1
         unfolding ExpandsOne
-        expand_refused {i} h {why} y four' d' S' =
-            refused_means s m room wd ids p e v w four' d' S' n _ w1 q a (check_attributes d'.alternatives) (λ u. check_lowest (grouped d'.name (graded d'))) (says four' d' S') why
-            (y ∙ ap (λ (j : ℕ). refusal_over j (span_in w1 (a + 1))) h)
+        expand_refused {why} y four' d' S' =
+            refused_means s m room wd ids p e v w four' d' S' n _ w1 q a (check_attributes d'.alternatives) (λ u. check_lowest (grouped d'.name (graded d'))) (says four' d' S') why y
 
       -- ---- or answers
-      module _ {b : Bool} (z : g ≡ Graded.Is b) where
-        answered : Grades (grade_from wd ids s m e room.arrays (room.arrays + 8 * n + 8) n 0 at 0 Assoc.FullyAssoc true w) (Graded.Is b) w1
+      module _ {b : Bool} (z : g ≡ Ok b) where
+        answered : Grades (grade_from wd ids s m e room.arrays (room.arrays + 8 * n + 8) n 0 at 0 Assoc.FullyAssoc true w) (Ok b) w1
         answered = rw z at x
 
         long : length w1 ≡ length w
@@ -139,30 +143,30 @@ module _ {s : List ℕ} {m : Map} {room : Room} {wd : ℕ} {ids : Ids} {p e : �
           pub expand_places : room.arrays + 8 * n ≤ length w2
           expand_places = omega (arith, mine.long, expand_room)
 
-          module _ {r : Lowest} (l : r ≡ lowest_from w2 k room.arrays n 0 n) where
+          module _ {r : Maybe ℕ} (l : r ≡ lowest_from w2 k room.arrays n 0 n) where
             -- ---- `lowest` finds one
-            module _ {a : ℕ} (t : r ≡ Lowest.At a) where
-              found : Lowest.At a ≡ lowest_from w2 k room.arrays n 0 n
+            module _ {a : ℕ} (t : r ≡ Some a) where
+              found : Some a ≡ lowest_from w2 k room.arrays n 0 n
               found = sym t ∙ l
 
               -- theorem: its place lies in work
               pub expand_low_inside : a + 9 ≤ length w2
               expand_low_inside =
                   let c = stands_many s m room wd ids p e v w four d S n many in
-                  low_inside s m room wd ids p e v w four d S n c k w2 mine pre.0 a (lowest_says s m room wd ids p e v w four d S n c k w2 mine (Lowest.At a) found)
+                  low_inside s m room wd ids p e v w four d S n c k w2 mine pre.0 a (lowest_says s m room wd ids p e v w four d S n c k w2 mine (Some a) found)
 
               -- theorem: each nonterminal that stands there is refused so
-              pub expand_low : {why : Refusal} → why ≡ refusal_over 16 (span_in w2 (a + 1)) → ExpandsOne s m room wd ids p e v w (Levelled.Refused why) w2
+              pub expand_low : {why : Refusal} → why ≡ refusal_over 16 (span_in w2 (a + 1)) → ExpandsOne s m room wd ids p e v w (Err why) w2
               unfolding ExpandsOne
               expand_low {why} u four' d' S' =
                   let c = stands_many s m room wd ids p e v w four' d' S' n many in
                   let o = ordered four' d' S' in
-                  after-attributes s m room wd ids p e v w four' d' S' n many wide at first b w1 answered (Levelled.Refused why) w2
-                  (low_means s m room wd ids p e v w four' d' S' n c k w2 o pre.0 a (lowest_says s m room wd ids p e v w four' d' S' n c k w2 o (Lowest.At a) found) why u)
+                  after-attributes s m room wd ids p e v w four' d' S' n many wide at first b w1 answered (Err why) w2
+                  (low_means s m room wd ids p e v w four' d' S' n c k w2 o pre.0 a (lowest_says s m room wd ids p e v w four' d' S' n c k w2 o (Some a) found) why u)
 
             -- ---- or none
-            module _ (t : r ≡ Lowest.Nothing) where
-              none_found : Lowest.Nothing ≡ lowest_from w2 k room.arrays n 0 n
+            module _ (t : r ≡ None) where
+              none_found : None ≡ lowest_from w2 k room.arrays n 0 n
               none_found = sym t ∙ l
 
               -- theorem: what `write_levels` asks holds
@@ -176,12 +180,12 @@ module _ {s : List ℕ} {m : Map} {room : Room} {wd : ℕ} {ids : Ids} {p e : �
               }
 
               -- theorem: the levels of each nonterminal that stands there are written
-              pub expand_written : (u : Written) (w3 : List ℕ) → Finishes s m room wd ids p e room.arrays k n 0 0 v w2 u w3 → ExpandsOne s m room wd ids p e v w (Levelled.Is u) w3
+              pub expand_written : (u : Written) (w3 : List ℕ) → Finishes s m room wd ids p e room.arrays k n 0 0 v w2 u w3 → ExpandsOne s m room wd ids p e v w (Ok u) w3
               unfolding ExpandsOne ExpandedBy
               expand_written u w3 f four' d' S' =
                   let c = stands_many s m room wd ids p e v w four' d' S' n many in
                   let o = ordered four' d' S' in
-                  let i = low_none s m room wd ids p e v w four' d' S' n c k w2 o (lowest_says s m room wd ids p e v w four' d' S' n c k w2 o Lowest.Nothing none_found) in
-                  after-attributes s m room wd ids p e v w four' d' S' n many wide at first b w1 answered (Levelled.Is u) w3 (rw i (u, refl, all_written s m room wd ids p e v w four' d' S' n c k w2 o u w3 f))
+                  let i = low_none s m room wd ids p e v w four' d' S' n c k w2 o (lowest_says s m room wd ids p e v w four' d' S' n c k w2 o None none_found) in
+                  after-attributes s m room wd ids p e v w four' d' S' n many wide at first b w1 answered (Ok u) w3 (rw i (u, refl, all_written s m room wd ids p e v w four' d' S' n c k w2 o u w3 f))
 
 pub ruleset heading = (rules, expand_head, expand_room)

@@ -6,6 +6,7 @@ use mathlib.Core.List.{List}
 use Prim.Native.Nat.{ℕ, zero, suc, ◌+◌, ◌*◌, ◌≤◌, ◌<◌}
 use native.Mathlib.Omega.{arith}
 use lib.ListN.{length, get_or}
+use Rattle.std.specs.Prelude.{Option, Some, None, Result, Ok, Err}
 use Rattle.octets.specs.Plain.Numbers.{le_at}
 use Rattle.octets.specs.Plain.Runs.{Lies}
 use Rattle.parse_tree.specs.Plain.Tree.{Nonterminal}
@@ -23,9 +24,8 @@ use Rattle.passes.specs.Grades.{all, with_levels, graded}
 use Rattle.passes.specs.Levels.{levels_of, grouped, check_lowest}
 use Rattle.laws.specs.Sort.{by_levels}
 use Rattle.resolve.proofs.CellsLaws.{lies_agree}
-use Rattle.grades.specs.declared.Graded.{Graded}
+use Rattle.grades.specs.declared.Ungraded.{Ungraded}
 use Rattle.grades.specs.declared.Ids.{Ids}
-use Rattle.grades.specs.declared.Lowest.{Lowest}
 use Rattle.grades.specs.Sort.{keys_at, Sorted}
 use Rattle.grades.specs.Alternatives.{lowest_from}
 use Rattle.grades.proofs.AscendsMean.{code_of, ascends_from}
@@ -35,7 +35,6 @@ use Rattle.grades.proofs.LowestMean.{LowestMeans, lowest_means}
 use Rattle.precedence.proofs.LeadMean.{span_noted}
 use Rattle.levels.specs.declared.Room.{Room}
 use Rattle.levels.specs.declared.Written.{Written}
-use Rattle.levels.specs.declared.Levelled.{Levelled}
 use Rattle.levels.specs.Expand.{SortsKeys, Expandable, ExpandedBy, alternatives_at}
 use Rattle.levels.proofs.Few.{graded-length}
 use Rattle.levels.proofs.ExpandMean.{keys_place, stands_headed, stands_before}
@@ -47,7 +46,7 @@ keys_agree w w1 at zero f = refl
 keys_agree w w1 at (suc n) f = cc (le_at-agree 8 w w1 at (λ i h k. f i h (omega arith)), keys_agree w w1 (at + 8) n (λ i h k. f i (omega arith) (omega arith)))
 
 -- an answer of `lowest` is one of two
-at-not : {a : ℕ} → Lowest.At a ≡ Lowest.Nothing → ⊥
+at-not : {a : ℕ} → Some a ≡ None → ⊥
 at-not {a} e = let z : ◌≡◌ {A = ℕ} 0 1 = cc in omega arith
 
 module _ (s : List ℕ) (m : Map) (room : Room) (wd p e : ℕ) (w : List ℕ) (four : Bool) (d : Nonterminal) (n : ℕ) where
@@ -62,7 +61,7 @@ module _ (s : List ℕ) (m : Map) (room : Room) (wd p e : ℕ) (w : List ℕ) (f
     pub others : (j : ℕ) → (j < room.arrays) ⊎ (room.at ≤ j) → get_or w2 j 0 ≡ get_or w j 0
 
   module _ (few : length d.alternatives < 65536) (roomy : room.arrays + (24 * n + 8) ≤ room.at) (b : Bool) (w1 : List ℕ)
-      (K : Keyed four wd (texts s w m) s m room.arrays (keys_place room n) n e w (alternatives_at wd (texts s w m) p d) d.alternatives (Graded.Is b) w1) where
+      (K : Keyed four wd (texts s w m) s m room.arrays (keys_place room n) n e w (alternatives_at wd (texts s w m) p d) d.alternatives (Ok b) w1) where
     graded-few : length (graded d) ≤ 65536
     graded-few = omega (arith, graded-length d, few)
 
@@ -77,7 +76,7 @@ module _ (s : List ℕ) (m : Map) (room : Room) (wd p e : ℕ) (w : List ℕ) (f
     ascending : b ≡ true → ascends_from true 0 (with_levels 0 d.alternatives) ≡ true
     ascending z = go K.answer
       where
-        go : {c : Bool} → Graded.Is b ≡ Graded.Is c → c ≡ true
+        go : {c : Bool} → ◌≡◌ {A = Result Bool Ungraded} (Ok b) (Ok c) → c ≡ true
         go q = cc
 
     -- what ascends stays
@@ -139,11 +138,11 @@ module _ (s : List ℕ) (m : Map) (room : Room) (wd : ℕ) (ids : Ids) (p e : �
       lies_agree w w2 at e _ O.long (omega (arith, h.2)) (λ j x y. O.others j (inl (omega (arith, h.1)))) (stands_headed s m room wd ids p e v w four d S).alternatives
 
   -- what `lowest` says of the nonterminal
-  abbrev pub LowSays : Lowest → Type 0
+  abbrev pub LowSays : Option ℕ → Type 0
   LowSays r = LowestMeans w2 k room.arrays n (graded d) few upto r (check_lowest (grouped d.name (graded d)))
 
   -- theorem: it finds the alternative that check_lowest refuses
-  pub lowest_says : (r : Lowest) → r ≡ lowest_from w2 k room.arrays n 0 n → LowSays r
+  pub lowest_says : (r : Option ℕ) → r ≡ lowest_from w2 k room.arrays n 0 n → LowSays r
   lowest_says r z = rw z (lowest_means w2 k room.arrays n (graded d) few upto d.name O.keyed)
 
   module _ (narrow : 2 ≤ wd) where
@@ -157,37 +156,37 @@ module _ (s : List ℕ) (m : Map) (room : Room) (wd : ℕ) (ids : Ids) (p e : �
       span : span_in w2 (a + 1) ≡ sp
       inside : a + 16 ≤ e
 
-    refused : (a q : ℕ) (sp : Span) → LowestMeans w2 k room.arrays n (graded d) few upto (Lowest.At a) (no q sp) → Refused q a sp
+    refused : (a q : ℕ) (sp : Span) → LowestMeans w2 k room.arrays n (graded d) few upto (Some a) (no q sp) → Refused q a sp
     refused a q sp f =
         let x = span_noted four wd (texts s w m) s m w2 room.arrays (keys_place room n) n at e d.alternatives S.stood.within.alternatives alternatives_lie noted_all S.stood.within.fewer narrow f.index sp f.span in
         let z : a ≡ le_at 8 w2 (room.arrays + 8 * f.index) = go f.answer in
         record { question = f.question; span = rw z x.0; inside = rw z x.1 }
       where
-        go : {y : ℕ} → Lowest.At a ≡ Lowest.At y → a ≡ y
+        go : {y : ℕ} → Some a ≡ Some y → a ≡ y
         go q = cc
 
     -- theorem: the alternative stands in work
-    pub low_inside : (a : ℕ) → LowSays (Lowest.At a) → a + 9 ≤ length w2
+    pub low_inside : (a : ℕ) → LowSays (Some a) → a + 9 ≤ length w2
     low_inside a = go (check_lowest (grouped d.name (graded d)))
       where
-        go : (o : Outcome (Unit {0})) → LowestMeans w2 k room.arrays n (graded d) few upto (Lowest.At a) o → a + 9 ≤ length w2
+        go : (o : Outcome (Unit {0})) → LowestMeans w2 k room.arrays n (graded d) few upto (Some a) o → a + 9 ≤ length w2
         go (yes u) f = absurd (at-not f)
         go (no q sp) f = omega (arith, (refused a q sp f).inside, O.long, (stands_before s m room wd ids p e v w four d S).2)
 
     -- theorem: and is refused by question 16
-    pub low_means : (a : ℕ) → LowSays (Lowest.At a) → (why : Refusal) → why ≡ refusal_over 16 (span_in w2 (a + 1))
-        → ExpandedBy s m room wd ids p e (check_lowest (grouped d.name (graded d))) d v w (Levelled.Refused why) w2
+    pub low_means : (a : ℕ) → LowSays (Some a) → (why : Refusal) → why ≡ refusal_over 16 (span_in w2 (a + 1))
+        → ExpandedBy s m room wd ids p e (check_lowest (grouped d.name (graded d))) d v w (Err why) w2
     unfolding ExpandedBy
     low_means a f why z = go (check_lowest (grouped d.name (graded d))) f
       where
-        go : (o : Outcome (Unit {0})) → LowestMeans w2 k room.arrays n (graded d) few upto (Lowest.At a) o → ExpandedBy s m room wd ids p e o d v w (Levelled.Refused why) w2
+        go : (o : Outcome (Unit {0})) → LowestMeans w2 k room.arrays n (graded d) few upto (Some a) o → ExpandedBy s m room wd ids p e o d v w (Err why) w2
         go (yes u) f = absurd (at-not f)
         go (no q sp) f = let x = refused a q sp f in cc (z, x.question, x.span)
 
   -- theorem: nothing found is a yes
-  pub low_none : LowSays Lowest.Nothing → check_lowest (grouped d.name (graded d)) ≡ yes tt
+  pub low_none : LowSays None → check_lowest (grouped d.name (graded d)) ≡ yes tt
   low_none = go (check_lowest (grouped d.name (graded d)))
     where
-      go : (o : Outcome (Unit {0})) → LowestMeans w2 k room.arrays n (graded d) few upto Lowest.Nothing o → o ≡ yes tt
+      go : (o : Outcome (Unit {0})) → LowestMeans w2 k room.arrays n (graded d) few upto None o → o ≡ yes tt
       go (yes u) f = refl
       go (no q sp) f = absurd (at-not (sym f.answer))

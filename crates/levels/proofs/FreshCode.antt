@@ -11,6 +11,8 @@ use lib.ListN.{length, get_or, set, length-set, length-append}
 use lib.Seq.{take_all}
 use mir.Syntax.{w64}
 use mir.Val.{Fits}
+use Rattle.std.specs.Prelude.{Ok, Err}
+use Rattle.octets.specs.Working.Choice.{pick}
 use Rattle.octets.specs.Plain.Numbers.{le}
 use Rattle.octets.specs.Plain.Runs.{part}
 use Rattle.octets.specs.Working.Stores.{store}
@@ -29,7 +31,6 @@ use Rattle.grades.specs.Grade.{level_digits, PutsDecimal}
 use Rattle.precedence.specs.Names.{Naming, Based, BaseText, level_text, described_text, described_texts, named_text}
 use Rattle.precedence.proofs.NamesHashCode.{named-described}
 use Rattle.precedence.proofs.NamesFindCode.{naming-based}
-use Rattle.levels.specs.declared.fresh.Fresh.{Fresh}
 use Rattle.levels.specs.Fresh.{too_long, new_texts, fresh_of, NameLong, PutsNames}
 
 -- ---- name_length
@@ -157,14 +158,19 @@ module _ (s w : List ℕ) (m : Map) (n k bytes : ℕ) (long : Bool) (c : Countin
       pub count-short : l ≤ 65535 → r ≡ long → Counting s w m n (k + 1) (bytes + (3 + l)) r
       count-short z p = count_next (p ∙ c.far ∙ sym (long_no (new_texts s w m k) (named_text s w m k) (omega (arith, e.is))))
 
-  pub count-done : n ≤ k → record { bytes = bytes; long = long } ≡ fresh_of (new_texts s w m n)
-  unfolding fresh_of
-  count-done h =
-      let z : k ≡ n = omega (arith, c.upto) in
-      let f : (b : ℕ) (t : Bool) → Fresh = λ b t. record { bytes = b; long = t } in
-      ap (λ (b : ℕ). f b long) c.size ∙ ap (f (length (bytes_of_each (atom_bytes 2) (new_texts s w m k)))) c.far ∙ ap (λ (i : ℕ). fresh_of (new_texts s w m i)) z
+  module _ (h : n ≤ k) where
+    at_end : k ≡ n
+    at_end = omega (arith, c.upto)
 
-pub ruleset counting = (rules, count-start, count_fits, count_long, count-short, count-done)
+    pub count_long_done : long ≡ true → Err bytes ≡ fresh_of (new_texts s w m n)
+    unfolding fresh_of pick
+    count_long_done e = let z = at_end in rw (← z, ← c.far, e, ← c.size) refl
+
+    pub count_done : long ≡ false → Ok bytes ≡ fresh_of (new_texts s w m n)
+    unfolding fresh_of pick
+    count_done e = let z = at_end in rw (← z, ← c.far, e, ← c.size) refl
+
+pub ruleset counting = (rules, count-start, count_fits, count_long, count-short, count_long_done, count_done)
 
 -- ---- put_level: a byte, the length, the text and the digits, each behind the one before
 pub put_kept : (o a b r : List ℕ) (to v : ℕ) → length a ≡ length (set o to v) → length b ≡ length a → length r ≡ length b → length r ≡ length o

@@ -74,11 +74,8 @@ module _ (s : List ℕ) (m : Map) (room : Room) (wd : ℕ) (ids : Ids) (p e plac
     };
   }
 
-  module _ (i₀ below₀ : ℕ) (v₀ : Written) (w₀ : List ℕ) (i below to count : ℕ) (w : List ℕ) (g : Looped i₀ below₀ v₀ w₀ i below (record { to = to; count = count }) w) where
-    abbrev now : Written
-    now = record { to = to; count = count }
-
-    module _ (r : Next) (w1 : List ℕ) (f : Steps s m room wd ids p e places keys n i below (record { to = to; count = count }) w r w1) where
+  module _ (i₀ below₀ : ℕ) (v₀ : Written) (w₀ : List ℕ) (i below : ℕ) (now : Written) (w : List ℕ) (g : Looped i₀ below₀ v₀ w₀ i below now w) where
+    module _ (r : Next) (w1 : List ℕ) (f : Steps s m room wd ids p e places keys n i below now w r w1) where
       abbrev then : Written
       then = record { to = r.to; count = r.count }
 
@@ -129,7 +126,7 @@ module _ (s : List ℕ) (m : Map) (room : Room) (wd : ℕ) (ids : Ids) (p e plac
           subst (λ (us : List Item). Wrote s m room wd ids w₀ v₀ (length vs) us now w) (sym all)
           (wrote_more s m room wd ids w₀ v₀ x.news x.done now w (length vs) (omega (arith, x.few)) x.wrote)
 
-    pub levels-done : n ≤ i → Finishes s m room wd ids p e places keys n i₀ below₀ v₀ w₀ (record { to = to; count = count }) w
+    pub levels-done : n ≤ i → Finishes s m room wd ids p e places keys n i₀ below₀ v₀ w₀ now w
     unfolding Finishes
     levels-done h four d o vs l = done_of h four d o vs (g.goes four d o vs l)
 

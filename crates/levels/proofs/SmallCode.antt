@@ -6,7 +6,8 @@ use mathlib.Core.List.{List}
 use Prim.Native.Nat.{ℕ, ◌+◌, ◌<◌}
 use native.Mathlib.Omega.{arith}
 use borrow.Author.Rules.{rules}
-use borrow.Author.Tests.{eq-eqb, ne_eqb}
+use borrow.Author.Tests.{ne_eqb}
+use lib.Dec.{eqb}
 use mir.Syntax.{w32}
 use mir.Val as Bound
 use Rattle.octets.specs.Working.Choice.{pick}
@@ -37,13 +38,14 @@ pub ruleset naming-level = (rules, name_same, name_asked, name_described)
 
 -- ---- level_of
 module _ (i j name below : ℕ) where
-  pub level_first : i ≡ 0 → (a b : ℕ) → a ≡ name → b ≡ name → record { first = i; last = j; name = a; below = b; lowest = true } ≡ level_from i j name below
-  unfolding level_from pick
-  level_first z a b x y = rw (x, y, eq-eqb i 0 z) refl
+  module _ (lower : ℕ) where
+    pub level_first : i ≡ 0 → lower ≡ name → record { first = i; last = j; name = name; below = lower; lowest = eqb i 0 } ≡ level_from i j name below
+    unfolding level_from pick
+    level_first z x = rw (x, z) refl
 
-  pub level_other : (i ≡ 0 → ⊥) → (a b : ℕ) → a ≡ name → b ≡ below → record { first = i; last = j; name = a; below = b; lowest = false } ≡ level_from i j name below
-  unfolding level_from pick
-  level_other z a b x y = rw (x, y, ne_eqb i 0 z) refl
+    pub level_other : (i ≡ 0 → ⊥) → lower ≡ below → record { first = i; last = j; name = name; below = lower; lowest = eqb i 0 } ≡ level_from i j name below
+    unfolding level_from pick
+    level_other z x = rw (x, ne_eqb i 0 z) refl
 
   pub below-fits : (i ≡ 0) ⊎ (below < 4294967296) → (i ≡ 0 → ⊥) → Bound.Fits w32 below
   below-fits (inl x) z = absurd (z x)

@@ -7,6 +7,7 @@ use Prim.Native.Nat.{ℕ, ◌+◌, ◌-◌, ◌*◌, ◌≤◌, ◌<◌}
 use native.Mathlib.Omega.{arith}
 use borrow.Author.Rules.{rules}
 use lib.ListN.{length, get_or}
+use Rattle.std.specs.Prelude.{Result, Ok}
 use Rattle.octets.specs.Plain.Runs.{Lies, part}
 use Rattle.octets.proofs.LiesLaws.{lies_part}
 use Rattle.octets.proofs.StoreLaws.{lies_store}
@@ -15,6 +16,7 @@ use Rattle.parse_tree.specs.Plain.Texts.{distinct, with_new}
 use Rattle.parse_tree.specs.Plain.References.{texts_of_each, item_texts}
 use Rattle.parse_tree.specs.Plain.WriteTape.{bytes_of_each}
 use Rattle.parse_tree.specs.Working.Encode.{item_bytes}
+use Rattle.parse_tree.specs.declared.refusal.Refusal.{Refusal}
 use Rattle.texts.specs.declared.Map.{Map}
 use Rattle.texts.specs.Table.{Above, Agree, texts}
 use Rattle.passes.specs.Outcome.{Outcome, yes, no, after}
@@ -36,7 +38,6 @@ use Rattle.precedence.proofs.NamesStays.{names_same, naming-stays}
 use Rattle.precedence.proofs.NamesMean.{named-split, naming-worded}
 use Rattle.levels.specs.declared.Room.{Room}
 use Rattle.levels.specs.declared.Written.{Written}
-use Rattle.levels.specs.declared.Levelled.{Levelled}
 use Rattle.levels.specs.Expand.{LevelsFit, NamesAt, Kept, Wrote, ExpandedBy, ExpandsOne}
 use Rattle.levels.specs.Whole.{alternatives_in, ItemsLeft, SteppedBy, ItemSteps}
 use Rattle.levels.proofs.Extend.{bytes_extend}
@@ -185,13 +186,13 @@ annotated-levelled d h = rw h (append-nil (level_items d))
 -- ---- the ways out of `expand_item`
 module _ (s : List ℕ) (m : Map) (t : Grammar) (room : Room) (ids : Ids) (i : ℕ) (v : Written) (w : List ℕ) where
   stepped_copy : (four : Bool) (x : Item) (rest : List Item) → ItemsLeft s m t room ids i v w four (x ∷ rest) → (p e r : ℕ) (w1 : List ℕ) → p ≡ item_place_in t w i → e ≡ item_place_in t w (i + 1)
-      → Puts w room.lim v.to (part p e w) r w1 → has_levels x ≡ false → SteppedBy s m t room ids (check_levels (x ∷ [])) i v w four x rest (Levelled.Is (record { to = r; count = v.count })) w1
+      → Puts w room.lim v.to (part p e w) r w1 → has_levels x ≡ false → SteppedBy s m t room ids (check_levels (x ∷ [])) i v w four x rest (Ok (record { to = r; count = v.count })) w1
   unfolding SteppedBy
   stepped_copy four x rest L p e r w1 pp pe put h =
       let c = wrote_copy s m t room ids i v w four x rest L p e r w1 pp pe put in
       rw (plain-check x h) (record { to = r; count = v.count }, refl, rw (plain-levelled x h) c, rest_left s m t room ids i v w four x rest L (record { to = r; count = v.count }) w1 (x ∷ []) c)
 
-  stepped_levels : (four : Bool) (d : Nonterminal) (rest : List Item) → ItemsLeft s m t room ids i v w four (item d ∷ rest) → annotated d ≡ true → (p e : ℕ) (o : Outcome (Unit {0})) (r : Levelled) (w1 : List ℕ)
+  stepped_levels : (four : Bool) (d : Nonterminal) (rest : List Item) → ItemsLeft s m t room ids i v w four (item d ∷ rest) → annotated d ≡ true → (p e : ℕ) (o : Outcome (Unit {0})) (r : Result Written Refusal) (w1 : List ℕ)
       → ExpandedBy s m room t.width ids p e o d v w r w1 → SteppedBy s m t room ids (after o (λ u. yes tt)) i v w four (item d) rest r w1
   unfolding SteppedBy ExpandedBy alternatives_in
   stepped_levels four d rest L h p e (yes u) r w1 g =
@@ -204,12 +205,12 @@ module _ (s : List ℕ) (m : Map) (t : Grammar) (room : Room) (ids : Ids) (i : �
     tells four x rest L = sym (first_annotated s m t room ids i v w four x rest L narrow) ∙ ap (has_prec_attr t.width ids w) (sym pp) ∙ sym z
 
     -- theorem: an item that isn't annotated is copied
-    pub item_copied : b ≡ false → (r : ℕ) (w1 : List ℕ) → Puts w room.lim v.to (part p e w) r w1 → ItemSteps s m t room ids i v w (Levelled.Is (record { to = r; count = v.count })) w1
+    pub item_copied : b ≡ false → (r : ℕ) (w1 : List ℕ) → Puts w room.lim v.to (part p e w) r w1 → ItemSteps s m t room ids i v w (Ok (record { to = r; count = v.count })) w1
     unfolding ItemSteps
     item_copied y r w1 put four x rest L = stepped_copy four x rest L p e r w1 pp pe put (tells four x rest L ∙ y)
 
     -- theorem: an annotated one is written level by level
-    pub item_levelled : b ≡ true → (r : Levelled) (w1 : List ℕ) → ExpandsOne s m room t.width ids p e v w r w1 → ItemSteps s m t room ids i v w r w1
+    pub item_levelled : b ≡ true → (r : Result Written Refusal) (w1 : List ℕ) → ExpandsOne s m room t.width ids p e v w r w1 → ItemSteps s m t room ids i v w r w1
     unfolding ItemSteps ExpandsOne
     item_levelled y r w1 g four (item d) rest L =
         let a : annotated d ≡ true = tells four (item d) rest L ∙ y in

@@ -6,6 +6,7 @@ use Prim.Native.Nat.{ℕ, ◌+◌, ◌≤◌, ◌<◌}
 use native.Mathlib.Omega.{arith}
 use borrow.Author.Rules.{rules}
 use lib.ListN.{length}
+use Rattle.std.specs.Prelude.{Result, Ok, Err}
 use Rattle.parse_tree.specs.Plain.Tree.{Text, Item, item}
 use Rattle.parse_tree.specs.Plain.Texts.{distinct}
 use Rattle.parse_tree.specs.declared.refusal.Refusal.{Refusal}
@@ -23,7 +24,6 @@ use Rattle.grades.proofs.IdsMean.{ids_are}
 use Rattle.precedence.proofs.NamesMean.{named-texts, naming-start}
 use Rattle.levels.specs.declared.Room.{Room}
 use Rattle.levels.specs.declared.Written.{Written}
-use Rattle.levels.specs.declared.Levelled.{Levelled}
 use Rattle.levels.specs.Expand.{Wrote}
 use Rattle.levels.specs.Whole.{alternatives_in, ItemsLeft, SomeItems, SteppedBy, ItemSteps, GrammarStands, SomeGrammar, at_first, LevelledBy, Levels}
 use Rattle.levels.proofs.WroteLaws.{wrote_none, wrote_more, wrote_append}
@@ -47,20 +47,20 @@ check_split (item d) rest = go (check_nonterminal d)
     go (no q sp) = refl
 check_split (Item.terminal sp o x) rest = refl
 
--- ---- what `Levelled` tells
-is_written : (r : Levelled) (v v' : Written) → r ≡ Levelled.Is v → r ≡ Levelled.Is v' → v' ≡ v
+-- ---- what an answer tells
+is_written : (r : Result Written Refusal) (v v' : Written) → r ≡ Ok v → r ≡ Ok v' → v' ≡ v
 is_written r v v' p q = ap read (sym q ∙ p)
   where
-    read : Levelled → Written
-    read (Levelled.Is x) = x
-    read (Levelled.Refused why) = v
+    read : Result Written Refusal → Written
+    read (Ok x) = x
+    read (Err why) = v
 
-never_both : {A : Type 0} (r : Levelled) (v : Written) (why : Refusal) → r ≡ Levelled.Is v → r ≡ Levelled.Refused why → A
+never_both : {A : Type 0} (r : Result Written Refusal) (v : Written) (why : Refusal) → r ≡ Ok v → r ≡ Err why → A
 never_both {A} r v why p q = absurd (subst Fine (sym p ∙ q) tt)
   where
-    Fine : Levelled → Type 0
-    Fine (Levelled.Is x) = Unit {0}
-    Fine (Levelled.Refused w) = ⊥
+    Fine : Result Written Refusal → Type 0
+    Fine (Ok x) = Unit {0}
+    Fine (Err w) = ⊥
 
 module _ (s : List ℕ) (m : Map) (t : Grammar) (room : Room) (w0 : List ℕ) (ids : Ids) where
   -- of the items R that stood there, some are done and written, and the others are left
@@ -75,9 +75,9 @@ module _ (s : List ℕ) (m : Map) (t : Grammar) (room : Room) (w0 : List ℕ) (i
     pub check : check_levels R ≡ check_levels items
 
   -- THE INVARIANT: there are such items, and for all that stood there some are left
-  pub record Looping (i to count : ℕ) (w : List ℕ) : Type 0 where
+  pub record Looping (i : ℕ) (v : Written) (w : List ℕ) : Type 0 where
     pub some : SomeGrammar s m t room w0
-    pub each : (four : Bool) (R : List Item) → GrammarStands s m t room w0 four R → Doing i (record { to = to; count = count }) w four R
+    pub each : (four : Bool) (R : List Item) → GrammarStands s m t room w0 four R → Doing i v w four R
 
   -- ---- before the first
   all_left : (four : Bool) (R : List Item) → Identified (texts s w0 m) ids → GrammarStands s m t room w0 four R → ItemsLeft s m t room ids 0 (at_first s m t room) w0 four R
@@ -102,7 +102,7 @@ module _ (s : List ℕ) (m : Map) (t : Grammar) (room : Room) (w0 : List ℕ) (i
       }
 
   -- theorem: at first all are left
-  pub looping_start : Identified (texts s w0 m) ids → SomeGrammar s m t room w0 → Looping 0 room.at m.count w0
+  pub looping_start : Identified (texts s w0 m) ids → SomeGrammar s m t room w0 → Looping 0 (at_first s m t room) w0
   unfolding levelled
   looping_start a g = record {
     some = g;
@@ -121,10 +121,7 @@ module _ (s : List ℕ) (m : Map) (t : Grammar) (room : Room) (w0 : List ℕ) (i
   }
 
   -- ---- the next
-  module _ (i to count : ℕ) (w : List ℕ) (g : Looping i to count w) where
-    abbrev v : Written
-    v = record { to = to; count = count }
-
+  module _ (i : ℕ) (v : Written) (w : List ℕ) (g : Looping i v w) where
     -- theorem: there are items that `expand_item` can take
     pub looping_some : SomeItems s m t room ids i v w
     looping_some =
@@ -162,7 +159,7 @@ module _ (s : List ℕ) (m : Map) (t : Grammar) (room : Room) (w0 : List ℕ) (i
           }
 
       step_by_lem : (x : Item) (rest done : List Item) (k : ℕ) → R ≡ done ++ (x ∷ rest) → Wrote s m room t.width ids w0 (at_first s m t room) k (levelled done) v w → k + alternatives_in (x ∷ rest) ≤ alternatives_in R
-          → check_levels R ≡ check_levels (x ∷ rest) → (r : Levelled) (w' : List ℕ) (v' : Written) → r ≡ Levelled.Is v' → (o : Outcome (Unit {0})) → check_levels (x ∷ []) ≡ o
+          → check_levels R ≡ check_levels (x ∷ rest) → (r : Result Written Refusal) (w' : List ℕ) (v' : Written) → r ≡ Ok v' → (o : Outcome (Unit {0})) → check_levels (x ∷ []) ≡ o
           → SteppedBy s m t room ids o i v w four x rest r w' → Doing (i + 1) v' w' four R
       unfolding SteppedBy
       step_by_lem x rest done k e a f c r w' v' z (yes u) y b =
@@ -170,15 +167,15 @@ module _ (s : List ℕ) (m : Map) (t : Grammar) (room : Room) (w0 : List ℕ) (i
           rw (← j) (did_next x rest done k e a f c y b.0 w' b.2 b.3)
       step_by_lem x rest done k e a f c r w' v' z (no q sp) y b = never_both r v' (refusal_over q sp) z b
 
-      stop-by : (x : Item) (rest : List Item) → check_levels R ≡ check_levels (x ∷ rest) → (r : Levelled) (w' : List ℕ) (why : Refusal) → r ≡ Levelled.Refused why → (o : Outcome (Unit {0})) → check_levels (x ∷ []) ≡ o
-          → SteppedBy s m t room ids o i v w four x rest r w' → LevelledBy s m t room (check_levels R) w0 R (Levelled.Refused why) w'
+      stop-by : (x : Item) (rest : List Item) → check_levels R ≡ check_levels (x ∷ rest) → (r : Result Written Refusal) (w' : List ℕ) (why : Refusal) → r ≡ Err why → (o : Outcome (Unit {0})) → check_levels (x ∷ []) ≡ o
+          → SteppedBy s m t room ids o i v w four x rest r w' → LevelledBy s m t room (check_levels R) w0 R (Err why) w'
       unfolding SteppedBy LevelledBy
       stop-by x rest c r w' why z (yes u) y b = never_both r b.0 why b.1 z
       stop-by x rest c r w' why z (no q sp) y b =
           let n : check_levels R ≡ no q sp = c ∙ check_split x rest ∙ ap (λ (o : Outcome (Unit {0})). after o (λ u. check_levels rest)) y in
           rw n (sym z ∙ b)
 
-      next_doing : i < t.count → (r : Levelled) (w' : List ℕ) → ItemSteps s m t room ids i v w r w' → (v' : Written) → r ≡ Levelled.Is v' → Doing (i + 1) v' w' four R
+      next_doing : i < t.count → (r : Result Written Refusal) (w' : List ℕ) → ItemSteps s m t room ids i v w r w' → (v' : Written) → r ≡ Ok v' → Doing (i + 1) v' w' four R
       unfolding ItemSteps
       next_doing b r w' f v' z = go d.items d.split d.left d.few d.check
         where
@@ -187,20 +184,20 @@ module _ (s : List ℕ) (m : Map) (t : Grammar) (room : Room) (w0 : List ℕ) (i
           go [] e l k c = absurd (omega (arith, l.many))
           go (x ∷ rest) e l k c = step_by_lem x rest d.done d.names e d.wrote k c r w' v' z (check_levels (x ∷ [])) refl (f four x rest l)
 
-      refused_doing : i < t.count → (r : Levelled) (w' : List ℕ) → ItemSteps s m t room ids i v w r w' → (why : Refusal) → r ≡ Levelled.Refused why → LevelledBy s m t room (check_levels R) w0 R (Levelled.Refused why) w'
+      refused_doing : i < t.count → (r : Result Written Refusal) (w' : List ℕ) → ItemSteps s m t room ids i v w r w' → (why : Refusal) → r ≡ Err why → LevelledBy s m t room (check_levels R) w0 R (Err why) w'
       unfolding ItemSteps
       refused_doing b r w' f why z = go d.items d.left d.check
         where
-          go : (is : List Item) → ItemsLeft s m t room ids i v w four is → check_levels R ≡ check_levels is → LevelledBy s m t room (check_levels R) w0 R (Levelled.Refused why) w'
+          go : (is : List Item) → ItemsLeft s m t room ids i v w four is → check_levels R ≡ check_levels is → LevelledBy s m t room (check_levels R) w0 R (Err why) w'
           go [] l c = absurd (omega (arith, l.many))
           go (x ∷ rest) l c = stop-by x rest c r w' why z (check_levels (x ∷ [])) refl (f four x rest l)
 
-      done_all : t.count ≤ i → LevelledBy s m t room (check_levels R) w0 R (Levelled.Is v) w
+      done_all : t.count ≤ i → LevelledBy s m t room (check_levels R) w0 R (Ok v) w
       unfolding LevelledBy check_levels
       done_all b = go d.items d.split d.left d.few d.check
         where
           go : (is : List Item) → R ≡ d.done ++ is → ItemsLeft s m t room ids i v w four is → d.names + alternatives_in is ≤ alternatives_in R → check_levels R ≡ check_levels is
-              → LevelledBy s m t room (check_levels R) w0 R (Levelled.Is v) w
+              → LevelledBy s m t room (check_levels R) w0 R (Ok v) w
           go [] e l k c =
               let n : ids ≡ ids_in (texts s w0 m) = l.names.ids_table ∙ ap (λ (ts : List Text). ids_in ts) d.wrote.same in
               let j : R ≡ d.done = e ∙ append-nil d.done in
@@ -209,16 +206,16 @@ module _ (s : List ℕ) (m : Map) (t : Grammar) (room : Room) (w0 : List ℕ) (i
           go (x ∷ rest) e l k c = absurd (omega (arith, l.many))
 
     -- theorem: after a fine item the others are left
-    pub looping_next : i < t.count → (r : Levelled) (w' : List ℕ) → ItemSteps s m t room ids i v w r w' → (v' : Written) → r ≡ Levelled.Is v' → Looping (i + 1) v'.to v'.count w'
+    pub looping_next : i < t.count → (r : Result Written Refusal) (w' : List ℕ) → ItemSteps s m t room ids i v w r w' → (v' : Written) → r ≡ Ok v' → Looping (i + 1) v' w'
     looping_next b r w' f v' z = record { some = g.some; each = λ four R h. next_doing four R h b r w' f v' z }
 
     -- theorem: a refused item is the answer
-    pub looping_refused : i < t.count → (r : Levelled) (w' : List ℕ) → ItemSteps s m t room ids i v w r w' → (why : Refusal) → r ≡ Levelled.Refused why → Levels s m t room w0 (Levelled.Refused why) w'
+    pub looping_refused : i < t.count → (r : Result Written Refusal) (w' : List ℕ) → ItemSteps s m t room ids i v w r w' → (why : Refusal) → r ≡ Err why → Levels s m t room w0 (Err why) w'
     unfolding Levels
     looping_refused b r w' f why z four R h = refused_doing four R h b r w' f why z
 
     -- theorem: at the end all are written
-    pub looping_done : t.count ≤ i → Levels s m t room w0 (Levelled.Is (record { to = to; count = count })) w
+    pub looping_done : t.count ≤ i → Levels s m t room w0 (Ok v) w
     unfolding Levels
     looping_done b four R h = done_all four R h b
 

@@ -1,6 +1,6 @@
 -- One annotated nonterminal written level by level: what stands before it, what a step and the whole leave. s is the tape, w work; wd is the width of an atom's
 -- number in bytes. A contract speaks of every tree that stands so in work; that there is one makes the code safe. Assumes nothing: these are definitions.
-use Rattle.std.specs.Prelude.{◌≡◌, Bool, true, false, ◌⊎◌, List, [], ◌∷◌, map, ℕ, suc, ◌+◌, ◌-◌, ◌*◌, ◌^◌, ◌≤◌, ◌<◌, eqb, length, get_or}
+use Rattle.std.specs.Prelude.{◌≡◌, Bool, true, false, ◌⊎◌, List, [], ◌∷◌, map, ℕ, suc, ◌+◌, ◌-◌, ◌*◌, ◌^◌, ◌≤◌, ◌<◌, eqb, length, get_or, Result, Ok, Err}
 use Rattle.std.proofs.Math.Option.{Option, none, some}
 use Rattle.octets.specs.Plain.Runs.{Lies}
 use Rattle.octets.specs.Working.Choice.{pick}
@@ -10,6 +10,7 @@ use Rattle.parse_tree.specs.Plain.References.{texts_of_each, item_texts}
 use Rattle.parse_tree.specs.Plain.WriteTape.{bytes_of_each}
 use Rattle.parse_tree.specs.Working.Encode.{item_bytes, argument_bytes, alternative_bytes}
 use Rattle.parse_tree.specs.Working.Refusals.{refusal_over}
+use Rattle.parse_tree.specs.declared.refusal.Refusal.{Refusal}
 use Rattle.parse_tree.specs.Working.Within.{Each, NonterminalWithin}
 use Rattle.texts.specs.declared.Map.{Map}
 use Rattle.texts.specs.Fields.{mark_at}
@@ -27,7 +28,6 @@ use Rattle.precedence.specs.declared.names.LevelName.{LevelName}
 use Rattle.precedence.specs.Names.{Naming, LevelNamed, named_texts}
 use Rattle.levels.specs.declared.Room.{Room}
 use Rattle.levels.specs.declared.Written.{Written}
-use Rattle.levels.specs.declared.Levelled.{Levelled}
 use Rattle.levels.specs.declared.expand.Next.{Next}
 
 -- ---- the small functions
@@ -172,11 +172,11 @@ module _ (s : List ℕ) (m : Map) (room : Room) (wd : ℕ) (ids : Ids) (p e : �
     pub standing : Expandable v w four nonterminal
 
   -- its levels are written, or it is refused
-  unfoldable pub ExpandedBy : Outcome (Unit {0}) → Nonterminal → Written → List ℕ → Levelled → List ℕ → Type 0
-  ExpandedBy (yes u) d v w r w' = (v' : Written) × (r ≡ Levelled.Is v') × Wrote s m room wd ids w v (length d.alternatives) (level_items d) v' w'
-  ExpandedBy (no q sp) d v w r w' = r ≡ Levelled.Refused (refusal_over q sp)
+  unfoldable pub ExpandedBy : Outcome (Unit {0}) → Nonterminal → Written → List ℕ → Result Written Refusal → List ℕ → Type 0
+  ExpandedBy (yes u) d v w r w' = (v' : Written) × (r ≡ Ok v') × Wrote s m room wd ids w v (length d.alternatives) (level_items d) v' w'
+  ExpandedBy (no q sp) d v w r w' = r ≡ Err (refusal_over q sp)
 
   -- "level readable? 14. Side one of left, right, none, all? 15. Then: lowest level only `all`? 16"
-  unfoldable pub ExpandsOne : Written → List ℕ → Levelled → List ℕ → Type 0
+  unfoldable pub ExpandsOne : Written → List ℕ → Result Written Refusal → List ℕ → Type 0
   ExpandsOne v w r w' = (four : Bool) (d : Nonterminal) → Expandable v w four d
       → ExpandedBy (after (check_attributes d.alternatives) (λ u. check_lowest (grouped d.name (graded d)))) d v w r w'

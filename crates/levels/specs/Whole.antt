@@ -1,8 +1,9 @@
 -- The pass over a grammar that stands in work: what it says of its tree, and what it writes. Assumes nothing: these are definitions.
-use Rattle.std.specs.Prelude.{◌≡◌, Bool, true, List, [], ◌∷◌, ℕ, ◌+◌, ◌*◌, ◌≤◌, ◌<◌, length}
+use Rattle.std.specs.Prelude.{◌≡◌, Bool, true, List, [], ◌∷◌, ℕ, ◌+◌, ◌*◌, ◌≤◌, ◌<◌, length, Result, Ok, Err}
 use Rattle.parse_tree.specs.Plain.Tree.{Item, item}
 use Rattle.parse_tree.specs.Plain.Texts.{distinct}
 use Rattle.parse_tree.specs.Working.Refusals.{refusal_over}
+use Rattle.parse_tree.specs.declared.refusal.Refusal.{Refusal}
 use Rattle.parse_tree.specs.Working.Within.{Each, ItemWithin}
 use Rattle.texts.specs.declared.Map.{Map}
 use Rattle.texts.specs.Table.{Table, Above, texts}
@@ -15,7 +16,6 @@ use Rattle.grades.specs.declared.Ids.{Ids}
 use Rattle.grades.specs.Ids.{ids_in}
 use Rattle.levels.specs.declared.Room.{Room}
 use Rattle.levels.specs.declared.Written.{Written}
-use Rattle.levels.specs.declared.Levelled.{Levelled}
 use Rattle.levels.specs.Expand.{LevelsFit, NamesAt, Wrote}
 
 -- how many alternatives the items have
@@ -49,12 +49,12 @@ module _ (s : List ℕ) (m : Map) (t : Grammar) (room : Room) where
       pub left : ItemsLeft i v w four items
 
     -- one item was written, or refused
-    unfoldable pub SteppedBy : Outcome (Unit {0}) → ℕ → Written → List ℕ → Bool → Item → List Item → Levelled → List ℕ → Type 0
+    unfoldable pub SteppedBy : Outcome (Unit {0}) → ℕ → Written → List ℕ → Bool → Item → List Item → Result Written Refusal → List ℕ → Type 0
     SteppedBy (yes u) i v w four x rest r w' =
-        (v' : Written) × (r ≡ Levelled.Is v') × Wrote s m room t.width ids w v (alternatives_in (x ∷ [])) (levelled (x ∷ [])) v' w' × ItemsLeft (i + 1) v' w' four rest
-    SteppedBy (no q sp) i v w four x rest r w' = r ≡ Levelled.Refused (refusal_over q sp)
+        (v' : Written) × (r ≡ Ok v') × Wrote s m room t.width ids w v (alternatives_in (x ∷ [])) (levelled (x ∷ [])) v' w' × ItemsLeft (i + 1) v' w' four rest
+    SteppedBy (no q sp) i v w four x rest r w' = r ≡ Err (refusal_over q sp)
 
-    unfoldable pub ItemSteps : ℕ → Written → List ℕ → Levelled → List ℕ → Type 0
+    unfoldable pub ItemSteps : ℕ → Written → List ℕ → Result Written Refusal → List ℕ → Type 0
     ItemSteps i v w r w' = (four : Bool) (x : Item) (rest : List Item) → ItemsLeft i v w four (x ∷ rest) → SteppedBy (check_levels (x ∷ [])) i v w four x rest r w'
 
   -- the table's texts are different, and the items R stand there
@@ -80,10 +80,10 @@ module _ (s : List ℕ) (m : Map) (t : Grammar) (room : Room) where
   at_first = record { to = room.at; count = m.count }
 
   -- a yes leaves the levels, a no gives the question's number and the span
-  unfoldable pub LevelledBy : Outcome (Unit {0}) → List ℕ → List Item → Levelled → List ℕ → Type 0
-  LevelledBy (yes u) w R r w' = (v' : Written) × (r ≡ Levelled.Is v') × Wrote s m room t.width (ids_in (texts s w m)) w at_first (alternatives_in R) (levelled R) v' w'
-  LevelledBy (no q sp) w R r w' = r ≡ Levelled.Refused (refusal_over q sp)
+  unfoldable pub LevelledBy : Outcome (Unit {0}) → List ℕ → List Item → Result Written Refusal → List ℕ → Type 0
+  LevelledBy (yes u) w R r w' = (v' : Written) × (r ≡ Ok v') × Wrote s m room t.width (ids_in (texts s w m)) w at_first (alternatives_in R) (levelled R) v' w'
+  LevelledBy (no q sp) w R r w' = r ≡ Err (refusal_over q sp)
 
   -- "14, 15, 16" of every tree that stands so, and its levels
-  unfoldable pub Levels : List ℕ → Levelled → List ℕ → Type 0
+  unfoldable pub Levels : List ℕ → Result Written Refusal → List ℕ → Type 0
   Levels w r w' = (four : Bool) (R : List Item) → GrammarStands w four R → LevelledBy (check_levels R) w R r w'

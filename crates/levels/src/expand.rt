@@ -6,13 +6,12 @@ ghost use Rattle.grades.specs.Sort.{Arrays};
 ghost use Rattle.precedence.specs.Names.{Describing};
 ghost use Rattle.levels.specs.Expand.{NamesLevel, level_from, SortsKeys, SomeLeft, Steps, Finishes, SomeExpandable, ExpandsOne};
 
-use crate::{Levelled, Room, Written};
+use crate::{Room, Written};
+use grades::Ids;
 use grades::alternatives::{grade, lowest};
 use grades::annotations::first_alternative;
 use grades::sort::{group_end, sort};
-use grades::{Graded, Ids, Lowest};
 use octets::numbers::{atom_at, u16_at, u64_at};
-use octets::wide::{from16, from32};
 use parse_tree::node::span_at;
 use parse_tree::refusal;
 use parse_tree::refusal::Refusal;
@@ -43,12 +42,13 @@ fn name_level(
     ensures { NamesLevel tape.now work.old m n base level highest result work.new }
 {
     if highest {
-        return LevelName {
+        LevelName {
             name: base,
             count: n,
-        };
+        }
+    } else {
+        level_name(tape, work, m, n, base, level)
     }
-    level_name(tape, work, m, n, base, level)
 }
 
 // The level of the keys from i up to j. Below the lowest there is none: it has its own name there.
@@ -56,21 +56,13 @@ fn level_of(i: usize, j: usize, name: usize, below: usize) -> Level
     requires { (name < 4294967296) × ((i ≡ 0) ⊎ (below < 4294967296)) }
     ensures { result ≡ level_from i j name below }
 {
-    if i == 0 {
-        return Level {
-            first: i,
-            last: j,
-            name: name as u32,
-            below: name as u32,
-            lowest: true,
-        };
-    }
+    let lower = if i == 0 { name } else { below };
     Level {
         first: i,
         last: j,
         name: name as u32,
-        below: below as u32,
-        lowest: false,
+        below: lower as u32,
+        lowest: i == 0,
     }
 }
 
@@ -95,7 +87,7 @@ fn next_level(
     ensures { Steps tape.now m room width ids p e places keys n i below v work.old result work.new }
 {
     let j = group_end(work, keys, n, i);
-    let base = from32(atom_at(work, p + 9, width));
+    let base = atom_at(work, p + 9, width) as usize;
     let level = (u64_at(work, keys + 8 * i) / 262144) as usize;
     let x = name_level(tape, work, m, v.count, base, level, j == n);
     let l = level_of(i, j, x.name, below);
@@ -104,7 +96,7 @@ fn next_level(
         last: j,
         name: x.name,
         count: x.count,
-        to: to,
+        to,
     }
 }
 
@@ -121,44 +113,25 @@ fn write_levels(
     places: usize,
     keys: usize,
     n: usize,
-    v: Written,
+    mut v: Written,
 ) -> Written
     requires { (2 ≤ width) × (width ≤ 3) × SomeLeft tape.now m room width ids p e places keys n 0 0 v work.old }
     ensures { Finishes tape.now m room width ids p e places keys n 0 0 v work.old result work.new }
 {
     let mut i = 0;
     let mut below = 0;
-    let mut to = v.to;
-    let mut count = v.count;
     while i < n {
         let x = next_level(
-            tape,
-            work,
-            m,
-            room,
-            width,
-            ids,
-            p,
-            e,
-            places,
-            keys,
-            n,
-            i,
-            below,
-            Written {
-                to: to,
-                count: count,
-            },
+            tape, work, m, room, width, ids, p, e, places, keys, n, i, below, v,
         );
         i = x.last;
         below = x.name;
-        to = x.to;
-        count = x.count;
+        v = Written {
+            to: x.to,
+            count: x.count,
+        };
     }
-    Written {
-        to: to,
-        count: count,
-    }
+    v
 }
 
 // The place of the sorted keys; what ascends already is not merged.
@@ -167,9 +140,10 @@ fn sorted(work: &mut [u8], keys: usize, other: usize, n: usize, ascending: bool)
     ensures { SortsKeys work.old keys other n ascending result work.new }
 {
     if ascending {
-        return keys;
+        keys
+    } else {
+        sort(work, keys, other, n)
     }
-    sort(work, keys, other, n)
 }
 
 // A question, and the span of the alternative at a place.
@@ -191,25 +165,21 @@ pub fn expand_nonterm(
     p: usize,
     e: usize,
     v: Written,
-) -> Levelled
+) -> Result<Written, Refusal>
     requires { (2 ≤ width) × (width ≤ 3) × SomeExpandable tape.now m room width ids p e v work.old }
     ensures { ExpandsOne tape.now m room width ids p e v work.old result work.new }
 {
-    let n = from16(u16_at(work, p + 11 + width));
+    let n = usize::from(u16_at(work, p + 11 + width));
     let places = room.arrays;
     let keys = places + 8 * n + 8;
     let at = first_alternative(work, p, width);
     match grade(tape, work, m, width, ids, places, keys, n, at, e) {
-        Graded::Refused(q, a) => Levelled::Refused(refused(work, from32(q), a)),
-        Graded::Is(ascending) => {
+        Err(why) => Err(refused(work, why.question, why.at)),
+        Ok(ascending) => {
             let k = sorted(work, keys, keys + 8 * n, n, ascending);
             match lowest(work, k, n, places) {
-                Lowest::At(a) => Levelled::Refused(refused(work, 16, a)),
-                Lowest::Nothing => {
-                    Levelled::Is(write_levels(
-                        tape, work, m, room, width, ids, p, e, places, k, n, v,
-                    ))
-                }
+                Some(a) => Err(refused(work, 16, a)),
+                None => Ok(write_levels(tape, work, m, room, width, ids, p, e, places, k, n, v)),
             }
         }
     }

@@ -13,13 +13,6 @@ use precedence::names::base_text;
 use texts::Map;
 use texts::fields::mark;
 
-// How many bytes the names have with their commands, and whether one is too long for a text.
-#[derive(Clone, Copy)]
-pub struct Fresh {
-    pub bytes: usize,
-    pub long: bool,
-}
-
 // How long name k is, of those described up to n.
 fn name_length<'a>(tape: &'a [u8], work: &'a [u8], m: Map, n: usize, k: usize) -> usize
     requires { Naming tape.now work.now m n × (m.count ≤ k) × (k < n) }
@@ -30,26 +23,21 @@ fn name_length<'a>(tape: &'a [u8], work: &'a [u8], m: Map, n: usize, k: usize) -
     t.len() + decimal_size(x % 4294967296)
 }
 
-// Of all names described up to n.
-pub fn count_bytes<'a>(tape: &'a [u8], work: &'a [u8], m: Map, n: usize) -> Fresh
+// How many bytes all names described up to n have with their commands; as an error where one is too long for a text.
+pub fn count_bytes<'a>(tape: &'a [u8], work: &'a [u8], m: Map, n: usize) -> Result<usize, usize>
     requires { Naming tape.now work.now m n }
     ensures { result ≡ fresh_of (new_texts tape.now work.now m n) }
 {
-    let mut k = m.count;
     let mut bytes = 0;
     let mut long = false;
-    while k < n {
+    for k in m.count..n {
         let l = name_length(tape, work, m, n, k);
         bytes += 3 + l;
         if 65535 < l {
             long = true;
         }
-        k += 1;
     }
-    Fresh {
-        bytes: bytes,
-        long: long,
-    }
+    if long { Err(bytes) } else { Ok(bytes) }
 }
 
 // A text and a level's digits behind it as an atom, to out from `to` on; says the place behind.
@@ -95,11 +83,9 @@ pub fn put_names<'a>(
     requires { Naming tape.now work.now m n × (too_long (new_texts tape.now work.now m n) ≡ false) × (to + length (bytes_of_each (atom_bytes 2) (new_texts tape.now work.now m n)) ≤ length out.old) }
     ensures { PutsNames out.old to (bytes_of_each (atom_bytes 2) (new_texts tape.now work.now m n)) result out.new }
 {
-    let mut k = m.count;
     let mut q = to;
-    while k < n {
+    for k in m.count..n {
         q = put_name(tape, work, m, n, k, out, q);
-        k += 1;
     }
     q
 }

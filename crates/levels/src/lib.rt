@@ -2,8 +2,6 @@
 // that it is handed: of work the records behind the table's, the arrays, the room for the items, and that for the bytes of names.
 #![tactic(auto)]
 
-use parse_tree::refusal::Refusal;
-
 pub mod expand;
 pub mod fresh;
 pub mod settle;
@@ -22,10 +20,4 @@ pub struct Room {
 pub struct Written {
     pub to: usize,
     pub count: usize,
-}
-
-#[derive(Clone, Copy)]
-pub enum Levelled {
-    Is(Written),
-    Refused(Refusal),
 }

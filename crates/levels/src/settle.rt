@@ -38,10 +38,8 @@ pub fn settle_names(tape: &[u8], work: &mut [u8], m: Map, n: usize, end: usize) 
     requires { SettlingNames tape.now work.old m n end }
     ensures { SettledNames tape.now work.old m n end result work.new }
 {
-    let mut k = n;
     let mut q = end;
-    while m.count < k {
-        k -= 1;
+    for k in (m.count..n).rev() {
         q = settle_name(tape, work, m, k, q);
     }
     q

@@ -3,10 +3,11 @@ ghost use Rattle.std.specs.Prelude.{◌≤◌, ◌<◌};
 ghost use Rattle.levels.specs.Whole.{SomeItems, ItemSteps, SomeGrammar, Levels};
 
 use crate::expand::expand_nonterm;
-use crate::{Levelled, Room, Written};
+use crate::{Room, Written};
 use grades::Ids;
 use grades::annotations::has_prec_attr;
 use grades::identify::ids;
+use parse_tree::refusal::Refusal;
 use precedence::write::put_run;
 use resolve::Grammar;
 use resolve::items::place;
@@ -22,7 +23,7 @@ fn expand_item(
     ids: Ids,
     i: usize,
     v: Written,
-) -> Levelled
+) -> Result<Written, Refusal>
     requires { (2 ≤ t.width) × (t.width ≤ 3) × (i < t.count) × SomeItems tape.now m t room ids i v work.old }
     ensures { ItemSteps tape.now m t room ids i v work.old result work.new }
 {
@@ -32,45 +33,27 @@ fn expand_item(
         return expand_nonterm(tape, work, m, room, t.width, ids, p, e, v);
     }
     let to = put_run(work, p, e, room.lim, v.to);
-    Levelled::Is(Written {
-        to: to,
-        count: v.count,
-    })
+    Ok(Written { to, count: v.count })
 }
 
 // The items of a grammar, in order.
-pub fn expand_precedence(tape: &[u8], work: &mut [u8], m: Map, t: Grammar, room: Room) -> Levelled
+pub fn expand_precedence(
+    tape: &[u8],
+    work: &mut [u8],
+    m: Map,
+    t: Grammar,
+    room: Room,
+) -> Result<Written, Refusal>
     requires { (2 ≤ t.width) × (t.width ≤ 3) × SomeGrammar tape.now m t room work.old }
     ensures { Levels tape.now m t room work.old result work.new }
 {
     let ids = ids(tape, work, m);
-    let mut i = 0;
-    let mut to = room.at;
-    let mut count = m.count;
-    while i < t.count {
-        match expand_item(
-            tape,
-            work,
-            m,
-            t,
-            room,
-            ids,
-            i,
-            Written {
-                to: to,
-                count: count,
-            },
-        ) {
-            Levelled::Refused(why) => return Levelled::Refused(why),
-            Levelled::Is(v) => {
-                to = v.to;
-                count = v.count;
-                i += 1;
-            }
-        }
+    let mut v = Written {
+        to: room.at,
+        count: m.count,
+    };
+    for i in 0..t.count {
+        v = expand_item(tape, work, m, t, room, ids, i, v)?;
     }
-    Levelled::Is(Written {
-        to: to,
-        count: count,
-    })
+    Ok(v)
 }

@@ -38,6 +38,7 @@ use Rattle.validate.specs.Regions.{regions_of}
 use Rattle.validate.specs.Whole.{Valid, Validates}
 use Rattle.validate.specs.declared.Atoms.{Atoms}
 use Rattle.validate.specs.declared.regions.Regions.{Regions}
+use Rattle.std.specs.Prelude.{Result, Ok, Err}
 use Rattle.validate.specs.declared.Validated.{Validated}
 use Rattle.settling.specs.declared.Printed.{Printed}
 use Rattle.settling.specs.Print.{Printable}
@@ -187,14 +188,14 @@ module _ (s w : List ℕ) (a : Atoms) (at n : ℕ) (v : Valid false 2 s w a at n
 pub ruleset validated = (rules, layout_fits, copy_inside, copy_room, layout_printable, layout_some, layout_shown)
 
 -- ---- list_tree: x is what `validate` answered
-module _ (s w : List ℕ) (x : Validated) (i : Validates false 2 s x w) where
-  pub tree_refused : (why : Refusal) (k : ℕ) → x ≡ Validated.Refused why → ListsTree s k (8 * length s) w
+module _ (s w : List ℕ) (x : Result Validated Refusal) (i : Validates false 2 s x w) where
+  pub tree_refused : (why : Refusal) (k : ℕ) → x ≡ Err why → ListsTree s k (8 * length s) w
   unfolding Validates ListsTree ListsRead
   tree_refused why k e = let n : Refuses (decode_by false 2 s) why = rw e at i in rw n.is refl
 
-  pub tree_valid : (a : Atoms) (at n : ℕ) → x ≡ Validated.Valid a at n → Valid false 2 s w a at n
+  pub tree_valid : (v : Validated) → x ≡ Ok v → Valid false 2 s w v.atoms v.at v.items
   unfolding Validates
-  tree_valid a at n e = rw e at i
+  tree_valid v e = rw e at i
 
 pub tree_same : (s : List ℕ) (k n r : ℕ) (w : List ℕ) → ListsTree s k r w → k ≡ n → ListsTree s n r w
 tree_same s k n r w h e = rw (← e) h

@@ -1,5 +1,5 @@
 -- What stands in work stays where bytes are put behind it; and the loop that puts the texts of elements, one behind another. Assumes nothing.
-use mathlib.Core.Path.{◌≡◌, refl, sym, ap, ◌∙◌}
+use mathlib.Core.Path.{◌≡◌, refl, sym, ap, ◌∙◌, subst}
 use mathlib.Core.Logic.{inl}
 use mathlib.Core.List.{List, [], ◌∷◌, ◌++◌, append-nil, append_assoc}
 use Prim.Native.Nat.{ℕ, ◌+◌, ◌-◌, ◌<◌, ◌≤◌}
@@ -149,4 +149,9 @@ module _ {A : Type 0} (good : List Text → A → Type 0) (bytes : List Text →
             each = λ e xs c st h. next_each e xs h (g.each e xs c st h);
           }
 
-pub ruleset walking = (rules, going_start, going_done, going_same, going_printable, going_some, going_next)
+          pub going_on : (j : ℕ) → k ≡ j + 1 → Going w1 z.at j z.to
+          going_on j e =
+              let o : k - 1 ≡ j = omega arith in
+              subst (λ (v : ℕ). Going w1 z.at v z.to) o going_next
+
+pub ruleset walking = (rules, going_start, going_done, going_same, going_printable, going_some, going_on)

@@ -23,7 +23,7 @@ use Rattle.passes.proofs.Outcomes.{after-yes}
 use Rattle.meaning.proofs.Calls.Staged.{opened}
 use Rattle.meaning.proofs.Calls.Output.{output_read}
 use Rattle.precedence.specs.Write.{Puts}
-use Rattle.output.specs.declared.Answer.{Answer}
+use Rattle.std.specs.Prelude.{Result, Ok, Err}
 use Rattle.output.specs.Plain.Answers.{answer_of, Called}
 use Rattle.listing.specs.declared.Listed.{Listed}
 use Rattle.listing.specs.Listing.{listed}
@@ -53,24 +53,24 @@ front_done o n k to w' l = record { from = refl; lists = l }
 pub ruleset listing_yes = (rules, front_inside, front_long, front_room, front_done)
 
 -- ---- `listing`: y is what the call answered, o₁ and w₁ what it left
-module _ (s o w : List ℕ) (y : Answer) (o₁ w₁ : List ℕ) (c : Called (whole true 2 s 64 (length o) (length w)) s o w y o₁ w₁) where
+module _ (s o w : List ℕ) (y : Result ℕ Refusal) (o₁ w₁ : List ℕ) (c : Called (whole true 2 s 64 (length o) (length w)) s o w y o₁ w₁) where
   abbrev x : Outcome Stage
   x = whole true 2 s 64 (length o) (length w)
 
-  pub list_refused : length w₁ ≡ length w → (why : Refusal) → y ≡ Answer.No why → (r : Listed) (w₂ : List ℕ) → PutsFrom (length w₁) r.from (listed (refused_by why)) r.to w₂ → PutsFrom (length w) r.from (listed x) r.to w₂
+  pub list_refused : length w₁ ≡ length w → (why : Refusal) → y ≡ Err why → (r : Listed) (w₂ : List ℕ) → PutsFrom (length w₁) r.from (listed (refused_by why)) r.to w₂ → PutsFrom (length w) r.from (listed x) r.to w₂
   unfolding answer_of refused_by
   list_refused l why e r w₂ p = subst (λ (k : ℕ). PutsFrom k r.from (listed x) r.to w₂) l (subst (λ (u : Outcome Stage). PutsFrom (length w₁) r.from (listed u) r.to w₂) (go x (sym e ∙ c.answered)) p)
     where
-      go : (z : Outcome Stage) → Answer.No why ≡ answer_of z → refused_by why ≡ z
+      go : (z : Outcome Stage) → Err why ≡ answer_of z → refused_by why ≡ z
       go (yes g) i = absurd (let q : ◌≡◌ {A = ℕ} 0 1 = cc in omega arith)
       go (no k sp) i = let j : why ≡ record { number = k; from = sp.0; to = sp.1 } = cc in rw j refl
 
-  module _ (n : ℕ) (e : y ≡ Answer.Yes n) where
+  module _ (n : ℕ) (e : y ≡ Ok n) where
     accepted : (g : Stage) × (x ≡ yes g) × (n ≡ length (tape_of 2 g))
     unfolding answer_of
     accepted = go x refl (sym e ∙ c.answered)
       where
-        go : (z : Outcome Stage) → x ≡ z → Answer.Yes n ≡ answer_of z → (g : Stage) × (x ≡ yes g) × (n ≡ length (tape_of 2 g))
+        go : (z : Outcome Stage) → x ≡ z → Ok n ≡ answer_of z → (g : Stage) × (x ≡ yes g) × (n ≡ length (tape_of 2 g))
         go (yes g) h i = (g, h, cc)
         go (no k sp) h i = absurd (let q : ◌≡◌ {A = ℕ} 0 1 = cc in omega arith)
 

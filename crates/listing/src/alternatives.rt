@@ -7,7 +7,6 @@ ghost use Rattle.listing.specs.Walk.{AlternativeGood, SomeOne, SomeAll, ShowsOne
 use crate::action::put_tail;
 use grades::annotations::symbols;
 use octets::numbers::u16_at;
-use octets::wide::from16;
 use settling::Printed;
 use settling::print::print_list;
 use settling::put::put_two;
@@ -26,7 +25,7 @@ fn list_alternative(
     requires { Printable tape.now work.old m width lim to × SomeOne (AlternativeGood width) (alternative_bytes width) tape.now work.old m at to }
     ensures { ShowsOne (AlternativeGood width) (alternative_bytes width) tape.now work.old m listed_alternative at lim to result work.new }
 {
-    let n = from16(u16_at(work, at + 12 + width));
+    let n = usize::from(u16_at(work, at + 12 + width));
     let b = symbols(work, at, width);
     let q = put_two(work, 32, 32, lim, to);
     let z = print_list(tape, work, m, width, 64, b, n, 41, lim, q);
@@ -49,13 +48,11 @@ pub fn list_alternatives(
     ensures { ShowsAll (AlternativeGood width) (alternative_bytes width) tape.now work.old m listed_alternative n at lim to result work.new }
 {
     let mut p = at;
-    let mut k = n;
     let mut q = to;
-    while 0 < k {
+    for _ in 0..n {
         let z = list_alternative(tape, work, m, width, p, lim, q);
         p = z.at;
         q = z.to;
-        k -= 1;
     }
     Printed { at: p, to: q }
 }

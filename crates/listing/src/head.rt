@@ -10,7 +10,6 @@ ghost use Rattle.listing.specs.Walk.{PutsHead};
 use crate::number::put_led;
 use crate::refused::put_run;
 use octets::numbers::u32_at;
-use octets::wide::from32;
 use settling::words::{put_text, word_source};
 use texts::Map;
 
@@ -70,8 +69,8 @@ pub fn put_head(
     requires { Printable tape.now work.old m width lim to × (at + 13 + width ≤ length work.old) }
     ensures { PutsHead tape.now work.old m width at lim to result work.new }
 {
-    let a = from32(u32_at(work, at + 1));
-    let b = from32(u32_at(work, at + 5));
+    let a = u32_at(work, at + 1) as usize;
+    let b = u32_at(work, at + 5) as usize;
     let f = work[at + 9 + width];
     let q = put_word(tape, work, m, width, at + 9, lim, to);
     put_line(work, a, b, f, lim, q)

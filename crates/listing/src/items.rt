@@ -10,7 +10,6 @@ ghost use Rattle.listing.specs.Walk.{AlternativeGood, ItemGood, SomeOne, SomeAll
 use crate::alternatives::list_alternatives;
 use crate::head::put_head;
 use octets::numbers::u16_at;
-use octets::wide::{from8, from16};
 use settling::Printed;
 use texts::Map;
 
@@ -19,7 +18,7 @@ fn first_behind(work: &[u8], at: usize, width: usize) -> usize
     requires { (width ≤ 3) × (at + 13 + width ≤ length work.now) }
     ensures { result ≡ first_alternative width work.now at }
 {
-    let args = from8(work[at + 10 + width]);
+    let args = usize::from(work[at + 10 + width]);
     at + 13 + width + (1 + width) * args
 }
 
@@ -36,7 +35,7 @@ fn list_rest(
     requires { Printable tape.now work.old m width lim to × (at + 13 + width ≤ length work.old) × SomeAll (AlternativeGood width) (alternative_bytes width) tape.now work.old m (le_at 2 work.old (at + 11 + width)) (first_alternative width work.old at) to }
     ensures { ShowsAll (AlternativeGood width) (alternative_bytes width) tape.now work.old m listed_alternative (le_at 2 work.old (at + 11 + width)) (first_alternative width work.old at) lim to result work.new }
 {
-    let n = from16(u16_at(work, at + 11 + width));
+    let n = usize::from(u16_at(work, at + 11 + width));
     let a = first_behind(work, at, width);
     list_alternatives(tape, work, m, width, a, n, lim, to)
 }
@@ -80,13 +79,11 @@ pub fn list_items(
     ensures { ShowsAll (ItemGood width) (item_bytes width) tape.now work.old m listed_item n at lim to result work.new }
 {
     let mut p = at;
-    let mut k = n;
     let mut q = to;
-    while 0 < k {
+    for _ in 0..n {
         let z = list_item(tape, work, m, width, p, lim, q);
         p = z.at;
         q = z.to;
-        k -= 1;
     }
     Printed { at: p, to: q }
 }

@@ -25,10 +25,8 @@ fn put_digits(out: &mut [u8], to: usize, end: usize, v: usize)
     requires { (end ≡ to + length (shown_number v)) × (end ≤ length out.old) }
     ensures { out.new ≡ store out.old to (shown_number v) }
 {
-    let mut at = end;
     let mut q = v;
-    while to < at {
-        at -= 1;
+    for at in (to..end).rev() {
         out[at] = digit(q % 10);
         q /= 10;
     }

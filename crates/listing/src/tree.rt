@@ -6,25 +6,34 @@ ghost use Rattle.listing.specs.Walk.{ListsTree};
 use crate::items::list_items;
 use octets::runs::copy;
 use texts::Map;
+use validate::Validated;
 use validate::entry::validate;
 use validate::regions::layout;
-use validate::{Atoms, Validated};
 
-// Of a tape that was validated: n items stand from a place on.
-fn list_valid(tree: &[u8], work: &mut [u8], a: Atoms, at: usize, n: usize) -> usize
-    requires { Valid false 2 tree.now work.old a at n × (8 * length tree.now ≤ length work.old) }
+// Of a tape that was validated.
+fn list_valid(tree: &[u8], work: &mut [u8], v: Validated) -> usize
+    requires { Valid false 2 tree.now work.old v.atoms v.at v.items × (8 * length tree.now ≤ length work.old) }
     ensures { ListsTree tree.now (length work.old) result work.new }
 {
-    let size = tree.len() - at;
+    let size = tree.len() - v.at;
     let g = layout(size);
-    copy(tree, at, tree.len(), work, g.items);
+    copy(tree, v.at, tree.len(), work, g.items);
     let m = Map {
-        base: a.base,
-        count: a.count,
-        buckets: a.buckets,
+        base: v.atoms.base,
+        count: v.atoms.count,
+        buckets: v.atoms.buckets,
     };
     let lim = work.len();
-    let z = list_items(tree, work, m, a.width, g.items, n, lim, 8 * tree.len());
+    let z = list_items(
+        tree,
+        work,
+        m,
+        v.atoms.width,
+        g.items,
+        v.items,
+        lim,
+        8 * tree.len(),
+    );
     z.to
 }
 
@@ -34,7 +43,7 @@ pub fn list_tree(tree: &[u8], work: &mut [u8]) -> usize
     ensures { ListsTree tree.now (length work.old) result work.new }
 {
     match validate(tree, work, 2, false) {
-        Validated::Refused(why) => 8 * tree.len(),
-        Validated::Valid(a, at, n) => list_valid(tree, work, a, at, n),
+        Err(_) => 8 * tree.len(),
+        Ok(v) => list_valid(tree, work, v),
     }
 }

@@ -10,7 +10,6 @@ use crate::Listed;
 use crate::refused::list_refusal;
 use crate::tree::list_tree;
 use normalize::calls::whole;
-use output::Answer;
 use parse_tree::refusal::Refusal;
 
 // Of the tree whose tape is the first n bytes of the output.
@@ -38,7 +37,7 @@ pub fn listing(tape: &[u8], output: &mut [u8], work: &mut [u8]) -> Listed
     ensures { PutsFrom (length work.old) result.from (listed (whole true 2 tape.now 64 (length output.old) (length work.old))) result.to work.new }
 {
     match whole(tape, 64, output, work) {
-        Answer::No(why) => list_no(work, why),
-        Answer::Yes(n) => list_yes(output, work, n),
+        Err(why) => list_no(work, why),
+        Ok(n) => list_yes(output, work, n),
     }
 }

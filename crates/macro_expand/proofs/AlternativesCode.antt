@@ -3,11 +3,10 @@ use mathlib.Core.Path.{◌≡◌, refl, sym, ap, ◌∙◌, subst}
 use mathlib.Core.Bool.{Bool}
 use mathlib.Core.Logic.{inl, inr, ◌⊎◌}
 use mathlib.Core.List.{List, [], ◌∷◌, ◌++◌}
-use Prim.Native.Nat.{ℕ, ◌+◌, ◌≤◌, ◌<◌}
+use Prim.Native.Nat.{ℕ, ◌+◌, ◌≤◌}
 use native.Mathlib.Omega.{arith}
 use borrow.Author.Rules.{rules}
-use lib.ListN.{length, set}
-use Rattle.octets.specs.Working.Stores.{store}
+use lib.ListN.{length}
 use Rattle.octets.specs.Plain.Numbers.{le_at, le}
 use Rattle.octets.specs.Plain.Runs.{part, Lies}
 use Rattle.parse_tree.specs.Plain.Tree.{Text, Syms, Alternative, count}
@@ -20,7 +19,7 @@ use Rattle.texts.proofs.TableStays.{part-agree}
 use Rattle.passes.specs.Macros.{macro_expand_symbols, expand_alternative}
 use Rattle.grades.specs.Annotations.{conditions_from, symbols_from}
 use Rattle.precedence.specs.Write.{Puts}
-use Rattle.precedence.proofs.WriteLaws.{puts_whole, puts_not, puts_append, puts_beside, puts_on, puts_upto}
+use Rattle.precedence.proofs.WriteLaws.{puts_append, puts_beside, puts_on, puts_upto}
 use Rattle.replacing.specs.Trees.{renamed_all}
 use Rattle.expander.specs.declared.Ground.{Ground}
 use Rattle.expander.specs.Ground.{top_of, list_place}
@@ -37,16 +36,6 @@ use Rattle.macro_expand.specs.Alternatives.{alternative_piece, bare_out, SomeAlt
 use Rattle.macro_expand.proofs.FrameLaws.{placed_stays, frame_stays}
 use Rattle.macro_expand.proofs.PutInPlain.{named-extends}
 use Rattle.macro_expand.proofs.AlternativesTrees.{bare_bytes, Parted, parted, expanded_bytes, expanded_texts, expanded_fits}
-
--- ---- put_zero
-pub zero_over : (w : List ℕ) (lim to : ℕ) → lim ≤ to → Puts w lim to (0 ∷ []) (lim + 1) w
-zero_over w lim to h = puts_not w lim to (0 ∷ []) (omega arith)
-
-pub zero_put : (w : List ℕ) (lim to : ℕ) → to < lim → Puts w lim to (0 ∷ []) (to + 1) (set w to 0)
-unfolding store
-zero_put w lim to h = puts_whole w lim to (0 ∷ []) (set w to 0) 1 refl (omega arith) refl
-
-pub ruleset zeroing = (rules, zero_over, zero_put)
 
 -- ---- put_bare
 module _ (w : List ℕ) (p e span lim to : ℕ) (h : p + 11 ≤ e) (b : e ≤ to) (d : e ≤ length w) (u : to ≤ lim + 1) (q : ℕ) (w1 : List ℕ) (A : Puts w lim to (18 ∷ (le 8 span ++ part (p + 9) (p + 10) w)) q w1)

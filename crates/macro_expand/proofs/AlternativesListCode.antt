@@ -24,7 +24,7 @@ use Rattle.appending.specs.declared.Appended.{Appended}
 use Rattle.appending.specs.Pieces.{Appends}
 use Rattle.appending.proofs.SymbolsStays.{texts-stay}
 use Rattle.macro_expand.specs.declared.arguments.Call.{Call}
-use Rattle.macro_expand.specs.declared.arguments.Judged.{Judged}
+use Rattle.std.specs.Prelude.{Option, Some, None}
 use Rattle.macro_expand.specs.Arguments.{ReadableCall, holds_at}
 use Rattle.macro_expand.specs.PutIn.{Placed, Framed, Frame}
 use Rattle.macro_expand.specs.Alternatives.{alternatives_piece, held, SomeAlternative, PutsAlternative, PutsIf, SomeAlternatives, PutsHolding}
@@ -48,12 +48,12 @@ module _ (s w : List ℕ) (g : Ground) (n lim : ℕ) (c : Call) (span p : ℕ) (
       I.upto,
     )
 
-  module _ (j : Judged) (d : j ≡ holds_at g c w p) where
+  module _ (j : Option Bool) (d : j ≡ holds_at g c w p) where
     -- what holds of it
     module _ (ps : List ℕ) (names : List Text) (args : Syms) (four : Bool) (e : ℕ) (a : Alternative) (sp : Span) (F : Framed s w g n lim c v ps names args) (W : AlternativeWithin four g.width (texts s w g.m) a)
         (P : Placed w g v p e (alternative_bytes g.width (texts s w g.m) a)) (u : e ≤ c.end) where
       means : evaluate_condition names (renamed_all args) a.condition ≡ outcome_of j (span_in w (conditions_from g.width w p + 1))
-      means = holds-means s w g n lim c v ps names args F p e a four W (parted four g.width (texts s w g.m) w p e a W P.lies) u ∙ ap (λ (i : Judged). outcome_of i (span_in w (conditions_from g.width w p + 1))) (sym d)
+      means = holds-means s w g n lim c v ps names args F p e a four W (parted four g.width (texts s w g.m) w p e a W P.lies) u ∙ ap (λ (i : Option Bool). outcome_of i (span_in w (conditions_from g.width w p + 1))) (sym d)
 
       held-is : held sp names (renamed_all args) (a ∷ []) ≡ elim (outcome_of j (span_in w (conditions_from g.width w p + 1))) [ yes b ↦ cond b (expand_alternative sp names (renamed_all args) a ∷ []) [] | no k q ↦ [] ]
       unfolding held
@@ -62,16 +62,16 @@ module _ (s w : List ℕ) (g : Ground) (n lim : ℕ) (c : Call) (span p : ℕ) (
       none_held : held sp names (renamed_all args) (a ∷ []) ≡ [] → Appends s g n lim ps w v (alternatives_piece g.width (held sp names (renamed_all args) (a ∷ []))) v w
       none_held z = subst (λ (xs : List Alternative). Appends s g n lim ps w v (alternatives_piece g.width xs) v w) (sym z) (yields_none s g n lim ps w v F.going)
 
-    pub if_refused : j ≡ Judged.Refused → PutsIf s w g n lim c span p v v w
+    pub if_refused : j ≡ None → PutsIf s w g n lim c span p v v w
     unfolding PutsIf
     if_refused i ps names args four e a sp F W P u S =
-        none_held ps names args four e a sp F W P u (held-is ps names args four e a sp F W P u ∙ ap (λ (o : Judged). elim (outcome_of o (span_in w (conditions_from g.width w p + 1))) [ yes b ↦ cond b (expand_alternative sp names (renamed_all args) a ∷ []) [] | no k q ↦ [] ]) i)
+        none_held ps names args four e a sp F W P u (held-is ps names args four e a sp F W P u ∙ ap (λ (o : Option Bool). elim (outcome_of o (span_in w (conditions_from g.width w p + 1))) [ yes b ↦ cond b (expand_alternative sp names (renamed_all args) a ∷ []) [] | no k q ↦ [] ]) i)
 
-    module _ (b : Bool) (i : j ≡ Judged.Is b) where
+    module _ (b : Bool) (i : j ≡ Some b) where
       by : (ps : List ℕ) (names : List Text) (args : Syms) (four : Bool) (e : ℕ) (a : Alternative) (sp : Span) → Framed s w g n lim c v ps names args → AlternativeWithin four g.width (texts s w g.m) a
           → Placed w g v p e (alternative_bytes g.width (texts s w g.m) a) → e ≤ c.end → held sp names (renamed_all args) (a ∷ []) ≡ cond b (expand_alternative sp names (renamed_all args) a ∷ []) []
       by ps names args four e a sp F W P u =
-          held-is ps names args four e a sp F W P u ∙ ap (λ (o : Judged). elim (outcome_of o (span_in w (conditions_from g.width w p + 1))) [ yes t ↦ cond t (expand_alternative sp names (renamed_all args) a ∷ []) [] | no k q ↦ [] ]) i
+          held-is ps names args four e a sp F W P u ∙ ap (λ (o : Option Bool). elim (outcome_of o (span_in w (conditions_from g.width w p + 1))) [ yes t ↦ cond t (expand_alternative sp names (renamed_all args) a ∷ []) [] | no k q ↦ [] ]) i
 
       pub if_not : b ≡ false → PutsIf s w g n lim c span p v v w
       unfolding PutsIf
@@ -224,18 +224,18 @@ module _ (s w₀ : List ℕ) (g : Ground) (n lim : ℕ) (c : Call) (span k from 
               carry = λ v' w'' a. f v' w'' (next_carry ps names args four e z zs sp o.framed W P o.upto o.span_is v' w'' a);
             }
 
-        record Some : Type 0 where
+        record Next : Type 0 where
           pub alternatives : SomeAlternatives s w' g c span (i - 1) q t
           pub frame : Frame s w' g n lim c t
           pub long : length w' ≡ length w
 
-        next-some : (sp : Span) → le 8 span ≡ span_bytes sp → Some
+        next-some : (sp : Span) → le 8 span ≡ span_bytes sp → Next
         next-some sp S = go inv.some.alternatives inv.some.many inv.some.within inv.some.placed
           where
             K : Frame s w g n lim c r
             K = inv.frame
 
-            go : (ys : List Alternative) → length ys ≡ i → Each (AlternativeWithin inv.some.four g.width (texts s w g.m)) ys → Placed w g r p inv.some.end (bytes_of_each (alternative_bytes g.width (texts s w g.m)) ys) → Some
+            go : (ys : List Alternative) → length ys ≡ i → Each (AlternativeWithin inv.some.four g.width (texts s w g.m)) ys → Placed w g r p inv.some.end (bytes_of_each (alternative_bytes g.width (texts s w g.m)) ys) → Next
             go [] j W P = absurd (omega arith)
             go (y ∷ ys) j W P = record {
               alternatives = record {

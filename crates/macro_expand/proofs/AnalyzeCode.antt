@@ -1,6 +1,6 @@
 -- The loop of `analyze_expr`: what is left of the direct symbols. Assumes nothing.
 use mathlib.Core.Path.{◌≡◌, refl, sym, ap, ◌∙◌, subst}
-use mathlib.Core.Bool.{Bool, true, false, cond, ◌||◌, true≢false}
+use mathlib.Core.Bool.{Bool, true, false, cond, ◌||◌}
 use mathlib.Core.List.{List}
 use Prim.Native.Nat.{ℕ, suc, ◌+◌, ◌-◌, ◌^◌, ◌<◌, ◌≤◌}
 use native.Mathlib.Omega.{arith}
@@ -9,6 +9,7 @@ use mir.Val.{Fits}
 use borrow.Author.Rules.{rules}
 use borrow.Author.Tests.{eq-eqb, ne_eqb}
 use lib.ListN.{length, get_or}
+use Rattle.std.specs.Prelude.{Some, None}
 use Rattle.octets.specs.Working.Choice.{pick}
 use Rattle.octets.specs.Plain.Runs.{Lies}
 use Rattle.octets.proofs.LiesLaws.{lies_first}
@@ -145,12 +146,12 @@ module _ (s w : List ℕ) (g : Ground) (p k : ℕ) where
       analyzing_inside = (first_of h.four h.left h.end h.symbols h.inside one).inside
 
       -- it has a name
-      pub analyzing_named : get_or w at 0 ≡ 40 → Analyzes s w g p k (record { chosen = c; named = true })
+      pub analyzing_named : get_or w at 0 ≡ 40 → Analyzes s w g p k None
       unfolding Analyzes
       analyzing_named e four left d ys m t b =
           let f = first_of four left d ys b (A.each four left d ys m t b) in
           let q : has_name ys ≡ true = f.named ∙ ap (λ (x : Bool). x || has_name f.others) (f.told_is.named e) in
-          (sym q, λ o. absurd (true≢false (sym q ∙ o)))
+          ap (λ (x : Bool). cond x None (Some (chosen ys))) (sym q)
 
       -- it has none
       pub analyzing_next : (get_or w at 0 ≡ 40 → ⊥) → (j : ℕ) → j ≡ chosen_one (get_or w at 0) → j ≤ 1 → (r : ℕ) → r ≡ skip_out g.width g.end w at g.end 1 → Analyzing r (i - 1) (c + j)
@@ -177,7 +178,7 @@ module _ (s w : List ℕ) (g : Ground) (p k : ℕ) where
       analyzing_fits j v b = record { fits = omega (arith, A.few) }
 
     -- ---- none is left
-    pub analyzing_done : i ≤ 0 → Analyzes s w g p k (record { chosen = c; named = false })
+    pub analyzing_done : i ≤ 0 → Analyzes s w g p k (Some c)
     unfolding Analyzes count
     analyzing_done z four left d ys m t b = go (A.each four left d ys m t b)
       where
@@ -185,8 +186,11 @@ module _ (s w : List ℕ) (g : Ground) (p k : ℕ) where
         none nil e = (refl, refl)
         none (cons x xs) e = absurd (omega (arith, e))
 
-        go : Rest at i c four left d ys → (false ≡ has_name ys) × (has_name ys ≡ false → c ≡ chosen ys)
-        go r = let (a, e) = none r.rest r.many in (sym (r.named ∙ a), λ _. omega (arith, r.chosen-are, e))
+        go : Rest at i c four left d ys → Some c ≡ cond (has_name ys) None (Some (chosen ys))
+        go r =
+            let (a, e) = none r.rest r.many in
+            let f : c ≡ chosen ys = omega (arith, r.chosen-are, e) in
+            ap Some f ∙ ap (λ (x : Bool). cond x None (Some (chosen ys))) (sym (r.named ∙ a))
 
     pub analyzing_narrow : 2 ≤ g.width
     analyzing_narrow = h.ground.narrow

@@ -1,6 +1,6 @@
 -- Laws of the code that looks up arguments and judges conditions: the ways out. Assumes nothing.
 use mathlib.Core.Path.{◌≡◌, refl, sym, ap, ◌∙◌}
-use mathlib.Core.Bool.{Bool, true, false}
+use mathlib.Core.Bool.{Bool, true, false, beq}
 use mathlib.Core.List.{List}
 use Prim.Native.Nat.{ℕ, suc, ◌+◌, ◌-◌, ◌*◌, ◌≤◌, ◌<◌}
 use native.Mathlib.Omega.{arith}
@@ -11,14 +11,13 @@ use lib.Dec.{eqb}
 use lib.ListN.{length, get_or}
 use Rattle.octets.specs.Working.Choice.{pick}
 use Rattle.octets.specs.Plain.Numbers.{le_at}
-use Rattle.texts.specs.declared.Found.{Found}
+use Rattle.std.specs.Prelude.{Option, Some, None}
 use Rattle.grades.specs.Skip.{skip_out}
 use Rattle.grades.specs.Annotations.{conditions_from, alternative_end}
 use Rattle.grades.proofs.AnnotationsCode.{times-attributes, sum_attributes}
 use Rattle.expander.specs.declared.Ground.{Ground}
 use Rattle.macro_expand.specs.declared.arguments.Call.{Call}
-use Rattle.macro_expand.specs.declared.arguments.Judged.{Judged}
-use Rattle.macro_expand.specs.declared.arguments.Upheld.{Upheld}
+use Rattle.std.specs.Prelude.{Ok, Err}
 use Rattle.macro_expand.specs.Arguments.{parameters_long, argument_in, ReadableCall, equal_by, argument_for, judged_by, judged_at, holds_at, hold_from}
 
 -- ---- the bytes of parameters
@@ -47,11 +46,11 @@ module _ (g : Ground) (c : Call) (w : List ℕ) (k size i a p : ℕ) (l : Lookin
   unfolding argument_for
   whole = l.rest
 
-  pub look_done : i ≤ 0 → Found.Nothing ≡ argument_for g c w k
+  pub look_done : i ≤ 0 → None ≡ argument_for g c w k
   unfolding argument_in
   look_done h = let z : i ≡ 0 = omega arith in sym (ap (λ (j : ℕ). argument_in g.width g.end w k j a p) z) ∙ whole
 
-  pub look_found : 0 < i → (v : ℕ) → v ≡ le_at g.width w (a + 1) → k ≡ v → Found.At p ≡ argument_for g c w k
+  pub look_found : 0 < i → (v : ℕ) → v ≡ le_at g.width w (a + 1) → k ≡ v → Some p ≡ argument_for g c w k
   unfolding argument_in pick
   look_found h v r e =
       let z : i ≡ suc (i - 1) = omega arith in
@@ -100,47 +99,45 @@ module _ (g : Ground) (w : List ℕ) (k size m a₀ p₀ i a p : ℕ) (l : Looki
 pub ruleset looking = (rules, look_start, look_narrow, look_wide, look_items, look_done, look_fits, look_found, look_next)
 
 -- ---- is_equal
-module _ (wd : ℕ) (w : List ℕ) (p at x y : ℕ) (a : x ≡ le_at wd w (p + 9)) (b : y ≡ le_at wd w (at + 10 + wd)) where
-  pub equal_same : x ≡ y → eqb (get_or w (at + 9 + wd) 0) 0 ≡ equal_by wd w p at
-  unfolding equal_by pick
-  equal_same e = cc (eq-eqb (le_at wd w (p + 9)) (le_at wd w (at + 10 + wd)) (sym a ∙ e ∙ b))
+same_or_not : (a b : Bool) → beq a b ≡ pick a b (pick b false true)
+unfolding pick
+same_or_not true true = refl
+same_or_not true false = refl
+same_or_not false true = refl
+same_or_not false false = refl
 
-  pub equal_not : (x ≡ y → ⊥) → get_or w (at + 9 + wd) 0 ≡ 0 → false ≡ equal_by wd w p at
-  unfolding equal_by pick
-  equal_not e z = cc (ne_eqb (le_at wd w (p + 9)) (le_at wd w (at + 10 + wd)) (λ q. e (a ∙ q ∙ sym b)), eq-eqb (get_or w (at + 9 + wd) 0) 0 z)
+pub equal_done : (wd : ℕ) (w : List ℕ) (p at x y : ℕ) → x ≡ le_at wd w (p + 9) → y ≡ le_at wd w (at + 10 + wd) → beq (eqb x y) (eqb (get_or w (at + 9 + wd) 0) 0) ≡ equal_by wd w p at
+unfolding equal_by
+equal_done wd w p at x y a b = rw (a, b) (same_or_not (eqb (le_at wd w (p + 9)) (le_at wd w (at + 10 + wd))) (eqb (get_or w (at + 9 + wd) 0) 0))
 
-  pub equal_other : (x ≡ y → ⊥) → (get_or w (at + 9 + wd) 0 ≡ 0 → ⊥) → true ≡ equal_by wd w p at
-  unfolding equal_by pick
-  equal_other e z = cc (ne_eqb (le_at wd w (p + 9)) (le_at wd w (at + 10 + wd)) (λ q. e (a ∙ q ∙ sym b)), ne_eqb (get_or w (at + 9 + wd) 0) 0 z)
-
-pub ruleset equalling = (rules, equal_same, equal_not, equal_other)
+pub ruleset equalling = (rules, equal_done)
 
 -- ---- evaluate_cond
 module _ (g : Ground) (c : Call) (w : List ℕ) (at : ℕ) where
-  pub judge_behind : c.end ≤ at → Judged.Refused ≡ judged_at g c w at
+  pub judge_behind : c.end ≤ at → None ≡ judged_at g c w at
   unfolding judged_at pick
   judge_behind h = cc (le-leb c.end at h)
 
-  module _ (h : at < c.end) (k : ℕ) (i : k ≡ le_at g.width w (at + 9)) (f : Found) (j : f ≡ argument_for g c w k) where
+  module _ (h : at < c.end) (k : ℕ) (i : k ≡ le_at g.width w (at + 9)) (f : Option ℕ) (j : f ≡ argument_for g c w k) where
     here : judged_at g c w at ≡ judged_by g c w at f
     unfolding judged_at pick
     here = cc (lt-leb c.end at h)
 
-    pub judge_none : f ≡ Found.Nothing → Judged.Refused ≡ judged_at g c w at
+    pub judge_none : f ≡ None → None ≡ judged_at g c w at
     unfolding judged_by
     judge_none e = cc here
 
-    module _ (p : ℕ) (e : f ≡ Found.At p) where
-      pub judge_past : g.end ≤ p → Judged.Refused ≡ judged_at g c w at
+    module _ (p : ℕ) (e : f ≡ Some p) where
+      pub judge_past : g.end ≤ p → None ≡ judged_at g c w at
       unfolding judged_by pick
       judge_past l = cc (here, le-leb g.end p l)
 
       module _ (l : p < g.end) where
-        pub judge_is : get_or w p 0 ≡ 34 → (b : Bool) → b ≡ equal_by g.width w p at → Judged.Is b ≡ judged_at g c w at
+        pub judge_is : get_or w p 0 ≡ 34 → (b : Bool) → b ≡ equal_by g.width w p at → Some b ≡ judged_at g c w at
         unfolding judged_by pick
         judge_is z b o = cc (here, lt-leb g.end p l, eq-eqb (get_or w p 0) 34 z)
 
-        pub judge_other : (get_or w p 0 ≡ 34 → ⊥) → Judged.Refused ≡ judged_at g c w at
+        pub judge_other : (get_or w p 0 ≡ 34 → ⊥) → None ≡ judged_at g c w at
         unfolding judged_by pick
         judge_other z = cc (here, lt-leb g.end p l, ne_eqb (get_or w p 0) 34 z)
 
@@ -155,11 +152,11 @@ pub ruleset conditioning = (rules, times-attributes, sum_attributes, conditions-
 
 -- ---- holds
 module _ (g : Ground) (c : Call) (w : List ℕ) (p : ℕ) where
-  pub holds_plain : get_or w (p + 10) 0 ≡ 0 → Judged.Is true ≡ holds_at g c w p
+  pub holds_plain : get_or w (p + 10) 0 ≡ 0 → Some true ≡ holds_at g c w p
   unfolding holds_at pick
   holds_plain e = cc (eq-eqb (get_or w (p + 10) 0) 0 e)
 
-  pub holds_asked : (get_or w (p + 10) 0 ≡ 0 → ⊥) → (q : ℕ) → q ≡ conditions_from g.width w p → (r : Judged) → r ≡ judged_at g c w q → r ≡ holds_at g c w p
+  pub holds_asked : (get_or w (p + 10) 0 ≡ 0 → ⊥) → (q : ℕ) → q ≡ conditions_from g.width w p → (r : Option Bool) → r ≡ judged_at g c w q → r ≡ holds_at g c w p
   unfolding holds_at pick
   holds_asked e q j r k = cc (ne_eqb (get_or w (p + 10) 0) 0 e)
 
@@ -198,7 +195,7 @@ module _ (g : Ground) (c : Call) (w : List ℕ) (n at i p k : ℕ) (l : Holds g 
   pub hold_definition : c.end + 16 ≤ length w
   hold_definition = l.readable.definition
 
-  pub hold_done : i ≤ 0 → Upheld.Many k ≡ hold_from g c w n at 0
+  pub hold_done : i ≤ 0 → Ok k ≡ hold_from g c w n at 0
   unfolding hold_from
   hold_done h = let z : i ≡ 0 = omega arith in sym (ap (λ (j : ℕ). hold_from g c w j p k) z) ∙ l.rest
 
@@ -209,19 +206,19 @@ module _ (g : Ground) (c : Call) (w : List ℕ) (n at i p k : ℕ) (l : Holds g 
     pub hold_few : n < 65536 → k < 65536
     hold_few m = omega (arith, l.few)
 
-    pub hold_past : c.end ≤ p → Upheld.Many k ≡ hold_from g c w n at 0
+    pub hold_past : c.end ≤ p → Ok k ≡ hold_from g c w n at 0
     unfolding hold_from pick
     hold_past e = cc (le-leb c.end p e, turned)
 
-    module _ (b : p < c.end) (j : Judged) (d : j ≡ holds_at g c w p) where
+    module _ (b : p < c.end) (j : Option Bool) (d : j ≡ holds_at g c w p) where
       pub hold_room : p + 11 ≤ length w
       hold_room = omega (arith, l.readable.definition)
 
-      pub hold_refused : j ≡ Judged.Refused → (q : ℕ) → q ≡ conditions_from g.width w p → Upheld.Refused q ≡ hold_from g c w n at 0
+      pub hold_refused : j ≡ None → (q : ℕ) → q ≡ conditions_from g.width w p → Err q ≡ hold_from g c w n at 0
       unfolding hold_from pick
       hold_refused e q z = cc (lt-leb c.end p b, turned)
 
-      pub hold_next : (t : Bool) → j ≡ Judged.Is t → (q : ℕ) → q ≡ alternative_end g.width w p c.end → (m : ℕ) → m ≡ pick t (k + 1) k → m ≤ k + 1 → Holds g c w n at (i - 1) q m
+      pub hold_next : (t : Bool) → j ≡ Some t → (q : ℕ) → q ≡ alternative_end g.width w p c.end → (m : ℕ) → m ≡ pick t (k + 1) k → m ≤ k + 1 → Holds g c w n at (i - 1) q m
       unfolding hold_from pick
       hold_next t e q z m y u = record { readable = l.readable; few = omega (arith, l.few); rest = cc (lt-leb c.end p b, turned) }
 

@@ -20,7 +20,7 @@ use Rattle.parse_tree.specs.Working.Encode.{leaf_node, around_node, over_node, c
 use Rattle.parse_tree.specs.Working.Within.{Each, SymWithin, ConditionWithin, AlternativeWithin}
 use Rattle.parse_tree.specs.declared.syntax.Span.{Span}
 use Rattle.parse_tree.proofs.FieldLaws.{byte_read, le-read_last}
-use Rattle.texts.specs.declared.Found.{Found}
+use Rattle.std.specs.Prelude.{Option as Maybe, Some, None}
 use Rattle.texts.specs.Table.{texts}
 use Rattle.passes.specs.Outcome.{Outcome, yes, no}
 use Rattle.passes.specs.Macros.{argument_of, quoted_in, evaluate_condition}
@@ -37,15 +37,14 @@ use Rattle.expander.specs.Ground.{size_in}
 use Rattle.expander.proofs.KeysLaws.{sym_length}
 use Rattle.appending.specs.declared.Appended.{Appended}
 use Rattle.macro_expand.specs.declared.arguments.Call.{Call}
-use Rattle.macro_expand.specs.declared.arguments.Judged.{Judged}
 use Rattle.macro_expand.specs.Arguments.{equal_by, argument_for, judged_by, judged_at, holds_at}
 use Rattle.macro_expand.specs.PutIn.{Framed}
 use Rattle.macro_expand.proofs.FrameLaws.{Answers, Finds, frame_finds, argument-renamed}
 use Rattle.macro_expand.proofs.AlternativesTrees.{Parted}
 
-abbrev pub outcome_of : Judged → Span → Outcome Bool
-outcome_of (Judged.Is b) sp = yes b
-outcome_of Judged.Refused sp = no 17 sp
+abbrev pub outcome_of : Maybe Bool → Span → Outcome Bool
+outcome_of (Some b) sp = yes b
+outcome_of None sp = no 17 sp
 
 -- ---- a quoted literal
 abbrev is_quoted : Sym → Bool
@@ -142,10 +141,10 @@ module _ (s w : List ℕ) (g : Ground) (n lim : ℕ) (c : Call) (v : Appended) (
         let b = subst (λ (l : List ℕ). Lies w p l d) (sym_bytes_lem wd ts x) S.lies in
         code_quoted wd ts w p _ x (lies_split w p d (node_bytes wd (sym_node ts x)) (syms_bytes wd ts (children x)) b).0
 
-    other : (x : Sym) → SymStands s w g.m wd four left p d x → is_quoted x ≡ false → outcome_of (judged_by g c w q (Found.At p)) k.span ≡ said k (quoted_in (some (renamed x)))
+    other : (x : Sym) → SymStands s w g.m wd four left p d x → is_quoted x ≡ false → outcome_of (judged_by g c w q (Some p)) k.span ≡ said k (quoted_in (some (renamed x)))
     unfolding judged_by pick
     other x S e =
-        let b : outcome_of (judged_by g c w q (Found.At p)) k.span ≡ no 17 k.span = rw (z, code x S, e) refl in
+        let b : outcome_of (judged_by g c w q (Some p)) k.span ≡ no 17 k.span = rw (z, code x S, e) refl in
         b ∙ sym (ap (said k) (none_quoted x e))
 
     word : (sp : Span) (t : Text) (l : ℕ) → SymWithin four wd ts (leaf sp (quoted t)) l → Lies w p (sym_bytes wd ts (leaf sp (quoted t))) d → le_at wd w (p + 9) ≡ number ts t
@@ -153,12 +152,12 @@ module _ (s w : List ℕ) (g : Ground) (n lim : ℕ) (c : Call) (v : Appended) (
     word sp t zero W l = absurd W
     word sp t (suc i) W l = (named-last w wd p 34 sp (number ts t) d W.0 W.1.1 l).name
 
-    literal : (sp : Span) (t : Text) → SymStands s w g.m wd four left p d (leaf sp (quoted t)) → outcome_of (judged_by g c w q (Found.At p)) k.span ≡ said k (quoted_in (some (renamed (leaf sp (quoted t)))))
+    literal : (sp : Span) (t : Text) → SymStands s w g.m wd four left p d (leaf sp (quoted t)) → outcome_of (judged_by g c w q (Some p)) k.span ≡ said k (quoted_in (some (renamed (leaf sp (quoted t)))))
     unfolding judged_by pick renamed
     literal sp t S = rw (z, code (leaf sp (quoted t)) S) (ap (λ (b : Bool). yes b) (equal_means wd ts w p q k t A h (word sp t left S.within S.lies)))
 
     -- theorem: what is said of it
-    argument-means : (x : Sym) → SymStands s w g.m wd four left p d x → outcome_of (judged_by g c w q (Found.At p)) k.span ≡ said k (quoted_in (some (renamed x)))
+    argument-means : (x : Sym) → SymStands s w g.m wd four left p d x → outcome_of (judged_by g c w q (Some p)) k.span ≡ said k (quoted_in (some (renamed x)))
     argument-means (leaf sp (ambiguous t)) S = other (leaf sp (ambiguous t)) S refl
     argument-means (leaf sp (bare t)) S = other (leaf sp (bare t)) S refl
     argument-means (leaf sp (quoted t)) S = literal sp t S
@@ -171,13 +170,13 @@ module _ (s w : List ℕ) (g : Ground) (n lim : ℕ) (c : Call) (v : Appended) (
     argument-means (over sp o xs) S = other (over sp o xs) S refl
 
   -- by what was found
-  found_means : (q : ℕ) (k : Condition) → Asks wd ts w q k → has k.rhs ts ≡ true → (f : Found) (o : Option Sym) → Finds s w g ps F.four F.left f o
+  found_means : (q : ℕ) (k : Condition) → Asks wd ts w q k → has k.rhs ts ≡ true → (f : Maybe ℕ) (o : Option Sym) → Finds s w g ps F.four F.left f o
       → outcome_of (judged_by g c w q f) k.span ≡ said k (quoted_in (elim o [ none ↦ none | some x ↦ some (renamed x) ]))
   unfolding judged_by
-  found_means q k A h Found.Nothing none N = refl
-  found_means q k A h Found.Nothing (some x) N = absurd N
-  found_means q k A h (Found.At p) none N = absurd N
-  found_means q k A h (Found.At p) (some x) N =
+  found_means q k A h None none N = refl
+  found_means q k A h None (some x) N = absurd N
+  found_means q k A h (Some p) none N = absurd N
+  found_means q k A h (Some p) (some x) N =
       let R = N.referring in
       let f = first_stands s w g.m wd F.four F.left (g.from + N.from) (g.from + N.end) x nil R.stand in
       let e = none_stand s w g.m wd F.four F.left _ (g.from + N.end) f.1 in
@@ -196,7 +195,7 @@ module _ (s w : List ℕ) (g : Ground) (n lim : ℕ) (c : Call) (v : Appended) (
       let r : judged_at g c w q ≡ judged_by g c w q (argument_for g c w (le_at wd w (q + 9))) = rw (lt-leb c.end q i) refl in
       ap (λ (o : Option Sym). said k (quoted_in o)) (argument-renamed names args k.lhs)
       ∙ sym (found_means q k A W.rhs.0 (argument_for g c w (le_at wd w (q + 9))) (argument_of names args k.lhs) (frame_finds s w g n lim c v ps names args F k.lhs (le_at wd w (q + 9)) A.lhs))
-      ∙ ap (λ (j : Judged). outcome_of j k.span) (sym r)
+      ∙ ap (λ (j : Maybe Bool). outcome_of j k.span) (sym r)
       ∙ ap (outcome_of (judged_at g c w q)) (sym A.span)
 
   -- theorem: an alternative that stands at p
@@ -212,4 +211,4 @@ module _ (s w : List ℕ) (g : Ground) (n lim : ℕ) (c : Call) (v : Appended) (
           let b = lies_split w (conditions_from wd w p) e (condition_bytes wd ts k ++ []) (syms_bytes wd ts a.symbols) l in
           let m = subst (λ (x : List ℕ). Lies w (conditions_from wd w p) x (conditions_from wd w p + length (condition_bytes wd ts k ++ []))) (append-nil (condition_bytes wd ts k)) b.0 in
           let r : holds_at g c w p ≡ judged_at g c w (conditions_from wd w p) = rw i refl in
-          judged-means (conditions_from wd w p) _ k four h.0 m (omega (arith, b.1.end, condition_long wd ts k, length-append (condition_bytes wd ts k) [])) ∙ ap (λ (j : Judged). outcome_of j (span_in w (conditions_from wd w p + 1))) (sym r)
+          judged-means (conditions_from wd w p) _ k four h.0 m (omega (arith, b.1.end, condition_long wd ts k, length-append (condition_bytes wd ts k) [])) ∙ ap (λ (j : Maybe Bool). outcome_of j (span_in w (conditions_from wd w p + 1))) (sym r)

@@ -21,20 +21,12 @@ use Rattle.expander.specs.Held.{down}
 use Rattle.appending.specs.declared.Appended.{Appended}
 use Rattle.appending.specs.Pieces.{item_piece, plainly, then_piece, Appending, Appends}
 use Rattle.appending.proofs.PiecesLaws.{steady_item, appends-none, appends_then, appends_is}
-use Rattle.macro_expand.specs.declared.Expanded.{Expanded}
+use Rattle.std.specs.Prelude.{Result, Ok, Err}
 use Rattle.macro_expand.specs.Expand.{ExpandsTo}
 use Rattle.macro_expand.specs.Drain.{Pile, SomePile, ExpandsPushed, items_piece, DrainedBy, Drains}
 use Rattle.macro_expand.proofs.PileStays.{symbol_stays, pile_stays}
 
 -- ---- what an answer is
-abbrev kind_of : Expanded → ℕ
-kind_of (Expanded.Is b) = 1
-kind_of (Expanded.Refused b) = 0
-
-abbrev is_or : Appended → Expanded → Appended
-is_or a (Expanded.Is b) = b
-is_or a (Expanded.Refused b) = a
-
 module _ (s : List ℕ) (g : Ground) (n lim : ℕ) (t : Grammar) where
   -- the pending symbols of the first i places, the last first
   abbrev pending : List ℕ → ℕ → List Pending
@@ -58,7 +50,7 @@ module _ (s : List ℕ) (g : Ground) (n lim : ℕ) (t : Grammar) where
 
     -- the outcome of the rest behind an item
     drained_after : (w : List ℕ) (v : Appended) (d : Nonterminal) (v1 : Appended) (w1 : List ℕ) → Appending s g n lim ps w v → Appends s g n lim ps w v (item_piece g.width (item d)) v1 w1
-        → (u : Outcome (List Item)) (r : Expanded) (w2 : List ℕ) → DrainedBy s w1 g n lim v1 ps u r w2 → DrainedBy s w g n lim v ps (after u (λ ds. yes (item d ∷ ds))) r w2
+        → (u : Outcome (List Item)) (r : Result Appended Refusal) (w2 : List ℕ) → DrainedBy s w1 g n lim v1 ps u r w2 → DrainedBy s w g n lim v ps (after u (λ ds. yes (item d ∷ ds))) r w2
     unfolding DrainedBy
     drained_after w v d v1 w1 h a (yes ds) r w2 (v2, e, b) = (v2, e, drained_then w v d v1 w1 ds v2 w2 h a b)
     drained_after w v d v1 w1 h a (no k sp) r w2 e = e
@@ -68,7 +60,7 @@ module _ (s : List ℕ) (g : Ground) (n lim : ℕ) (t : Grammar) where
     pub pile : Pile s w g n lim t x ps four G
     pub keys : (j : ℕ) → j < n → key_at w g j ≡ key_at w₀ g j
     pub symbols : (p : ℕ) → symbol_in s w g p ≡ symbol_in s w₀ g p
-    pub carry : (r : Expanded) (w' : List ℕ) → DrainedBy s w g n lim x ps (drain G (pending w₀ i)) r w' → DrainedBy s w₀ g n lim v ps (drain G (pending w₀ n)) r w'
+    pub carry : (r : Result Appended Refusal) (w' : List ℕ) → DrainedBy s w g n lim x ps (drain G (pending w₀ i)) r w' → DrainedBy s w₀ g n lim v ps (drain G (pending w₀ n)) r w'
 
   pub record Draining (w₀ : List ℕ) (v : Appended) (w : List ℕ) (x : Appended) (i : ℕ) : Type 0 where
     pub some : SomePile s w g n lim t x
@@ -85,13 +77,13 @@ module _ (s : List ℕ) (g : Ground) (n lim : ℕ) (t : Grammar) where
   }
 
   module _ (w₀ : List ℕ) (v : Appended) (w : List ℕ) (x : Appended) (i : ℕ) (D : Draining w₀ v w x i) where
-    pub draining_done : i ≤ 0 → Drains s w₀ g n lim t v (Expanded.Is x) w
+    pub draining_done : i ≤ 0 → Drains s w₀ g n lim t v (Ok x) w
     unfolding Drains DrainedBy drain down
     draining_done z ps four G p =
         let o = D.each ps four G p in
         let e : i ≡ 0 = omega arith in
-        subst (λ (k : ℕ). (r : Expanded) (w' : List ℕ) → DrainedBy s w g n lim x ps (drain G (pending w₀ k)) r w' → DrainedBy s w₀ g n lim v ps (drain G (pending w₀ n)) r w') e o.carry
-        (Expanded.Is x) w (x, refl, drained_none ps w x o.pile.going)
+        subst (λ (k : ℕ). (r : Result Appended Refusal) (w' : List ℕ) → DrainedBy s w g n lim x ps (drain G (pending w₀ k)) r w' → DrainedBy s w₀ g n lim v ps (drain G (pending w₀ n)) r w') e o.carry
+        (Ok x) w (x, refl, drained_none ps w x o.pile.going)
 
     -- ---- one more symbol, the j-th, where j + 1 are left
     module _ (j : ℕ) (l : i ≡ suc j) where
@@ -113,39 +105,39 @@ module _ (s : List ℕ) (g : Ground) (n lim : ℕ) (t : Grammar) where
         unfolding drain down
         first = ap (λ (k : ℕ). drain G (pending w₀ k)) l
 
-        carried : (u : Outcome Nonterminal) → expand_symbol G y ≡ u → (r : Expanded) (w' : List ℕ) → DrainedBy s w g n lim x ps (after u (λ d. after (drain G (pending w₀ j)) (λ ds. yes (item d ∷ ds)))) r w'
+        carried : (u : Outcome Nonterminal) → expand_symbol G y ≡ u → (r : Result Appended Refusal) (w' : List ℕ) → DrainedBy s w g n lim x ps (after u (λ d. after (drain G (pending w₀ j)) (λ ds. yes (item d ∷ ds)))) r w'
             → DrainedBy s w₀ g n lim v ps (drain G (pending w₀ n)) r w'
         carried u e r w' h =
             o.carry r w' (subst (λ (z : Outcome (List Item)). DrainedBy s w g n lim x ps z r w') (sym (first ∙ ap (λ (z : Outcome Nonterminal). after z (λ d. after (drain G (pending w₀ j)) (λ ds. yes (item d ∷ ds)))) e)) h)
 
-        told : (r : Expanded) (w' : List ℕ) → ExpandsPushed s w g n lim t j x r w' → ExpandsTo s w g n lim (key_at w g j) x ps (expand_symbol G y) r w'
+        told : (r : Result Appended Refusal) (w' : List ℕ) → ExpandsPushed s w g n lim t j x r w' → ExpandsTo s w g n lim (key_at w g j) x ps (expand_symbol G y) r w'
         unfolding ExpandsPushed
         told r w' h = subst (λ (z : Pending). ExpandsTo s w g n lim (key_at w g j) x ps (expand_symbol G z) r w') same (h ps four G o.pile)
 
         -- it is refused
-        refused : (why : Refusal) (w' : List ℕ) → ExpandsPushed s w g n lim t j x (Expanded.Refused why) w' → DrainedBy s w₀ g n lim v ps (drain G (pending w₀ n)) (Expanded.Refused why) w'
+        refused : (why : Refusal) (w' : List ℕ) → ExpandsPushed s w g n lim t j x (Err why) w' → DrainedBy s w₀ g n lim v ps (drain G (pending w₀ n)) (Err why) w'
         unfolding ExpandsTo DrainedBy
-        refused why w' h = go (expand_symbol G y) refl (told (Expanded.Refused why) w' h)
+        refused why w' h = go (expand_symbol G y) refl (told (Err why) w' h)
           where
-            go : (u : Outcome Nonterminal) → expand_symbol G y ≡ u → ExpandsTo s w g n lim (key_at w g j) x ps u (Expanded.Refused why) w' → DrainedBy s w₀ g n lim v ps (drain G (pending w₀ n)) (Expanded.Refused why) w'
+            go : (u : Outcome Nonterminal) → expand_symbol G y ≡ u → ExpandsTo s w g n lim (key_at w g j) x ps u (Err why) w' → DrainedBy s w₀ g n lim v ps (drain G (pending w₀ n)) (Err why) w'
             go (yes d) e (v', z, a) = absurd (other z)
               where
-                other : Expanded.Refused why ≡ Expanded.Is v' → ⊥
-                other z = let k : ◌≡◌ {A = ℕ} 0 1 = ap kind_of z in omega arith
-            go (no k sp) e z = carried (no k sp) e (Expanded.Refused why) w' z
+                other : Err why ≡ Ok v' → ⊥
+                other z = cc
+            go (no k sp) e z = carried (no k sp) e (Err why) w' z
 
         -- its item is appended
-        onward : (x' : Appended) (w' : List ℕ) → ExpandsPushed s w g n lim t j x (Expanded.Is x') w' → Onward w₀ v w' x' j ps four G
+        onward : (x' : Appended) (w' : List ℕ) → ExpandsPushed s w g n lim t j x (Ok x') w' → Onward w₀ v w' x' j ps four G
         unfolding ExpandsTo
-        onward x' w' h = go (expand_symbol G y) refl (told (Expanded.Is x') w' h)
+        onward x' w' h = go (expand_symbol G y) refl (told (Ok x') w' h)
           where
-            go : (u : Outcome Nonterminal) → expand_symbol G y ≡ u → ExpandsTo s w g n lim (key_at w g j) x ps u (Expanded.Is x') w' → Onward w₀ v w' x' j ps four G
+            go : (u : Outcome Nonterminal) → expand_symbol G y ≡ u → ExpandsTo s w g n lim (key_at w g j) x ps u (Ok x') w' → Onward w₀ v w' x' j ps four G
             go (no k sp) e z = absurd (other z)
               where
-                other : Expanded.Is x' ≡ Expanded.Refused (refusal_over k sp) → ⊥
-                other z = let k : ◌≡◌ {A = ℕ} 0 1 = ap kind_of (sym z) in omega arith
+                other : Ok x' ≡ Err (refusal_over k sp) → ⊥
+                other z = cc
             go (yes d) e (v', z, a) =
-                let f : x' ≡ v' = ap (is_or x') z in
+                let f : x' ≡ v' = cc in
                 let b : Appends s g n lim ps w x (item_piece g.width (item d)) x' w' = subst (λ (q : Appended). Appends s g n lim ps w x (item_piece g.width (item d)) q w') (sym f) a in
                 let k = o.pile.going in
                 record {
@@ -156,14 +148,14 @@ module _ (s : List ℕ) (g : Ground) (n lim : ℕ) (t : Grammar) where
                 }
 
     -- the pile stays where an item is appended
-    pile_next : (j : ℕ) (x' : Appended) (w' : List ℕ) (ps : List ℕ) (four : Bool) (G : Tree) → Pile s w g n lim t x ps four G → ExpandsPushed s w g n lim t j x (Expanded.Is x') w' → Pile s w' g n lim t x' ps four G
+    pile_next : (j : ℕ) (x' : Appended) (w' : List ℕ) (ps : List ℕ) (four : Bool) (G : Tree) → Pile s w g n lim t x ps four G → ExpandsPushed s w g n lim t j x (Ok x') w' → Pile s w' g n lim t x' ps four G
     unfolding ExpandsPushed ExpandsTo
     pile_next j x' w' ps four G p h = go (expand_symbol G (inner (symbol_in s w g (key_at w g j)))) (h ps four G p)
       where
-        go : (u : Outcome Nonterminal) → ExpandsTo s w g n lim (key_at w g j) x ps u (Expanded.Is x') w' → Pile s w' g n lim t x' ps four G
-        go (no k sp) z = absurd (let e : ◌≡◌ {A = ℕ} 0 1 = ap kind_of (sym z) in omega arith)
+        go : (u : Outcome Nonterminal) → ExpandsTo s w g n lim (key_at w g j) x ps u (Ok x') w' → Pile s w' g n lim t x' ps four G
+        go (no k sp) z = absurd (cc)
         go (yes d) (v', z, a) =
-            subst (λ (q : Appended). Pile s w' g n lim t q ps four G) (sym (ap (is_or x') z)) (pile_stays s g n lim ps w x p.going (item_piece g.width (item d)) v' w' a t four G p)
+            subst (λ (q : Appended). Pile s w' g n lim t q ps four G) (let f : v' ≡ x' = cc in f) (pile_stays s g n lim ps w x p.going (item_piece g.width (item d)) v' w' a t four G p)
 
     -- ---- as the code has it
     pub draining_same : length w ≡ length w₀
@@ -172,11 +164,11 @@ module _ (s : List ℕ) (g : Ground) (n lim : ℕ) (t : Grammar) where
     pub draining_less : 0 < i → i - 1 < n
     draining_less z = omega (arith, D.upto)
 
-    pub draining_refused : 0 < i → (r : Expanded) (w' : List ℕ) → ExpandsPushed s w g n lim t (i - 1) x r w' → (why : Refusal) → r ≡ Expanded.Refused why → Drains s w₀ g n lim t v (Expanded.Refused why) w'
+    pub draining_refused : 0 < i → (r : Result Appended Refusal) (w' : List ℕ) → ExpandsPushed s w g n lim t (i - 1) x r w' → (why : Refusal) → r ≡ Err why → Drains s w₀ g n lim t v (Err why) w'
     unfolding Drains
-    draining_refused z r w' h why e ps four G p = refused (i - 1) (omega arith) ps four G p why w' (subst (λ (q : Expanded). ExpandsPushed s w g n lim t (i - 1) x q w') e h)
+    draining_refused z r w' h why e ps four G p = refused (i - 1) (omega arith) ps four G p why w' (subst (λ (q : Result Appended Refusal). ExpandsPushed s w g n lim t (i - 1) x q w') e h)
 
-    pub draining_next : 0 < i → (r : Expanded) (w' : List ℕ) → length w' ≡ length w → ExpandsPushed s w g n lim t (i - 1) x r w' → (x' : Appended) → r ≡ Expanded.Is x' → Draining w₀ v w' x' (i - 1)
+    pub draining_next : 0 < i → (r : Result Appended Refusal) (w' : List ℕ) → length w' ≡ length w → ExpandsPushed s w g n lim t (i - 1) x r w' → (x' : Appended) → r ≡ Ok x' → Draining w₀ v w' x' (i - 1)
     draining_next z r w' b k x' e = record {
       some = more;
       upto = omega (arith, D.upto);
@@ -184,8 +176,8 @@ module _ (s : List ℕ) (g : Ground) (n lim : ℕ) (t : Grammar) where
       each = λ ps four G p. onward (i - 1) (omega arith) ps four G p x' w' h;
     }
       where
-        h : ExpandsPushed s w g n lim t (i - 1) x (Expanded.Is x') w'
-        h = subst (λ (q : Expanded). ExpandsPushed s w g n lim t (i - 1) x q w') e k
+        h : ExpandsPushed s w g n lim t (i - 1) x (Ok x') w'
+        h = subst (λ (q : Result Appended Refusal). ExpandsPushed s w g n lim t (i - 1) x q w') e k
 
         P : SomePile s w g n lim t x
         P = D.some

@@ -21,7 +21,7 @@ use Rattle.parse_tree.specs.Working.Nodes.{span_bytes, node_bytes, symbol_bytes,
 use Rattle.parse_tree.specs.Working.Encode.{leaf_node, sym_bytes, syms_bytes}
 use Rattle.parse_tree.specs.Working.Within.{SpanWithin, SymWithin, SymsWithin}
 use Rattle.parse_tree.specs.declared.syntax.Span.{Span}
-use Rattle.texts.specs.declared.Found.{Found}
+use Rattle.std.specs.Prelude.{Option as Maybe, Some, None}
 use Rattle.texts.specs.Table.{texts}
 use Rattle.passes.specs.Macros.{at, argument_of, or_name, macro_expand_symbol, macro_expand_symbols}
 use Rattle.laws.specs.Flat.{sym_node, children}
@@ -50,15 +50,15 @@ use Rattle.macro_expand.proofs.ExpandTrees.{is_names, code_names, Stays, other_s
 
 -- ---- parameter
 module _ (g : Ground) (c : Call) (w : List ℕ) (p : ℕ) where
-  pub parameter_named : get_or w p 0 ≡ 36 → (k : ℕ) → k ≡ le_at g.width w (p + 9) → (r : Found) → r ≡ argument_for g c w k → r ≡ parameter_at g c w p
+  pub parameter_named : get_or w p 0 ≡ 36 → (k : ℕ) → k ≡ le_at g.width w (p + 9) → (r : Maybe ℕ) → r ≡ argument_for g c w k → r ≡ parameter_at g c w p
   unfolding parameter_at pick
   parameter_named e k i r j = cc (eq-eqb (get_or w p 0) 36 e)
 
-  pub parameter_not : (get_or w p 0 ≡ 36 → ⊥) → Found.Nothing ≡ parameter_at g c w p
+  pub parameter_not : (get_or w p 0 ≡ 36 → ⊥) → None ≡ parameter_at g c w p
   unfolding parameter_at pick
   parameter_not e = cc (ne_eqb (get_or w p 0) 36 e)
 
-  by_name : (b : Bool) → eqb (get_or w p 0) 36 ≡ b → parameter_at g c w p ≡ pick b (argument_for g c w (le_at g.width w (p + 9))) Found.Nothing
+  by_name : (b : Bool) → eqb (get_or w p 0) 36 ≡ b → parameter_at g c w p ≡ pick b (argument_for g c w (le_at g.width w (p + 9))) None
   unfolding parameter_at
   by_name b e = cc
 
@@ -76,18 +76,18 @@ here_put w g lim x k e to w' P = record {
 pub ruleset putting_here = (rules, here_put)
 
 -- ---- what is found
-abbrev is_at : Found → Bool
-is_at (Found.At p) = true
-is_at Found.Nothing = false
+abbrev is_at : Maybe ℕ → Bool
+is_at (Some p) = true
+is_at None = false
 
-not_nothing : {p : ℕ} → Found.Nothing ≡ Found.At p → ⊥
+not_nothing : {p : ℕ} → None ≡ Some p → ⊥
 not_nothing e = false≢true (ap is_at e)
 
-answered : (s w : List ℕ) (g : Ground) (ps : List ℕ) (four : Bool) (left p : ℕ) (o : Option Sym) → Finds s w g ps four left (Found.At p) o → (x : Sym) × (o ≡ some x) × Answers s w g ps four left p x
+answered : (s w : List ℕ) (g : Ground) (ps : List ℕ) (four : Bool) (left p : ℕ) (o : Option Sym) → Finds s w g ps four left (Some p) o → (x : Sym) × (o ≡ some x) × Answers s w g ps four left p x
 answered s w g ps four left p none h = absurd h
 answered s w g ps four left p (some x) h = (x, refl, h)
 
-unanswered : (s w : List ℕ) (g : Ground) (ps : List ℕ) (four : Bool) (left : ℕ) (o : Option Sym) → Finds s w g ps four left Found.Nothing o → o ≡ none
+unanswered : (s w : List ℕ) (g : Ground) (ps : List ℕ) (four : Bool) (left : ℕ) (o : Option Sym) → Finds s w g ps four left None o → o ≡ none
 unanswered s w g ps four left none h = refl
 unanswered s w g ps four left (some x) h = absurd h
 
@@ -127,7 +127,7 @@ module _ (s w : List ℕ) (g : Ground) (n lim : ℕ) (c : Call) (left : ℕ) (x 
   names_is = code_names wd ts w p _ y parts.0.lies
 
   -- ---- a parameter
-  module _ (q : ℕ) (f : parameter_at g c w p ≡ Found.At q) where
+  module _ (q : ℕ) (f : parameter_at g c w p ≡ Some q) where
     other : is_names y ≡ false → ⊥
     unfolding pick
     other k = not_nothing (sym (by_name g c w p false (names_is ∙ k)) ∙ f)
@@ -169,13 +169,13 @@ module _ (s w : List ℕ) (g : Ground) (n lim : ℕ) (c : Call) (left : ℕ) (x 
     Q : Parameter
     Q = found_by_lem y refl is_name_lem W P.lies
 
-    asked : argument_for g c w (le_at wd w (p + 9)) ≡ Found.At q
+    asked : argument_for g c w (le_at wd w (p + 9)) ≡ Some q
     unfolding pick
     asked = sym (by_name g c w p true (names_is ∙ is_name_lem)) ∙ f
 
     A : (z : Sym) × (argument_of names args Q.text ≡ some z) × Answers s w g ps F.four F.left q z
     A = answered s w g ps F.four F.left q (argument_of names args Q.text)
-        (subst (λ (r : Found). Finds s w g ps F.four F.left r (argument_of names args Q.text)) asked (frame_finds s w g n lim c x.out ps names args F Q.text (le_at wd w (p + 9)) Q.word))
+        (subst (λ (r : Maybe ℕ). Finds s w g ps F.four F.left r (argument_of names args Q.text)) asked (frame_finds s w g n lim c x.out ps names args F Q.text (le_at wd w (p + 9)) Q.word))
 
     span_of : ((j : ℕ) → Bound.Fits w8 (get_or w j 0)) → le 8 (le_at 8 w (p + 1)) ≡ span_bytes Q.span
     unfolding sym_bytes node_bytes symbol_bytes leaf_node leaf_code leaf_operand
@@ -216,7 +216,7 @@ module _ (s w : List ℕ) (g : Ground) (n lim : ℕ) (c : Call) (left : ℕ) (x 
         (sym Q.end, subst (λ (z : Sym). Appends s g n lim ps w x.out (sym_piece wd z left) v w') (sym expanded_is) (U ps F.four F.left A.2.from A.2.end A.0 Q.span (given span i b)))
 
   -- ---- none
-  module _ (f : parameter_at g c w p ≡ Found.Nothing) where
+  module _ (f : parameter_at g c w p ≡ None) where
     name_stays : (z : Sym) → is_names z ≡ true → y ≡ z → SymWithin four wd ts z left → Lies w p (sym_bytes wd ts z) e → Stays names (renamed_all args) z
     unfolding macro_expand_symbol sym_bytes node_bytes symbol_bytes leaf_node leaf_code leaf_operand pick
     name_stays (leaf sp (ambiguous t)) k i W' l = absurd (false≢true k)
@@ -227,9 +227,9 @@ module _ (s w : List ℕ) (g : Ground) (n lim : ℕ) (c : Call) (left : ℕ) (x 
       where
         is_none : le_at wd w (p + 9) ≡ number ts t → argument_of names args t ≡ none
         is_none r =
-            let z : argument_for g c w (le_at wd w (p + 9)) ≡ Found.Nothing = sym (by_name g c w p true (names_is ∙ ap is_names i)) ∙ f in
+            let z : argument_for g c w (le_at wd w (p + 9)) ≡ None = sym (by_name g c w p true (names_is ∙ ap is_names i)) ∙ f in
             unanswered s w g ps F.four F.left (argument_of names args t)
-            (subst (λ (u : Found). Finds s w g ps F.four F.left u (argument_of names args t)) z (frame_finds s w g n lim c x.out ps names args F t (le_at wd w (p + 9)) r))
+            (subst (λ (u : Maybe ℕ). Finds s w g ps F.four F.left u (argument_of names args t)) z (frame_finds s w g n lim c x.out ps names args F t (le_at wd w (p + 9)) r))
 
         go : (d : ℕ) → SymWithin four wd ts (leaf sp (nonterminal t)) d → Lies w p (36 ∷ (span_bytes sp ++ le wd (number ts t))) e
             → or_name sp t (argument_of names (renamed_all args) t) ≡ leaf sp (nonterminal t)
@@ -327,7 +327,7 @@ module _ (s w : List ℕ) (g : Ground) (n lim : ℕ) (c : Call) (left : ℕ) (x 
   pub one_upto : x.at + long_of g.width (get_or w x.at 0) ≤ x.out.to
   one_upto = symbol_upto s w g n lim c left x K.places K.names K.args I.four I.end I.symbol K.framed I.within I.placed
 
-  module _ (q : ℕ) (h : Found.At q ≡ parameter_at g c w x.at) (b : (j : ℕ) → Bound.Fits w8 (get_or w j 0)) (span : ℕ) (j : span ≡ le_at 8 w (x.at + 1)) where
+  module _ (q : ℕ) (h : Some q ≡ parameter_at g c w x.at) (b : (j : ℕ) → Bound.Fits w8 (get_or w j 0)) (span : ℕ) (j : span ≡ le_at 8 w (x.at + 1)) where
     pub one_argument : AnyArgument s w g n lim q span x.out
     one_argument = parameter_any s w g n lim c left x K.places K.names K.args I.four I.end I.symbol K.framed I.within I.placed q (sym h) span j b
 
@@ -335,13 +335,13 @@ module _ (s w : List ℕ) (g : Ground) (n lim : ℕ) (c : Call) (left : ℕ) (x 
     unfolding PutsIn
     one_parameter v w' U ps names args four e y F W P = parameter_put s w g n lim c left x ps names args four e y F W P q (sym h) span j b v w' U
 
-  pub one_found : (f : Found) → f ≡ parameter_at g c w x.at → (q : ℕ) → f ≡ Found.At q → Found.At q ≡ parameter_at g c w x.at
+  pub one_found : (f : Maybe ℕ) → f ≡ parameter_at g c w x.at → (q : ℕ) → f ≡ Some q → Some q ≡ parameter_at g c w x.at
   one_found f i q h = sym h ∙ i
 
-  pub one_none : (f : Found) → f ≡ parameter_at g c w x.at → f ≡ Found.Nothing → Found.Nothing ≡ parameter_at g c w x.at
+  pub one_none : (f : Maybe ℕ) → f ≡ parameter_at g c w x.at → f ≡ None → None ≡ parameter_at g c w x.at
   one_none f i h = sym h ∙ i
 
-  module _ (h : Found.Nothing ≡ parameter_at g c w x.at) (k : ℕ) (j : k ≡ inside_at g.width w x.at) (r : Copied) (w1 : List ℕ) (H : PutsHere w g lim x r w1) where
+  module _ (h : None ≡ parameter_at g c w x.at) (k : ℕ) (j : k ≡ inside_at g.width w x.at) (r : Copied) (w1 : List ℕ) (H : PutsHere w g lim x r w1) where
     pub one_opens : Opens s w g n lim c left x (record { many = k; run = r }) w1
     unfolding PutsIn
     one_opens = record {

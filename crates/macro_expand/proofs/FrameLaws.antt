@@ -20,7 +20,7 @@ use Rattle.parse_tree.specs.Working.Nodes.{node_bytes}
 use Rattle.parse_tree.specs.Working.Encode.{argument_bytes, sym_bytes}
 use Rattle.parse_tree.specs.Working.Within.{Each, Uses}
 use Rattle.parse_tree.proofs.FieldLaws.{byte_read, le-read_last}
-use Rattle.texts.specs.declared.Found.{Found}
+use Rattle.std.specs.Prelude.{Option as Maybe, Some, None}
 use Rattle.texts.specs.Table.{texts}
 use Rattle.passes.specs.Macros.{argument_of}
 use Rattle.laws.proofs.Flat.{syms_fit_lem}
@@ -160,11 +160,11 @@ pub record Answers (s w : List ℕ) (g : Ground) (ps : List ℕ) (four : Bool) (
   pub at : p ≡ g.from + from
   pub referring : Referring s w g ps four left from end (cons x nil)
 
-abbrev pub Finds : List ℕ → List ℕ → Ground → List ℕ → Bool → ℕ → Found → Option Sym → Type 0
-Finds s w g ps four left Found.Nothing none = Unit {0}
-Finds s w g ps four left Found.Nothing (some x) = ⊥
-Finds s w g ps four left (Found.At p) none = ⊥
-Finds s w g ps four left (Found.At p) (some x) = Answers s w g ps four left p x
+abbrev pub Finds : List ℕ → List ℕ → Ground → List ℕ → Bool → ℕ → Maybe ℕ → Option Sym → Type 0
+Finds s w g ps four left None none = Unit {0}
+Finds s w g ps four left None (some x) = ⊥
+Finds s w g ps four left (Some p) none = ⊥
+Finds s w g ps four left (Some p) (some x) = Answers s w g ps four left p x
 
 module _ (s w : List ℕ) (g : Ground) (places : List ℕ) (four : Bool) (left : ℕ) (four' : Bool) (t : Text) (items : g.from ≤ g.end) where
   abbrev ts : List Text
@@ -194,7 +194,7 @@ module _ (s w : List ℕ) (g : Ground) (places : List ℕ) (four : Bool) (left :
       go : (b : Bool) → same_as t p ≡ b → eqb (number ts t) (le_at wd w (a + 1)) ≡ same_as t p → skip_out wd g.end w (g.from + q) g.end 1 ≡ g.from + (q + length (sym_bytes wd ts x))
           → Referring s w g places four left q (q + length (sym_bytes wd ts x)) (cons x nil)
           → Finds s w g places four left (argument_in wd g.end w (number ts t) (length names) (a + (1 + wd)) (g.from + (q + length (sym_bytes wd ts x)))) (argument_of names xs t)
-          → Finds s w g places four left (pick (eqb (number ts t) (le_at wd w (a + 1))) (Found.At (g.from + q)) (argument_in wd g.end w (number ts t) (length names) (a + (1 + wd)) (skip_out wd g.end w (g.from + q) g.end 1)))
+          → Finds s w g places four left (pick (eqb (number ts t) (le_at wd w (a + 1))) (Some (g.from + q)) (argument_in wd g.end w (number ts t) (length names) (a + (1 + wd)) (skip_out wd g.end w (g.from + q) g.end 1)))
           (cond (same_as t p) (some x) (argument_of names xs t))
       go true e y j O f = rw (y, e) (record { from = q; end = q + length (sym_bytes wd ts x); at = refl; referring = O })
       go false e y j O f = rw (y, e, j) f

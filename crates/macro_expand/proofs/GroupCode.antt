@@ -2,7 +2,7 @@
 use mathlib.Core.Path.{◌≡◌, refl, sym, ap, ◌∙◌, subst}
 use mathlib.Core.Bool.{Bool, true, false, cond}
 use mathlib.Core.List.{List, [], ◌∷◌, ◌++◌}
-use Prim.Native.Nat.{ℕ, ◌+◌, ◌-◌, ◌≤◌, ◌<◌}
+use Prim.Native.Nat.{ℕ, ◌+◌, ◌-◌, ◌≤◌}
 use native.Mathlib.Omega.{arith}
 use mir.Syntax.{w64}
 use mir.Val.{Fits}
@@ -32,9 +32,9 @@ use Rattle.appending.specs.Pieces.{symbols_piece, item_piece, then_piece, Append
 use Rattle.appending.specs.Symbols.{Referring, SomeReferring, PutsSymbols}
 use Rattle.appending.proofs.PiecesLaws.{appends_then, appends_is}
 use Rattle.appending.proofs.SymbolsStays.{referring_stays}
-use Rattle.macro_expand.specs.declared.Expanded.{Expanded}
+use Rattle.std.specs.Prelude.{Ok, Err}
 use Rattle.macro_expand.specs.declared.begin.Begun.{Begun}
-use Rattle.macro_expand.specs.declared.norm_util.Analyzed.{Analyzed}
+use Rattle.std.specs.Prelude.{Option, Some, None}
 use Rattle.macro_expand.specs.Expand.{Popped, SomePopped, IsAny, IsGroup, head_bytes, head_piece, Begins, ExpandsTo, ExpandsExpr}
 use Rattle.macro_expand.specs.NormUtil.{SomeDirect, Analyzes}
 use Rattle.macro_expand.specs.Group.{group_text, SomeGroup, PutsGroup}
@@ -52,9 +52,9 @@ module _ (c k : ℕ) where
   unfolding group_text pick
   action_many a b = cc (eq-eqb c 0 a, ne_eqb k 1 b)
 
-  pub action_chosen : (c ≡ 0 → ⊥) → c ≡ 1 → 7 ≡ group_text c k
+  pub action_chosen : c ≡ 1 → 7 ≡ group_text c k
   unfolding group_text pick
-  action_chosen a b = cc (ne_eqb c 0 a, eq-eqb c 1 b)
+  action_chosen b = cc (ne_eqb c 0 (λ a. omega (arith, a, b)), eq-eqb c 1 b)
 
   pub action_all : (c ≡ 0 → ⊥) → (c ≡ 1 → ⊥) → 8 ≡ group_text c k
   unfolding group_text pick
@@ -97,16 +97,22 @@ module _ (wd : ℕ) (sp : Span) (key : Text) (i : ℕ) (xs : Syms) where
   unfolding action_texts
   piece_texts = one_texts sp key true (user (built_text i)) (renamed_all xs)
 
+-- ---- what analyze_expr says
+named_none : (b : Bool) (c : ℕ) → cond b None (Some c) ≡ None → b ≡ true
+named_none true c e = refl
+named_none false c e = cc
+
+named_some : (b : Bool) (c u : ℕ) → cond b None (Some c) ≡ Some u → (b ≡ false) × (u ≡ c)
+named_some true c u e = cc
+named_some false c u e = (refl, cc)
+
 -- ---- put_group
-module _ (s w : List ℕ) (g : Ground) (n lim q : ℕ) (v : Appended) (i m : ℕ) (S : SomeGroup s w g n lim q v i m) where
+module _ (s w : List ℕ) (g : Ground) (n lim q : ℕ) (v : Appended) (i m : ℕ) (S : SomeGroup s w g n lim q v m) where
   abbrev I : Inner s w g n lim q v
   I = inner s w g n lim q v S.popped
 
   pub group_any : SomePopped IsAny s w g n lim q v
   group_any = let K = S.popped in record { places = K.places; four = K.four; left = K.left; end = K.end; symbol = K.symbol; popped = K.popped; is = tt }
-
-  pub group_less : i < 9
-  group_less = S.less
 
   pub eleven_fits : Fits w64 (q + 11)
   eleven_fits = record { fits = omega (arith, group_room s w g n lim I.places I.four I.left q I.end I.span I.symbols v I.popped, I.popped.going.ground.inside, I.popped.going.ground.short) }
@@ -153,7 +159,7 @@ module _ (s w : List ℕ) (g : Ground) (n lim q : ℕ) (v : Appended) (i m : ℕ
         (ap (with_new (named_in s w g v.count)) (piece_texts g.width sp key i xs)) (piece_bytes g.width sp key i xs (named_in s w2 g c.out.count))
         (one_fits sp key true (user (built_text i)) (renamed_all xs) (lt-ltb (count (renamed_all xs)) 65536 (omega (arith, renamed_count xs, group_few s w g n lim ps four left q e sp xs v R))) ∙ group_fits s w g n lim ps four left q e sp xs v R)
 
-pub ruleset grouping = (rules, group_any, group_less, eleven_fits, group_there, group_put)
+pub ruleset grouping = (rules, group_any, eleven_fits, group_there, group_put)
 
 -- ---- expand_expr_symbol
 module _ (s w : List ℕ) (g : Ground) (n lim q : ℕ) (v : Appended) (K : SomePopped IsGroup s w g n lim q v) where
@@ -192,32 +198,31 @@ module _ (s w : List ℕ) (g : Ground) (n lim q : ℕ) (v : Appended) (K : SomeP
       behind = J.popped.going.behind;
     }
 
-    module _ (x : Analyzed) (h : Analyzes s w g (q + 11) k x) where
-      analyzed : (ps : List ℕ) (four : Bool) (left e : ℕ) (sp : Span) (xs : Syms) → Popped s w g n lim ps four left q e (over sp group xs) v → (x.named ≡ has_name xs) × (has_name xs ≡ false → x.chosen ≡ chosen xs)
+    module _ (x : Option ℕ) (h : Analyzes s w g (q + 11) k x) where
+      analyzed : (ps : List ℕ) (four : Bool) (left e : ℕ) (sp : Span) (xs : Syms) → Popped s w g n lim ps four left q e (over sp group xs) v → x ≡ cond (has_name xs) None (Some (chosen xs))
       unfolding Analyzes
       analyzed ps four left e sp xs R = h four (left - 1) e xs (many ps four left e sp xs R) (group_stand s w g n lim ps four left q e sp xs v R) R.inside
 
       -- "Group without a direct name symbol? 19"
-      pub expr_refused : x.named ≡ true → (sp : Span) → sp ≡ span_in w (g.from + q + 1) → (why : Refusal) → why ≡ refusal_over 19 sp → ExpandsExpr s w g n lim q v (Expanded.Refused why) w
+      pub expr_refused : x ≡ None → (sp : Span) → sp ≡ span_in w (g.from + q + 1) → (why : Refusal) → why ≡ refusal_over 19 sp → ExpandsExpr s w g n lim q v (Err why) w
       unfolding ExpandsExpr ExpandsTo
       expr_refused t sp₀ d why f ps four left e sp xs R =
-          let z : has_name (renamed_all xs) ≡ true = renamed_named xs ∙ sym (analyzed ps four left e sp xs R).0 ∙ t in
+          let z : has_name (renamed_all xs) ≡ true = renamed_named xs ∙ named_none (has_name xs) (chosen xs) (sym (analyzed ps four left e sp xs R) ∙ t) in
           let y : sp₀ ≡ sp = d ∙ group_span s w g n lim ps four left q e sp xs v R in
-          subst (λ (u : Outcome Nonterminal). ExpandsTo s w g n lim q v ps u (Expanded.Refused why) w) (sym (ap (λ (c : Bool). cond c (no 19 sp) (yes (made sp (print (over sp group xs)) true (simple sp (group_action (renamed_all xs)) (renamed_all xs) ∷ [])))) z))
-          (ap Expanded.Refused (f ∙ ap (refusal_over 19) y))
+          subst (λ (u : Outcome Nonterminal). ExpandsTo s w g n lim q v ps u (Err why) w) (sym (ap (λ (c : Bool). cond c (no 19 sp) (yes (made sp (print (over sp group xs)) true (simple sp (group_action (renamed_all xs)) (renamed_all xs) ∷ [])))) z))
+          (ap Err (f ∙ ap (refusal_over 19) y))
 
-      module _ (t : x.named ≡ false) (i : ℕ) (f : i ≡ group_text x.chosen k) where
-        pub expr_some : i < 9 → SomeGroup s w g n lim q v i m
-        expr_some l = record { popped = K; less = l; many = a }
+      module _ (u : ℕ) (t : x ≡ Some u) (i : ℕ) (f : i ≡ group_text u k) where
+        pub expr_some : SomeGroup s w g n lim q v m
+        expr_some = record { popped = K; many = a }
 
-        pub expr_done : (r : Appended) (w' : List ℕ) → PutsGroup s w g n lim q v i r w' → ExpandsExpr s w g n lim q v (Expanded.Is r) w'
+        pub expr_done : (r : Appended) (w' : List ℕ) → PutsGroup s w g n lim q v i r w' → ExpandsExpr s w g n lim q v (Ok r) w'
         unfolding ExpandsExpr ExpandsTo PutsGroup
         expr_done r w' P ps four left e sp xs R =
-            let (c, d) = analyzed ps four left e sp xs R in
-            let o : has_name xs ≡ false = sym c ∙ t in
+            let (o, d) = named_some (has_name xs) (chosen xs) u (sym (analyzed ps four left e sp xs R) ∙ t) in
             let z : has_name (renamed_all xs) ≡ false = renamed_named xs ∙ o in
-            let y : group_action (renamed_all xs) ≡ user (built_text i) = group_action_lem xs ∙ ap (λ (j : ℕ). user (built_text j)) (sym (f ∙ ap (λ (j : ℕ). group_text j k) (d o) ∙ ap (group_text (chosen xs)) (sym (many ps four left e sp xs R)))) in
-            subst (λ (u : Outcome Nonterminal). ExpandsTo s w g n lim q v ps u (Expanded.Is r) w')
+            let y : group_action (renamed_all xs) ≡ user (built_text i) = group_action_lem xs ∙ ap (λ (j : ℕ). user (built_text j)) (sym (f ∙ ap (λ (j : ℕ). group_text j k) d ∙ ap (group_text (chosen xs)) (sym (many ps four left e sp xs R)))) in
+            subst (λ (u : Outcome Nonterminal). ExpandsTo s w g n lim q v ps u (Ok r) w')
             (sym (ap (λ (b : Bool). cond b (no 19 sp) (yes (made sp (print (over sp group xs)) true (simple sp (group_action (renamed_all xs)) (renamed_all xs) ∷ [])))) z
             ∙ ap (λ (act : _). yes (made sp (print (over sp group xs)) true (simple sp act (renamed_all xs) ∷ []))) y))
             (r, refl, P ps four left e sp xs R)

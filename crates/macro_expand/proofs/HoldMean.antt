@@ -25,8 +25,8 @@ use Rattle.replacing.specs.Trees.{renamed_all}
 use Rattle.expander.specs.declared.Ground.{Ground}
 use Rattle.appending.specs.declared.Appended.{Appended}
 use Rattle.macro_expand.specs.declared.arguments.Call.{Call}
-use Rattle.macro_expand.specs.declared.arguments.Judged.{Judged}
-use Rattle.macro_expand.specs.declared.arguments.Upheld.{Upheld}
+use Rattle.std.specs.Prelude.{Option, Some, None}
+use Rattle.std.specs.Prelude.{Result, Ok, Err}
 use Rattle.macro_expand.specs.Arguments.{holds_at, hold_from}
 use Rattle.macro_expand.specs.PutIn.{Framed}
 use Rattle.macro_expand.specs.Alternatives.{held}
@@ -44,9 +44,9 @@ module _ (s w : List ℕ) (g : Ground) (n lim : ℕ) (c : Call) (v : Appended) (
   xs = renamed_all args
 
   -- k were counted before
-  abbrev pub Tells : List Alternative → ℕ → Upheld → Type 0
-  Tells as' k (Upheld.Many m) = (expand_alternatives sp names (renamed_all args) as' ≡ yes (held sp names (renamed_all args) as')) × (m ≡ k + length (held sp names (renamed_all args) as'))
-  Tells as' k (Upheld.Refused q) = (expand_alternatives sp names (renamed_all args) as' ≡ no 17 (span_in w (q + 1))) × (q ≤ c.end)
+  abbrev pub Tells : List Alternative → ℕ → Result ℕ ℕ → Type 0
+  Tells as' k (Ok m) = (expand_alternatives sp names (renamed_all args) as' ≡ yes (held sp names (renamed_all args) as')) × (m ≡ k + length (held sp names (renamed_all args) as'))
+  Tells as' k (Err q) = (expand_alternatives sp names (renamed_all args) as' ≡ no 17 (span_in w (q + 1))) × (q ≤ c.end)
 
   -- the first of them
   module _ (a : Alternative) (rest : List Alternative) (k p : ℕ) where
@@ -60,25 +60,25 @@ module _ (s w : List ℕ) (g : Ground) (n lim : ℕ) (c : Call) (v : Appended) (
         let f : expand_alternatives sp names xs (a ∷ rest) ≡ yes (cond b (expand_alternative sp names xs a ∷ held sp names xs rest) (held sp names xs rest)) = rw (e, x) refl in
         f ∙ ap (λ (l : List Alternative). yes l) (sym (held-is b e))
 
-    go_is : (b : Bool) → evaluate_condition names xs a.condition ≡ yes b → (u : Upheld) → Tells rest (pick b (k + 1) k) u → Tells (a ∷ rest) k u
+    go_is : (b : Bool) → evaluate_condition names xs a.condition ≡ yes b → (u : Result ℕ ℕ) → Tells rest (pick b (k + 1) k) u → Tells (a ∷ rest) k u
     unfolding expand_alternatives pick
-    go_is true e (Upheld.Many m) (x, y) = (all_is true e x, omega (arith, ap (length {A = Alternative}) (held-is true e)))
-    go_is false e (Upheld.Many m) (x, y) = (all_is false e x, omega (arith, ap (length {A = Alternative}) (held-is false e)))
-    go_is b e (Upheld.Refused q) (x, y) = (rw (e, x) refl, y)
+    go_is true e (Ok m) (x, y) = (all_is true e x, omega (arith, ap (length {A = Alternative}) (held-is true e)))
+    go_is false e (Ok m) (x, y) = (all_is false e x, omega (arith, ap (length {A = Alternative}) (held-is false e)))
+    go_is b e (Err q) (x, y) = (rw (e, x) refl, y)
 
-    go_refused : (q : ℕ) → evaluate_condition names xs a.condition ≡ no 17 (span_in w (q + 1)) → q ≤ c.end → Tells (a ∷ rest) k (Upheld.Refused q)
+    go_refused : (q : ℕ) → evaluate_condition names xs a.condition ≡ no 17 (span_in w (q + 1)) → q ≤ c.end → Tells (a ∷ rest) k (Err q)
     unfolding expand_alternatives
     go_refused q e l = (rw e refl, l)
 
   turn : (i p k e : ℕ) → leb c.end p ≡ false → alternative_end wd w p c.end ≡ e
       → hold_from g c w (suc i) p k ≡ elim (holds_at g c w p) [
-        | Judged.Is b ↦ hold_from g c w i e (pick b (k + 1) k)
-        | Judged.Refused ↦ Upheld.Refused (conditions_from wd w p)
+        | Some b ↦ hold_from g c w i e (pick b (k + 1) k)
+        | None ↦ Err (conditions_from wd w p)
       ]
   unfolding hold_from pick
   turn i p k e z y =
-      let X : ℕ → Upheld = λ j. elim (holds_at g c w p) [ Judged.Is b ↦ hold_from g c w i j (pick b (k + 1) k) | Judged.Refused ↦ Upheld.Refused (conditions_from wd w p) ] in
-      ap (λ (b : Bool). pick b (Upheld.Many k) (X (alternative_end wd w p c.end))) z ∙ ap X y
+      let X : ℕ → Result ℕ ℕ = λ j. elim (holds_at g c w p) [ Some b ↦ hold_from g c w i j (pick b (k + 1) k) | None ↦ Err (conditions_from wd w p) ] in
+      ap (λ (b : Bool). pick b (Ok k) (X (alternative_end wd w p c.end))) z ∙ ap X y
 
   -- theorem: of alternatives that stand one behind another
   pub hold_means : (as' : List Alternative) (p e k : ℕ) (four : Bool) → Each (AlternativeWithin four wd ts) as' → Lies w p (bytes_of_each (alternative_bytes wd ts) as') e → e ≤ c.end
@@ -96,14 +96,14 @@ module _ (s w : List ℕ) (g : Ground) (n lim : ℕ) (c : Call) (v : Appended) (
       condition_room : (f : Bool) → Parted f wd ts w p (p + length (alternative_bytes wd ts a)) a → conditions_from wd w p ≤ p + length (alternative_bytes wd ts a)
       condition_room f D = omega (arith, D.condition.end)
 
-      go : (j : Judged) → evaluate_condition names xs a.condition ≡ outcome_of j (span_in w (conditions_from wd w p + 1)) → conditions_from wd w p ≤ c.end
+      go : (j : Option Bool) → evaluate_condition names xs a.condition ≡ outcome_of j (span_in w (conditions_from wd w p + 1)) → conditions_from wd w p ≤ c.end
           → ((i : ℕ) → Tells rest i (hold_from g c w (length rest) (p + length (alternative_bytes wd ts a)) i))
           → Tells (a ∷ rest) k (elim j [
-            | Judged.Is b ↦ hold_from g c w (length rest) (p + length (alternative_bytes wd ts a)) (pick b (k + 1) k)
-            | Judged.Refused ↦ Upheld.Refused (conditions_from wd w p)
+            | Some b ↦ hold_from g c w (length rest) (p + length (alternative_bytes wd ts a)) (pick b (k + 1) k)
+            | None ↦ Err (conditions_from wd w p)
           ])
-      go (Judged.Is b) m o f = go_is a rest k p b m (hold_from g c w (length rest) (p + length (alternative_bytes wd ts a)) (pick b (k + 1) k)) (f (pick b (k + 1) k))
-      go Judged.Refused m o f = go_refused a rest k p (conditions_from wd w p) m o
+      go (Some b) m o f = go_is a rest k p b m (hold_from g c w (length rest) (p + length (alternative_bytes wd ts a)) (pick b (k + 1) k)) (f (pick b (k + 1) k))
+      go None m o f = go_refused a rest k p (conditions_from wd w p) m o
 
 -- those that hold are no more than there are
 pub held-few : (sp : Span) (names : List Text) (args : Syms) (as' : List Alternative) → length (held sp names args as') ≤ length as'

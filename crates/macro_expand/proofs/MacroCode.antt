@@ -36,8 +36,7 @@ use Rattle.appending.specs.Commands.{item_head}
 use Rattle.appending.specs.Pieces.{then_piece, item_piece, Steady, Appends}
 use Rattle.appending.proofs.PiecesLaws.{appends_then, appends_is}
 use Rattle.appending.proofs.SymbolsStays.{texts-stay}
-use Rattle.macro_expand.specs.declared.Expanded.{Expanded}
-use Rattle.macro_expand.specs.declared.arguments.Upheld.{Upheld}
+use Rattle.std.specs.Prelude.{Result, Ok, Err}
 use Rattle.macro_expand.specs.declared.call.Macro.{Macro}
 use Rattle.macro_expand.specs.declared.call.Started.{Started}
 use Rattle.macro_expand.specs.Arguments.{ReadableCall, hold_from}
@@ -89,7 +88,7 @@ module _ (s w : List ℕ) (g : Ground) (n lim q d : ℕ) (v : Appended) (ps : Li
     call_readable = frame_readable s w g n lim x.call v ps D.args xs F
 
     -- what was counted
-    call_tells : (u : Upheld) → u ≡ hold_from g x.call w x.many x.from 0 → Tells s w g n lim x.call v ps D.args xs F sp D.alternatives 0 u
+    call_tells : (u : Result ℕ ℕ) → u ≡ hold_from g x.call w x.many x.from 0 → Tells s w g n lim x.call v ps D.args xs F sp D.alternatives 0 u
     call_tells u i =
         subst (Tells s w g n lim x.call v ps D.args xs F sp D.alternatives 0) (sym (i ∙ ap (λ (j : ℕ). hold_from g x.call w j x.from 0) (sym many)))
         (hold_means s w g n lim x.call v ps D.args xs F sp D.alternatives x.from end 0 four' C.defines.within.alternatives P.lies upto)
@@ -215,12 +214,12 @@ module _ (s w : List ℕ) (g : Ground) (n lim q d : ℕ) (x : Macro) (m : ℕ) (
 pub ruleset putting_macro = (rules, started-frame, started-some, started-carry)
 
 -- ---- expand_macro_symbol
-module _ (s w : List ℕ) (g : Ground) (n lim q d : ℕ) (v : Appended) (K : SomeCall s w g n lim q d v) (x : Macro) (R : ReadsCall w g q d x) (u : Upheld) (i : u ≡ hold_from g x.call w x.many x.from 0) where
+module _ (s w : List ℕ) (g : Ground) (n lim q d : ℕ) (v : Appended) (K : SomeCall s w g n lim q d v) (x : Macro) (R : ReadsCall w g q d x) (u : Result ℕ ℕ) (i : u ≡ hold_from g x.call w x.many x.from 0) where
   tells : Tells s w g n lim x.call v K.places K.definition.args K.arguments (F s w g n lim q d v K.places K.four K.left K.end K.span K.name K.arguments K.four' K.behind K.definition K.calls x R) K.span K.definition.alternatives 0 u
   tells = call_tells s w g n lim q d v K.places K.four K.left K.end K.span K.name K.arguments K.four' K.behind K.definition K.calls x R u i
 
   -- ---- refused
-  module _ (p : ℕ) (h : u ≡ Upheld.Refused p) where
+  module _ (p : ℕ) (h : u ≡ Err p) where
     pub expand_room : p + 1 + 8 ≤ length w
     expand_room =
         let z = subst (Tells s w g n lim x.call v K.places K.definition.args K.arguments (F s w g n lim q d v K.places K.four K.left K.end K.span K.name K.arguments K.four' K.behind K.definition K.calls x R) K.span K.definition.alternatives 0) h tells in
@@ -229,25 +228,25 @@ module _ (s w : List ℕ) (g : Ground) (n lim q d : ℕ) (v : Appended) (K : Som
     pub expand_add : length w * 1 < 2 ^ 63 → Bound.Fits w64 (p + 1)
     expand_add l = record { fits = omega (arith, expand_room) }
 
-    pub expand_refused : (f : Span) → f ≡ span_in w (p + 1) → (o : Refusal) → o ≡ refusal_over 17 f → ExpandsMacro s w g n lim q d v (Expanded.Refused o) w
+    pub expand_refused : (f : Span) → f ≡ span_in w (p + 1) → (o : Refusal) → o ≡ refusal_over 17 f → ExpandsMacro s w g n lim q d v (Err o) w
     unfolding ExpandsMacro ExpandsTo
     expand_refused f j o k ps four left e sp t xs four' end D C =
         let z = subst (Tells s w g n lim x.call v ps D.args xs (F s w g n lim q d v ps four left e sp t xs four' end D C x R) sp D.alternatives 0) h (call_tells s w g n lim q d v ps four left e sp t xs four' end D C x R u i) in
-        subst (λ (a : Outcome (List Alternative)). ExpandsTo s w g n lim q v ps (after a (λ as'. yes (record { span = sp; name = print (over sp (macro t) xs); inline = D.inline; public = D.public; args = []; alternatives = as' }))) (Expanded.Refused o) w) (sym z.0)
-        (ap (λ (b : Refusal). Expanded.Refused b) (k ∙ ap (refusal_over 17) j))
+        subst (λ (a : Outcome (List Alternative)). ExpandsTo s w g n lim q v ps (after a (λ as'. yes (record { span = sp; name = print (over sp (macro t) xs); inline = D.inline; public = D.public; args = []; alternatives = as' }))) (Err o) w) (sym z.0)
+        (ap (λ (b : Refusal). Err b) (k ∙ ap (refusal_over 17) j))
 
   -- ---- appended
-  module _ (m : ℕ) (h : u ≡ Upheld.Many m) where
+  module _ (m : ℕ) (h : u ≡ Ok m) where
     pub expand_few : m < 65536
     expand_few =
         let z = subst (Tells s w g n lim x.call v K.places K.definition.args K.arguments (F s w g n lim q d v K.places K.four K.left K.end K.span K.name K.arguments K.four' K.behind K.definition K.calls x R) K.span K.definition.alternatives 0) h tells in
         omega (arith, z.1, held-few K.span K.definition.args (renamed_all K.arguments) K.definition.alternatives, K.calls.defines.within.fewer)
 
-    pub expand_is : (r : Appended) (w' : List ℕ) → PutsMacro s w g n lim q d m v r w' → ExpandsMacro s w g n lim q d v (Expanded.Is r) w'
+    pub expand_is : (r : Appended) (w' : List ℕ) → PutsMacro s w g n lim q d m v r w' → ExpandsMacro s w g n lim q d v (Ok r) w'
     unfolding ExpandsMacro ExpandsTo PutsMacro
     expand_is r w' U ps four left e sp t xs four' end D C =
         let z = subst (Tells s w g n lim x.call v ps D.args xs (F s w g n lim q d v ps four left e sp t xs four' end D C x R) sp D.alternatives 0) h (call_tells s w g n lim q d v ps four left e sp t xs four' end D C x R u i) in
-        subst (λ (a : Outcome (List Alternative)). ExpandsTo s w g n lim q v ps (after a (λ as'. yes (record { span = sp; name = print (over sp (macro t) xs); inline = D.inline; public = D.public; args = []; alternatives = as' }))) (Expanded.Is r) w') (sym z.0)
+        subst (λ (a : Outcome (List Alternative)). ExpandsTo s w g n lim q v ps (after a (λ as'. yes (record { span = sp; name = print (over sp (macro t) xs); inline = D.inline; public = D.public; args = []; alternatives = as' }))) (Ok r) w') (sym z.0)
         (r, refl, U ps four left e sp t xs four' end D C (omega (arith, z.1)))
 
 pub ruleset expanding_macro = (rules, macro_narrow, macro_wide, macro_call, macro_definition, macro_readable, macro_few, expand_room, expand_add, expand_refused, expand_few, expand_is)

@@ -33,7 +33,8 @@ use Rattle.expander.specs.declared.Ground.{Ground}
 use Rattle.expander.specs.Ground.{size_in, top_of, key_at, list_place, symbol_in}
 use Rattle.expander.specs.Replace.{StandsAt}
 use Rattle.appending.specs.declared.Appended.{Appended}
-use Rattle.macro_expand.specs.declared.Expanded.{Expanded}
+use Rattle.std.specs.Prelude.{Result, Ok}
+use Rattle.parse_tree.specs.declared.refusal.Refusal.{Refusal}
 use Rattle.macro_expand.specs.Expand.{Popped, SomePopped, ExpandsTo, ExpandsLook, ExpandsRepeat, ExpandsExpr, IsLook, IsRepeat, IsGroup, IsMacro}
 use Rattle.macro_expand.specs.Call.{Defines, Calls, SomeCall, ExpandsMacro}
 use Rattle.macro_expand.specs.Drain.{item_of, CallsMacro, OnPile, Pile, SomePile, SomeOther, Definition, SomeDefinition, IsDefinition, ExpandsPushed}
@@ -182,7 +183,7 @@ module _ (s w : List ℕ) (g : Ground) (n lim : ℕ) (t : Grammar) (v : Appended
       here = code_is P.places P.four P.tree P.pile
 
       -- what is told of the place is told of the j-th
-      told : (ps : List ℕ) (G : Tree) (u : Outcome Nonterminal) (r : Expanded) (w' : List ℕ) → expand_symbol G (inner (symbol_in s w g (key_at w g j))) ≡ u → ExpandsTo s w g n lim q v ps u r w'
+      told : (ps : List ℕ) (G : Tree) (u : Outcome Nonterminal) (r : Result Appended Refusal) (w' : List ℕ) → expand_symbol G (inner (symbol_in s w g (key_at w g j))) ≡ u → ExpandsTo s w g n lim q v ps u r w'
           → ExpandsTo s w g n lim (key_at w g j) v ps (expand_symbol G (inner (symbol_in s w g (key_at w g j)))) r w'
       told ps G u r w' e h =
           subst (λ (a : ℕ). ExpandsTo s w g n lim a v ps (expand_symbol G (inner (symbol_in s w g (key_at w g j)))) r w') key_is
@@ -220,7 +221,7 @@ module _ (s w : List ℕ) (g : Ground) (n lim : ℕ) (t : Grammar) (v : Appended
                 calls = calling s w g n lim t v j l P.places P.four P.tree P.pile sp m xs y;
               }))
 
-          pub macro_told : (r : Expanded) (w' : List ℕ) → ExpandsMacro s w g n lim q d v r w' → ExpandsPushed s w g n lim t j v r w'
+          pub macro_told : (r : Result Appended Refusal) (w' : List ℕ) → ExpandsMacro s w g n lim q d v r w' → ExpandsPushed s w g n lim t j v r w'
           unfolding ExpandsMacro ExpandsPushed
           macro_told r w' h ps four G p =
               let (sp, m, xs, y) = is_macro_lem in
@@ -246,11 +247,11 @@ module _ (s w : List ℕ) (g : Ground) (n lim : ℕ) (t : Grammar) (v : Appended
         pub repeat_asked : SomePopped IsRepeat s w g n lim q v
         repeat_asked = some_popped IsRepeat is_repeat
 
-        pub repeat_told : (r : Appended) (w' : List ℕ) → ExpandsRepeat s w g n lim q v r w' → ExpandsPushed s w g n lim t j v (Expanded.Is r) w'
+        pub repeat_told : (r : Appended) (w' : List ℕ) → ExpandsRepeat s w g n lim q v r w' → ExpandsPushed s w g n lim t j v (Ok r) w'
         unfolding ExpandsRepeat ExpandsPushed ExpandsTo
         repeat_told r w' h ps four G p =
             let (sp, o, x, e) = is_repeat in
-            told ps G (yes (expand_repeat_symbol sp (print (around sp (repeat o) x)) o (renamed x))) (Expanded.Is r) w' (ap (λ (a : Sym). expand_symbol G (inner a)) e ∙ repeat_item G sp o x)
+            told ps G (yes (expand_repeat_symbol sp (print (around sp (repeat o) x)) o (renamed x))) (Ok r) w' (ap (λ (a : Sym). expand_symbol G (inner a)) e ∙ repeat_item G sp o x)
             (r, refl, h ps false 64 (p.piled j l).end sp o x (popped_as ps four G p (around sp (repeat o) x) e))
 
       -- ---- a group
@@ -261,7 +262,7 @@ module _ (s w : List ℕ) (g : Ground) (n lim : ℕ) (t : Grammar) (v : Appended
         pub group_asked : SomePopped IsGroup s w g n lim q v
         group_asked = some_popped IsGroup is_group
 
-        pub group_told : (r : Expanded) (w' : List ℕ) → ExpandsExpr s w g n lim q v r w' → ExpandsPushed s w g n lim t j v r w'
+        pub group_told : (r : Result Appended Refusal) (w' : List ℕ) → ExpandsExpr s w g n lim q v r w' → ExpandsPushed s w g n lim t j v r w'
         unfolding ExpandsExpr ExpandsPushed
         group_told r w' h ps four G p =
             let (sp, xs, e) = is_group in
@@ -276,11 +277,11 @@ module _ (s w : List ℕ) (g : Ground) (n lim : ℕ) (t : Grammar) (v : Appended
         pub look_asked : SomePopped IsLook s w g n lim q v
         look_asked = some_popped IsLook is_look
 
-        pub look_told : (r : Appended) (w' : List ℕ) → ExpandsLook s w g n lim q v r w' → ExpandsPushed s w g n lim t j v (Expanded.Is r) w'
+        pub look_told : (r : Appended) (w' : List ℕ) → ExpandsLook s w g n lim q v r w' → ExpandsPushed s w g n lim t j v (Ok r) w'
         unfolding ExpandsLook ExpandsPushed ExpandsTo
         look_told r w' h ps four G p =
             let (sp, k, e) = is_look in
-            told ps G (yes (expand_lookaround_symbol sp (print (symbol_of (looking sp k))) k)) (Expanded.Is r) w' (ap (λ (x : Sym). expand_symbol G (inner x)) e ∙ look_item G sp k)
+            told ps G (yes (expand_lookaround_symbol sp (print (symbol_of (looking sp k))) k)) (Ok r) w' (ap (λ (x : Sym). expand_symbol G (inner x)) e ∙ look_item G sp k)
             (r, refl, h ps false 64 (p.piled j l).end sp k (popped_as ps four G p (symbol_of (looking sp k)) e))
 
 pub other_asked : (s w : List ℕ) (g : Ground) (n lim : ℕ) (t : Grammar) (v : Appended) (j : ℕ) → SomePile s w g n lim t v → j < n → (q : ℕ) → q ≡ mark_at w g.keys j → (c : ℕ) → c ≡ get_or w (g.from + q) 0
@@ -299,19 +300,19 @@ module _ (s w : List ℕ) (g : Ground) (n lim : ℕ) (t : Grammar) (v : Appended
   pub other_repeat : c ≡ 38 → SomePopped IsRepeat s w g n lim q v
   other_repeat z = repeat_asked s w g n lim t v j h.pile h.less q marked c h.code z
 
-  pub other_repeat_told : c ≡ 38 → (r : Appended) (w' : List ℕ) → ExpandsRepeat s w g n lim q v r w' → ExpandsPushed s w g n lim t j v (Expanded.Is r) w'
+  pub other_repeat_told : c ≡ 38 → (r : Appended) (w' : List ℕ) → ExpandsRepeat s w g n lim q v r w' → ExpandsPushed s w g n lim t j v (Ok r) w'
   other_repeat_told z r w' k = repeat_told s w g n lim t v j h.pile h.less q marked c h.code z r w' k
 
   pub other_group : c ≡ 41 → SomePopped IsGroup s w g n lim q v
   other_group z = group_asked s w g n lim t v j h.pile h.less q marked c h.code z
 
-  pub other_group_told : c ≡ 41 → (r : Expanded) (w' : List ℕ) → ExpandsExpr s w g n lim q v r w' → ExpandsPushed s w g n lim t j v r w'
+  pub other_group_told : c ≡ 41 → (r : Result Appended Refusal) (w' : List ℕ) → ExpandsExpr s w g n lim q v r w' → ExpandsPushed s w g n lim t j v r w'
   other_group_told z r w' k = group_told s w g n lim t v j h.pile h.less q marked c h.code z r w' k
 
   pub other_look : (c ≡ 38 → ⊥) → (c ≡ 41 → ⊥) → SomePopped IsLook s w g n lim q v
   other_look b d = look_asked s w g n lim t v j h.pile h.less q marked c h.code h.other b d
 
-  pub other_look_told : (c ≡ 38 → ⊥) → (c ≡ 41 → ⊥) → (r : Appended) (w' : List ℕ) → ExpandsLook s w g n lim q v r w' → ExpandsPushed s w g n lim t j v (Expanded.Is r) w'
+  pub other_look_told : (c ≡ 38 → ⊥) → (c ≡ 41 → ⊥) → (r : Appended) (w' : List ℕ) → ExpandsLook s w g n lim q v r w' → ExpandsPushed s w g n lim t j v (Ok r) w'
   other_look_told b d r w' k = look_told s w g n lim t v j h.pile h.less q marked c h.code h.other b d r w' k
 
 pub ruleset others = (rules, other_repeat, other_repeat_told, other_group, other_group_told, other_look, other_look_told)

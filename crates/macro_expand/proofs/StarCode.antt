@@ -2,22 +2,18 @@
 use mathlib.Core.Path.{◌≡◌, refl, sym, ap, ◌∙◌, subst}
 use mathlib.Core.Bool.{Bool, true, false, ◌||◌, not}
 use mathlib.Core.List.{List, ◌++◌}
-use Prim.Native.Nat.{ℕ, zero, suc, ◌+◌, ◌-◌, ◌%◌, ◌≤◌, ◌<◌}
+use Prim.Native.Nat.{ℕ, ◌+◌, ◌-◌, ◌%◌, ◌≤◌}
 use native.Mathlib.Omega.{arith}
 use mir.Syntax.{w8}
 use mir.Val as Bound
 use borrow.Author.Rules.{rules}
-use borrow.Author.Tests.{le-leb, lt-leb, lt-ltb, le-ltb}
-use lib.Dec.{leb, ltb}
 use lib.ListN.{length, get_or}
-use Rattle.octets.specs.Working.Choice.{pick}
 use Rattle.octets.specs.Plain.Numbers.{le_at, le}
 use Rattle.parse_tree.specs.Plain.Tree.{star, repeat, around, nil, cons, count, item}
 use Rattle.parse_tree.specs.Plain.Display.{print}
 use Rattle.parse_tree.specs.Working.Nodes.{span_bytes}
 use Rattle.passes.specs.Macros.{expand_repeat_symbol}
 use Rattle.passes.specs.Sizes.{sym_fits}
-use Rattle.resolve.specs.Commands.{long_of}
 use Rattle.precedence.specs.Write.{Puts}
 use Rattle.precedence.proofs.WriteLaws.{puts_append}
 use Rattle.replacing.specs.Trees.{renamed}
@@ -36,55 +32,15 @@ use Rattle.appending.proofs.SymbolsStays.{referring_stays}
 use Rattle.macro_expand.specs.declared.begin.Begun.{Begun}
 use Rattle.macro_expand.specs.declared.star.Starred.{Starred}
 use Rattle.macro_expand.specs.Expand.{head_piece, SomePopped, IsRepeat, Begins}
-use Rattle.macro_expand.specs.Repeat.{ExpandsAs, by_number, PutsBy, nested_at, star_head, star_piece, PutsStar, BeginsStar, ReadsStar}
+use Rattle.macro_expand.specs.Repeat.{ExpandsAs, by_number, PutsBy, star_head, star_piece, PutsStar, BeginsStar, ReadsStar}
 use Rattle.macro_expand.proofs.PoppedLaws.{popped_span, popped_room}
 use Rattle.macro_expand.proofs.ItemPieces.{low_bytes, steady_head}
 use Rattle.macro_expand.proofs.RepeatTrees.{repeat_inner, repeat_referring}
 use Rattle.macro_expand.proofs.RepeatCode.{inside-fits, popped_any, by_ground, by_built, by_inside, put_by, begun_there}
 use Rattle.macro_expand.proofs.PushCode.{rest_appending}
-use Rattle.macro_expand.proofs.StarTrees.{steady_number, star_bytes, star_texts, star_fits, nested-means}
-
--- ---- too_deep: k are left, what is asked at p is asked of the whole
-module _ (w : List ℕ) (wd e k p : ℕ) (b : Bool) (I : nested_at wd e w k p ≡ b) where
-  pub deep_end : k ≤ 0 → true ≡ b
-  unfolding nested_at
-  deep_end h = go k h I
-    where
-      go : (j : ℕ) → j ≤ 0 → nested_at wd e w j p ≡ b → true ≡ b
-      go zero l i = i
-      go (suc j) l i = absurd (omega arith)
-
-  module _ (l : 0 < k) where
-    step : nested_at wd e w k p ≡ pick (leb e p) false (pick (ltb (get_or w p 0) 39) false (pick (ltb 40 (get_or w p 0)) false (nested_at wd e w (k - 1) (p + long_of wd (get_or w p 0)))))
-    unfolding nested_at
-    step = go k l
-      where
-        go : (j : ℕ) → 0 < j → nested_at wd e w j p ≡ pick (leb e p) false (pick (ltb (get_or w p 0) 39) false (pick (ltb 40 (get_or w p 0)) false (nested_at wd e w (j - 1) (p + long_of wd (get_or w p 0)))))
-        go zero i = absurd (omega arith)
-        go (suc j) i = let z : suc j - 1 ≡ j = omega arith in rw z refl
-
-    pub deep_over : e ≤ p → false ≡ b
-    unfolding pick
-    deep_over h = cc (step, I, le-leb e p h)
-
-    module _ (h : p < e) where
-      pub deep_low : (c : ℕ) → c ≡ get_or w p 0 → c < 39 → false ≡ b
-      unfolding pick
-      deep_low c z i = cc (step, I, lt-leb e p h, lt-ltb c 39 i, z)
-
-      pub deep_high : (c : ℕ) → c ≡ get_or w p 0 → 39 ≤ c → 40 < c → false ≡ b
-      unfolding pick
-      deep_high c z i j = cc (step, I, lt-leb e p h, le-ltb c 39 i, lt-ltb 40 c j, z)
-
-      pub deep_next : (c : ℕ) → c ≡ get_or w p 0 → 39 ≤ c → c ≤ 40 → (m : ℕ) → m ≡ long_of wd c → nested_at wd e w (k - 1) (p + m) ≡ b
-      unfolding pick
-      deep_next c z i j m n =
-          ap (λ (d : ℕ). nested_at wd e w (k - 1) (p + d)) (n ∙ ap (long_of wd) z) ∙ go (ltb (get_or w p 0) 39) (ap (λ (d : ℕ). ltb d 39) (sym z) ∙ le-ltb c 39 i) (ltb 40 (get_or w p 0)) (ap (ltb 40) (sym z) ∙ le-ltb 40 c j)
-        where
-          go : (x : Bool) → ltb (get_or w p 0) 39 ≡ false → (y : Bool) → ltb 40 (get_or w p 0) ≡ false → nested_at wd e w (k - 1) (p + long_of wd (get_or w p 0)) ≡ b
-          go x f y o = cc (step, I, lt-leb e p h, f, o)
-
-pub ruleset deepening = (rules, deep_end, deep_over, deep_low, deep_high, deep_next)
+use Rattle.macro_expand.proofs.StarTrees.{steady_number, star_bytes, star_texts, star_fits}
+use Rattle.macro_expand.proofs.PutInArgument.{fits_means}
+use Rattle.macro_expand.specs.PutIn.{fits_at}
 
 -- ---- put_star
 pub star_put : (w w1 w2 w3 : List ℕ) (lim to wd span k a b r : ℕ) → Puts w lim to (alternative_head wd span 1 k 1) a w1 → Puts w1 lim a (name_head wd span k) b w2 → Puts w2 lim b (plus_head span) r w3
@@ -143,10 +99,16 @@ module _ (s w : List ℕ) (g : Ground) (n lim p span : ℕ) (v r : Appended) (w1
       subst (λ (u : Bool). Appends s g n lim ps w v (star_piece g.width span x deep) (record { to = c.out.to; count = c.out.count; deep = u }) w2) (not-not c.out.deep deep ∙ sym z)
       (appends_then s g n lim ps w v (then_piece D X) c.out w2 (nested (not deep)) (record { to = c.out.to; count = c.out.count; deep = c.out.deep || not (not deep) }) w2 st h both k)
 
-pub ruleset star_resting = (rules, rest_appending, star_there, star_rest_done)
+pub or_yes : (a b : Bool) → a ≡ true → true ≡ a || b
+or_yes a b e = rw e refl
+
+pub or_no : (a b : Bool) → a ≡ false → b ≡ a || b
+or_no a b e = rw e refl
+
+pub ruleset star_resting = (or_yes, or_no, rules, rest_appending, star_there, star_rest_done)
 
 -- ---- read_star
-pub starred_done : (w : List ℕ) (g : Ground) (q z : ℕ) (deep : Bool) → z ≡ le_at 8 w (g.from + q + 1) → deep ≡ nested_at g.width g.end w 62 (g.from + (q + 10)) → ((j : ℕ) → Bound.Fits w8 (get_or w j 0))
+pub starred_done : (w : List ℕ) (g : Ground) (q z : ℕ) (deep : Bool) → z ≡ le_at 8 w (g.from + q + 1) → deep ≡ not (fits_at g.width g.end w 62 (g.from + (q + 10))) → ((j : ℕ) → Bound.Fits w8 (get_or w j 0))
     → ReadsStar w g q (record { span = z; deep = deep })
 starred_done w g q z deep d t b = record { bytes = λ j. (b j).fits; span_is = d; deep_is = t }
 
@@ -166,8 +128,8 @@ module _ (s w : List ℕ) (g : Ground) (n lim q : ℕ) (v : Appended) (K : SomeP
   pub star_wide : g.width ≤ 3
   star_wide = K.popped.going.ground.wide
 
-  pub star_end : g.end ≤ length w
-  star_end = K.popped.going.ground.inside
+  pub star_end : g.end + 16 ≤ length w
+  star_end = K.popped.going.behind
 
   pub star_place : g.from + q + 10 ≤ length w
   star_place = omega (arith, popped_room s w g n lim K.places K.four K.left q K.end K.symbol v K.popped, K.popped.going.behind)
@@ -185,10 +147,10 @@ star_done s w g n lim q v x w1 B u r w2 P S ps four left e sp o y R =
     let there = referring_stays s g n lim ps w v R.going H x.out w1 h four (left - 1) (q + 10) e (cons y nil) (repeat_referring s w g n lim ps four left q e sp o y v R) in
     let f = P ps four (left - 1) e y h.going there in
     let a = appends_then s g n lim ps w v H x.out w1 (star_piece g.width z y deep) r w2 (steady_head g.width sp (print (around sp (repeat o) y)) 1 2 (built_text 0) 0) R.going h f in
-    let i = nested-means s w g.m g.width four g.end 62 (left - 1) (g.from + (q + 10)) (g.from + e) y (repeat_inner s w g n lim ps four left q e sp o y v R) (omega (arith, R.inside, R.going.ground.ordered)) in
+    let i = fits_means s w g.m g.width four g.end y (left - 1) (g.from + (q + 10)) (g.from + e) 62 (repeat_inner s w g n lim ps four left q e sp o y v R) (omega (arith, R.inside, R.going.ground.ordered)) in
     appends_is s g n lim ps w v (then_piece H (star_piece g.width z y deep)) r w2 a (item_piece g.width (item (expand_repeat_symbol sp key star (renamed y))))
     (star_texts g.width sp key y (named_in s w g v.count) z deep) (star_bytes g.width sp key y (named_in s w2 g r.count) z deep k)
-    (star_fits g.width sp key y z deep (flip u.deep (sym_fits (renamed y) 62) (S.deep_is ∙ i)))
+    (star_fits g.width sp key y z deep (flip u.deep (sym_fits (renamed y) 62) (S.deep_is ∙ ap not i)))
   where
     flip : (d c : Bool) → d ≡ not c → not d ≡ c
     flip d true h = ap not h

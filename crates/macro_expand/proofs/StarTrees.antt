@@ -1,44 +1,28 @@
 -- The item of `X*` over trees: its texts, its bytes, and whether it is within bounds. Assumes nothing.
-use mathlib.Core.Path.{◌≡◌, refl, sym, ap, ◌∙◌, subst}
+use mathlib.Core.Path.{◌≡◌, refl, sym, ap, ◌∙◌}
 use mathlib.Core.Bool.{Bool, true, false, not}
 use mathlib.Core.List.{List, [], ◌∷◌, ◌++◌, append-nil, append_assoc}
-use Prim.Native.Nat.{ℕ, zero, suc, ◌+◌, ◌-◌, ◌≤◌, ◌<◌}
-use native.Mathlib.Omega.{arith}
-use borrow.Author.Tests.{lt-leb}
-use lib.Dec.{ltb}
-use lib.ListN.{get_or}
-use Rattle.octets.specs.Working.Choice.{pick}
+use Prim.Native.Nat.{ℕ}
 use Rattle.octets.specs.Plain.Numbers.{le}
-use Rattle.octets.specs.Plain.Runs.{Lies}
-use Rattle.octets.proofs.LiesLaws.{lies_first}
-use Rattle.parse_tree.specs.Plain.Tree.{Text, Leaf, Sym, Syms, star, plus, ambiguous, bare, quoted, regex, nonterminal, lookahead, lookbehind, error, repeat, choose, name, macro, group, leaf, around, over, nil, cons, count, user, item}
+use Rattle.parse_tree.specs.Plain.Tree.{Text, Sym, Syms, star, plus, repeat, name, around, nil, cons, count, user, item}
 use Rattle.parse_tree.specs.Plain.Texts.{number, with_new}
 use Rattle.parse_tree.specs.Plain.References.{around_texts, sym_texts, syms_texts, action_texts}
-use Rattle.parse_tree.specs.Working.Nodes.{span_bytes, symbol_bytes, node_bytes, leaf_code}
-use Rattle.parse_tree.specs.Working.Encode.{leaf_node, around_node, action_text, sym_bytes, syms_bytes, item_bytes}
+use Rattle.parse_tree.specs.Working.Nodes.{span_bytes, symbol_bytes, node_bytes}
+use Rattle.parse_tree.specs.Working.Encode.{around_node, action_text, sym_bytes, syms_bytes, item_bytes}
 use Rattle.parse_tree.specs.declared.syntax.Span.{Span}
 use Rattle.parse_tree.specs.declared.syntax.Around.{Around as AroundNode}
 use Rattle.parse_tree.specs.declared.syntax.SymbolKind.{SymbolKind}
 use Rattle.parse_tree.specs.declared.syntax.Node.{Node}
-use Rattle.texts.specs.declared.Map.{Map}
-use Rattle.texts.specs.Table.{texts}
 use Rattle.passes.specs.Macros.{expand_repeat_symbol, vec_none, v_name}
 use Rattle.passes.specs.Sizes.{sym_fits}
-use Rattle.laws.specs.Flat.{children}
-use Rattle.laws.proofs.Flat.{node_size}
-use Rattle.resolve.specs.Commands.{long_of}
-use Rattle.display.specs.Standing.{SymStands, SymsStand}
-use Rattle.display.proofs.StandsLaws.{standing, first_stands, none_stand}
 use Rattle.replacing.proofs.Going.{new_append}
 use Rattle.replacing.proofs.ThereBytes.{new_all}
 use Rattle.replacing.specs.Trees.{renamed, renamed_all}
-use Rattle.expander.proofs.KeysLaws.{sym_length}
 use Rattle.appending.specs.Built.{built_text}
 use Rattle.appending.specs.Commands.{alternative_head, name_head, plus_head}
 use Rattle.appending.specs.Pieces.{item_piece, Steady}
 use Rattle.macro_expand.specs.Expand.{head_bytes}
-use Rattle.macro_expand.specs.Repeat.{by_number, nested_at, star_head, star_piece}
-use Rattle.macro_expand.proofs.PoppedLaws.{sym_code, sym_spanned}
+use Rattle.macro_expand.specs.Repeat.{by_number, star_head, star_piece}
 use Rattle.macro_expand.proofs.ItemPieces.{known_number, alternative_head_lem}
 use Rattle.macro_expand.proofs.ItemTrees.{simple_node, right_true, two_bytes, two_texts, two_fits}
 use Rattle.macro_expand.proofs.RepeatTrees.{text_none, text_v}
@@ -102,80 +86,3 @@ module _ (wd : ℕ) (sp : Span) (key : Text) (x : Sym) where
   pub star_fits : (span : ℕ) (deep : Bool) → not deep ≡ sym_fits (renamed x) 62 → (item_piece wd (item (expand_repeat_symbol sp key star (renamed x)))).fits ≡ (star_piece wd span x deep).fits
   unfolding count
   star_fits span deep h = two_fits sp key true (user vec_none) nil (user v_name) second refl refl ∙ right_true sp key (sym_fits (renamed x) 62) ∙ sym h
-
--- ---- how deep a symbol is nested when it is written again
-leaf_stop : (ts : List Text) (l : Leaf) (b : Bool) → pick (ltb (leaf_code (leaf_node ts l)) 39) false (pick (ltb 40 (leaf_code (leaf_node ts l))) false b) ≡ false
-unfolding pick leaf_code leaf_node
-leaf_stop ts (ambiguous x) b = refl
-leaf_stop ts (bare x) b = refl
-leaf_stop ts (quoted x) b = refl
-leaf_stop ts (regex x) b = refl
-leaf_stop ts (nonterminal x) b = refl
-leaf_stop ts lookahead b = refl
-leaf_stop ts lookbehind b = refl
-leaf_stop ts error b = refl
-
-leaf_fits : (s : Span) (l : Leaf) (k : ℕ) → not (sym_fits (renamed (leaf s l)) (suc k)) ≡ false
-unfolding renamed
-leaf_fits s (ambiguous x) k = refl
-leaf_fits s (bare x) k = refl
-leaf_fits s (quoted x) k = refl
-leaf_fits s (regex x) k = refl
-leaf_fits s (nonterminal x) k = refl
-leaf_fits s lookahead k = refl
-leaf_fits s lookbehind k = refl
-leaf_fits s error k = refl
-
-module _ (s w : List ℕ) (m : Map) (wd : ℕ) (four : Bool) (e : ℕ) where
-  none_fits : (y : Sym) → not (sym_fits (renamed y) 0) ≡ true
-  unfolding renamed
-  none_fits (leaf t (ambiguous x)) = refl
-  none_fits (leaf t (bare x)) = refl
-  none_fits (leaf t (quoted x)) = refl
-  none_fits (leaf t (regex x)) = refl
-  none_fits (leaf t (nonterminal x)) = refl
-  none_fits (leaf t lookahead) = refl
-  none_fits (leaf t lookbehind) = refl
-  none_fits (leaf t error) = refl
-  none_fits (around t (repeat o) x) = refl
-  none_fits (around t choose x) = refl
-  none_fits (around t (name n i) x) = refl
-  none_fits (over t o xs) = refl
-
-  -- the code of a symbol that stands there
-  code_is : (left at f : ℕ) (y : Sym) → SymStands s w m wd four left at f y → get_or w at 0 ≡ sym_code (texts s w m) y
-  code_is left at f y h =
-      let p = sym_spanned wd (texts s w m) y in
-      (lies_first w at (sym_code (texts s w m) y) _ f (subst (λ (xs : List ℕ). Lies w at xs f) p.is h.lies)).1
-
-  before-end : (left at f : ℕ) (y : Sym) → SymStands s w m wd four left at f y → f ≤ e → at < e
-  before-end left at f y h i = omega (arith, h.lies.end, sym_length wd (texts s w m) y, node_size wd (texts s w m) y)
-
-  -- what is asked at one place
-  one_step : (k left at f : ℕ) (y : Sym) → SymStands s w m wd four left at f y → f ≤ e → (c : ℕ) → get_or w at 0 ≡ c
-      → nested_at wd e w (suc k) at ≡ pick (ltb c 39) false (pick (ltb 40 c) false (nested_at wd e w k (at + long_of wd (get_or w at 0))))
-  unfolding nested_at pick
-  one_step k left at f y h i c z = cc (lt-leb e at (before-end left at f y h i), z)
-
-  -- the symbol inside another
-  inside-stands : (left at f : ℕ) (y x : Sym) → children y ≡ cons x nil → SymStands s w m wd four left at f y → SymStands s w m wd four (left - 1) (at + long_of wd (get_or w at 0)) f x
-  inside-stands left at f y x z h =
-      let st = standing s w m wd four left at f y h in
-      let o = first_stands s w m wd four (left - 1) (at + long_of wd (get_or w at 0)) f x nil (subst (λ (ys : Syms). SymsStand s w m wd four (left - 1) (at + long_of wd (get_or w at 0)) f ys) z st.inside) in
-      subst (λ (d : ℕ). SymStands s w m wd four (left - 1) (at + long_of wd (get_or w at 0)) d x) (none_stand s w m wd four (left - 1) _ f o.1) o.0
-
-  -- theorem: what is asked by the bytes
-  pub nested-means : (k left at f : ℕ) (y : Sym) → SymStands s w m wd four left at f y → f ≤ e → nested_at wd e w k at ≡ not (sym_fits (renamed y) k)
-  unfolding renamed nested_at pick children sym_code
-  nested-means zero left at f y h i = sym (none_fits y)
-  nested-means (suc k) left at f (leaf t l) h i =
-      one_step k left at f (leaf t l) h i (leaf_code (leaf_node (texts s w m) l)) (code_is left at f (leaf t l) h) ∙ leaf_stop (texts s w m) l _ ∙ sym (leaf_fits t l k)
-  nested-means (suc k) left at f (around t (repeat o) x) h i = one_step k left at f (around t (repeat o) x) h i 38 (code_is left at f (around t (repeat o) x) h)
-  nested-means (suc k) left at f (around t choose x) h i =
-      one_step k left at f (around t choose x) h i 39 (code_is left at f (around t choose x) h)
-      ∙ nested-means k (left - 1) (at + long_of wd (get_or w at 0)) f x (inside-stands left at f (around t choose x) x refl h) i
-  nested-means (suc k) left at f (around t (name n j) x) h i =
-      one_step k left at f (around t (name n j) x) h i 40 (code_is left at f (around t (name n j) x) h)
-      ∙ nested-means k (left - 1) (at + long_of wd (get_or w at 0)) f x (inside-stands left at f (around t (name n j) x) x refl h) i
-  nested-means (suc k) left at f (over t (macro n) xs) h i = one_step k left at f (over t (macro n) xs) h i 37 (code_is left at f (over t (macro n) xs) h)
-  nested-means (suc k) left at f (over t group xs) h i = one_step k left at f (over t group xs) h i 41 (code_is left at f (over t group xs) h)

@@ -2,22 +2,21 @@
 use Rattle.std.specs.Prelude.{Bool, true, false, List, ℕ, zero, suc, ◌+◌, ◌*◌, ◌≤◌, eqb, leb, length, get_or}
 use Rattle.octets.specs.Working.Choice.{pick}
 use Rattle.octets.specs.Plain.Numbers.{le_at}
-use Rattle.texts.specs.declared.Found.{Found}
+use Rattle.std.specs.Prelude.{Option, Some, None}
 use Rattle.grades.specs.Skip.{skip_out}
 use Rattle.grades.specs.Annotations.{conditions_from, alternative_end}
 use Rattle.expander.specs.declared.Ground.{Ground}
 use Rattle.macro_expand.specs.declared.arguments.Call.{Call}
-use Rattle.macro_expand.specs.declared.arguments.Judged.{Judged}
-use Rattle.macro_expand.specs.declared.arguments.Upheld.{Upheld}
+use Rattle.std.specs.Prelude.{Result, Ok, Err}
 
 -- the bytes of n parameters
 unfoldable pub parameters_long : ℕ → ℕ → ℕ
 parameters_long wd n = (1 + wd) * n
 
 -- of n parameters from a on and as many symbols from p on, before e: the symbol for the one whose name has the number k
-unfoldable pub argument_in : ℕ → ℕ → List ℕ → ℕ → ℕ → ℕ → ℕ → Found
-argument_in wd e w k zero a p = Found.Nothing
-argument_in wd e w k (suc n) a p = pick (eqb k (le_at wd w (a + 1))) (Found.At p) (argument_in wd e w k n (a + (1 + wd)) (skip_out wd e w p e 1))
+unfoldable pub argument_in : ℕ → ℕ → List ℕ → ℕ → ℕ → ℕ → ℕ → Option ℕ
+argument_in wd e w k zero a p = None
+argument_in wd e w k (suc n) a p = pick (eqb k (le_at wd w (a + 1))) (Some p) (argument_in wd e w k n (a + (1 + wd)) (skip_out wd e w p e 1))
 
 -- what is read lies in work
 pub record ReadableCall (g : Ground) (c : Call) (w : List ℕ) : Type 0 where
@@ -32,25 +31,25 @@ unfoldable pub equal_by : ℕ → List ℕ → ℕ → ℕ → Bool
 equal_by wd w p at = pick (eqb (le_at wd w (p + 9)) (le_at wd w (at + 10 + wd))) (eqb (get_or w (at + 9 + wd) 0) 0) (pick (eqb (get_or w (at + 9 + wd) 0) 0) false true)
 
 module _ (g : Ground) (c : Call) (w : List ℕ) where
-  unfoldable pub argument_for : ℕ → Found
+  unfoldable pub argument_for : ℕ → Option ℕ
   argument_for k = argument_in g.width g.end w k c.many c.params c.args
 
   -- ---- the condition at a place, whose argument was looked for
-  unfoldable pub judged_by : ℕ → Found → Judged
-  judged_by at Found.Nothing = Judged.Refused
-  judged_by at (Found.At p) = pick (leb g.end p) Judged.Refused (pick (eqb (get_or w p 0) 34) (Judged.Is (equal_by g.width w p at)) Judged.Refused)
+  unfoldable pub judged_by : ℕ → Option ℕ → Option Bool
+  judged_by at None = None
+  judged_by at (Some p) = pick (leb g.end p) None (pick (eqb (get_or w p 0) 34) (Some (equal_by g.width w p at)) None)
 
-  unfoldable pub judged_at : ℕ → Judged
-  judged_at at = pick (leb c.end at) Judged.Refused (judged_by at (argument_for (le_at g.width w (at + 9))))
+  unfoldable pub judged_at : ℕ → Option Bool
+  judged_at at = pick (leb c.end at) None (judged_by at (argument_for (le_at g.width w (at + 9))))
 
   -- ---- whether the alternative at p holds
-  unfoldable pub holds_at : ℕ → Judged
-  holds_at p = pick (eqb (get_or w (p + 10) 0) 0) (Judged.Is true) (judged_at (conditions_from g.width w p))
+  unfoldable pub holds_at : ℕ → Option Bool
+  holds_at p = pick (eqb (get_or w (p + 10) 0) 0) (Some true) (judged_at (conditions_from g.width w p))
 
   -- how many of n from p on hold, with k before
-  unfoldable pub hold_from : ℕ → ℕ → ℕ → Upheld
-  hold_from zero p k = Upheld.Many k
-  hold_from (suc n) p k = pick (leb c.end p) (Upheld.Many k) (elim (holds_at p) [
-    | Judged.Is b ↦ hold_from n (alternative_end g.width w p c.end) (pick b (k + 1) k)
-    | Judged.Refused ↦ Upheld.Refused (conditions_from g.width w p)
+  unfoldable pub hold_from : ℕ → ℕ → ℕ → Result ℕ ℕ
+  hold_from zero p k = Ok k
+  hold_from (suc n) p k = pick (leb c.end p) (Ok k) (elim (holds_at p) [
+    | Some b ↦ hold_from n (alternative_end g.width w p c.end) (pick b (k + 1) k)
+    | None ↦ Err (conditions_from g.width w p)
   ])

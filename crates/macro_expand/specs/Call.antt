@@ -13,7 +13,8 @@ use Rattle.replacing.specs.Trees.{renamed_all}
 use Rattle.expander.specs.declared.Ground.{Ground}
 use Rattle.expander.specs.Ground.{top_of, list_place}
 use Rattle.appending.specs.declared.Appended.{Appended}
-use Rattle.macro_expand.specs.declared.Expanded.{Expanded}
+use Rattle.std.specs.Prelude.{Result}
+use Rattle.parse_tree.specs.declared.refusal.Refusal.{Refusal}
 use Rattle.macro_expand.specs.Expand.{Popped, ExpandsTo}
 
 -- the definition D stands at d, up to e, where nothing is written
@@ -44,7 +45,7 @@ pub record SomeCall (s w : List ℕ) (g : Ground) (n lim q d : ℕ) (v : Appende
   pub calls : Calls s w g n lim q d v places four left end span name arguments four' behind definition
 
 -- every such call is expanded, or refused by 17
-unfoldable pub ExpandsMacro : List ℕ → List ℕ → Ground → ℕ → ℕ → ℕ → ℕ → Appended → Expanded → List ℕ → Type 0
+unfoldable pub ExpandsMacro : List ℕ → List ℕ → Ground → ℕ → ℕ → ℕ → ℕ → Appended → Result Appended Refusal → List ℕ → Type 0
 ExpandsMacro s w g n lim q d v r w' = (ps : List ℕ) (four : Bool) (left e : ℕ) (sp : Span) (m : Text) (xs : Syms) (four' : Bool) (end : ℕ) (D : Nonterminal)
     → Calls s w g n lim q d v ps four left e sp m xs four' end D
     → ExpandsTo s w g n lim q v ps (expand_macro_symbol sp (print (over sp (macro m) xs)) (renamed_all xs) (some D)) r w'

@@ -26,7 +26,8 @@ use Rattle.expander.specs.Held.{down}
 use Rattle.expander.specs.Replace.{keys_of, StandsAt}
 use Rattle.appending.specs.declared.Appended.{Appended}
 use Rattle.appending.specs.Pieces.{Piece, Appending, Appends}
-use Rattle.macro_expand.specs.declared.Expanded.{Expanded}
+use Rattle.std.specs.Prelude.{Result, Ok, Err}
+use Rattle.parse_tree.specs.declared.refusal.Refusal.{Refusal}
 use Rattle.macro_expand.specs.Expand.{ExpandsTo}
 
 -- ---- the definitions
@@ -92,19 +93,19 @@ pub record SomeOther (s w : List ℕ) (g : Ground) (n lim : ℕ) (t : Grammar) (
   pub code : c ≡ get_or w (g.from + q) 0
   pub other : c ≡ 37 → ⊥
 
-unfoldable pub ExpandsPushed : List ℕ → List ℕ → Ground → ℕ → ℕ → Grammar → ℕ → Appended → Expanded → List ℕ → Type 0
+unfoldable pub ExpandsPushed : List ℕ → List ℕ → Ground → ℕ → ℕ → Grammar → ℕ → Appended → Result Appended Refusal → List ℕ → Type 0
 ExpandsPushed s w g n lim t j v r w' = (ps : List ℕ) (four : Bool) (G : Tree) → Pile s w g n lim t v ps four G → ExpandsTo s w g n lim (key_at w g j) v ps (expand_symbol G (inner (symbol_in s w g (key_at w g j)))) r w'
 
 -- ---- all
 abbrev pub items_piece : ℕ → List Item → Piece
 items_piece wd is = record { texts = texts_of_each item_texts is; bytes = λ ts. bytes_of_each (item_bytes wd ts) is; fits = each item_fits is }
 
-unfoldable pub DrainedBy : List ℕ → List ℕ → Ground → ℕ → ℕ → Appended → List ℕ → Outcome (List Item) → Expanded → List ℕ → Type 0
-DrainedBy s w g n lim v ps (yes is) r w' = (v' : Appended) × (r ≡ Expanded.Is v') × Appends s g n lim ps w v (items_piece g.width is) v' w'
-DrainedBy s w g n lim v ps (no k sp) r w' = r ≡ Expanded.Refused (refusal_over k sp)
+unfoldable pub DrainedBy : List ℕ → List ℕ → Ground → ℕ → ℕ → Appended → List ℕ → Outcome (List Item) → Result Appended Refusal → List ℕ → Type 0
+DrainedBy s w g n lim v ps (yes is) r w' = (v' : Appended) × (r ≡ Ok v') × Appends s g n lim ps w v (items_piece g.width is) v' w'
+DrainedBy s w g n lim v ps (no k sp) r w' = r ≡ Err (refusal_over k sp)
 
 -- "New items are appended in the order they leave the pile, last in first out"
-unfoldable pub Drains : List ℕ → List ℕ → Ground → ℕ → ℕ → Grammar → Appended → Expanded → List ℕ → Type 0
+unfoldable pub Drains : List ℕ → List ℕ → Ground → ℕ → ℕ → Grammar → Appended → Result Appended Refusal → List ℕ → Type 0
 Drains s w g n lim t v r w' = (ps : List ℕ) (four : Bool) (G : Tree) → Pile s w g n lim t v ps four G
     → DrainedBy s w g n lim v ps (drain G (map (λ p. inner (symbol_in s w g p)) (down (key_at w g) n))) r w'
 

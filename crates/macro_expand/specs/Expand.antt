@@ -24,7 +24,8 @@ use Rattle.expander.specs.Replace.{keys_of, StandsAt}
 use Rattle.appending.specs.declared.Appended.{Appended}
 use Rattle.appending.specs.Built.{built_text}
 use Rattle.appending.specs.Pieces.{Piece, item_piece, Appending, Appends}
-use Rattle.macro_expand.specs.declared.Expanded.{Expanded}
+use Rattle.std.specs.Prelude.{Result, Ok, Err}
+use Rattle.parse_tree.specs.declared.refusal.Refusal.{Refusal}
 use Rattle.macro_expand.specs.declared.begin.Begun.{Begun}
 use Rattle.macro_expand.specs.declared.begin.Named.{Named}
 use Rattle.macro_expand.specs.declared.look.Called.{Called}
@@ -75,9 +76,9 @@ module _ (s w : List ℕ) (g : Ground) (n lim q : ℕ) (v : Appended) where
   -- ---- whole items
 
   -- d is appended, or refused
-  unfoldable pub ExpandsTo : List ℕ → Outcome Nonterminal → Expanded → List ℕ → Type 0
-  ExpandsTo ps (yes d) r w' = (v' : Appended) × (r ≡ Expanded.Is v') × Appends s g n lim ps w v (item_piece g.width (item d)) v' w'
-  ExpandsTo ps (no k sp) r w' = r ≡ Expanded.Refused (refusal_over k sp)
+  unfoldable pub ExpandsTo : List ℕ → Outcome Nonterminal → Result Appended Refusal → List ℕ → Type 0
+  ExpandsTo ps (yes d) r w' = (v' : Appended) × (r ≡ Ok v') × Appends s g n lim ps w v (item_piece g.width (item d)) v' w'
+  ExpandsTo ps (no k sp) r w' = r ≡ Err (refusal_over k sp)
 
   -- `@L` or `@R`
   unfoldable pub ExpandsLook : Appended → List ℕ → Type 0
@@ -90,7 +91,7 @@ module _ (s w : List ℕ) (g : Ground) (n lim q : ℕ) (v : Appended) where
       → Appends s g n lim ps w v (item_piece g.width (item (expand_repeat_symbol sp (print (around sp (repeat o) x)) o (renamed x)))) r w'
 
   -- a group
-  unfoldable pub ExpandsExpr : Expanded → List ℕ → Type 0
+  unfoldable pub ExpandsExpr : Result Appended Refusal → List ℕ → Type 0
   ExpandsExpr r w' = (ps : List ℕ) (four : Bool) (left e : ℕ) (sp : Span) (xs : Syms) → Popped s w g n lim ps four left q e (over sp group xs) v
       → ExpandsTo ps (expand_expr_symbol sp (print (over sp group xs)) (renamed_all xs)) r w'
 

@@ -1,5 +1,5 @@
 -- The item of a group that was taken off the pile. s is the tape, w is work. Assumes nothing: these are definitions.
-use Rattle.std.specs.Prelude.{◌≡◌, Bool, true, List, [], ◌∷◌, ℕ, ◌+◌, ◌<◌, eqb}
+use Rattle.std.specs.Prelude.{◌≡◌, Bool, true, List, [], ◌∷◌, ℕ, ◌+◌, eqb}
 use Rattle.octets.specs.Working.Choice.{pick}
 use Rattle.octets.specs.Plain.Numbers.{le_at}
 use Rattle.parse_tree.specs.Plain.Tree.{Syms, group, over, user, item}
@@ -19,9 +19,8 @@ unfoldable pub group_text : ℕ → ℕ → ℕ
 group_text c k = pick (eqb c 0) (pick (eqb k 1) 7 8) (pick (eqb c 1) 7 8)
 
 -- a group of m symbols stands at q
-pub record SomeGroup (s w : List ℕ) (g : Ground) (n lim q : ℕ) (v : Appended) (i m : ℕ) : Type 0 where
+pub record SomeGroup (s w : List ℕ) (g : Ground) (n lim q : ℕ) (v : Appended) (m : ℕ) : Type 0 where
   pub popped : SomePopped IsGroup s w g n lim q v
-  pub less : i < 9
   pub many : m ≡ le_at 2 w (g.from + q + 9)
 
 -- its item with the i-th built-in text

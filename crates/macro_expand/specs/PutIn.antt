@@ -11,7 +11,7 @@ use Rattle.parse_tree.specs.Working.Within.{Each, SpanWithin, Uses, SymWithin, S
 use Rattle.parse_tree.specs.declared.syntax.Span.{Span}
 use Rattle.parse_tree.specs.Working.Nodes.{span_bytes}
 use Rattle.octets.specs.Plain.Numbers.{le_at, le}
-use Rattle.texts.specs.declared.Found.{Found}
+use Rattle.std.specs.Prelude.{Option, None}
 use Rattle.texts.specs.Table.{texts}
 use Rattle.passes.specs.Sizes.{sym_fits, syms_fit}
 use Rattle.passes.specs.Macros.{at, macro_expand_symbol, macro_expand_symbols}
@@ -121,8 +121,8 @@ pub record PutsHere (w : List ℕ) (g : Ground) (lim : ℕ) (x r : Copied) (w' :
   pub puts : Puts w lim x.out.to (part x.at (x.at + long_of g.width (get_or w x.at 0)) w) r.out.to w'
 
 -- ---- the symbol for the parameter at a place, if one stands there
-unfoldable pub parameter_at : Ground → Call → List ℕ → ℕ → Found
-parameter_at g c w p = pick (eqb (get_or w p 0) 36) (argument_for g c w (le_at g.width w (p + 9))) Found.Nothing
+unfoldable pub parameter_at : Ground → Call → List ℕ → ℕ → Option ℕ
+parameter_at g c w p = pick (eqb (get_or w p 0) 36) (argument_for g c w (le_at g.width w (p + 9))) None
 
 -- ---- a symbol of the definition
 pub record SomeInside (s w : List ℕ) (g : Ground) (left : ℕ) (x : Copied) : Type 0 where

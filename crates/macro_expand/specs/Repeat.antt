@@ -1,13 +1,11 @@
 -- The items of repeats, made of pieces. s is the tape, w is work; the repeat stands at q, counted from the first item, and the symbol inside it at q + 10. Assumes nothing: these are definitions.
-use Rattle.std.specs.Prelude.{◌≡◌, Bool, true, false, not, List, [], ◌∷◌, ◌++◌, ℕ, zero, suc, ◌+◌, eqb, leb, ltb, length, get_or}
-use Rattle.octets.specs.Working.Choice.{pick}
+use Rattle.std.specs.Prelude.{◌≡◌, Bool, true, false, not, List, [], ◌∷◌, ◌++◌, ℕ, ◌+◌, eqb, length}
 use Rattle.octets.specs.Plain.Numbers.{le_at, le, Bytes}
 use Rattle.parse_tree.specs.Plain.Tree.{Text, Op, star, plus, question, Sym, repeat, around, nil, cons, item}
 use Rattle.parse_tree.specs.Plain.Texts.{has, number}
 use Rattle.parse_tree.specs.Plain.Display.{print}
 use Rattle.parse_tree.specs.declared.syntax.Span.{Span}
 use Rattle.passes.specs.Macros.{expand_repeat_symbol}
-use Rattle.resolve.specs.Commands.{long_of}
 use Rattle.replacing.specs.Trees.{renamed}
 use Rattle.expander.specs.declared.Ground.{Ground}
 use Rattle.expander.specs.declared.slots.Numbered.{Numbered}
@@ -21,6 +19,7 @@ use Rattle.appending.specs.Symbols.{Referring, SomeReferring}
 use Rattle.macro_expand.specs.declared.begin.Begun.{Begun}
 use Rattle.macro_expand.specs.declared.plus.Pushing.{Pushing}
 use Rattle.macro_expand.specs.declared.star.Starred.{Starred}
+use Rattle.macro_expand.specs.PutIn.{fits_at}
 use Rattle.macro_expand.specs.Expand.{head_piece, Popped, all_named, Begins}
 
 -- the operator of a code
@@ -100,12 +99,6 @@ PutsPush s w g n lim p span name v r w' = (ps : List ℕ) (four : Bool) (left e 
 
 -- ---- `X*`
 
--- whether more than k symbols are nested at a place before e: a name or a chosen symbol is written again around what stands in it
-unfoldable pub nested_at : ℕ → ℕ → List ℕ → ℕ → ℕ → Bool
-nested_at wd e w zero at = true
-nested_at wd e w (suc k) at =
-    pick (leb e at) false (pick (ltb (get_or w at 0) 39) false (pick (ltb 40 (get_or w at 0)) false (nested_at wd e w k (at + long_of wd (get_or w at 0)))))
-
 -- the commands of its second alternative: `v` has the number k
 unfoldable pub star_head : ℕ → ℕ → ℕ → List ℕ
 star_head wd span k = alternative_head wd span 1 k 1 ++ (name_head wd span k ++ plus_head span)
@@ -127,4 +120,4 @@ pub record BeginsStar (s w : List ℕ) (g : Ground) (n lim q : ℕ) (v : Appende
 pub record ReadsStar (w : List ℕ) (g : Ground) (q : ℕ) (r : Starred) : Type 0 where
   pub bytes : Bytes w
   pub span_is : r.span ≡ le_at 8 w (g.from + q + 1)
-  pub deep_is : r.deep ≡ nested_at g.width g.end w 62 (g.from + (q + 10))
+  pub deep_is : r.deep ≡ not (fits_at g.width g.end w 62 (g.from + (q + 10)))

@@ -1,10 +1,10 @@
 // Alternatives of a macro's definition, appended with the call's span and arguments; those whose condition fails are left out.
-ghost use Rattle.std.specs.Prelude.{[], ◌∷◌, ◌+◌, ◌≤◌, length};
+ghost use Rattle.std.specs.Prelude.{◌+◌, ◌≤◌, length};
 ghost use Rattle.precedence.specs.Write.{Puts};
 ghost use Rattle.macro_expand.specs.PutIn.{Frame};
 ghost use Rattle.macro_expand.specs.Alternatives.{bare_out, SomeAlternative, OpensAlternative, PutsAlternative, PutsIf, SomeAlternatives, PutsHolding};
 
-use crate::arguments::{Call, Judged, conditions, holds};
+use crate::arguments::{Call, conditions, holds};
 use crate::expand::{Opened, macro_expand_symbols};
 use crate::put_in::put_spanned;
 use appending::Appended;
@@ -12,19 +12,7 @@ use appending::symbols::Copied;
 use expander::Ground;
 use grades::annotations::{alternative_end, symbols};
 use octets::numbers::u16_at;
-use octets::wide::from16;
-use precedence::write::put_run;
-
-fn put_zero(work: &mut [u8], lim: usize, to: usize) -> usize
-    requires { lim ≤ length work.old }
-    ensures { Puts work.old lim to (0 ∷ []) result work.new }
-{
-    if lim <= to {
-        return lim + 1;
-    }
-    work[to] = 0;
-    to + 1
-}
+use precedence::write::{put_byte, put_run};
 
 // The command at p with another span and no condition, and its attributes, up to e.
 fn put_bare(work: &mut [u8], p: usize, e: usize, span: u64, lim: usize, to: usize) -> usize
@@ -32,7 +20,7 @@ fn put_bare(work: &mut [u8], p: usize, e: usize, span: u64, lim: usize, to: usiz
     ensures { Puts work.old lim to (bare_out work.old p e span) result work.new }
 {
     let q = put_spanned(work, 18, span, p + 9, p + 10, lim, to);
-    let r = put_zero(work, lim, q);
+    let r = put_byte(work, 0, lim, q);
     put_run(work, p + 11, e, lim, r)
 }
 
@@ -51,19 +39,15 @@ fn open_alternative(
     requires { Frame tape.now work.old g n lim c v × SomeAlternative tape.now work.old g c p v }
     ensures { OpensAlternative tape.now work.old g n lim c span p v result work.new }
 {
-    let k = from16(u16_at(work, p + 12 + g.width));
-    let s = symbols(work, p, g.width);
+    let many = usize::from(u16_at(work, p + 12 + g.width));
+    let at = symbols(work, p, g.width);
     let e = conditions(work, p, g.width);
     let to = put_bare(work, p, e, span, lim, v.to);
-    let x = Copied {
-        at: s,
-        out: Appended {
-            to: to,
-            count: v.count,
-            deep: v.deep,
-        },
-    };
-    Opened { many: k, run: x }
+    let out = Appended { to, ..v };
+    Opened {
+        many,
+        run: Copied { at, out },
+    }
 }
 
 // The alternative at p.
@@ -102,13 +86,8 @@ fn expand_if(
     ensures { PutsIf tape.now work.old g n lim c span p v result work.new }
 {
     match holds(work, g, c, p) {
-        Judged::Refused => v,
-        Judged::Is(b) => {
-            if b {
-                return expand_alternative(tape, work, g, n, lim, c, span, p, v);
-            }
-            v
-        }
+        Some(true) => expand_alternative(tape, work, g, n, lim, c, span, p, v),
+        _ => v,
     }
 }
 
@@ -128,14 +107,12 @@ pub fn expand_alternatives(
     requires { Frame tape.now work.old g n lim c v × SomeAlternatives tape.now work.old g c span k at v }
     ensures { PutsHolding tape.now work.old g n lim c span k at v result work.new }
 {
-    let mut i = k;
     let mut p = at;
     let mut r = v;
-    while 0 < i {
+    for _ in 0..k {
         let e = alternative_end(work, p, c.end, g.width);
         r = expand_if(tape, work, g, n, lim, c, span, p, r);
         p = e;
-        i -= 1;
     }
     r
 }

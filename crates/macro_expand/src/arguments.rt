@@ -8,8 +8,6 @@ use expander::Ground;
 use grades::annotations::alternative_end;
 use grades::skip::skip;
 use octets::numbers::atom_at;
-use octets::wide::from8;
-use texts::Found;
 
 // Where the parameters and the symbols for them stand, how many there are, and the place before which the definition ends.
 #[derive(Clone, Copy)]
@@ -20,38 +18,22 @@ pub struct Call {
     pub end: usize,
 }
 
-// Whether a condition holds, unless its argument is no quoted literal.
-#[derive(Clone, Copy)]
-pub enum Judged {
-    Is(bool),
-    Refused,
-}
-
-// How many alternatives hold, or the place of a condition that is refused.
-#[derive(Clone, Copy)]
-pub enum Upheld {
-    Many(usize),
-    Refused(usize),
-}
-
 // Where the symbol for the parameter stands whose name has the number k.
-pub fn argument(work: &[u8], g: Ground, c: Call, k: u32) -> Found
+pub fn argument(work: &[u8], g: Ground, c: Call, k: u32) -> Option<usize>
     requires { ReadableCall g c work.now }
     ensures { result ≡ argument_for g c work.now k }
 {
     let size = 1 + g.width;
-    let mut i = c.many;
     let mut a = c.params;
     let mut p = c.args;
-    while 0 < i {
+    for _ in 0..c.many {
         if k == atom_at(work, a + 1, g.width) {
-            return Found::At(p);
+            return Some(p);
         }
         a += size;
         p = skip(work, p, g.end, 1, g.width);
-        i -= 1;
     }
-    Found::Nothing
+    None
 }
 
 // Whether the literal at p is what the condition at a place asks.
@@ -59,37 +41,23 @@ fn is_equal(work: &[u8], w: usize, p: usize, at: usize) -> bool
     requires { (2 ≤ w) × (w ≤ 3) × (p + 16 ≤ length work.now) × (at + 16 ≤ length work.now) }
     ensures { result ≡ equal_by w work.now p at }
 {
-    let op = work[at + 9 + w];
-    if atom_at(work, p + 9, w) == atom_at(work, at + 10 + w, w) {
-        return op == 0;
-    }
-    if op == 0 {
-        return false;
-    }
-    true
+    let same = atom_at(work, p + 9, w) == atom_at(work, at + 10 + w, w);
+    same == (work[at + 9 + w] == 0)
 }
 
-// The condition at a place.
-pub fn evaluate_cond(work: &[u8], g: Ground, c: Call, at: usize) -> Judged
+// Whether the condition at a place holds, if its argument is a quoted literal.
+pub fn evaluate_cond(work: &[u8], g: Ground, c: Call, at: usize) -> Option<bool>
     requires { ReadableCall g c work.now }
     ensures { result ≡ judged_at g c work.now at }
 {
     if c.end <= at {
-        return Judged::Refused;
+        return None;
     }
-    let k = atom_at(work, at + 9, g.width);
-    match argument(work, g, c, k) {
-        Found::Nothing => Judged::Refused,
-        Found::At(p) => {
-            if g.end <= p {
-                return Judged::Refused;
-            }
-            let x = work[p];
-            if x == 34 {
-                return Judged::Is(is_equal(work, g.width, p, at));
-            }
-            Judged::Refused
-        }
+    let p = argument(work, g, c, atom_at(work, at + 9, g.width))?;
+    if p < g.end && work[p] == 34 {
+        Some(is_equal(work, g.width, p, at))
+    } else {
+        None
     }
 }
 
@@ -98,52 +66,45 @@ pub fn conditions(work: &[u8], p: usize, width: usize) -> usize
     requires { (2 ≤ width) × (width ≤ 3) × (p + 11 ≤ length work.now) }
     ensures { result ≡ conditions_from width work.now p }
 {
-    let n = from8(work[p + 9]);
+    let n = usize::from(work[p + 9]);
     p + (14 + width) + n * (2 + 3 * width)
 }
 
-// Whether the alternative at p holds.
-pub fn holds(work: &[u8], g: Ground, c: Call, p: usize) -> Judged
+// Whether the alternative at p holds, as `evaluate_cond` says it.
+pub fn holds(work: &[u8], g: Ground, c: Call, p: usize) -> Option<bool>
     requires { ReadableCall g c work.now × (p < c.end) }
     ensures { result ≡ holds_at g c work.now p }
 {
-    let x = work[p + 10];
-    if x == 0 {
-        return Judged::Is(true);
+    if work[p + 10] == 0 {
+        Some(true)
+    } else {
+        evaluate_cond(work, g, c, conditions(work, p, g.width))
     }
-    evaluate_cond(work, g, c, conditions(work, p, g.width))
 }
 
 fn counted(k: usize, b: bool) -> usize
     requires { k < 65536 }
     ensures { (result ≡ pick b (k + 1) k) × (result ≤ k + 1) }
 {
-    if b {
-        return k + 1;
-    }
-    k
+    if b { k + 1 } else { k }
 }
 
-// How many of n alternatives from a place on hold.
-pub fn holding(work: &[u8], g: Ground, c: Call, n: usize, at: usize) -> Upheld
+// How many of n alternatives from a place on hold, or the place of the first condition that is refused.
+pub fn holding(work: &[u8], g: Ground, c: Call, n: usize, at: usize) -> Result<usize, usize>
     requires { ReadableCall g c work.now × (n < 65536) }
     ensures { result ≡ hold_from g c work.now n at 0 }
 {
-    let mut i = n;
     let mut p = at;
     let mut k = 0;
-    while 0 < i {
+    for _ in 0..n {
         if c.end <= p {
-            return Upheld::Many(k);
+            return Ok(k);
         }
-        match holds(work, g, c, p) {
-            Judged::Refused => return Upheld::Refused(conditions(work, p, g.width)),
-            Judged::Is(b) => {
-                p = alternative_end(work, p, c.end, g.width);
-                k = counted(k, b);
-                i -= 1;
-            }
-        }
+        let Some(b) = holds(work, g, c, p) else {
+            return Err(conditions(work, p, g.width));
+        };
+        p = alternative_end(work, p, c.end, g.width);
+        k = counted(k, b);
     }
-    Upheld::Many(k)
+    Ok(k)
 }

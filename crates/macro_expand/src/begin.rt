@@ -1,12 +1,13 @@
 // The beginning of an item that is appended: the number of its name, its command, and that of its first alternative, whose action is a built-in text.
-ghost use Rattle.std.specs.Prelude.{◌++◌, ◌≤◌, ◌<◌, length};
+ghost use Rattle.std.specs.Prelude.{◌++◌, ◌≤◌, length};
 ghost use Rattle.precedence.specs.Write.{Puts};
+ghost use Rattle.appending.specs.Built.{number_of};
 ghost use Rattle.appending.specs.Commands.{item_head, alternative_head};
 ghost use Rattle.macro_expand.specs.Expand.{IsAny, IsRepeat, SomePopped, NamesBoth, Begins};
 ghost use Rattle.macro_expand.specs.Repeat.{BeginsWith};
 
 use appending::Appended;
-use appending::built::built;
+use appending::built::{BuiltIn, built};
 use appending::commands::{put_alternative, put_item};
 use appending::symbols::put_symbols;
 use expander::Ground;
@@ -36,17 +37,17 @@ fn names(
     n: usize,
     lim: usize,
     q: usize,
-    i: usize,
+    text: BuiltIn,
     v: Appended,
 ) -> Named
-    requires { SomePopped IsAny tape.now work.old g n lim q v × (i < 9) }
-    ensures { NamesBoth tape.now work.old g n lim q v i result work.new }
+    requires { SomePopped IsAny tape.now work.old g n lim q v }
+    ensures { NamesBoth tape.now work.old g n lim q v (number_of text) result work.new }
 {
     let span = u64_at(work, g.from + q + 1);
     let x = number(tape, work, g, n, v.count, q);
-    let t = built(tape, work, g, n, x.count, i);
+    let t = built(tape, work, g, n, x.count, text);
     Named {
-        span: span,
+        span,
         name: x.number,
         text: t.number,
         count: t.count,
@@ -74,7 +75,7 @@ pub fn put_head(
     put_alternative(work, span, act, t, symbols, width, lim, first)
 }
 
-// The item of the symbol at q, whose first alternative's action is the i-th built-in text; n symbols were pushed, and items are written before lim.
+// The item of the symbol at q, whose first alternative's action is a built-in text; n symbols were pushed, and items are written before lim.
 pub fn begin(
     tape: &[u8],
     work: &mut [u8],
@@ -84,14 +85,14 @@ pub fn begin(
     q: usize,
     flags: u8,
     alternatives: u16,
-    i: usize,
+    text: BuiltIn,
     symbols: u16,
     v: Appended,
 ) -> Begun
-    requires { SomePopped IsAny tape.now work.old g n lim q v × (i < 9) }
-    ensures { Begins tape.now work.old g n lim q v flags alternatives i symbols result work.new }
+    requires { SomePopped IsAny tape.now work.old g n lim q v }
+    ensures { Begins tape.now work.old g n lim q v flags alternatives (number_of text) symbols result work.new }
 {
-    let x = names(tape, work, g, n, lim, q, i, v);
+    let x = names(tape, work, g, n, lim, q, text, v);
     let to = put_head(
         work,
         x.span,
@@ -108,14 +109,14 @@ pub fn begin(
     Begun {
         name: x.name,
         out: Appended {
-            to: to,
+            to,
             count: x.count,
-            deep: v.deep,
+            ..v
         },
     }
 }
 
-// The beginning of an item of two alternatives, the first of which has the symbol inside and the i-th built-in text for its action.
+// The beginning of an item of two alternatives, the first of which has the symbol inside and a built-in text for its action.
 pub fn begin_with(
     tape: &[u8],
     work: &mut [u8],
@@ -124,18 +125,16 @@ pub fn begin_with(
     lim: usize,
     q: usize,
     flags: u8,
-    i: usize,
+    text: BuiltIn,
     v: Appended,
 ) -> Begun
-    requires { SomePopped IsRepeat tape.now work.old g n lim q v × (i < 9) }
-    ensures { BeginsWith tape.now work.old g n lim q v flags i result work.new }
+    requires { SomePopped IsRepeat tape.now work.old g n lim q v }
+    ensures { BeginsWith tape.now work.old g n lim q v flags (number_of text) result work.new }
 {
-    let x = begin(tape, work, g, n, lim, q, flags, 2, i, 1, v);
-    let first = x.out;
-    let y = put_symbols(tape, work, g, n, lim, q + 10, 1, first);
-    let out = y.out;
+    let x = begin(tape, work, g, n, lim, q, flags, 2, text, 1, v);
+    let y = put_symbols(tape, work, g, n, lim, q + 10, 1, x.out);
     Begun {
         name: x.name,
-        out: out,
+        out: y.out,
     }
 }

@@ -3,18 +3,17 @@ ghost use Rattle.std.specs.Prelude.{◌+◌, ◌≤◌, ◌<◌, length};
 ghost use Rattle.macro_expand.specs.Call.{SomeCall, ExpandsMacro};
 ghost use Rattle.macro_expand.specs.Macro.{ReadsCall, PutsHead, StartsMacro, PutsMacro};
 
-use crate::Expanded;
 use crate::alternatives::expand_alternatives;
-use crate::arguments::{Call, Upheld, holding};
+use crate::arguments::{Call, holding};
 use appending::Appended;
 use appending::commands::put_item;
 use expander::Ground;
 use expander::slots::number;
 use grades::annotations::first_alternative;
 use octets::numbers::{u16_at, u64_at};
-use octets::wide::{from8, from16};
 use parse_tree::node::span_at;
 use parse_tree::refusal;
+use parse_tree::refusal::Refusal;
 
 // A call, how many alternatives the definition has, and where they begin.
 #[derive(Clone, Copy)]
@@ -37,13 +36,13 @@ fn read_call(work: &[u8], g: Ground, q: usize, d: usize) -> Macro
 {
     let c = Call {
         params: d + 13 + g.width,
-        many: from8(work[d + 10 + g.width]),
+        many: usize::from(work[d + 10 + g.width]),
         args: g.from + q + (10 + g.width),
         end: work.len() - 16,
     };
     Macro {
         call: c,
-        many: from16(u16_at(work, d + 11 + g.width)),
+        many: usize::from(u16_at(work, d + 11 + g.width)),
         from: first_alternative(work, d, g.width),
     }
 }
@@ -77,9 +76,9 @@ fn put_head(
         v.to,
     );
     Appended {
-        to: to,
+        to,
         count: x.count,
-        deep: v.deep,
+        ..v
     }
 }
 
@@ -102,8 +101,8 @@ fn start(
     let span = u64_at(work, g.from + q + 1);
     let flags = work[d + 9 + g.width];
     let k = (m % 65536) as u16;
-    let u = put_head(tape, work, g, n, lim, q, d, span, flags, k, v);
-    Started { span: span, out: u }
+    let out = put_head(tape, work, g, n, lim, q, d, span, flags, k, v);
+    Started { span, out }
 }
 
 // The item, with m alternatives that hold.
@@ -136,13 +135,13 @@ pub fn expand_macro_symbol(
     q: usize,
     d: usize,
     v: Appended,
-) -> Expanded
+) -> Result<Appended, Refusal>
     requires { SomeCall tape.now work.old g n lim q d v }
     ensures { ExpandsMacro tape.now work.old g n lim q d v result work.new }
 {
     let x = read_call(work, g, q, d);
     match holding(work, g, x.call, x.many, x.from) {
-        Upheld::Refused(p) => Expanded::Refused(refusal::over(17, span_at(work, p + 1))),
-        Upheld::Many(m) => Expanded::Is(put_macro(tape, work, g, n, lim, q, d, x, m, v)),
+        Err(p) => Err(refusal::over(17, span_at(work, p + 1))),
+        Ok(m) => Ok(put_macro(tape, work, g, n, lim, q, d, x, m, v)),
     }
 }

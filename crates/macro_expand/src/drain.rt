@@ -2,7 +2,6 @@
 ghost use Rattle.std.specs.Prelude.{◌<◌};
 ghost use Rattle.macro_expand.specs.Drain.{SomePile, SomeOther, SomeDefinition, IsDefinition, ExpandsPushed, Drains};
 
-use crate::Expanded;
 use crate::call::expand_macro_symbol;
 use crate::group::expand_expr_symbol;
 use crate::look::expand_lookaround_symbol;
@@ -10,7 +9,7 @@ use crate::repeat::expand_repeat_symbol;
 use appending::Appended;
 use expander::Ground;
 use octets::numbers::atom_at;
-use octets::wide::from32;
+use parse_tree::refusal::Refusal;
 use resolve::Grammar;
 use resolve::items::place;
 use texts::fields::{cell, mark};
@@ -20,8 +19,8 @@ fn definition<'a>(tape: &'a [u8], work: &'a [u8], g: Ground, t: Grammar, q: usiz
     requires { SomeDefinition tape.now work.now g t q }
     ensures { IsDefinition tape.now work.now g t q result }
 {
-    let k = from32(atom_at(work, g.from + q + 9, g.width));
-    let c = from32(cell(work, g.m.base, k));
+    let k = atom_at(work, g.from + q + 9, g.width) as usize;
+    let c = cell(work, g.m.base, k) as usize;
     place(work, t, c % 2147483648 - 1)
 }
 
@@ -37,17 +36,15 @@ fn expand_other(
     q: usize,
     c: u8,
     v: Appended,
-) -> Expanded
+) -> Result<Appended, Refusal>
     requires { SomeOther tape.now work.old g n lim t v j q c }
     ensures { ExpandsPushed tape.now work.old g n lim t j v result work.new }
 {
-    if c == 38 {
-        return Expanded::Is(expand_repeat_symbol(tape, work, g, n, lim, q, v));
+    match c {
+        38 => Ok(expand_repeat_symbol(tape, work, g, n, lim, q, v)),
+        41 => expand_expr_symbol(tape, work, g, n, lim, q, v),
+        _ => Ok(expand_lookaround_symbol(tape, work, g, n, lim, q, v)),
     }
-    if c == 41 {
-        return expand_expr_symbol(tape, work, g, n, lim, q, v);
-    }
-    Expanded::Is(expand_lookaround_symbol(tape, work, g, n, lim, q, v))
 }
 
 // The item of the j-th pushed symbol.
@@ -60,7 +57,7 @@ fn expand(
     t: Grammar,
     j: usize,
     v: Appended,
-) -> Expanded
+) -> Result<Appended, Refusal>
     requires { SomePile tape.now work.old g n lim t v × (j < n) }
     ensures { ExpandsPushed tape.now work.old g n lim t j v result work.new }
 {
@@ -68,9 +65,10 @@ fn expand(
     let c = work[g.from + q];
     if c == 37 {
         let d = definition(tape, work, g, t, q);
-        return expand_macro_symbol(tape, work, g, n, lim, q, d, v);
+        expand_macro_symbol(tape, work, g, n, lim, q, d, v)
+    } else {
+        expand_other(tape, work, g, n, lim, t, j, q, c, v)
     }
-    expand_other(tape, work, g, n, lim, t, j, q, c, v)
 }
 
 // The items of all n that were pushed.
@@ -82,18 +80,13 @@ pub fn drain(
     lim: usize,
     t: Grammar,
     v: Appended,
-) -> Expanded
+) -> Result<Appended, Refusal>
     requires { SomePile tape.now work.old g n lim t v }
     ensures { Drains tape.now work.old g n lim t v result work.new }
 {
     let mut x = v;
-    let mut i = n;
-    while 0 < i {
-        match expand(tape, work, g, n, lim, t, i - 1, x) {
-            Expanded::Refused(why) => return Expanded::Refused(why),
-            Expanded::Is(y) => x = y,
-        }
-        i -= 1;
+    for j in (0..n).rev() {
+        x = expand(tape, work, g, n, lim, t, j, x)?;
     }
-    Expanded::Is(x)
+    Ok(x)
 }

@@ -1,6 +1,5 @@
 // Symbols of a macro's definition, appended with a call's arguments put in. Places in the definition are those in work.
 ghost use Rattle.std.specs.Prelude.{◌≡◌, ◌+◌, ◌≤◌, length, get_or};
-ghost use Rattle.texts.specs.declared.Found.{Found};
 ghost use Rattle.resolve.specs.Commands.{long_of};
 ghost use Rattle.macro_expand.specs.Arguments.{ReadableCall};
 ghost use Rattle.macro_expand.specs.PutIn.{parameter_at, PutsHere, Opens, Frame, SomeInside, SomeInsides, PutsIn, PutsInAll};
@@ -14,7 +13,6 @@ use grades::skip::inside;
 use octets::numbers::{atom_at, u64_at};
 use precedence::write::put_run;
 use resolve::commands::long;
-use texts::Found;
 
 // How many symbols are to come, and from where on.
 #[derive(Clone, Copy)]
@@ -24,18 +22,18 @@ pub struct Opened {
 }
 
 // Where the symbol for the parameter at a place stands, if there is one.
-fn parameter(work: &[u8], g: Ground, c: Call, at: usize) -> Found
+fn parameter(work: &[u8], g: Ground, c: Call, at: usize) -> Option<usize>
     requires { ReadableCall g c work.now × (at + 16 ≤ length work.now) }
     ensures { result ≡ parameter_at g c work.now at }
 {
-    let x = work[at];
-    if x == 36 {
-        return argument(work, g, c, atom_at(work, at + 9, g.width));
+    if work[at] == 36 {
+        argument(work, g, c, atom_at(work, at + 9, g.width))
+    } else {
+        None
     }
-    Found::Nothing
 }
 
-// The command at x.at, as it stands.
+// The command at x.at, as it stands. `put_command` of appending is the same from another place on: what both do is `put_run`, and a common form is no shorter.
 fn put_here(work: &mut [u8], g: Ground, lim: usize, x: Copied) -> Copied
     requires { (2 ≤ g.width) × (g.width ≤ 3) × (x.at + long_of g.width (get_or work.old x.at 0) ≤ x.out.to) × (lim ≤ length work.old) × (x.at + 17 ≤ length work.old) }
     ensures { PutsHere work.old g lim x result work.new }
@@ -45,11 +43,7 @@ fn put_here(work: &mut [u8], g: Ground, lim: usize, x: Copied) -> Copied
     let to = put_run(work, at, at + k, lim, x.out.to);
     Copied {
         at: at + k,
-        out: Appended {
-            to: to,
-            count: x.out.count,
-            deep: x.out.deep,
-        },
+        out: Appended { to, ..x.out },
     }
 }
 
@@ -65,13 +59,13 @@ fn put_parameter(
     x: Copied,
     p: usize,
 ) -> Copied
-    requires { Frame tape.now work.old g n lim c x.out × SomeInside tape.now work.old g left x × (Found.At p ≡ parameter_at g c work.old x.at) }
+    requires { Frame tape.now work.old g n lim c x.out × SomeInside tape.now work.old g left x × (Some p ≡ parameter_at g c work.old x.at) }
     ensures { PutsIn tape.now work.old g n lim c left x result work.new }
 {
     let e = x.at + (9 + g.width);
     let span = u64_at(work, x.at + 1);
-    let v = put_argument(tape, work, g, n, lim, p, span, left, x.out);
-    Copied { at: e, out: v }
+    let out = put_argument(tape, work, g, n, lim, p, span, left, x.out);
+    Copied { at: e, out }
 }
 
 // The command at x.at, which is no parameter, and how many symbols stand straight inside.
@@ -85,12 +79,12 @@ fn open(
     left: usize,
     x: Copied,
 ) -> Opened
-    requires { Frame tape.now work.old g n lim c x.out × SomeInside tape.now work.old g left x × (Found.Nothing ≡ parameter_at g c work.old x.at) }
+    requires { Frame tape.now work.old g n lim c x.out × SomeInside tape.now work.old g left x × (None ≡ parameter_at g c work.old x.at) }
     ensures { Opens tape.now work.old g n lim c left x result work.new }
 {
-    let k = inside(work, x.at, g.width);
-    let r = put_here(work, g, lim, x);
-    Opened { many: k, run: r }
+    let many = inside(work, x.at, g.width);
+    let run = put_here(work, g, lim, x);
+    Opened { many, run }
 }
 
 // The symbol at x.at; `left` levels of nesting are left.
@@ -110,8 +104,8 @@ pub fn macro_expand_symbol(
 {
     let at = x.at;
     match parameter(work, g, c, at) {
-        Found::At(p) => put_parameter(tape, work, g, n, lim, c, left, x, p),
-        Found::Nothing => {
+        Some(p) => put_parameter(tape, work, g, n, lim, c, left, x, p),
+        None => {
             let h = open(tape, work, g, n, lim, c, left, x);
             macro_expand_symbols(tape, work, g, n, lim, c, left - 1, h.many, h.run)
         }
@@ -135,10 +129,8 @@ pub fn macro_expand_symbols(
     ensures { PutsInAll tape.now work.old g n lim c left k x result work.new }
 {
     let mut r = x;
-    let mut i = k;
-    while 0 < i {
+    for _ in 0..k {
         r = macro_expand_symbol(tape, work, g, n, lim, c, left, r);
-        i -= 1;
     }
     r
 }

@@ -2,9 +2,6 @@
 // new texts, the slots, the numbers of built-in texts, and the room for appended items.
 #![tactic(auto)]
 
-use appending::Appended;
-use parse_tree::refusal::Refusal;
-
 pub mod alternatives;
 pub mod arguments;
 pub mod begin;
@@ -18,10 +15,3 @@ pub mod plus;
 pub mod put_in;
 pub mod repeat;
 pub mod star;
-
-// What is appended, or why a symbol is refused.
-#[derive(Clone, Copy)]
-pub enum Expanded {
-    Is(Appended),
-    Refused(Refusal),
-}

@@ -22,10 +22,7 @@ fn act(work: &[u8], at: usize) -> u8
     requires { at < length work.now }
     ensures { result ≡ look_act work.now at }
 {
-    if work[at] == 42 {
-        return 3;
-    }
-    4
+    if work[at] == 42 { 3 } else { 4 }
 }
 
 fn name_look(
@@ -45,7 +42,7 @@ fn name_look(
     let a = act(work, at);
     let x = number(tape, work, g, n, v.count, q);
     Called {
-        span: span,
+        span,
         act: a,
         name: x.number,
         count: x.count,
@@ -80,8 +77,8 @@ pub fn expand_lookaround_symbol(
         v.to,
     );
     Appended {
-        to: to,
+        to,
         count: x.count,
-        deep: v.deep,
+        ..v
     }
 }

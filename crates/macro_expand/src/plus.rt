@@ -1,9 +1,9 @@
 // The items of `X+`. The symbol inside a repeat stands ten bytes behind it.
-ghost use Rattle.std.specs.Prelude.{◌≤◌, ◌<◌, length};
+ghost use Rattle.std.specs.Prelude.{◌≤◌, length};
 ghost use Rattle.parse_tree.specs.Plain.Tree.{plus};
 ghost use Rattle.precedence.specs.Write.{Puts};
 ghost use Rattle.expander.specs.Ground.{Grounded};
-ghost use Rattle.appending.specs.Built.{SomeBuilt};
+ghost use Rattle.appending.specs.Built.{number_of, SomeBuilt};
 ghost use Rattle.appending.specs.Pieces.{SomeAppending};
 ghost use Rattle.appending.specs.Symbols.{SomeReferring};
 ghost use Rattle.macro_expand.specs.Expand.{IsRepeat, SomePopped};
@@ -11,7 +11,7 @@ ghost use Rattle.macro_expand.specs.Repeat.{ExpandsAs, GoesOn, NamesPush, push_h
 
 use crate::begin::begin_with;
 use appending::Appended;
-use appending::built::{E, ONE, PUSH, V, built};
+use appending::built::{BuiltIn, built};
 use appending::commands::{put_alternative, put_name, put_nonterminal};
 use appending::symbols::put_symbols;
 use expander::Ground;
@@ -27,21 +27,21 @@ struct Pushing {
     count: usize,
 }
 
-// The number of the i-th built-in text; c texts are new.
-fn next_text(tape: &[u8], work: &mut [u8], g: Ground, n: usize, c: usize, i: usize) -> Numbered
-    requires { Grounded tape.now work.old g × SomeBuilt tape.now work.old g n c × (i < 9) }
-    ensures { GoesOn tape.now work.old g n c i result work.new }
+// The number of a built-in text; c texts are new.
+fn next_text(tape: &[u8], work: &mut [u8], g: Ground, n: usize, c: usize, text: BuiltIn) -> Numbered
+    requires { Grounded tape.now work.old g × SomeBuilt tape.now work.old g n c }
+    ensures { GoesOn tape.now work.old g n c (number_of text) result work.new }
 {
-    built(tape, work, g, n, c, i)
+    built(tape, work, g, n, c, text)
 }
 
 fn push_texts(tape: &[u8], work: &mut [u8], g: Ground, n: usize, c: usize) -> Pushing
     requires { Grounded tape.now work.old g × SomeBuilt tape.now work.old g n c }
     ensures { NamesPush tape.now work.old g n c result work.new }
 {
-    let push = next_text(tape, work, g, n, c, PUSH);
-    let v = next_text(tape, work, g, n, push.count, V);
-    let e = next_text(tape, work, g, n, v.count, E);
+    let push = next_text(tape, work, g, n, c, BuiltIn::Pushed);
+    let v = next_text(tape, work, g, n, push.count, BuiltIn::Vector);
+    let e = next_text(tape, work, g, n, v.count, BuiltIn::Element);
     Pushing {
         push: (push.number % 4294967296) as u32,
         v: (v.number % 4294967296) as u32,
@@ -94,9 +94,9 @@ fn put_second(
         v.to,
     );
     Appended {
-        to: to,
+        to,
         count: t.count,
-        deep: v.deep,
+        ..v
     }
 }
 
@@ -117,8 +117,7 @@ fn push_rest(
 {
     let first = put_second(tape, work, g, n, lim, span, name, v);
     let x = put_symbols(tape, work, g, n, lim, p, 1, first);
-    let out = x.out;
-    out
+    x.out
 }
 
 // `X+`: the symbol, or what there is and one more.
@@ -136,7 +135,6 @@ pub fn expand_plus(
 {
     let span = u64_at(work, g.from + q + 1);
     let p = q + 10;
-    let x = begin_with(tape, work, g, n, lim, q, 0, ONE, v);
-    let first = x.out;
-    push_rest(tape, work, g, n, lim, p, span, x.name, first)
+    let x = begin_with(tape, work, g, n, lim, q, 0, BuiltIn::VecOfOne, v);
+    push_rest(tape, work, g, n, lim, p, span, x.name, x.out)
 }

@@ -15,7 +15,7 @@ use grades::skip::inside;
 use precedence::write::{copy_within, put_command};
 use resolve::commands::long;
 
-// A code, a span, and the bytes from a up to e, if they end at lim or before.
+// A code, a span, and the bytes from a up to e, if they end at lim or before. Not by `put` of appending: 9 + (e - a) is known to be a number only behind the first test.
 pub fn put_spanned(
     work: &mut [u8],
     code: u8,
@@ -42,31 +42,24 @@ pub fn put_spanned(
 fn wraps(c: u8) -> bool
     ensures { result ≡ wrapping c }
 {
-    match c {
-        39 => true,
-        40 => true,
-        _ => false,
-    }
+    matches!(c, 39 | 40)
 }
 
 // Whether the symbol at p is nested within bounds once it is renamed, with so many levels left.
-fn fits(work: &[u8], p: usize, e: usize, left: usize, width: usize) -> bool
+pub fn fits(work: &[u8], p: usize, e: usize, left: usize, width: usize) -> bool
     requires { (2 ≤ width) × (width ≤ 3) × (e + 16 ≤ length work.now) }
     ensures { result ≡ fits_at width e work.now left p }
 {
     let mut q = p;
-    let mut i = left;
-    while 0 < i {
+    for _ in 0..left {
         if e <= q {
             return true;
         }
         let c = work[q];
-        if wraps(c) {
-            q += long(c, width);
-            i -= 1;
-        } else {
+        if !wraps(c) {
             return true;
         }
+        q += long(c, width);
     }
     false
 }
@@ -74,14 +67,7 @@ fn fits(work: &[u8], p: usize, e: usize, left: usize, width: usize) -> bool
 fn deepened(v: Appended, b: bool) -> Appended
     ensures { result ≡ deepened_by v b }
 {
-    if b {
-        return v;
-    }
-    Appended {
-        to: v.to,
-        count: v.count,
-        deep: true,
-    }
+    if b { v } else { Appended { deep: true, ..v } }
 }
 
 // The symbol at p, which is expanded, as the name of its print.
@@ -108,9 +94,9 @@ fn put_named(
         v.to,
     );
     Appended {
-        to: to,
+        to,
         count: x.count,
-        deep: v.deep,
+        ..v
     }
 }
 
@@ -132,11 +118,7 @@ fn put_plain(
     let k = inside(work, p, g.width);
     let e = p + long(c, g.width);
     let to = put_spanned(work, c, span, p + 9, e, lim, v.to);
-    let u = Appended {
-        to: to,
-        count: v.count,
-        deep: v.deep,
-    };
+    let u = Appended { to, ..v };
     let r = put_symbols(tape, work, g, n, lim, e - g.from, k, u);
     r.out
 }
@@ -158,9 +140,9 @@ pub fn put_argument(
 {
     let f = fits(work, p, g.end, levels, g.width);
     let u = deepened(v, f);
-    let c = work[p];
-    if is_expanded(c) {
-        return put_named(tape, work, g, n, lim, p, span, u);
+    if is_expanded(work[p]) {
+        put_named(tape, work, g, n, lim, p, span, u)
+    } else {
+        put_plain(tape, work, g, n, lim, p, span, u)
     }
-    put_plain(tape, work, g, n, lim, p, span, u)
 }

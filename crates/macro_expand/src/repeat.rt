@@ -1,7 +1,6 @@
 // The items of repeats, and that of `X?`. The symbol inside a repeat stands ten bytes behind it.
-ghost use Rattle.std.specs.Prelude.{◌<◌};
 ghost use Rattle.parse_tree.specs.Plain.Tree.{question};
-ghost use Rattle.appending.specs.Built.{built_text};
+ghost use Rattle.appending.specs.Built.{number_of, built_text};
 ghost use Rattle.appending.specs.Pieces.{SomeAppending};
 ghost use Rattle.macro_expand.specs.Expand.{IsRepeat, SomePopped, ExpandsRepeat};
 ghost use Rattle.macro_expand.specs.Repeat.{ExpandsAs, repeat_of, bare_head, PutsBy};
@@ -10,12 +9,12 @@ use crate::begin::begin_with;
 use crate::plus::expand_plus;
 use crate::star::expand_star;
 use appending::Appended;
-use appending::built::{NOTHING, SOME, built};
+use appending::built::{BuiltIn, built};
 use appending::commands::put_alternative;
 use expander::Ground;
 use octets::numbers::u64_at;
 
-// An alternative without symbols, whose action is the i-th built-in text.
+// An alternative without symbols, whose action is a built-in text.
 fn put_bare(
     tape: &[u8],
     work: &mut [u8],
@@ -23,13 +22,13 @@ fn put_bare(
     n: usize,
     lim: usize,
     span: u64,
-    i: usize,
+    text: BuiltIn,
     v: Appended,
 ) -> Appended
-    requires { SomeAppending tape.now work.old g n lim v × (i < 9) }
-    ensures { PutsBy tape.now work.old g n lim v (built_text i) (bare_head g.width span) result work.new }
+    requires { SomeAppending tape.now work.old g n lim v }
+    ensures { PutsBy tape.now work.old g n lim v (built_text (number_of text)) (bare_head g.width span) result work.new }
 {
-    let t = built(tape, work, g, n, v.count, i);
+    let t = built(tape, work, g, n, v.count, text);
     let to = put_alternative(
         work,
         span,
@@ -41,9 +40,9 @@ fn put_bare(
         v.to,
     );
     Appended {
-        to: to,
+        to,
         count: t.count,
-        deep: v.deep,
+        ..v
     }
 }
 
@@ -61,9 +60,8 @@ fn expand_question(
     ensures { ExpandsAs tape.now work.old g n lim q v question result work.new }
 {
     let span = u64_at(work, g.from + q + 1);
-    let x = begin_with(tape, work, g, n, lim, q, 1, SOME, v);
-    let first = x.out;
-    put_bare(tape, work, g, n, lim, span, NOTHING, first)
+    let x = begin_with(tape, work, g, n, lim, q, 1, BuiltIn::SomeOfOne, v);
+    put_bare(tape, work, g, n, lim, span, BuiltIn::Nothing, x.out)
 }
 
 // The item that the repeat at q has as one of this operator.
@@ -80,13 +78,11 @@ fn expand_as(
     requires { SomePopped IsRepeat tape.now work.old g n lim q v }
     ensures { ExpandsAs tape.now work.old g n lim q v (repeat_of op) result work.new }
 {
-    if op == 0 {
-        return expand_star(tape, work, g, n, lim, q, v);
+    match op {
+        0 => expand_star(tape, work, g, n, lim, q, v),
+        1 => expand_plus(tape, work, g, n, lim, q, v),
+        _ => expand_question(tape, work, g, n, lim, q, v),
     }
-    if op == 1 {
-        return expand_plus(tape, work, g, n, lim, q, v);
-    }
-    expand_question(tape, work, g, n, lim, q, v)
 }
 
 // The item of the symbol at q; n symbols were pushed, and items are written before lim.

@@ -1,55 +1,21 @@
 // The items of `X*`. The symbol inside a repeat stands ten bytes behind it.
-ghost use Rattle.std.specs.Prelude.{◌≡◌, ◌||◌, ◌+◌, ◌≤◌, length};
+ghost use Rattle.std.specs.Prelude.{◌+◌, ◌≤◌, length};
 ghost use Rattle.parse_tree.specs.Plain.Tree.{star};
 ghost use Rattle.precedence.specs.Write.{Puts};
 ghost use Rattle.appending.specs.Built.{built_text};
 ghost use Rattle.appending.specs.Pieces.{SomeAppending};
 ghost use Rattle.appending.specs.Symbols.{SomeReferring};
 ghost use Rattle.macro_expand.specs.Expand.{IsRepeat, SomePopped};
-ghost use Rattle.macro_expand.specs.Repeat.{ExpandsAs, PutsBy, nested_at, star_head, PutsStar, BeginsStar, ReadsStar};
+ghost use Rattle.macro_expand.specs.Repeat.{ExpandsAs, PutsBy, star_head, PutsStar, BeginsStar, ReadsStar};
 
 use crate::begin::{Begun, begin};
+use crate::put_in::fits;
 use appending::Appended;
-use appending::built::{NONE, V, built};
+use appending::built::{BuiltIn, built};
 use appending::commands::{put_alternative, put_name, put_plus};
 use appending::symbols::put_symbols;
 use expander::Ground;
 use octets::numbers::u64_at;
-use resolve::commands::long;
-
-// Whether more than 62 symbols are nested at a place before e, as they are written again.
-fn too_deep(work: &[u8], at: usize, e: usize, width: usize) -> bool
-    requires { (2 ≤ width) × (width ≤ 3) × (e ≤ length work.now) }
-    ensures { result ≡ nested_at width e work.now 62 at }
-{
-    let mut p = at;
-    let mut k: usize = 62;
-    while 0 < k {
-        if e <= p {
-            return false;
-        }
-        let c = work[p];
-        if c < 39 {
-            return false;
-        }
-        if 40 < c {
-            return false;
-        }
-        p += long(c, width);
-        k -= 1;
-    }
-    true
-}
-
-// One of both.
-fn either(a: bool, b: bool) -> bool
-    ensures { result ≡ a || b }
-{
-    if a {
-        return true;
-    }
-    b
-}
 
 // The commands of the second alternative of `X*` but the symbol's.
 fn put_star(work: &mut [u8], span: u64, k: u32, width: usize, lim: usize, to: usize) -> usize
@@ -74,7 +40,7 @@ fn put_v(
     requires { SomeAppending tape.now work.old g n lim v }
     ensures { PutsBy tape.now work.old g n lim v (built_text 1) (star_head g.width span) result work.new }
 {
-    let t = built(tape, work, g, n, v.count, V);
+    let t = built(tape, work, g, n, v.count, BuiltIn::Vector);
     let to = put_star(
         work,
         span,
@@ -84,9 +50,9 @@ fn put_v(
         v.to,
     );
     Appended {
-        to: to,
+        to,
         count: t.count,
-        deep: v.deep,
+        ..v
     }
 }
 
@@ -107,15 +73,13 @@ fn star_rest(
 {
     let first = put_v(tape, work, g, n, lim, span, v);
     let x = put_symbols(tape, work, g, n, lim, p, 1, first);
-    let out = x.out;
     Appended {
-        to: out.to,
-        count: out.count,
-        deep: either(out.deep, deep),
+        deep: x.out.deep || deep,
+        ..x.out
     }
 }
 
-// The span of the repeat at q, and whether the symbol inside is nested too deep.
+// The span of the repeat at q, and whether more than 62 symbols are nested inside, as they are written again.
 #[derive(Clone, Copy)]
 struct Starred {
     span: u64,
@@ -123,15 +87,12 @@ struct Starred {
 }
 
 fn read_star(work: &[u8], g: Ground, q: usize) -> Starred
-    requires { (2 ≤ g.width) × (g.width ≤ 3) × (g.end ≤ length work.now) × (g.from + q + 10 ≤ length work.now) }
+    requires { (2 ≤ g.width) × (g.width ≤ 3) × (g.end + 16 ≤ length work.now) × (g.from + q + 10 ≤ length work.now) }
     ensures { ReadsStar work.now g q result }
 {
     let span = u64_at(work, g.from + q + 1);
-    let deep = too_deep(work, g.from + (q + 10), g.end, g.width);
-    Starred {
-        span: span,
-        deep: deep,
-    }
+    let deep = !fits(work, g.from + (q + 10), g.end, 62, g.width);
+    Starred { span, deep }
 }
 
 // The item and its first alternative.
@@ -147,7 +108,7 @@ fn begin_star(
     requires { SomePopped IsRepeat tape.now work.old g n lim q v }
     ensures { BeginsStar tape.now work.old g n lim q v result work.new }
 {
-    begin(tape, work, g, n, lim, q, 1, 2, NONE, 0, v)
+    begin(tape, work, g, n, lim, q, 1, 2, BuiltIn::EmptyVec, 0, v)
 }
 
 // `X*`: nothing, or one or more. What is written for X is nested in two symbols more.
@@ -166,6 +127,5 @@ pub fn expand_star(
     let y = read_star(work, g, q);
     let p = q + 10;
     let x = begin_star(tape, work, g, n, lim, q, v);
-    let first = x.out;
-    star_rest(tape, work, g, n, lim, p, y.span, y.deep, first)
+    star_rest(tape, work, g, n, lim, p, y.span, y.deep, x.out)
 }

@@ -17,7 +17,7 @@ use Rattle.passes.specs.Outcome.{Outcome, yes, no, after}
 use Rattle.passes.specs.Stages.{resolve_stage, level_stage, all_stages}
 use Rattle.passes.specs.Calls.{read_as, sizes, validate_call, resolve_call, levels_call, macros_call, whole, written, work_after}
 use Rattle.output.specs.Plain.Answers.{answer_of, Called, Checked}
-use Rattle.output.specs.declared.Answer.{Answer}
+use Rattle.std.specs.Prelude.{Result, Err}
 use Rattle.output.specs.Working.Handing.{Staged}
 use Rattle.stages.specs.Stages.{Judged, resolved}
 use Rattle.stages.specs.Levelling.{levelled_of}
@@ -36,7 +36,7 @@ pub ruleset staging = (rules, stage_room, stage_refused, stage_stands)
 
 -- ---- `resolve`: ok is what `enough` answered
 module _ (s o w : List ℕ) (ok : Bool) (i : ok ≡ leb (8 * (length s + length o)) (length w)) where
-  pub call_short : (why : Refusal) → why ≡ refusal_at 1 0 → ok ≡ false → Called (resolve_call true 2 s (length o) (length w)) s o w (Answer.No why) o w
+  pub call_short : (why : Refusal) → why ≡ refusal_at 1 0 → ok ≡ false → Called (resolve_call true 2 s (length o) (length w)) s o w (Err why) o w
   unfolding refusal_at resolve_call validate_call answer_of written work_after
   call_short why u e = let z : leb (8 * (length s + length o)) (length w) ≡ false = cc in record { answered = rw (z, u); tree = rw z; zeroed = rw z }
 
@@ -52,7 +52,7 @@ module _ (s o w : List ℕ) (ok : Bool) (i : ok ≡ leb (8 * (length s + length 
     resolved-is = rw (long, read_is true 2 s)
 
     -- r is the answer of the stage, o' and w₁ what it left
-    pub call_done : (r : Answer) (o' w₁ w₂ : List ℕ) → Staged (resolved s (length o)) o r o' → length w₁ ≡ length w → w₂ ≡ replicate (length w₁) 0
+    pub call_done : (r : Result ℕ Refusal) (o' w₁ w₂ : List ℕ) → Staged (resolved s (length o)) o r o' → length w₁ ≡ length w → w₂ ≡ replicate (length w₁) 0
         → Called (resolve_call true 2 s (length o) (length w)) s o w r o' w₂
     unfolding work_after
     call_done r o' w₁ w₂ d l q = record {
@@ -65,7 +65,7 @@ pub ruleset calling = (rules, call_short, call_room, call_done)
 
 -- ---- `levels`: ok is what `enough` answered
 module _ (s o w : List ℕ) (ok : Bool) (i : ok ≡ leb (8 * (length s + length o)) (length w)) where
-  pub levels-short : (why : Refusal) → why ≡ refusal_at 1 0 → ok ≡ false → Called (levels_call true 2 s (length o) (length w)) s o w (Answer.No why) o w
+  pub levels-short : (why : Refusal) → why ≡ refusal_at 1 0 → ok ≡ false → Called (levels_call true 2 s (length o) (length w)) s o w (Err why) o w
   unfolding refusal_at levels_call resolve_call validate_call answer_of written work_after
   levels-short why u e = let z : leb (8 * (length s + length o)) (length w) ≡ false = cc in record { answered = rw (z, u); tree = rw z; zeroed = rw z }
 
@@ -75,7 +75,7 @@ module _ (s o w : List ℕ) (ok : Bool) (i : ok ≡ leb (8 * (length s + length 
     levelled-is = rw (long s o w ok i e, read_is true 2 s)
 
     -- r is the answer of the stage, o' and w₁ what it left
-    pub levels-done : (r : Answer) (o' w₁ w₂ : List ℕ) → Staged (levelled_of s (length o)) o r o' → length w₁ ≡ length w → w₂ ≡ replicate (length w₁) 0
+    pub levels-done : (r : Result ℕ Refusal) (o' w₁ w₂ : List ℕ) → Staged (levelled_of s (length o)) o r o' → length w₁ ≡ length w → w₂ ≡ replicate (length w₁) 0
         → Called (levels_call true 2 s (length o) (length w)) s o w r o' w₂
     unfolding work_after
     levels-done r o' w₁ w₂ d l q = record {
@@ -88,7 +88,7 @@ pub ruleset calling_levels = (rules, levels-short, call_room, levels-done)
 
 -- ---- `macros`: ok is what `enough` answered
 module _ (s o w : List ℕ) (limit : ℕ) (ok : Bool) (i : ok ≡ leb (8 * (length s + length o)) (length w)) where
-  pub macros-short : (why : Refusal) → why ≡ refusal_at 1 0 → ok ≡ false → Called (macros_call true 2 s limit (length o) (length w)) s o w (Answer.No why) o w
+  pub macros-short : (why : Refusal) → why ≡ refusal_at 1 0 → ok ≡ false → Called (macros_call true 2 s limit (length o) (length w)) s o w (Err why) o w
   unfolding refusal_at macros_call resolve_call validate_call answer_of written work_after
   macros-short why u e = let z : leb (8 * (length s + length o)) (length w) ≡ false = cc in record { answered = rw (z, u); tree = rw z; zeroed = rw z }
 
@@ -98,7 +98,7 @@ module _ (s o w : List ℕ) (limit : ℕ) (ok : Bool) (i : ok ≡ leb (8 * (leng
     expanded_call = rw (long s o w ok i e, read_is true 2 s)
 
     -- r is the answer of the stage, o' and w₁ what it left
-    pub macros-done : (r : Answer) (o' w₁ w₂ : List ℕ) → Staged (expanded_of s limit (length o)) o r o' → length w₁ ≡ length w → w₂ ≡ replicate (length w₁) 0
+    pub macros-done : (r : Result ℕ Refusal) (o' w₁ w₂ : List ℕ) → Staged (expanded_of s limit (length o)) o r o' → length w₁ ≡ length w → w₂ ≡ replicate (length w₁) 0
         → Called (macros_call true 2 s limit (length o) (length w)) s o w r o' w₂
     unfolding work_after
     macros-done r o' w₁ w₂ d l q = record {
@@ -116,7 +116,7 @@ after-after (no q sp) f g = refl
 
 -- ---- `whole`: ok is what `enough` answered
 module _ (s o w : List ℕ) (limit : ℕ) (ok : Bool) (i : ok ≡ leb (8 * (length s + length o)) (length w)) where
-  pub whole_short : (why : Refusal) → why ≡ refusal_at 1 0 → ok ≡ false → Called (whole true 2 s limit (length o) (length w)) s o w (Answer.No why) o w
+  pub whole_short : (why : Refusal) → why ≡ refusal_at 1 0 → ok ≡ false → Called (whole true 2 s limit (length o) (length w)) s o w (Err why) o w
   unfolding refusal_at whole validate_call answer_of written work_after
   whole_short why u e = let z : leb (8 * (length s + length o)) (length w) ≡ false = cc in record { answered = rw (z, u); tree = rw z; zeroed = rw z }
 
@@ -130,7 +130,7 @@ module _ (s o w : List ℕ) (limit : ℕ) (ok : Bool) (i : ok ≡ leb (8 * (leng
         stages_joined (no q sp) = refl
 
     -- r is the answer of the stage, o' and w₁ what it left
-    pub whole_called : (r : Answer) (o' w₁ w₂ : List ℕ) → Staged (whole_of s limit (length o)) o r o' → length w₁ ≡ length w → w₂ ≡ replicate (length w₁) 0
+    pub whole_called : (r : Result ℕ Refusal) (o' w₁ w₂ : List ℕ) → Staged (whole_of s limit (length o)) o r o' → length w₁ ≡ length w → w₂ ≡ replicate (length w₁) 0
         → Called (whole true 2 s limit (length o) (length w)) s o w r o' w₂
     unfolding work_after
     whole_called r o' w₁ w₂ d l q = record {
@@ -143,7 +143,7 @@ pub ruleset calling_whole = (rules, whole_short, call_room, whole_called)
 
 -- ---- `validate`, which has no output
 module _ (s w : List ℕ) (ok : Bool) (i : ok ≡ leb (8 * (length s + 0)) (length w)) where
-  pub check_short : (why : Refusal) → why ≡ refusal_at 1 0 → ok ≡ false → Checked (validate_call true 2 s 0 (length w)) s w (Answer.No why) w
+  pub check_short : (why : Refusal) → why ≡ refusal_at 1 0 → ok ≡ false → Checked (validate_call true 2 s 0 (length w)) s w (Err why) w
   unfolding refusal_at validate_call answer_of work_after
   check_short why u e = let z : leb (8 * (length s + 0)) (length w) ≡ false = cc in record { answered = rw (z, u); zeroed = rw z }
 
@@ -151,7 +151,7 @@ module _ (s w : List ℕ) (ok : Bool) (i : ok ≡ leb (8 * (length s + 0)) (leng
     pub check_room : 8 * length s ≤ length w
     check_room = let z = leb-true (8 * (length s + 0)) (length w) (sym i ∙ e) in omega arith
 
-    pub check_done : (r : Answer) (w' : List ℕ) → Judged s w r w' → Checked (validate_call true 2 s 0 (length w)) s w r w'
+    pub check_done : (r : Result ℕ Refusal) (w' : List ℕ) → Judged s w r w' → Checked (validate_call true 2 s 0 (length w)) s w r w'
     unfolding validate_call work_after
     check_done r w' d =
         let z : leb (8 * (length s + 0)) (length w) ≡ true = sym i ∙ e in

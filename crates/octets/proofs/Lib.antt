@@ -5,7 +5,4 @@ pub mod StoreLaws
 pub mod PartLaws
 pub mod LiesLaws
 pub mod SameLaws
-mod RunsSameCode
-mod RunsClearCode
-mod RunsCopyCode
 mod SinkCode

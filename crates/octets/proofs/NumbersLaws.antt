@@ -1,6 +1,6 @@
 -- The laws of little-endian numbers: one for every width. Assumes nothing.
 use mathlib.Core.Path.{◌≡◌, refl, ap}
-use mathlib.Core.List.{List, ◌++◌, append_assoc}
+use mathlib.Core.List.{List, [], ◌∷◌, ◌++◌, append_assoc}
 use Prim.Native.Nat.{ℕ, zero, suc, ◌+◌, ◌*◌, ◌/◌, ◌%◌, ◌≤◌}
 use native.Mathlib.Omega.{arith}
 use borrow.Author.Rules.{rules}
@@ -29,34 +29,64 @@ two_le w v =
     let d : v % 65536 / 256 % 256 ≡ v % 65536 / 256 = omega arith in
     cc
 
--- ---- the readers
-module _ (s : List ℕ) (at : ℕ) where
-  pub read_16 : (b c x y : ℕ) → b ≡ get_or s at 0 → x ≡ b → c ≡ get_or s (at + 1) 0 → y ≡ c → x + y * 256 ≡ le_at 2 s at
+-- ---- the readers: r is what std reads the bytes as
+moved : (s : List ℕ) (i j : ℕ) → i ≡ j → get_or s i 0 ≡ get_or s j 0
+moved s i j e = rw e
+
+module _ (s : List ℕ) (at r : ℕ) where
+  pub read_16 : r ≡ get_or s at 0 + get_or s (at + 1) 0 * 256 → r ≡ le_at 2 s at
   unfolding le_at
-  read_16 b c x y p q h i = omega arith
+  read_16 p = omega (arith)
 
-  pub read_32 : (l h x y : ℕ) → l ≡ le_at 2 s at → x ≡ l → h ≡ le_at 2 s (at + 2) → y ≡ h → x + y * 65536 ≡ le_at 4 s at
-  read_32 l h x y p q i j = omega (arith, two_at 2 s at)
-
-  pub read_64 : (l h x y : ℕ) → l ≡ le_at 4 s at → x ≡ l → h ≡ le_at 4 s (at + 4) → y ≡ h → x + y * 4294967296 ≡ le_at 8 s at
-  read_64 l h x y p q i j =
-      let z : at + 2 + 2 ≡ at + 4 = omega arith in
-      let k : le_at 4 s (at + 2 + 2) ≡ le_at 4 s (at + 4) = rw z in
-      omega (arith, two_at 6 s at, two_at 4 s (at + 2), two_at 2 s at)
-
-  pub read_atom_two : (width l x : ℕ) → width ≡ 2 → l ≡ le_at 2 s at → x ≡ l → x ≡ le_at width s at
-  read_atom_two width l x e p q = cc
-
-  pub read_atom_three : (width l x b c y : ℕ) → 2 ≤ width → width ≤ 3 → (width ≡ 2 → ⊥) → l ≡ le_at 2 s at → x ≡ l → b ≡ get_or s (at + 2) 0 → c ≡ b → y ≡ c → x + y * 65536 ≡ le_at width s at
+  pub read_24 : r ≡ get_or s at 0 + get_or s (at + 1) 0 * 256 + get_or s (at + 2) 0 * 65536 → r ≡ le_at 3 s at
   unfolding le_at
-  read_atom_three width l x b c y g h n p q i j k =
+  read_24 p = omega (arith, moved s (at + 1 + 1) (at + 2) (omega arith))
+
+  pub read_32 : r ≡ get_or s at 0 + get_or s (at + 1) 0 * 256 + get_or s (at + 2) 0 * 65536 + get_or s (at + 3) 0 * 16777216 → r ≡ le_at 4 s at
+  unfolding le_at
+  read_32 p = omega (arith, moved s (at + 1 + 1) (at + 2) (omega arith), moved s (at + 1 + 1 + 1) (at + 3) (omega arith))
+
+  pub read_64 : r ≡ get_or s at 0 + get_or s (at + 1) 0 * 256 + get_or s (at + 2) 0 * 65536 + get_or s (at + 3) 0 * 16777216 + get_or s (at + 4) 0 * 4294967296 + get_or s (at + 5) 0 * 1099511627776 + get_or s (at + 6) 0 * 281474976710656 + get_or s (at + 7) 0 * 72057594037927936 → r ≡ le_at 8 s at
+  unfolding le_at
+  read_64 p = omega (arith, moved s (at + 1 + 1) (at + 2) (omega arith), moved s (at + 1 + 1 + 1) (at + 3) (omega arith), moved s (at + 1 + 1 + 1 + 1) (at + 4) (omega arith), moved s (at + 1 + 1 + 1 + 1 + 1) (at + 5) (omega arith), moved s (at + 1 + 1 + 1 + 1 + 1 + 1) (at + 6) (omega arith), moved s (at + 1 + 1 + 1 + 1 + 1 + 1 + 1) (at + 7) (omega arith))
+
+  pub read_atom_two : (width : ℕ) → width ≡ 2 → r ≡ le_at 2 s at → r ≡ le_at width s at
+  read_atom_two width e p = cc
+
+  pub read_atom_three : (width : ℕ) → 2 ≤ width → width ≤ 3 → (width ≡ 2 → ⊥) → r ≡ get_or s at 0 + get_or s (at + 1) 0 * 256 + get_or s (at + 2) 0 * 65536 → r ≡ le_at width s at
+  read_atom_three width g h n p =
       let e : width ≡ 3 = omega arith in
-      let z : le_at 1 s (at + 2) ≡ get_or s (at + 2) 0 = omega arith in
-      rw e (omega (arith, two_at 1 s at))
+      rw e (read_24 p)
 
--- ---- the writers' bytes
-pub le-32 : (v : ℕ) → le 4 v ≡ le 2 (v % 65536) ++ le 2 (v / 65536)
-le-32 v = two_le 2 v
+-- ---- the writers: a number's bytes as std has them
+pub bytes-16 : (v : ℕ) → v % 256 ∷ v / 256 % 256 ∷ [] ≡ le 2 v
+unfolding le
+bytes-16 v = refl
+
+pub bytes-32 : (v : ℕ) → v % 256 ∷ v / 256 % 256 ∷ v / 65536 % 256 ∷ v / 16777216 % 256 ∷ [] ≡ le 4 v
+unfolding le
+bytes-32 v =
+    let d2 : v / 256 / 256 ≡ v / 65536 = omega arith in
+    let d3 : v / 65536 / 256 ≡ v / 16777216 = omega arith in
+    cc
+
+pub bytes-64 : (v : ℕ) → v % 256 ∷ v / 256 % 256 ∷ v / 65536 % 256 ∷ v / 16777216 % 256 ∷ v / 4294967296 % 256 ∷ v / 1099511627776 % 256 ∷ v / 281474976710656 % 256 ∷ v / 72057594037927936 % 256 ∷ [] ≡ le 8 v
+unfolding le
+bytes-64 v =
+    let d2 : v / 256 / 256 ≡ v / 65536 = omega arith in
+    let d3 : v / 65536 / 256 ≡ v / 16777216 = omega arith in
+    let d4 : v / 16777216 / 256 ≡ v / 4294967296 = omega arith in
+    let d5 : v / 4294967296 / 256 ≡ v / 1099511627776 = omega arith in
+    let d6 : v / 1099511627776 / 256 ≡ v / 281474976710656 = omega arith in
+    let d7 : v / 281474976710656 / 256 ≡ v / 72057594037927936 = omega arith in
+    cc
+
+-- ---- eight bytes are four and four
+pub halves_at : (s : List ℕ) (at : ℕ) → le_at 4 s at + le_at 4 s (at + 4) * 4294967296 ≡ le_at 8 s at
+halves_at s at =
+    let z : at + 2 + 2 ≡ at + 4 = omega arith in
+    let k : le_at 4 s (at + 2 + 2) ≡ le_at 4 s (at + 4) = rw z in
+    omega (arith, two_at 6 s at, two_at 4 s (at + 2), two_at 2 s at)
 
 pub le-64 : (v : ℕ) → le 8 v ≡ le 4 (v % 4294967296) ++ le 4 (v / 4294967296)
 le-64 v =

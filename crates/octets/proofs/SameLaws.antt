@@ -1,11 +1,12 @@
 -- `same_as` says that two lists are equal. Assumes nothing.
 use mathlib.Core.Path.{◌≡◌, refl, sym, ◌∙◌}
-use mathlib.Core.Bool.{Bool, true, false, false≢true}
+use mathlib.Core.Bool.{Bool, true, false, ◌&&◌, false≢true}
 use mathlib.Core.List.{List, [], ◌∷◌}
 use Prim.Native.Nat.{ℕ}
 use native.Mathlib.Omega.{arith}
 use borrow.Author.Tests.{eqb-true, eq-eqb}
 use lib.Dec.{eqb}
+use lib.Pointwise.{pointwise}
 use Rattle.octets.specs.Plain.Runs.{same_as}
 
 pub same_as-eq : (x y : List ℕ) → same_as x y ≡ true → x ≡ y
@@ -35,3 +36,21 @@ same_as-sym xs ys = go (same_as xs ys) refl (same_as ys xs) refl
     go true p false q = let e = same_as-eq xs ys p in absurd (false≢true (sym q ∙ rw e (same_as-refl ys)))
     go false p true q = let e = same_as-eq ys xs q in absurd (false≢true (sym p ∙ rw e (same_as-refl xs)))
     go false p false q = refl
+
+-- what std's `==` says of two slices of bytes
+pub pointwise-same : (xs ys : List ℕ) → pointwise eqb xs ys ≡ same_as xs ys
+unfolding same_as
+pointwise-same [] [] = refl
+pointwise-same [] (y ∷ ys) = refl
+pointwise-same (x ∷ xs) [] = refl
+pointwise-same (x ∷ xs) (y ∷ ys) = go (eqb x y) (pointwise-same xs ys)
+  where
+    go : (b : Bool) → pointwise eqb xs ys ≡ same_as xs ys → b && pointwise eqb xs ys ≡ elim b [ true ↦ same_as xs ys | false ↦ false ]
+    go true i = i
+    go false i = refl
+
+pub said-same : (xs ys : List ℕ) (r : Bool) → r ≡ pointwise eqb xs ys → r ≡ same_as xs ys
+said-same xs ys r e = e ∙ pointwise-same xs ys
+
+pub said-text : (xs ys zs : List ℕ) (r : Bool) → ys ≡ zs → r ≡ pointwise eqb xs ys → r ≡ same_as xs zs
+said-text xs ys zs r d e = rw (sym d) (said-same xs ys r e)

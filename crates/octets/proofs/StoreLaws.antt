@@ -2,16 +2,14 @@
 use mathlib.Core.Path.{◌≡◌, refl, sym, ap, ◌∙◌}
 use mathlib.Core.Logic.{◌⊎◌, inl, inr}
 use mathlib.Core.List.{List, [], ◌∷◌, ◌++◌, append_assoc}
-use Prim.Native.Nat.{ℕ, zero, suc, ◌+◌, ◌/◌, ◌%◌, ◌^◌, ◌≤◌, ◌<◌}
+use Prim.Native.Nat.{ℕ, zero, suc, ◌+◌, ◌^◌, ◌≤◌, ◌<◌}
 use native.Mathlib.Omega.{arith}
-use native.Mathlib.Numerals.{add-one}
-use borrow.Author.Rules.{rules}
 use lib.ListN.{length, take, drop, set, get_or}
 use lib.Seq.{sets, sets-eq, length-sets, get_or-set_other, length-take-le, drop_at, drop-drop, drop-set-lt, drop-append_seam}
 use Rattle.octets.specs.Plain.Numbers.{le_at, le}
 use Rattle.octets.specs.Working.Stores.{store}
 use Rattle.octets.specs.Plain.Runs.{Lies}
-use Rattle.octets.proofs.NumbersLaws.{length-le, le-32, le-64}
+use Rattle.octets.proofs.NumbersLaws.{length-le}
 use Rattle.octets.proofs.LiesLaws.{le_read}
 
 pub store-none : (s : List ℕ) (at : ℕ) → store s at [] ≡ s
@@ -45,18 +43,15 @@ pub store-drop : (s : List ℕ) (a n : ℕ) (vs : List ℕ) → a + length vs �
 unfolding store
 store-drop s a n vs h = sets_drop vs s a n h
 
--- ---- the stores of the code
-pub store-16 : (s : List ℕ) (at v : ℕ) → set (set s at (v % 256)) (at + 1) (v / 256 % 256) ≡ store s at (le 2 v)
-unfolding store le
-store-16 s at v = rw add-one
+-- ---- the stores of the code: a part of a slice, of k bytes, written anew
+pub store-part : (s ys : List ℕ) (a k : ℕ) → a + k ≤ length s → k ≡ length ys → take a s ++ (ys ++ drop k (drop a s)) ≡ store s a ys
+store-part s ys a k h e =
+    let b : drop k (drop a s) ≡ drop (a + length ys) s = drop-drop k a s ∙ ap (λ (n : ℕ). drop n s) (omega arith) in
+    rw b (sym (append_assoc (take a s) ys (drop (a + length ys) s)) ∙ sym (store_is s a ys (omega arith)))
 
-pub store-32 : (s m r : List ℕ) (at v : ℕ) → m ≡ store s at (le 2 (v % 65536)) → r ≡ store m (at + 2) (le 2 (v / 65536)) → r ≡ store s at (le 4 v)
-store-32 s m r at v p q = cc (store-append s at (at + 2) (le 2 (v % 65536)) (le 2 (v / 65536)) (omega (arith, length-le 2 (v % 65536))), le-32 v)
-
-pub store-64 : (s m r : List ℕ) (at v : ℕ) → m ≡ store s at (le 4 (v % 4294967296)) → r ≡ store m (at + 4) (le 4 (v / 4294967296)) → r ≡ store s at (le 8 v)
-store-64 s m r at v p q = cc (store-append s at (at + 4) (le 4 (v % 4294967296)) (le 4 (v / 4294967296)) (omega (arith, length-le 4 (v % 4294967296))), le-64 v)
-
-pub ruleset storing = (rules, store-16, store-32, store-64)
+-- the same with what was copied there
+pub store-copied : (s ys zs : List ℕ) (a k : ℕ) → ys ≡ zs → a + k ≤ length s → k ≡ length zs → take a s ++ (ys ++ drop k (drop a s)) ≡ store s a zs
+store-copied s ys zs a k p h e = rw p (store-part s zs a k h e)
 
 -- ---- what is read after a store
 sets_before : (vs s : List ℕ) (at i : ℕ) → i < at → get_or (sets s at vs) i 0 ≡ get_or s i 0

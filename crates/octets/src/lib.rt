@@ -5,4 +5,3 @@
 pub mod numbers;
 pub mod runs;
 pub mod sink;
-pub mod wide;

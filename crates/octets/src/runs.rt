@@ -8,40 +8,21 @@ pub fn same(s: &[u8], a: usize, t: &[u8], b: usize, n: usize) -> bool
     requires { (a + n ≤ length s.now) × (b + n ≤ length t.now) }
     ensures { result ≡ same_as (part a (a + n) s.now) (part b (b + n) t.now) }
 {
-    let mut i = a;
-    let mut j = b;
-    let mut k = n;
-    while 0 < k {
-        if s[i] != t[j] {
-            return false;
-        }
-        i += 1;
-        j += 1;
-        k -= 1;
-    }
-    true
+    s[a..a + n] == t[b..b + n]
 }
 
 // Whether two slices hold the same bytes.
 pub fn equal(x: &[u8], y: &[u8]) -> bool
     ensures { result ≡ same_as x.now y.now }
 {
-    let n = x.len();
-    if n != y.len() {
-        return false;
-    }
-    same(x, 0, y, 0, n)
+    x == y
 }
 
 // Sets every byte to 0.
 pub fn clear(w: &mut [u8])
     ensures { w.new ≡ replicate (length w.old) 0 }
 {
-    let mut i = 0;
-    while i < w.len() {
-        w[i] = 0;
-        i += 1;
-    }
+    w.fill(0);
 }
 
 // The bytes of src from a up to e, to out from `to` on. There is room, so that the loop becomes moves of many bytes.
@@ -49,11 +30,5 @@ pub fn copy(src: &[u8], a: usize, e: usize, out: &mut [u8], to: usize)
     requires { (a ≤ e) × (e ≤ length src.now) × (to + (e - a) ≤ length out.old) }
     ensures { out.new ≡ store out.old to (part a e src.now) }
 {
-    let mut i = a;
-    let mut q = to;
-    while i < e {
-        out[q] = src[i];
-        i += 1;
-        q += 1;
-    }
+    out[to..to + (e - a)].copy_from_slice(&src[a..e]);
 }

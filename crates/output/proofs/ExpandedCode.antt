@@ -28,7 +28,7 @@ use Rattle.replacing.proofs.ThereBytes.{bytes_both}
 use Rattle.levels.specs.Fresh.{PutsNames}
 use Rattle.rounds.proofs.RoundStages.{fine_parts, fits_parts}
 use Rattle.output.specs.Plain.Answers.{answer_of}
-use Rattle.output.specs.declared.Answer.{Answer}
+use Rattle.std.specs.Prelude.{Ok}
 use Rattle.output.specs.Working.Putting.{TextsFit}
 use Rattle.output.specs.Working.Expanded.{LastStands, SomeLastStage, HandsLast}
 
@@ -116,7 +116,7 @@ module _ (s w : List ℕ) (at n cap : ℕ) (m : Map) (from end : ℕ) (K : SomeL
 
 pub hand_done : (s w o : List ℕ) (at n : ℕ) (m : Map) (from end : ℕ) (o₁ : List ℕ) → o₁ ≡ store o 0 (part 0 at s) → (q : ℕ) (o₂ : List ℕ)
     → PutsNames o₁ at (bytes_of_each (atom_bytes 2) (drop n (texts s w m))) q o₂ → (o₃ : List ℕ) → o₃ ≡ store o₂ q (part (from) (end) w)
-    → HandsLast s w at n m from end o (Answer.Yes (q + (end - from))) o₃
+    → HandsLast s w at n m from end o (Ok (q + (end - from))) o₃
 unfolding HandsLast answer_of written
 hand_done s w o at n m from end o₁ x q o₂ p o₃ y g L =
     let new = bytes_of_each (atom_bytes 2) L.past in
@@ -131,7 +131,7 @@ hand_done s w o at n m from end o₁ x q o₂ p o₃ y g L =
     let t = tree_is s w at n (length o) m from end g L in
     let l : length (tape_of 2 g) ≡ q + (end - from) = ap length t ∙ (omega (arith, length-append a (new ++ i), length-append new i)) in
     record {
-      answered = ap Answer.Yes (sym l);
+      answered = ap Ok (sym l);
       tree =
           y ∙ ap (λ (u : List ℕ). store u q i) (b ∙ ap (λ (u : List ℕ). store u at new) x) ∙ store-append (store o 0 a) at q new i r
           ∙ store-append o 0 at a (new ++ i) (omega arith) ∙ store_is o 0 (a ++ (new ++ i)) (omega (arith, length-append a (new ++ i), length-append new i))

@@ -11,8 +11,7 @@ use Rattle.parse_tree.specs.Working.Refusals.{refusal_at}
 use Rattle.parse_tree.specs.declared.refusal.Refusal.{Refusal}
 use Rattle.levels.specs.declared.Room.{Room}
 use Rattle.levels.specs.declared.Written.{Written}
-use Rattle.levels.specs.declared.fresh.Fresh.{Fresh}
-use Rattle.output.specs.declared.Answer.{Answer}
+use Rattle.std.specs.Prelude.{Option, Some, None, Result, Ok, Err}
 use Rattle.output.specs.Working.Judging.{sized, room_of, sized_levels}
 
 -- ---- `enough`
@@ -27,15 +26,15 @@ enough_is tape output work h = go (leb output (work / 8 - tape)) refl
     go false e = let x = leb-false output (work / 8 - tape) e in sym (lt-leb (8 * (tape + output)) work (omega arith))
 
 -- ---- `judge`
-pub judge_many : (atoms n cap : ℕ) (why : Refusal) → why ≡ refusal_at 20 0 → 65536 < atoms → Answer.No why ≡ sized atoms n cap
+pub judge_many : (atoms n cap : ℕ) (why : Refusal) → why ≡ refusal_at 20 0 → 65536 < atoms → Err why ≡ sized atoms n cap
 unfolding sized pick
 judge_many atoms n cap why o h = cc (lt-ltb 65536 atoms h)
 
-pub judge_long : (atoms n cap : ℕ) (why : Refusal) → why ≡ refusal_at 21 0 → atoms ≤ 65536 → cap < n → Answer.No why ≡ sized atoms n cap
+pub judge_long : (atoms n cap : ℕ) (why : Refusal) → why ≡ refusal_at 21 0 → atoms ≤ 65536 → cap < n → Err why ≡ sized atoms n cap
 unfolding sized pick
 judge_long atoms n cap why o h k = cc (le-ltb 65536 atoms h, lt-ltb cap n k)
 
-pub judge_fits : (atoms n cap : ℕ) → atoms ≤ 65536 → n ≤ cap → Answer.Yes n ≡ sized atoms n cap
+pub judge_fits : (atoms n cap : ℕ) → atoms ≤ 65536 → n ≤ cap → Ok n ≡ sized atoms n cap
 unfolding sized pick
 judge_fits atoms n cap h k = cc (le-ltb 65536 atoms h, le-ltb cap n k)
 
@@ -50,17 +49,17 @@ room_is tape n cap = refl
 pub ruleset levels-rooms = (rules, room_is)
 
 -- ---- `judge_levels`
-module _ (v : Written) (room : Room) (at : ℕ) (f : Fresh) (cap : ℕ) where
-  pub levels-long : (why : Refusal) → why ≡ refusal_at 20 0 → f.long ≡ true → Answer.No why ≡ sized_levels v room at f cap
-  unfolding sized_levels pick
+module _ (v : Written) (room : Room) (at : ℕ) (f : Option ℕ) (cap : ℕ) where
+  pub levels-long : (why : Refusal) → why ≡ refusal_at 20 0 → f ≡ None → Err why ≡ sized_levels v room at f cap
+  unfolding sized_levels
   levels-long why o h = rw (h, o) refl
 
-  pub levels-over : (r : Answer) → f.long ≡ false → room.lim < v.to → r ≡ sized v.count (cap + 1) cap → r ≡ sized_levels v room at f cap
+  pub levels-over : (r : Result ℕ Refusal) (bytes : ℕ) → f ≡ Some bytes → room.lim < v.to → r ≡ sized v.count (cap + 1) cap → r ≡ sized_levels v room at f cap
   unfolding sized_levels pick
-  levels-over r h l e = rw (h, lt-ltb room.lim v.to l) e
+  levels-over r bytes h l e = rw (h, lt-ltb room.lim v.to l) e
 
-  pub levels-fit : (r : Answer) → f.long ≡ false → v.to ≤ room.lim → r ≡ sized v.count (at + f.bytes + (v.to - room.at)) cap → r ≡ sized_levels v room at f cap
+  pub levels-fit : (r : Result ℕ Refusal) (bytes : ℕ) → f ≡ Some bytes → v.to ≤ room.lim → r ≡ sized v.count (at + bytes + (v.to - room.at)) cap → r ≡ sized_levels v room at f cap
   unfolding sized_levels pick
-  levels-fit r h l e = rw (h, le-ltb room.lim v.to l) e
+  levels-fit r bytes h l e = rw (h, le-ltb room.lim v.to l) e
 
 pub ruleset judging_levels = (rules, levels-long, levels-over, levels-fit)

@@ -2,9 +2,9 @@
 ghost use Rattle.std.specs.Prelude.{length};
 ghost use Rattle.output.specs.Working.Expanded.{SomeLastStage, HandsLast};
 
-use crate::Answer;
 use crate::putting::put_texts;
 use octets::runs::copy;
+use parse_tree::refusal::Refusal;
 use texts::Map;
 
 // The tape's atoms, of which there are n, then the new ones by number, then the items.
@@ -17,12 +17,12 @@ pub fn hand_over_macros<'a>(
     from: usize,
     end: usize,
     output: &mut [u8],
-) -> Answer
+) -> Result<usize, Refusal>
     requires { SomeLastStage tape.now work.now at n (length output.old) m from end }
     ensures { HandsLast tape.now work.now at n m from end output.old result output.new }
 {
     copy(tape, 0, at, output, 0);
     let q = put_texts(tape, work, m, n, output, at);
     copy(work, from, end, output, q);
-    Answer::Yes(q + (end - from))
+    Ok(q + (end - from))
 }

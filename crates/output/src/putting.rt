@@ -42,11 +42,9 @@ pub fn put_texts<'a>(
     requires { TextsFit tape.now work.now m n (length out.old) to }
     ensures { PutsNames out.old to (bytes_of_each (atom_bytes 2) (drop n (texts tape.now work.now m))) result out.new }
 {
-    let mut k = n;
     let mut q = to;
-    while k < m.count {
+    for k in n..m.count {
         q = put_text(tape, work, m, k, out, q);
-        k += 1;
     }
     q
 }

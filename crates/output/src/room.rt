@@ -1,34 +1,30 @@
 // The sizes that are asked: of the work buffer, and of a finished stage.
-ghost use Rattle.std.specs.Prelude.{◌≡◌, ◌+◌, ◌*◌, ◌≤◌, ◌<◌, leb};
+ghost use Rattle.std.specs.Prelude.{◌≡◌, ◌+◌, ◌*◌, ◌≤◌, ◌<◌, leb, IfSome};
 ghost use Rattle.output.specs.Working.Judging.{sized, room_of, sized_levels};
 
-use crate::Answer;
-use levels::fresh::Fresh;
 use levels::{Room, Written};
 use parse_tree::refusal;
+use parse_tree::refusal::Refusal;
 
 // "Is work at least 8 × (tape + output) bytes?" The sum may wrap, so it isn't made.
 pub fn enough(tape: usize, output: usize, work: usize) -> bool
     ensures { result ≡ leb (8 * (tape + output)) work }
 {
     let k = work / 8;
-    if k < tape {
-        return false;
-    }
-    output <= k - tape
+    tape <= k && output <= k - tape
 }
 
 // "atoms at most 65,536 .. 20. Tape no longer than the output buffer? 21": a stage of so many atoms and n bytes.
-pub fn judge(atoms: usize, n: usize, output: usize) -> Answer
+pub fn judge(atoms: usize, n: usize, output: usize) -> Result<usize, Refusal>
     ensures { result ≡ sized atoms n output }
 {
     if 65536 < atoms {
-        return Answer::No(refusal::at(20, 0));
+        Err(refusal::at(20, 0))
+    } else if output < n {
+        Err(refusal::at(21, 0))
+    } else {
+        Ok(n)
     }
-    if output < n {
-        return Answer::No(refusal::at(21, 0));
-    }
-    Answer::Yes(n)
 }
 
 // Where levels are written, for a tape of so many bytes of which n are its items': behind the tape's share of work the records of new names, the arrays, and
@@ -45,16 +41,25 @@ pub fn levels_room(tape: usize, n: usize, output: usize) -> Room
     }
 }
 
-// 20 and 21 of the levelled stage: the tape's atoms have `at` bytes.
-pub fn judge_levels(v: Written, room: Room, at: usize, f: Fresh, output: usize) -> Answer
-    requires { (room.at ≤ v.to) × (output < 9223372036854775808) × (at + f.bytes + v.to < 18446744073709551616) }
-    ensures { result ≡ sized_levels v room at f output }
+// 20 and 21 of the levelled stage: the tape's atoms have `at` bytes, the new ones `fresh`, unless one of them is too long.
+pub fn judge_levels(
+    v: Written,
+    room: Room,
+    at: usize,
+    fresh: Option<usize>,
+    output: usize,
+) -> Result<usize, Refusal>
+    requires { (room.at ≤ v.to) × (output < 9223372036854775808) × IfSome fresh (λ bytes. at + bytes + v.to < 18446744073709551616) }
+    ensures { result ≡ sized_levels v room at fresh output }
 {
-    if f.long {
-        return Answer::No(refusal::at(20, 0));
+    match fresh {
+        None => Err(refusal::at(20, 0)),
+        Some(bytes) => {
+            if room.lim < v.to {
+                judge(v.count, output + 1, output)
+            } else {
+                judge(v.count, at + bytes + (v.to - room.at), output)
+            }
+        }
     }
-    if room.lim < v.to {
-        return judge(v.count, output + 1, output);
-    }
-    judge(v.count, at + f.bytes + (v.to - room.at), output)
 }

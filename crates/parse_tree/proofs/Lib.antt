@@ -6,6 +6,7 @@ pub mod FieldLaws
 pub mod NodeSays
 pub mod NodeBack
 mod NodeCode
+mod PlacesCode
 mod Refusing
 pub mod SizeLaws
 -- Trees and their tapes; RoundTrip has the theorems.

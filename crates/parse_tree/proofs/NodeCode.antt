@@ -1,10 +1,12 @@
 -- Reading a command: one law for each way out of `node` and its callees. Assumes nothing.
-use mathlib.Core.Path.{◌≡◌, ap}
+use mathlib.Core.Path.{◌≡◌, refl, ap}
+use mathlib.Core.Bool.{Bool, true, false}
 use mathlib.Core.List.{List}
 use Prim.Native.Nat.{ℕ, ◌+◌, ◌-◌, ◌<◌, ◌≤◌}
 use native.Mathlib.Omega.{arith}
 use borrow.Author.Rules.{rules}
-use borrow.Author.Tests.{lt-ltb, le-ltb, lt-leb}
+use borrow.Author.Tests.{lt-ltb, le-ltb, lt-leb, eq-eqb, ne_eqb, eqb-false}
+use lib.Dec.{eqb}
 use lib.ListN.{length, get_or}
 use Rattle.octets.specs.Working.Choice.{pick}
 use Rattle.octets.specs.Plain.Numbers.{le_at}
@@ -12,10 +14,7 @@ use Rattle.parse_tree.specs.Working.Nodes.{if_whole, span_in, named_leaf, text_n
 use Rattle.parse_tree.specs.declared.syntax.Span.{Span}
 use Rattle.parse_tree.specs.declared.syntax.Atom.{Atom}
 use Rattle.parse_tree.specs.declared.syntax.NonterminalString.{NonterminalString}
-use Rattle.parse_tree.specs.declared.syntax.NonterminalData.{NonterminalData}
 use Rattle.parse_tree.specs.declared.syntax.TerminalData.{TerminalData}
-use Rattle.parse_tree.specs.declared.syntax.Alternative.{Alternative}
-use Rattle.parse_tree.specs.declared.syntax.Attribute.{Attribute}
 use Rattle.parse_tree.specs.declared.syntax.Condition.{Condition}
 use Rattle.parse_tree.specs.declared.syntax.Leaf.{Leaf}
 use Rattle.parse_tree.specs.declared.syntax.Around.{Around}
@@ -47,12 +46,6 @@ module _ (s : List ℕ) (at n m : ℕ) (p : n ≡ le_at 2 s (at + 1)) (q : m ≡
 
 -- ---- the other commands
 module _ (w : ℕ) (s : List ℕ) (at : ℕ) where
-  pub nonterminal_done : (d : NonterminalData) → 13 + w ≤ length s - at → d.span ≡ span_in s (at + 1) → d.name.0 ≡ le_at w s (at + 9)
-      → d.flags ≡ get_or s (at + 9 + w) 0 → d.args ≡ get_or s (at + 10 + w) 0 → d.alternatives ≡ le_at 2 s (at + 11 + w)
-      → Node.Nonterminal d ≡ nonterminal_node_at w s at
-  unfolding nonterminal_node_at
-  nonterminal_done d h a b e f g = whole_is s at (13 + w) h (λ i. Node.Nonterminal (record { span = a i; name = record { 0 = b i }; flags = e i; args = f i; alternatives = g i }))
-
   pub terminal_done : (c : ℕ) (d : TerminalData) → 9 + w ≤ length s - at → d.span ≡ span_in s (at + 1) → d.name.0 ≡ le_at w s (at + 9)
       → d.source ≡ c → Node.Terminal d ≡ terminal_node_at w c s at
   unfolding terminal_node_at
@@ -61,17 +54,6 @@ module _ (w : ℕ) (s : List ℕ) (at : ℕ) where
   pub argument-done : (d : NonterminalString) → 1 + w ≤ length s - at → d.0 ≡ le_at w s (at + 1) → Node.Argument d ≡ argument_node_at w s at
   unfolding argument_node_at
   argument-done d h a = whole_is s at (1 + w) h (λ i. Node.Argument (record { 0 = a i }))
-
-  pub alternative_done : (d : Alternative) → 14 + w ≤ length s - at → d.span ≡ span_in s (at + 1) → d.attributes ≡ get_or s (at + 9) 0
-      → d.conditions ≡ get_or s (at + 10) 0 → d.action ≡ get_or s (at + 11) 0 → d.text.0 ≡ le_at w s (at + 12) → d.symbols ≡ le_at 2 s (at + 12 + w)
-      → Node.Alternative d ≡ alternative_node_at w s at
-  unfolding alternative_node_at
-  alternative_done d h a b e f g k = whole_is s at (14 + w) h (λ i. Node.Alternative (record { span = a i; attributes = b i; conditions = e i; action = f i; text = record { 0 = g i }; symbols = k i }))
-
-  pub attribute_done : (d : Attribute) → 2 + w + w + w ≤ length s - at → d.id.0 ≡ le_at w s (at + 1) → d.kind ≡ get_or s (at + 1 + w) 0
-      → d.key.0 ≡ le_at w s (at + 2 + w) → d.value.0 ≡ le_at w s (at + 2 + w + w) → Node.Attribute d ≡ attribute_node_at w s at
-  unfolding attribute_node_at
-  attribute_done d h a b e f = whole_is s at (2 + w + w + w) h (λ i. Node.Attribute (record { id = record { 0 = a i }; kind = b i; key = record { 0 = e i }; value = record { 0 = f i } }))
 
   pub condition_done : (d : Condition) → 10 + w + w ≤ length s - at → d.span ≡ span_in s (at + 1) → d.lhs.0 ≡ le_at w s (at + 9)
       → d.op ≡ get_or s (at + 9 + w) 0 → d.rhs.0 ≡ le_at w s (at + 10 + w) → Node.Condition d ≡ condition_node_at w s at
@@ -118,4 +100,24 @@ module _ (w : ℕ) (s : List ℕ) (at : ℕ) (r : Node) (h : at < length s) wher
   unfolding node_at node_by pick
   node_condition e p = cc (lt-leb (length s) at h)
 
-pub ruleset noding = (rules, short_is, whole_is, span_done, text_short, text_done, nonterminal_done, terminal_done, argument-done, alternative_done, attribute_done, condition_done, named-done, macro_done, name_done, node_text, node_nonterminal, node_argument, node_alternative, node_attribute, node_condition)
+  pub node_terminal : 48 ≤ get_or s at 0 → get_or s at 0 < 50 → r ≡ terminal_node_at w (get_or s at 0) s at → r ≡ node_at w s at
+  unfolding node_at node_by pick
+  node_terminal l u p = go (eqb (get_or s at 0) 48) refl
+    where
+      go : (b : Bool) → eqb (get_or s at 0) 48 ≡ b → r ≡ node_at w s at
+      go true e = cc (lt-leb (length s) at h, le-ltb (get_or s at 0) 32 (omega arith), le-ltb (get_or s at 0) 45 (omega arith))
+      go false e =
+          let n : get_or s at 0 ≡ 49 = omega (arith, eqb-false (get_or s at 0) 48 e) in
+          cc (lt-leb (length s) at h, le-ltb (get_or s at 0) 32 (omega arith), le-ltb (get_or s at 0) 45 (omega arith), eq-eqb (get_or s at 0) 49 n)
+
+  no_command : 45 ≤ get_or s at 0 → (get_or s at 0 ≡ 48 → ⊥) → (get_or s at 0 ≡ 49 → ⊥) → Node.Unknown ≡ node_at w s at
+  unfolding node_at node_by pick
+  no_command l m n = cc (lt-leb (length s) at h, le-ltb (get_or s at 0) 32 (omega arith), le-ltb (get_or s at 0) 45 l, ne_eqb (get_or s at 0) 48 m, ne_eqb (get_or s at 0) 49 n)
+
+  pub node_between : 45 ≤ get_or s at 0 → get_or s at 0 < 48 → Node.Unknown ≡ node_at w s at
+  node_between l u = no_command l (λ e. absurd (omega arith)) (λ e. absurd (omega arith))
+
+  pub node_beyond : 50 ≤ get_or s at 0 → Node.Unknown ≡ node_at w s at
+  node_beyond l = no_command (omega arith) (λ e. absurd (omega arith)) (λ e. absurd (omega arith))
+
+pub ruleset noding = (rules, short_is, whole_is, span_done, text_short, text_done, terminal_done, argument-done, condition_done, named-done, macro_done, name_done, node_text, node_nonterminal, node_argument, node_alternative, node_attribute, node_condition, node_terminal, node_between, node_beyond)

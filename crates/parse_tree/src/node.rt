@@ -1,7 +1,7 @@
-// One command of a tape, read: the tests and operands stand as in specs/Nodes.
+// One command of a tape, read: the operands stand as in specs/Nodes.
 ghost use Rattle.std.specs.Prelude.{◌≡◌, ◌+◌, ◌≤◌, ◌<◌, length, get_or};
 ghost use Rattle.octets.specs.Plain.Numbers.{le_at};
-ghost use Rattle.parse_tree.specs.Working.Nodes.{node_at, text_node, nonterminal_node_at, terminal_node_at, argument_node_at, alternative_node_at, attribute_node_at, condition_node_at};
+ghost use Rattle.parse_tree.specs.Working.Nodes.{node_at, text_node, nonterminal_node_at, terminal_node_at, argument_node_at, alternative_node_at, attribute_node_at, condition_node_at, nonterminal_here, alternative_here, attribute_here};
 ghost use Rattle.parse_tree.specs.Working.Nodes.{if_whole, span_in, symbol_node_at, named_leaf, bare_leaf};
 
 use crate::syntax::{
@@ -9,7 +9,6 @@ use crate::syntax::{
     NonterminalString, Over, Span, SymbolKind, TerminalData, TerminalString,
 };
 use octets::numbers::{atom_at, u16_at, u32_at};
-use octets::wide::from16;
 
 // The span at a place.
 pub fn span_at(tape: &[u8], at: usize) -> Span
@@ -29,10 +28,26 @@ fn text_node(tape: &[u8], at: usize) -> Node
         return Node::Unknown;
     }
     let n = u16_at(tape, at + 1);
-    if room < 3 + from16(n) {
+    if room < 3 + usize::from(n) {
         return Node::Unknown;
     }
     Node::Text(n)
+}
+
+// Each reader below tests its length by itself: a closure for the rest of it would be no plainer.
+
+// The nonterminal at a place where its command is whole.
+pub fn whole_nonterminal(tape: &[u8], at: usize, width: usize) -> NonterminalData
+    requires { (2 ≤ width) × (width ≤ 3) × (at + (13 + width) ≤ length tape.now) }
+    ensures { result ≡ nonterminal_here width tape.now at }
+{
+    NonterminalData {
+        span: span_at(tape, at + 1),
+        name: NonterminalString(atom_at(tape, at + 9, width)),
+        flags: tape[at + 9 + width],
+        args: tape[at + 10 + width],
+        alternatives: u16_at(tape, at + 11 + width),
+    }
 }
 
 fn nonterminal_at(tape: &[u8], at: usize, width: usize) -> Node
@@ -42,13 +57,7 @@ fn nonterminal_at(tape: &[u8], at: usize, width: usize) -> Node
     if tape.len() - at < 13 + width {
         return Node::Unknown;
     }
-    Node::Nonterminal(NonterminalData {
-        span: span_at(tape, at + 1),
-        name: NonterminalString(atom_at(tape, at + 9, width)),
-        flags: tape[at + 9 + width],
-        args: tape[at + 10 + width],
-        alternatives: u16_at(tape, at + 11 + width),
-    })
+    Node::Nonterminal(whole_nonterminal(tape, at, width))
 }
 
 fn terminal_at(tape: &[u8], at: usize, width: usize, code: u8) -> Node
@@ -75,6 +84,21 @@ fn argument_at(tape: &[u8], at: usize, width: usize) -> Node
     Node::Argument(NonterminalString(atom_at(tape, at + 1, width)))
 }
 
+// The alternative at a place where its command is whole.
+pub fn whole_alternative(tape: &[u8], at: usize, width: usize) -> Alternative
+    requires { (2 ≤ width) × (width ≤ 3) × (at + (14 + width) ≤ length tape.now) }
+    ensures { result ≡ alternative_here width tape.now at }
+{
+    Alternative {
+        span: span_at(tape, at + 1),
+        attributes: tape[at + 9],
+        conditions: tape[at + 10],
+        action: tape[at + 11],
+        text: Atom(atom_at(tape, at + 12, width)),
+        symbols: u16_at(tape, at + 12 + width),
+    }
+}
+
 fn alternative_at(tape: &[u8], at: usize, width: usize) -> Node
     requires { (2 ≤ width) × (width ≤ 3) × (at < length tape.now) }
     ensures { result ≡ alternative_node_at width tape.now at }
@@ -82,14 +106,20 @@ fn alternative_at(tape: &[u8], at: usize, width: usize) -> Node
     if tape.len() - at < 14 + width {
         return Node::Unknown;
     }
-    Node::Alternative(Alternative {
-        span: span_at(tape, at + 1),
-        attributes: tape[at + 9],
-        conditions: tape[at + 10],
-        action: tape[at + 11],
-        text: Atom(atom_at(tape, at + 12, width)),
-        symbols: u16_at(tape, at + 12 + width),
-    })
+    Node::Alternative(whole_alternative(tape, at, width))
+}
+
+// The attribute at a place where its command is whole.
+pub fn whole_attribute(tape: &[u8], at: usize, width: usize) -> Attribute
+    requires { (2 ≤ width) × (width ≤ 3) × (at + (2 + width + width + width) ≤ length tape.now) }
+    ensures { result ≡ attribute_here width tape.now at }
+{
+    Attribute {
+        id: Atom(atom_at(tape, at + 1, width)),
+        kind: tape[at + 1 + width],
+        key: Atom(atom_at(tape, at + 2 + width, width)),
+        value: Atom(atom_at(tape, at + 2 + width + width, width)),
+    }
 }
 
 fn attribute_at(tape: &[u8], at: usize, width: usize) -> Node
@@ -99,12 +129,7 @@ fn attribute_at(tape: &[u8], at: usize, width: usize) -> Node
     if tape.len() - at < 2 + width + width + width {
         return Node::Unknown;
     }
-    Node::Attribute(Attribute {
-        id: Atom(atom_at(tape, at + 1, width)),
-        kind: tape[at + 1 + width],
-        key: Atom(atom_at(tape, at + 2 + width, width)),
-        value: Atom(atom_at(tape, at + 2 + width + width, width)),
-    })
+    Node::Attribute(whole_attribute(tape, at, width))
 }
 
 fn condition_at(tape: &[u8], at: usize, width: usize) -> Node
@@ -126,32 +151,24 @@ fn condition_at(tape: &[u8], at: usize, width: usize) -> Node
 fn named_leaf(code: u8, atom: u32) -> Leaf
     ensures { result ≡ named_leaf code atom }
 {
-    if code == 32 {
-        return Leaf::AmbiguousId(Atom(atom));
+    match code {
+        32 => Leaf::AmbiguousId(Atom(atom)),
+        33 => Leaf::Bare(TerminalString(atom)),
+        34 => Leaf::Quoted(Atom(atom)),
+        35 => Leaf::Regex(Atom(atom)),
+        _ => Leaf::Nonterminal(NonterminalString(atom)),
     }
-    if code == 33 {
-        return Leaf::Bare(TerminalString(atom));
-    }
-    if code == 34 {
-        return Leaf::Quoted(Atom(atom));
-    }
-    if code == 35 {
-        return Leaf::Regex(Atom(atom));
-    }
-    Leaf::Nonterminal(NonterminalString(atom))
 }
 
 // 2a, 2b, 2c.
 fn bare_leaf(code: u8) -> Leaf
     ensures { result ≡ bare_leaf code }
 {
-    if code == 42 {
-        return Leaf::Lookahead;
+    match code {
+        42 => Leaf::Lookahead,
+        43 => Leaf::Lookbehind,
+        _ => Leaf::Error,
     }
-    if code == 43 {
-        return Leaf::Lookbehind;
-    }
-    Leaf::Error
 }
 
 // 20 to 24.
@@ -268,25 +285,15 @@ fn symbol_at(tape: &[u8], at: usize, width: usize, code: u8) -> Node
     requires { (2 ≤ width) × (width ≤ 3) × (at < length tape.now) }
     ensures { result ≡ symbol_node_at width code tape.now at }
 {
-    if code < 37 {
-        return named_at(tape, at, width, code);
+    match code {
+        0..=36 => named_at(tape, at, width, code),
+        37 => macro_at(tape, at, width),
+        38 => repeat_at(tape, at),
+        39 => choose_at(tape, at),
+        40 => name_at(tape, at, width),
+        41 => group_at(tape, at),
+        _ => bare_at(tape, at, code),
     }
-    if code == 37 {
-        return macro_at(tape, at, width);
-    }
-    if code == 38 {
-        return repeat_at(tape, at);
-    }
-    if code == 39 {
-        return choose_at(tape, at);
-    }
-    if code == 40 {
-        return name_at(tape, at, width);
-    }
-    if code == 41 {
-        return group_at(tape, at);
-    }
-    bare_at(tape, at, code)
 }
 
 // The command at a place.
@@ -298,25 +305,15 @@ pub fn node(tape: &[u8], at: usize, width: usize) -> Node
         return Node::Unknown;
     }
     let code = tape[at];
-    if code < 32 {
-        return match code {
-            1 => text_node(tape, at),
-            16 => nonterminal_at(tape, at, width),
-            17 => argument_at(tape, at, width),
-            18 => alternative_at(tape, at, width),
-            19 => attribute_at(tape, at, width),
-            20 => condition_at(tape, at, width),
-            _ => Node::Unknown,
-        };
+    match code {
+        1 => text_node(tape, at),
+        16 => nonterminal_at(tape, at, width),
+        17 => argument_at(tape, at, width),
+        18 => alternative_at(tape, at, width),
+        19 => attribute_at(tape, at, width),
+        20 => condition_at(tape, at, width),
+        32..=44 => symbol_at(tape, at, width, code),
+        48 | 49 => terminal_at(tape, at, width, code),
+        _ => Node::Unknown,
     }
-    if code < 45 {
-        return symbol_at(tape, at, width, code);
-    }
-    if code == 48 {
-        return terminal_at(tape, at, width, code);
-    }
-    if code == 49 {
-        return terminal_at(tape, at, width, code);
-    }
-    Node::Unknown
 }

@@ -1,38 +1,48 @@
 // Which command may stand where: a table of places by classes of commands, as in specs/Places.
-ghost use Rattle.std.specs.Prelude.{◌≡◌, ◌<◌};
-ghost use Rattle.parse_tree.specs.Working.Places.{class_of, allowed_at};
+ghost use Rattle.std.specs.Prelude.{◌≡◌};
+ghost use Rattle.parse_tree.specs.Working.Places.{row, column, class_of, allowed_at};
 
 use crate::syntax::Node;
 
-// The places.
-pub const ATOMS: usize = 0;
-
-pub const ITEMS: usize = 1;
-
-pub const ARGUMENTS: usize = 2;
-
-pub const ALTERNATIVES: usize = 3;
-
-pub const ATTRIBUTES: usize = 4;
-
-pub const CONDITIONS: usize = 5;
-
-pub const SYMBOLS: usize = 6;
+// The place of a command: the row of the table.
+#[derive(Clone, Copy, PartialEq, Eq)]
+pub enum Place {
+    Atoms,
+    Items,
+    Arguments,
+    Alternatives,
+    Attributes,
+    Conditions,
+    Symbols,
+}
 
 // The class of a command: the column of the table.
-pub fn class(n: Node) -> usize
-    ensures { (result ≡ class_of n) × (result < 9) }
+#[derive(Clone, Copy)]
+pub enum Class {
+    Text,
+    Nonterminal,
+    Terminal,
+    Argument,
+    Alternative,
+    Attribute,
+    Condition,
+    Symbol,
+    Unknown,
+}
+
+pub fn class_of(n: Node) -> Class
+    ensures { column result ≡ class_of n }
 {
     match n {
-        Node::Text(_) => 0,
-        Node::Nonterminal(_) => 1,
-        Node::Terminal(_) => 2,
-        Node::Argument(_) => 3,
-        Node::Alternative(_) => 4,
-        Node::Attribute(_) => 5,
-        Node::Condition(_) => 6,
-        Node::Symbol(_, _) => 7,
-        Node::Unknown => 8,
+        Node::Text(_) => Class::Text,
+        Node::Nonterminal(_) => Class::Nonterminal,
+        Node::Terminal(_) => Class::Terminal,
+        Node::Argument(_) => Class::Argument,
+        Node::Alternative(_) => Class::Alternative,
+        Node::Attribute(_) => Class::Attribute,
+        Node::Condition(_) => Class::Condition,
+        Node::Symbol(_, _) => Class::Symbol,
+        Node::Unknown => Class::Unknown,
     }
 }
 
@@ -55,9 +65,8 @@ const ALLOWED: [[u8; 9]; 7] = [
 ];
 
 // Whether a command of a class may stand at a place.
-pub fn allowed(place: usize, class: usize) -> bool
-    requires { (place < 7) × (class < 9) }
-    ensures { result ≡ allowed_at place class }
+pub fn allowed(place: Place, class: Class) -> bool
+    ensures { result ≡ allowed_at (row place) (column class) }
 {
-    ALLOWED[place][class] == 1
+    ALLOWED[place as usize][class as usize] == 1
 }

@@ -3,7 +3,6 @@ ghost use Rattle.std.specs.Prelude.{◌≡◌};
 ghost use Rattle.parse_tree.specs.Working.Refusals.{refusal_at, refusal_over};
 
 use crate::syntax::Span;
-use octets::wide::from32;
 
 // The number of the question that the tape fails, and the place.
 #[derive(Clone, Copy)]
@@ -18,7 +17,7 @@ pub fn at(number: usize, place: usize) -> Refusal
     ensures { result ≡ refusal_at number place }
 {
     Refusal {
-        number: number,
+        number,
         from: place,
         to: place,
     }
@@ -29,8 +28,8 @@ pub fn over(number: usize, span: Span) -> Refusal
     ensures { result ≡ refusal_over number span }
 {
     Refusal {
-        number: number,
-        from: from32(span.0),
-        to: from32(span.1),
+        number,
+        from: span.0 as usize,
+        to: span.1 as usize,
     }
 }

@@ -10,14 +10,12 @@ fn leaf_size(l: Leaf, width: usize) -> usize
     ensures { (result ≡ length (leaf_operand width l)) × (result ≤ 3) }
 {
     match l {
-        Leaf::AmbiguousId(_) => width,
-        Leaf::Bare(_) => width,
-        Leaf::Quoted(_) => width,
-        Leaf::Regex(_) => width,
-        Leaf::Nonterminal(_) => width,
-        Leaf::Lookahead => 0,
-        Leaf::Lookbehind => 0,
-        Leaf::Error => 0,
+        Leaf::AmbiguousId(_)
+        | Leaf::Bare(_)
+        | Leaf::Quoted(_)
+        | Leaf::Regex(_)
+        | Leaf::Nonterminal(_) => width,
+        Leaf::Lookahead | Leaf::Lookbehind | Leaf::Error => 0,
     }
 }
 

@@ -2,7 +2,7 @@
 use mathlib.Core.Path.{◌≡◌, sym, ◌∙◌}
 use mathlib.Core.Logic.{inl}
 use mathlib.Core.List.{List, ◌++◌}
-use Prim.Native.Nat.{ℕ, ◌+◌, ◌-◌, ◌^◌, ◌<◌, ◌≤◌}
+use Prim.Native.Nat.{ℕ, ◌+◌, ◌^◌, ◌<◌, ◌≤◌}
 use native.Mathlib.Omega.{arith}
 use mir.Syntax.{w64}
 use mir.Val.{Fits}
@@ -17,20 +17,18 @@ use Rattle.grades.specs.Annotations.{first_alternative}
 use Rattle.precedence.specs.Write.{Puts}
 use Rattle.precedence.specs.Level.{named_out, nonterminal_out}
 use Rattle.precedence.proofs.WriteLaws.{puts_beside, puts_on, puts_append, puts_whole, puts_not}
+use Rattle.precedence.proofs.WriteCode.{fits_not, fits_so}
 use Rattle.precedence.proofs.WriteWholeCode.{behind_two}
 
 -- ---- put_number
 module _ (w : List ℕ) (v wd lim to : ℕ) where
-  pub number_behind : lim < to → Puts w lim to (le wd v) (lim + 1) w
-  number_behind z = puts_not w lim to (le wd v) (omega arith)
+  pub number-over : lim < to + wd → Puts w lim to (le wd v) (lim + 1) w
+  number-over z = puts_not w lim to (le wd v) (omega (arith, length-le wd v))
 
-  pub number-over : to ≤ lim → lim - to < wd → Puts w lim to (le wd v) (lim + 1) w
-  number-over y z = puts_not w lim to (le wd v) (omega (arith, length-le wd v))
+  pub number-whole : to + wd ≤ lim → (w1 : List ℕ) → w1 ≡ store w to (le wd v) → Puts w lim to (le wd v) (to + wd) w1
+  number-whole y w1 j = puts_whole w lim to (le wd v) w1 wd (sym (length-le wd v)) (omega arith) j
 
-  pub number-whole : to ≤ lim → wd ≤ lim - to → (w1 : List ℕ) → w1 ≡ store w to (le wd v) → Puts w lim to (le wd v) (to + wd) w1
-  number-whole y z w1 j = puts_whole w lim to (le wd v) w1 wd (sym (length-le wd v)) (omega arith) j
-
-pub ruleset numbering = (rules, number_behind, number-over, number-whole)
+pub ruleset numbering = (rules, fits_not, fits_so, number-over, number-whole)
 
 -- ---- three runs one behind another, the last of which stands below
 three_put : (w w1 w2 w3 : List ℕ) (lim to : ℕ) (xs ys : List ℕ) (a e q r s : ℕ) → e ≤ to → to ≤ lim + 1 → lim + 16 ≤ length w

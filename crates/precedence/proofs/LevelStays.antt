@@ -5,9 +5,10 @@ use mathlib.Core.Logic.{◌⊎◌, inl, inr}
 use mathlib.Core.List.{List, ◌++◌}
 use Prim.Native.Nat.{ℕ, zero, suc, ◌+◌, ◌-◌, ◌<◌, ◌≤◌}
 use native.Mathlib.Omega.{arith}
-use borrow.Author.Tests.{leb-false, ltb-true, le-leb, lt-leb}
-use lib.Dec.{leb, ltb, eqb}
+use borrow.Author.Tests.{leb-false, le-leb, lt-leb}
+use lib.Dec.{leb, eqb}
 use lib.ListN.{length, get_or, length-append}
+use Rattle.std.specs.Prelude.{Option, Some, None}
 use Rattle.octets.specs.Working.Choice.{pick}
 use Rattle.octets.specs.Plain.Numbers.{le}
 use Rattle.octets.specs.Plain.Runs.{part}
@@ -20,7 +21,7 @@ use Rattle.grades.specs.declared.Assoc.{Assoc}
 use Rattle.grades.specs.Skip.{names_at}
 use Rattle.grades.specs.Annotations.{conditions_from, symbols_from}
 use Rattle.precedence.specs.declared.substitute.Marks.{Marks}
-use Rattle.precedence.specs.Substitute.{marked_at, replace_out, replace_all, name_out, substitute_out}
+use Rattle.precedence.specs.Substitute.{marked_at, MarksIn, replace_out, replace_all, name_out, substitute_out}
 use Rattle.precedence.specs.Write.{kept_bytes, head_out, fewer_by, stripped_out, PutsRenamed}
 use Rattle.precedence.proofs.WriteLaws.{fits_or_not, puts_beside}
 
@@ -44,59 +45,53 @@ module _ (wd a e : ℕ) (narrow : wd ≤ 3) where
       go i (inr x) = get_d_store_after w (p + 9) (le wd v) i (omega (arith, length-le wd v))
 
   -- a run of renaming, with its marks
-  record Ran (w : List ℕ) (x : List ℕ × Marks) : Type 0 where
+  record Ran (w : List ℕ) (x : List ℕ × Option Marks) : Type 0 where
     pub bytes : Between a e w x.0
-    pub first : a ≤ x.1.first
-    pub last : a ≤ x.1.last
+    pub marks : MarksIn a e x.1
 
-  ran_more : (w w1 : List ℕ) (x : List ℕ × Marks) → Between a e w w1 → Ran w1 x → Ran w x
-  ran_more w w1 x y z = record { bytes = between-both a e w w1 x.0 y z.bytes; first = z.first; last = z.last }
+  ran_more : (w w1 : List ℕ) (x : List ℕ × Option Marks) → Between a e w w1 → Ran w1 x → Ran w x
+  ran_more w w1 x y z = record { bytes = between-both a e w w1 x.0 y z.bytes; marks = z.marks }
 
-  mark_first : (p : ℕ) (m : Marks) → a ≤ p → a ≤ m.first → a ≤ (marked_at p e m).first
-  unfolding marked_at pick
-  mark_first p m h k = go (eqb m.first e)
-    where
-      go : (b : Bool) → a ≤ pick b p m.first
-      go true = h
-      go false = k
-
-  mark_last : (p : ℕ) (m : Marks) → a ≤ p → a ≤ (marked_at p e m).last
+  marks_on : (p : ℕ) (m : Option Marks) → a ≤ p → p < e → MarksIn a e m → MarksIn a e (Some (marked_at p m))
   unfolding marked_at
-  mark_last p m h = h
+  marks_on p (Some m) h l k = (k.0, k.1, h, l)
+  marks_on p None h l k = (h, l, h, l)
 
-  replace_ran : (target rest f : ℕ) (w : List ℕ) (p : ℕ) (m : Marks) → a ≤ p → a ≤ m.first → a ≤ m.last → Ran w (replace_out wd target rest f w p e m)
+  replace_ran : (target rest f : ℕ) (w : List ℕ) (p : ℕ) (m : Option Marks) → a ≤ p → MarksIn a e m → Ran w (replace_out wd target rest f w p e m)
   unfolding replace_out pick
-  replace_ran target rest zero w p m h k l = record { bytes = between_none a e w; first = k; last = l }
-  replace_ran target rest (suc f) w p m h k l =
+  replace_ran target rest zero w p m h k = record { bytes = between_none a e w; marks = k }
+  replace_ran target rest (suc f) w p m h k =
       go (leb e p) (names_at wd target w p) refl
-      (replace_ran target rest f (store w (p + 9) (le wd rest)) (p + (9 + wd)) (marked_at p e m) (omega arith) (mark_first p m h k) (mark_last p m h))
-      (replace_ran target rest f w (p + long_of wd (get_or w p 0)) m (omega arith) k l)
+      (λ l. replace_ran target rest f (store w (p + 9) (le wd rest)) (p + (9 + wd)) (Some (marked_at p m)) (omega arith) (marks_on p m h l k))
+      (replace_ran target rest f w (p + long_of wd (get_or w p 0)) m (omega arith) k)
     where
-      go : {named other : List ℕ × Marks} (b c : Bool) → leb e p ≡ b → Ran (store w (p + 9) (le wd rest)) named → Ran w other → Ran w (pick b (w, m) (pick c named other))
-      go true c z x y = record { bytes = between_none a e w; first = k; last = l }
-      go {named} false true z x y = ran_more w (store w (p + 9) (le wd rest)) named (between-store w p rest h (leb-false e p z)) x
+      go : {named other : List ℕ × Option Marks} (b c : Bool) → leb e p ≡ b → (p < e → Ran (store w (p + 9) (le wd rest)) named) → Ran w other → Ran w (pick b (w, m) (pick c named other))
+      go true c z x y = record { bytes = between_none a e w; marks = k }
+      go {named} false true z x y = let l = leb-false e p z in ran_more w (store w (p + 9) (le wd rest)) named (between-store w p rest h l) (x l)
       go false false z x y = y
 
   all_ran : (target rest : ℕ) (w : List ℕ) → a ≤ e → Ran w (replace_all wd target rest w a e)
   unfolding replace_all
-  all_ran target rest w h = replace_ran target rest e w a (record { first = e; last = e }) (omega arith) h h
+  all_ran target rest w h = replace_ran target rest e w a None (omega arith) tt
 
-  name_between : (w : List ℕ) (at v : ℕ) → a ≤ at → Between a e w (name_out wd w at e v)
-  unfolding name_out pick
-  name_between w at v h = go (ltb at e) refl
-    where
-      go : (b : Bool) → ltb at e ≡ b → Between a e w (pick b (store w (at + 9) (le wd v)) w)
-      go true z = between-store w at v h (ltb-true at e z)
-      go false z = between_none a e w
+  first_between : (w : List ℕ) (m : Option Marks) (v : ℕ) → MarksIn a e m → Between a e w (name_out wd w (λ k. k.first) m v)
+  unfolding name_out
+  first_between w (Some m) v h = between-store w m.first v h.0 h.1
+  first_between w None v h = between_none a e w
+
+  last_between : (w : List ℕ) (m : Option Marks) (v : ℕ) → MarksIn a e m → Between a e w (name_out wd w (λ k. k.last) m v)
+  unfolding name_out
+  last_between w (Some m) v h = between-store w m.last v h.2 h.3
+  last_between w None v h = between_none a e w
 
   substitute-between : (w : List ℕ) (target here below : ℕ) (s : Assoc) → a ≤ e → Between a e w (substitute_out wd w a e target here below s)
   unfolding substitute_out pick
   substitute-between w target here below Assoc.Left h =
       let r = all_ran target below w h in
-      between-both a e w _ _ r.bytes (name_between (replace_all wd target below w a e).0 (replace_all wd target below w a e).1.first here r.first)
+      between-both a e w _ _ r.bytes (first_between (replace_all wd target below w a e).0 (replace_all wd target below w a e).1 here r.marks)
   substitute-between w target here below Assoc.Right h =
       let r = all_ran target below w h in
-      between-both a e w _ _ r.bytes (name_between (replace_all wd target below w a e).0 (replace_all wd target below w a e).1.last here r.last)
+      between-both a e w _ _ r.bytes (last_between (replace_all wd target below w a e).0 (replace_all wd target below w a e).1 here r.marks)
   substitute-between w target here below Assoc.NonAssoc h = (all_ran target below w h).bytes
   substitute-between w target here below Assoc.FullyAssoc h = go (eqb here target)
     where

@@ -14,7 +14,7 @@ use Rattle.parse_tree.specs.Plain.Tree.{Text}
 use Rattle.parse_tree.specs.Plain.Texts.{has, distinct, with_new}
 use Rattle.parse_tree.proofs.TextLaws.{distinct_more}
 use Rattle.texts.specs.declared.Map.{Map}
-use Rattle.texts.specs.declared.Found.{Found}
+use Rattle.std.specs.Prelude.{Option, Some, None}
 use Rattle.texts.specs.Hash.{hash_of, bucket_of}
 use Rattle.texts.specs.Fields.{mark_at, hash_at, Chained, Linked, RecordWritten}
 use Rattle.texts.specs.Table.{texts, Finds}
@@ -129,10 +129,10 @@ module _ (s w : List ℕ) (m : Map) (n b v : ℕ) (g : Describing s w m n b v) w
   pub name_based : Based s w m b
   name_based = naming-based s w m n g.naming b g.base
 
-  pub name_found : (f : Found) (k : ℕ) → Finds (named_texts s w m n) (level_text s w m b v) f → f ≡ Found.At k → LevelNamed s w m n b v (record { name = k; count = n }) w
+  pub name_found : (f : Option ℕ) (k : ℕ) → Finds (named_texts s w m n) (level_text s w m b v) f → f ≡ Some k → LevelNamed s w m n b v (record { name = k; count = n }) w
   unfolding Finds with_new
   name_found f k a e =
-      let c : Finds (named_texts s w m n) (level_text s w m b v) (Found.At k) = rw e at a in
+      let c : Finds (named_texts s w m n) (level_text s w m b v) (Some k) = rw e at a in
       record {
         naming = g.naming;
         named = cc (answer_has (named_texts s w m n) (level_text s w m b v) k c);
@@ -146,7 +146,7 @@ module _ (s w : List ℕ) (m : Map) (n b v : ℕ) (g : Describing s w m n b v) w
         kept = record { same = refl; marks = λ i h. refl; cells = λ i h. refl; before = λ i h. refl; after = λ i y z. refl };
       }
 
-  pub name_new : (f : Found) (w1 : List ℕ) → Finds (named_texts s w m n) (level_text s w m b v) f → f ≡ Found.Nothing → Described s w m n b v w1
+  pub name_new : (f : Option ℕ) (w1 : List ℕ) → Finds (named_texts s w m n) (level_text s w m b v) f → f ≡ None → Described s w m n b v w1
       → LevelNamed s w m n b v (record { name = n; count = n + 1 }) w1
   unfolding with_new Finds
   name_new f w1 a e d =
@@ -156,7 +156,7 @@ module _ (s w : List ℕ) (m : Map) (n b v : ℕ) (g : Describing s w m n b v) w
       let long : length ts ≡ n = length_named s w m n in
       let at-end : get_or (named_texts s w1 m (n + 1)) n [] ≡ x
       = ap (λ (us : List Text). get_or us n []) d.more ∙ ap (λ (i : ℕ). get_or (ts ++ (x ∷ [])) i []) (sym long) ∙ get_or-append_seam ts x [] [] in
-      let is : Finds (named_texts s w1 m (n + 1)) x (Found.At n) = last-is (named_texts s w1 m (n + 1)) x (omega (arith, length_named s w1 m (n + 1))) at-end in
+      let is : Finds (named_texts s w1 m (n + 1)) x (Some n) = last-is (named_texts s w1 m (n + 1)) x (omega (arith, length_named s w1 m (n + 1))) at-end in
       let apart : distinct ts ≡ true → distinct (named_texts s w1 m (n + 1)) ≡ true = λ q. rw d.more (distinct_more ts x q c) in
       record {
         naming = d.naming;
@@ -171,7 +171,7 @@ module _ (s w : List ℕ) (m : Map) (n b v : ℕ) (g : Describing s w m n b v) w
         kept = d.kept;
       }
     where
-      last-is : (us : List Text) (x : Text) → n < length us → get_or us n [] ≡ x → Finds us x (Found.At n)
+      last-is : (us : List Text) (x : Text) → n < length us → get_or us n [] ≡ x → Finds us x (Some n)
       last-is us x q r = record { below = q; text = r }
 
 pub ruleset level_naming = (rules, name_based, name_found, name_new)

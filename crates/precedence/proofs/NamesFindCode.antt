@@ -15,7 +15,7 @@ use Rattle.octets.proofs.SameLaws.{same_as-eq}
 use Rattle.parse_tree.specs.Plain.Tree.{Text}
 use Rattle.parse_tree.specs.Plain.Texts.{has}
 use Rattle.texts.specs.declared.Map.{Map}
-use Rattle.texts.specs.declared.Found.{Found}
+use Rattle.std.specs.Prelude.{Some, None}
 use Rattle.texts.specs.Hash.{hash_of, bucket_of}
 use Rattle.texts.specs.Fields.{mark_at, link_at, head_at, bucket_at, last}
 use Rattle.texts.specs.Table.{Finds}
@@ -133,7 +133,7 @@ module _ (s w : List ℕ) (m : Map) (n : ℕ) (x : Text) (h : ℕ) (g : Naming s
     pub trace_spelled : Spelled s w m (j - 1)
     trace_spelled = naming-spelled s w m n g (j - 1) (omega (arith, c.upto))
 
-    pub trace_found : (r : Bool) → r ≡ same_as (named_text s w m (j - 1)) x → r ≡ true → Finds (named_texts s w m n) x (Found.At (j - 1))
+    pub trace_found : (r : Bool) → r ≡ same_as (named_text s w m (j - 1)) x → r ≡ true → Finds (named_texts s w m n) x (Some (j - 1))
     unfolding Finds
     trace_found r e u = record {
       below = omega (arith, c.upto, length_named s w m n);
@@ -151,7 +151,7 @@ module _ (s w : List ℕ) (m : Map) (n : ℕ) (x : Text) (h : ℕ) (g : Naming s
     trace_less k q =
         omega (arith, g.chained.links (j - 1) (omega (arith, c.upto)), last-le (bucket_at w m.base m.buckets) (bucket_at w m.base m.buckets (j - 1)) (j - 1))
 
-pub trace_none : (s w : List ℕ) (m : Map) (n : ℕ) (x : Text) (h j : ℕ) → Tracing s w m n x h j → j ≤ 0 → Finds (named_texts s w m n) x Found.Nothing
+pub trace_none : (s w : List ℕ) (m : Map) (n : ℕ) (x : Text) (h j : ℕ) → Tracing s w m n x h j → j ≤ 0 → Finds (named_texts s w m n) x None
 unfolding named_texts has Finds
 trace_none s w m n x h j c l = let z : j ≡ 0 = omega arith in sym (rw z at c.rest)
 

@@ -1,12 +1,12 @@
 -- The texts of the table that names begin with: base_text, level_hash, is_level_name, matches. Assumes nothing.
 use mathlib.Core.Path.{◌≡◌, refl, sym, ap, ◌∙◌}
-use mathlib.Core.Bool.{Bool, true, false}
+use mathlib.Core.Bool.{Bool, true}
 use mathlib.Core.List.{List, [], ◌∷◌, ◌++◌}
 use Prim.Native.Nat.{ℕ, ◌+◌, ◌*◌, ◌-◌, ◌/◌, ◌%◌, ◌≤◌, ◌<◌}
 use native.Mathlib.Omega.{arith}
 use borrow.Author.Rules.{rules}
-use borrow.Author.Tests.{lt-ltb, le-ltb}
-use lib.Dec.{ltb}
+use borrow.Author.Tests.{lt-ltb, le-ltb, ne_eqb}
+use lib.Dec.{eqb, ltb}
 use lib.ListN.{length, get_or}
 use lib.Seq.{take_all}
 use mir.Syntax.{w8}
@@ -119,12 +119,12 @@ module _ (s w : List ℕ) (m : Map) (k : ℕ) where
     pub spell_base : (x : ℕ) → m.count ≤ k → x ≡ mark_at w m.base k → Based s w m (x / 4294967296)
     spell_base x h e = rw e (c.base h)
 
-    pub match_not : (r h : ℕ) (t : Text) → h ≡ hash_of t → r ≡ hash_at w m.base k → (r ≡ h → ⊥) → false ≡ same_as (named_text s w m k) t
-    match_not r h t p q n = unlike (named_text s w m k) t (λ e. n (q ∙ c.hash ∙ ap hash_of e ∙ sym p))
+    pub match_not : (r h : ℕ) (t : Text) → h ≡ hash_of t → r ≡ hash_at w m.base k → (r ≡ h → ⊥) → eqb r h ≡ same_as (named_text s w m k) t
+    match_not r h t p q n = ne_eqb r h n ∙ unlike (named_text s w m k) t (λ e. n (q ∙ c.hash ∙ ap hash_of e ∙ sym p))
 
-  pub spell_same : (b v x : ℕ) → m.count ≤ k → x ≡ mark_at w m.base k → x / 4294967296 ≡ b → x % 4294967296 ≡ v → true ≡ same_as (named_text s w m k) (level_text s w m b v)
+  pub spell_same : (b v x : ℕ) → m.count ≤ k → x ≡ mark_at w m.base k → (x / 4294967296 ≡ b) × (x % 4294967296 ≡ v) → true ≡ same_as (named_text s w m k) (level_text s w m b v)
   unfolding described_text
-  spell_same b v x h e p q =
+  spell_same b v x h e (p, q) =
       let z : described_text s w m x ≡ level_text s w m b v = ap (λ (i : ℕ). level_text s w m i (x % 4294967296)) p ∙ ap (level_text s w m b) q in
       sym (eq_same_as (named_text s w m k) (level_text s w m b v) (named-described h ∙ ap (described_text s w m) (sym e) ∙ z))
 

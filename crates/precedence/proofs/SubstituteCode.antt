@@ -5,9 +5,10 @@ use mathlib.Core.List.{List, [], ◌∷◌, ◌++◌}
 use Prim.Native.Nat.{ℕ, zero, suc, ◌+◌, ◌-◌, ◌/◌, ◌%◌, ◌≤◌, ◌<◌}
 use native.Mathlib.Omega.{arith}
 use borrow.Author.Rules.{rules}
-use borrow.Author.Tests.{lt-ltb, le-ltb, le-leb, lt-leb, ne_eqb, eq-eqb}
+use borrow.Author.Tests.{le-leb, lt-leb, ne_eqb, eq-eqb}
 use lib.Dec.{eqb}
 use lib.ListN.{length, get_or, set}
+use Rattle.std.specs.Prelude.{Option, Some, None}
 use Rattle.octets.specs.Working.Choice.{pick}
 use Rattle.octets.specs.Plain.Numbers.{le_at, le}
 use Rattle.octets.specs.Working.Stores.{store}
@@ -17,7 +18,7 @@ use Rattle.resolve.specs.Commands.{long_of}
 use Rattle.grades.specs.declared.Assoc.{Assoc}
 use Rattle.grades.specs.Skip.{names_at}
 use Rattle.precedence.specs.declared.substitute.Marks.{Marks}
-use Rattle.precedence.specs.Substitute.{marked_at, replace_out, Replaces, name_out, replace_all, substitute_out}
+use Rattle.precedence.specs.Substitute.{marked_at, MarksIn, replace_out, Replaces, name_out, replace_all, substitute_out}
 
 -- ---- names
 module _ (wd target : ℕ) (w : List ℕ) (at : ℕ) where
@@ -61,42 +62,46 @@ module _ (s m : List ℕ) (at wd v : ℕ) (j : m ≡ store s at (le 2 (v % 65536
 pub ruleset putting = (rules, atom_two, atom_three)
 
 -- ---- marked
-module _ (m : Marks) (p e : ℕ) where
-  pub marked_first : m.first ≡ e → record { first = p; last = p } ≡ marked_at p e m
-  unfolding marked_at pick
-  marked_first h = cc (eq-eqb m.first e h)
+pub marked_first : (p : ℕ) → record { first = p; last = p } ≡ marked_at p None
+unfolding marked_at
+marked_first p = refl
 
-  pub marked_later : (m.first ≡ e → ⊥) → record { first = m.first; last = p } ≡ marked_at p e m
-  unfolding marked_at pick
-  marked_later h = cc (ne_eqb m.first e h)
+pub marked_later : (p : ℕ) (m : Marks) → record { first = m.first; last = p } ≡ marked_at p (Some m)
+unfolding marked_at
+marked_later p m = refl
 
 pub ruleset marking = (rules, marked_first, marked_later)
 
 -- ---- replace_symbols
 -- with `fuel` commands to come at the most, the rest is what the whole is
-pub record Replacing (wd target rest e at : ℕ) (w₀ w : List ℕ) (p : ℕ) (m : Marks) : Type 0 where
+pub record Replacing (wd target rest e at : ℕ) (w₀ w : List ℕ) (p : ℕ) (m : Option Marks) : Type 0 where
   pub narrow : 2 ≤ wd
   pub wide : wd ≤ 3
   pub inside : e + 16 ≤ length w
   pub same : length w ≡ length w₀
+  pub on : at ≤ p
+  pub marks : MarksIn at e m
   pub fuel : ℕ
   pub enough : e ≤ fuel + p
   pub left : replace_out wd target rest fuel w p e m ≡ replace_all wd target rest w₀ at e
 
-pub replace_start : (wd target rest e at : ℕ) (w : List ℕ) → 2 ≤ wd → wd ≤ 3 → e + 16 ≤ length w → Replacing wd target rest e at w w at (record { first = e; last = e })
+pub replace_start : (wd target rest e at : ℕ) (w : List ℕ) → 2 ≤ wd → wd ≤ 3 → e + 16 ≤ length w → Replacing wd target rest e at w w at None
 unfolding replace_all
-replace_start wd target rest e at w n o i = record { narrow = n; wide = o; inside = i; same = refl; fuel = e; enough = omega arith; left = refl }
+replace_start wd target rest e at w n o i = record { narrow = n; wide = o; inside = i; same = refl; on = omega arith; marks = tt; fuel = e; enough = omega arith; left = refl }
 
-pub replace-end : (wd target rest f : ℕ) (w : List ℕ) (p e : ℕ) (m : Marks) → e ≤ p → replace_out wd target rest f w p e m ≡ (w, m)
+pub replace-end : (wd target rest f : ℕ) (w : List ℕ) (p e : ℕ) (m : Option Marks) → e ≤ p → replace_out wd target rest f w p e m ≡ (w, m)
 unfolding replace_out pick
 replace-end wd target rest zero w p e m h = refl
 replace-end wd target rest (suc f) w p e m h = cc (le-leb e p h)
 
-module _ (wd target rest e at : ℕ) (w₀ w : List ℕ) (p : ℕ) (m : Marks) (g : Replacing wd target rest e at w₀ w p m) where
+module _ (wd target rest e at : ℕ) (w₀ w : List ℕ) (p : ℕ) (m : Option Marks) (g : Replacing wd target rest e at w₀ w p m) where
   pub replace_done : e ≤ p → Replaces (replace_all wd target rest w₀ at e) m w
   replace_done h =
       let z = sym g.left ∙ replace-end wd target rest g.fuel w p e m h in
-      record { bytes = sym (ap (λ (x : List ℕ × Marks). x.0) z); marks = sym (ap (λ (x : List ℕ × Marks). x.1) z) }
+      record { bytes = sym (ap (λ (x : List ℕ × Option Marks). x.0) z); marks = sym (ap (λ (x : List ℕ × Option Marks). x.1) z) }
+
+  pub replace_marks : MarksIn at e m
+  replace_marks = g.marks
 
   module _ (h : p < e) (b : Bool) (i : b ≡ names_at wd target w p) where
     abbrev less : ℕ
@@ -115,17 +120,24 @@ module _ (wd target rest e at : ℕ) (w₀ w : List ℕ) (p : ℕ) (m : Marks) (
       wide = g.wide;
       inside = g.inside;
       same = g.same;
+      on = omega (arith, g.on);
+      marks = g.marks;
       fuel = less;
       enough = omega (arith, g.enough);
       left = sym (other z c l j k) ∙ sym opened ∙ g.left;
     }
 
-    named : b ≡ true → (w' : List ℕ) (n : Marks) → Replaces (store w (p + 9) (le wd rest), marked_at p e m) n w'
+    named : b ≡ true → (w' : List ℕ) (n : Option Marks) → Replaces (store w (p + 9) (le wd rest), Some (marked_at p m)) n w'
         → replace_out wd target rest (suc less) w p e m ≡ replace_out wd target rest less w' (p + (9 + wd)) e n
     unfolding replace_out pick
     named z w' n r = cc (lt-leb e p h, r.bytes, r.marks)
 
-    pub replace_named : b ≡ true → (w' : List ℕ) (n : Marks) → Replaces (store w (p + 9) (le wd rest), marked_at p e m) n w' → Replacing wd target rest e at w₀ w' (p + (9 + wd)) n
+    marks_on : (m : Option Marks) → MarksIn at e m → MarksIn at e (Some (marked_at p m))
+    unfolding marked_at
+    marks_on (Some m) k = (k.0, k.1, g.on, h)
+    marks_on None k = (g.on, h, g.on, h)
+
+    pub replace_named : b ≡ true → (w' : List ℕ) (n : Option Marks) → Replaces (store w (p + 9) (le wd rest), Some (marked_at p m)) n w' → Replacing wd target rest e at w₀ w' (p + (9 + wd)) n
     replace_named z w' n r =
         let y : length w' ≡ length w = ap length r.bytes ∙ length_store w (p + 9) (le wd rest) in
         record {
@@ -133,34 +145,33 @@ module _ (wd target rest e at : ℕ) (w₀ w : List ℕ) (p : ℕ) (m : Marks) (
           wide = g.wide;
           inside = rw y g.inside;
           same = y ∙ g.same;
+          on = omega (arith, g.on);
+          marks = rw r.marks (marks_on m g.marks);
           fuel = less;
           enough = omega (arith, g.enough);
           left = sym (named z w' n r) ∙ sym opened ∙ g.left;
         }
 
-pub ruleset replacing = (rules, replace_start, replace_done, replace_other, replace_named)
-
--- ---- rename
-module _ (wd : ℕ) (w : List ℕ) (at e v : ℕ) where
-  pub rename_some : (w' : List ℕ) → at < e → w' ≡ store w (at + 9) (le wd v) → w' ≡ name_out wd w at e v
-  unfolding name_out pick
-  rename_some w' h j = cc (lt-ltb at e h)
-
-  pub rename_none : e ≤ at → w ≡ name_out wd w at e v
-  unfolding name_out pick
-  rename_none h = cc (le-ltb at e h)
-
-pub ruleset renaming = (rules, rename_some, rename_none)
+pub ruleset replacing = (rules, replace_start, replace_done, replace_marks, replace_other, replace_named)
 
 -- ---- substitute
-module _ (wd : ℕ) (w : List ℕ) (at e target here below : ℕ) (s : Assoc) (m : Marks) (w' : List ℕ) where
-  pub side_left : s ≡ Assoc.Left → Replaces (replace_all wd target below w at e) m w' → (r : List ℕ) → r ≡ name_out wd w' m.first e here → r ≡ substitute_out wd w at e target here below s
-  unfolding substitute_out
-  side_left z x r i = cc (x.bytes, x.marks)
+module _ (wd : ℕ) (w : List ℕ) (at e target here below : ℕ) (s : Assoc) (m : Option Marks) (w' : List ℕ) where
+  module _ (x : Replaces (replace_all wd target below w at e) m w') where
+    pub left_some : (n : Marks) → m ≡ Some n → s ≡ Assoc.Left → (r : List ℕ) → r ≡ store w' (n.first + 9) (le wd here) → r ≡ substitute_out wd w at e target here below s
+    unfolding substitute_out name_out
+    left_some n j z r i = cc (x.bytes, x.marks)
 
-  pub side_right : s ≡ Assoc.Right → Replaces (replace_all wd target below w at e) m w' → (r : List ℕ) → r ≡ name_out wd w' m.last e here → r ≡ substitute_out wd w at e target here below s
-  unfolding substitute_out
-  side_right z x r i = cc (x.bytes, x.marks)
+    pub left_none : m ≡ None → s ≡ Assoc.Left → w' ≡ substitute_out wd w at e target here below s
+    unfolding substitute_out name_out
+    left_none j z = cc (x.bytes, x.marks)
+
+    pub right_some : (n : Marks) → m ≡ Some n → s ≡ Assoc.Right → (r : List ℕ) → r ≡ store w' (n.last + 9) (le wd here) → r ≡ substitute_out wd w at e target here below s
+    unfolding substitute_out name_out
+    right_some n j z r i = cc (x.bytes, x.marks)
+
+    pub right_none : m ≡ None → s ≡ Assoc.Right → w' ≡ substitute_out wd w at e target here below s
+    unfolding substitute_out name_out
+    right_none j z = cc (x.bytes, x.marks)
 
   pub side_none : s ≡ Assoc.NonAssoc → Replaces (replace_all wd target below w at e) m w' → w' ≡ substitute_out wd w at e target here below s
   unfolding substitute_out
@@ -174,4 +185,4 @@ pub side_same : (wd : ℕ) (w : List ℕ) (at e target here below : ℕ) (s : As
 unfolding substitute_out pick
 side_same wd w at e target here below s z h = cc (eq-eqb here target h)
 
-pub ruleset siding = (rules, side_left, side_right, side_none, side_all, side_same)
+pub ruleset siding = (rules, left_some, left_none, right_some, right_none, side_none, side_all, side_same)

@@ -5,8 +5,9 @@ use mathlib.Core.Logic.{inr}
 use mathlib.Core.List.{List}
 use Prim.Native.Nat.{ℕ, zero, suc, ◌+◌, ◌<◌, ◌≤◌}
 use native.Mathlib.Omega.{arith}
-use borrow.Author.Tests.{lt-ltb, le-ltb, eq-eqb, ne_eqb}
-use lib.Dec.{eqb, ltb}
+use borrow.Author.Tests.{eq-eqb, ne_eqb}
+use lib.Dec.{eqb}
+use Rattle.std.specs.Prelude.{Option, Some, None}
 use Rattle.octets.specs.Working.Choice.{pick}
 use Rattle.octets.specs.Plain.Numbers.{le}
 use Rattle.octets.specs.Plain.Runs.{same_as, Lies}
@@ -78,10 +79,10 @@ module _ (E : Text) where
 
 module _ (wd : ℕ) (ts : List Text) (E : Text) (e : ℕ) where
   abbrev State : Type 0
-  State = List ℕ × Marks
+  State = List ℕ × Option Marks
 
   abbrev start : List ℕ → State
-  start w = (w, record { first = e; last = e })
+  start w = (w, None)
 
   -- ---- the run beside the fold that replaces, the one in work and the other in the tree; F names occurrence j, `rest` all of them
   module _ (known : has E ts ≡ true) (F : ℕ → Text) (rest : Text) (R : ℕ → State → List ℕ × ℕ → Type 0) where
@@ -119,38 +120,39 @@ module _ (wd : ℕ) (ts : List Text) (E : Text) (e : ℕ) where
 
     -- ---- left: the first occurrence is to be named again
     record First (p : ℕ) (σ : State) (τ : List ℕ × ℕ) : Type 0 where
-      none : τ.1 ≡ 0 → (σ.1.first ≡ e) × (τ.0 ≡ σ.0)
-      some : 0 < τ.1 → (σ.1.first + (9 + wd) ≤ p) × (τ.0 ≡ store σ.0 (σ.1.first + 9) (le wd here))
+      none : τ.1 ≡ 0 → (σ.1 ≡ None) × (τ.0 ≡ σ.0)
+      some : 0 < τ.1 → (m : Marks) × (σ.1 ≡ Some m) × (m.first + (9 + wd) ≤ p) × (τ.0 ≡ store σ.0 (m.first + 9) (le wd here))
 
     abbrev left_name : ℕ → Text
     left_name j = cond (eqb j 0) own low
 
     first-meets : Meets wd (number ts E) ts below e (λ j. number ts (left_name j)) First
-    unfolding marked_at pick
-    first-meets p σ τ i r = record { none = λ z. absurd (omega (arith, z)); some = λ z. go τ.1 refl }
+    unfolding marked_at
+    first-meets p σ τ i r = record { none = λ z. absurd (omega (arith, z)); some = λ z. let g = go τ.1 refl in (marked_at p σ.1, refl, g.0, g.1) }
       where
         go : (j : ℕ) → τ.1 ≡ j
-            → (pick (eqb σ.1.first e) p σ.1.first + (9 + wd) ≤ p + (9 + wd))
-            × (store τ.0 (p + 9) (le wd (number ts (left_name τ.1))) ≡ store (store σ.0 (p + 9) (le wd below)) (pick (eqb σ.1.first e) p σ.1.first + 9) (le wd here))
+            → ((marked_at p σ.1).first + (9 + wd) ≤ p + (9 + wd))
+            × (store τ.0 (p + 9) (le wd (number ts (left_name τ.1))) ≡ store (store σ.0 (p + 9) (le wd below)) ((marked_at p σ.1).first + 9) (le wd here))
         go zero z =
             let a = r.none z in
-            let b = eq-eqb σ.1.first e a.0 in
+            let b : (marked_at p σ.1).first ≡ p = ap (λ (m : Option Marks). (marked_at p m).first) a.0 in
             rw b (omega arith, cc (z, a.1, store-name wd σ.0 (p + 9) below here))
         go (suc j) z =
             let a = r.some (omega arith) in
-            let b = ne_eqb σ.1.first e (λ q. absurd (omega (arith, q, a.0))) in
-            rw b (omega (arith, a.0), cc (z, a.1, ne_eqb (suc j) 0 (λ q. absurd (omega (arith, q))), store-past σ.0 (σ.1.first + 9) (p + 9) (le wd here) (le wd below) (inr (omega (arith, a.0, length-le wd here)))))
+            let k = a.0.first in
+            let b : (marked_at p σ.1).first ≡ k = ap (λ (m : Option Marks). (marked_at p m).first) a.1 in
+            rw b (omega (arith, a.2), cc (z, a.3, ne_eqb (suc j) 0 (λ q. absurd (omega (arith, q))), store-past σ.0 (k + 9) (p + 9) (le wd here) (le wd below) (inr (omega (arith, a.2, length-le wd here)))))
 
     first_moves : Moves wd (number ts E) ts below e (λ j. number ts (left_name j)) First
-    first_moves p q σ τ i r = record { none = r.none; some = λ z. let a = r.some z in (omega (arith, a.0), a.1) }
+    first_moves p q σ τ i r = record { none = r.none; some = λ z. let a = r.some z in (a.0, a.1, omega (arith, a.2), a.3) }
 
-    first_named : (σ : State) (τ : List ℕ × ℕ) → First e σ τ → name_out wd σ.0 σ.1.first e here ≡ τ.0
-    unfolding name_out pick
+    first_named : (σ : State) (τ : List ℕ × ℕ) → First e σ τ → name_out wd σ.0 (λ m. m.first) σ.1 here ≡ τ.0
+    unfolding name_out
     first_named σ τ r = go τ.1 refl
       where
-        go : (j : ℕ) → τ.1 ≡ j → pick (ltb σ.1.first e) (store σ.0 (σ.1.first + 9) (le wd here)) σ.0 ≡ τ.0
-        go zero z = let a = r.none z in cc (le-ltb σ.1.first e (omega (arith, a.0)), a.1)
-        go (suc j) z = let a = r.some (omega arith) in cc (lt-ltb σ.1.first e (omega (arith, a.0)), a.1)
+        go : (j : ℕ) → τ.1 ≡ j → name_out wd σ.0 (λ m. m.first) σ.1 here ≡ τ.0
+        go zero z = let a = r.none z in ap (λ (m : Option Marks). name_out wd σ.0 (λ m. m.first) m here) a.0 ∙ sym a.1
+        go (suc j) z = let a = r.some (omega arith) in ap (λ (m : Option Marks). name_out wd σ.0 (λ m. m.first) m here) a.1 ∙ sym a.3
 
     first_start : (w : List ℕ) (at : ℕ) → First at (start w) (w, 0)
     first_start w at = record { none = λ z. (refl, refl); some = λ z. absurd (omega (arith, z)) }
@@ -160,14 +162,19 @@ module _ (wd : ℕ) (ts : List Text) (E : Text) (e : ℕ) where
     unfolding substitute_out
     left_means xs f w at l =
         let x = ends known left_name low First first_moves first-meets xs f w at l (first_start w at) in
-        ap (λ (σ : State). name_out wd σ.0 σ.1.first e here) x.2 ∙ first_named x.1 _ x.4
+        ap (λ (σ : State). name_out wd σ.0 (λ m. m.first) σ.1 here) x.2 ∙ first_named x.1 _ x.4
 
     -- ---- right: the last occurrence is to be named again
+    last_mark : (p : ℕ) (m : Option Marks) → (marked_at p m).last ≡ p
+    unfolding marked_at
+    last_mark p (Some m) = refl
+    last_mark p None = refl
+
     module _ (total : ℕ) where
       record Last (p : ℕ) (σ : State) (τ : List ℕ × ℕ) : Type 0 where
-        none : τ.1 ≡ 0 → (σ.1.last ≡ e) × (τ.0 ≡ σ.0)
+        none : τ.1 ≡ 0 → (σ.1 ≡ None) × (τ.0 ≡ σ.0)
         some : τ.1 < total → τ.0 ≡ σ.0
-        whole : 0 < τ.1 → τ.1 ≡ total → (σ.1.last + (9 + wd) ≤ p) × (τ.0 ≡ store σ.0 (σ.1.last + 9) (le wd here))
+        whole : 0 < τ.1 → τ.1 ≡ total → (m : Marks) × (σ.1 ≡ Some m) × (m.last + (9 + wd) ≤ p) × (τ.0 ≡ store σ.0 (m.last + 9) (le wd here))
 
       abbrev right_name : ℕ → Text
       right_name j = cond (eqb (suc j) total) own low
@@ -177,19 +184,19 @@ module _ (wd : ℕ) (ts : List Text) (E : Text) (e : ℕ) where
       last_meets p σ τ i r = record {
         none = λ z. absurd (omega (arith, z));
         some = λ z. cc (r.some (omega arith), ne_eqb (suc τ.1) total (λ q. absurd (omega (arith, q))));
-        whole = λ y z. (omega arith, cc (r.some (omega arith), eq-eqb (suc τ.1) total z, store-name wd σ.0 (p + 9) below here));
+        whole = λ y z. let b = last_mark p σ.1 in (marked_at p σ.1, refl, rw b (omega arith), rw b (cc (r.some (omega arith), eq-eqb (suc τ.1) total z, store-name wd σ.0 (p + 9) below here)));
       }
 
       last-moves : Moves wd (number ts E) ts below e (λ j. number ts (right_name j)) Last
-      last-moves p q σ τ i r = record { none = r.none; some = r.some; whole = λ y z. let a = r.whole y z in (omega (arith, a.0), a.1) }
+      last-moves p q σ τ i r = record { none = r.none; some = r.some; whole = λ y z. let a = r.whole y z in (a.0, a.1, omega (arith, a.2), a.3) }
 
-      last-named : (σ : State) (s : List ℕ) → Last e σ (s, total) → name_out wd σ.0 σ.1.last e here ≡ s
-      unfolding name_out pick
+      last-named : (σ : State) (s : List ℕ) → Last e σ (s, total) → name_out wd σ.0 (λ m. m.last) σ.1 here ≡ s
+      unfolding name_out
       last-named σ s r = go total refl
         where
-          go : (j : ℕ) → total ≡ j → pick (ltb σ.1.last e) (store σ.0 (σ.1.last + 9) (le wd here)) σ.0 ≡ s
-          go zero z = let a = r.none z in cc (le-ltb σ.1.last e (omega (arith, a.0)), a.1)
-          go (suc j) z = let a = r.whole (omega arith) refl in cc (lt-ltb σ.1.last e (omega (arith, a.0)), a.1)
+          go : (j : ℕ) → total ≡ j → name_out wd σ.0 (λ m. m.last) σ.1 here ≡ s
+          go zero z = let a = r.none z in ap (λ (m : Option Marks). name_out wd σ.0 (λ m. m.last) m here) a.0 ∙ sym a.1
+          go (suc j) z = let a = r.whole (omega arith) refl in ap (λ (m : Option Marks). name_out wd σ.0 (λ m. m.last) m here) a.1 ∙ sym a.3
 
       last-start : (w : List ℕ) (at : ℕ) → Last at (start w) (w, 0)
       last-start w at = record { none = λ z. (refl, refl); some = λ z. refl; whole = λ y z. absurd (omega (arith, y)) }
@@ -201,7 +208,7 @@ module _ (wd : ℕ) (ts : List Text) (E : Text) (e : ℕ) where
         let n = occurs_in E xs in
         let x = ends known (right_name n) low (Last n) (last-moves n) (last_meets n) xs f w at l (last-start n w at) in
         let z = x.3 in
-        ap (λ (σ : State). name_out wd σ.0 σ.1.last e here) x.2 ∙ last-named n x.1 _ (rw z at x.4)
+        ap (λ (σ : State). name_out wd σ.0 (λ m. m.last) σ.1 here) x.2 ∙ last-named n x.1 _ (rw z at x.4)
 
     -- ---- all, where the name stays
     full_means : (xs : Syms) → SymsFits wd ts xs → (w : List ℕ) (at : ℕ) → Lies w at (syms_bytes wd ts xs) e

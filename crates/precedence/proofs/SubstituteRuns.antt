@@ -7,6 +7,7 @@ use native.Mathlib.Omega.{arith}
 use borrow.Author.Tests.{lt-leb}
 use lib.Dec.{eqb}
 use lib.ListN.{length, get_or, length-append}
+use Rattle.std.specs.Prelude.{Option, Some}
 use Rattle.octets.specs.Working.Choice.{pick}
 use Rattle.octets.specs.Plain.Numbers.{le}
 use Rattle.octets.specs.Plain.Runs.{Lies}
@@ -99,12 +100,12 @@ module _ (wd target : ℕ) (ts : List Text) where
 
   -- ---- the run is the fold that stores and marks
   module _ (rest e : ℕ) where
-    unfoldable pub mark : List ℕ × Marks → ℕ → Node → List ℕ × Marks
-    mark σ at n = pick (node_names target n) (store σ.0 (at + 9) (le wd rest), marked_at at e σ.1) σ
+    unfoldable pub mark : List ℕ × Option Marks → ℕ → Node → List ℕ × Option Marks
+    mark σ at n = pick (node_names target n) (store σ.0 (at + 9) (le wd rest), Some (marked_at at σ.1)) σ
 
-    turn : (f : ℕ) (w : List ℕ) (p : ℕ) (m : Marks) (b : Bool) (l : ℕ) → p < e → names_at wd target w p ≡ b → long_of wd (get_or w p 0) ≡ l
+    turn : (f : ℕ) (w : List ℕ) (p : ℕ) (m : Option Marks) (b : Bool) (l : ℕ) → p < e → names_at wd target w p ≡ b → long_of wd (get_or w p 0) ≡ l
         → replace_out wd target rest (suc f) w p e m
-        ≡ pick b (replace_out wd target rest f (store w (p + 9) (le wd rest)) (p + (9 + wd)) e (marked_at p e m)) (replace_out wd target rest f w (p + l) e m)
+        ≡ pick b (replace_out wd target rest f (store w (p + 9) (le wd rest)) (p + (9 + wd)) e (Some (marked_at p m))) (replace_out wd target rest f w (p + l) e m)
     unfolding replace_out pick
     turn f w p m b l h i j = simp (lt-leb e p h, i, j)
 
@@ -113,19 +114,19 @@ module _ (wd target : ℕ) (ts : List Text) where
     nil_end w p l = omega (arith, l.end)
 
     -- an occurrence or not, and then on behind it; n bytes are its command's
-    chosen : (f : ℕ) (xs : Syms) (σ : List ℕ × Marks) (p n : ℕ) (b : Bool) → (b ≡ true → n ≡ 9 + wd) → Lies σ.0 (p + n) (syms_bytes wd ts xs) e
-        → ((τ : List ℕ × Marks) → Lies τ.0 (p + n) (syms_bytes wd ts xs) e → replace_out wd target rest f τ.0 (p + n) e τ.1 ≡ fold_syms wd mark ts xs τ (p + n))
-        → pick b (replace_out wd target rest f (store σ.0 (p + 9) (le wd rest)) (p + (9 + wd)) e (marked_at p e σ.1)) (replace_out wd target rest f σ.0 (p + n) e σ.1)
-        ≡ fold_syms wd mark ts xs (pick b (store σ.0 (p + 9) (le wd rest), marked_at p e σ.1) σ) (p + n)
+    chosen : (f : ℕ) (xs : Syms) (σ : List ℕ × Option Marks) (p n : ℕ) (b : Bool) → (b ≡ true → n ≡ 9 + wd) → Lies σ.0 (p + n) (syms_bytes wd ts xs) e
+        → ((τ : List ℕ × Option Marks) → Lies τ.0 (p + n) (syms_bytes wd ts xs) e → replace_out wd target rest f τ.0 (p + n) e τ.1 ≡ fold_syms wd mark ts xs τ (p + n))
+        → pick b (replace_out wd target rest f (store σ.0 (p + 9) (le wd rest)) (p + (9 + wd)) e (Some (marked_at p σ.1))) (replace_out wd target rest f σ.0 (p + n) e σ.1)
+        ≡ fold_syms wd mark ts xs (pick b (store σ.0 (p + 9) (le wd rest), Some (marked_at p σ.1)) σ) (p + n)
     unfolding pick
     chosen f xs σ p n true z l k =
         let y = z refl in
-        ap (λ (q : ℕ). replace_out wd target rest f (store σ.0 (p + 9) (le wd rest)) (p + q) e (marked_at p e σ.1)) (sym y)
-        ∙ k (store σ.0 (p + 9) (le wd rest), marked_at p e σ.1)
+        ap (λ (q : ℕ). replace_out wd target rest f (store σ.0 (p + 9) (le wd rest)) (p + q) e (Some (marked_at p σ.1))) (sym y)
+        ∙ k (store σ.0 (p + 9) (le wd rest), Some (marked_at p σ.1))
         (lies_kept σ.0 (store σ.0 (p + 9) (le wd rest)) (p + n) e (syms_bytes wd ts xs) (store-drop σ.0 (p + 9) (p + n) (le wd rest) (omega (arith, length-le wd rest))) l)
     chosen f xs σ p n false z l k = k σ l
 
-    pub run_fold : (f : ℕ) (xs : Syms) → SymsFits wd ts xs → (σ : List ℕ × Marks) (p : ℕ) → e ≤ f + p → Lies σ.0 p (syms_bytes wd ts xs) e
+    pub run_fold : (f : ℕ) (xs : Syms) → SymsFits wd ts xs → (σ : List ℕ × Option Marks) (p : ℕ) → e ≤ f + p → Lies σ.0 p (syms_bytes wd ts xs) e
         → replace_out wd target rest f σ.0 p e σ.1 ≡ fold_syms wd mark ts xs σ p
     unfolding fold_syms mark
     run_fold zero nil h σ p i l = replace-end wd target rest zero σ.0 p e σ.1 (nil_end σ.0 p l)
@@ -140,17 +141,17 @@ module _ (wd target : ℕ) (ts : List Text) where
         ∙ sym (fold_step wd mark ts x xs σ p)
 
     -- ---- a relation of it with a fold of `rename` is kept, if it is where an occurrence is met and where the place alone moves on
-    module _ (f : ℕ → ℕ) (R : ℕ → List ℕ × Marks → List ℕ × ℕ → Type 0) where
+    module _ (f : ℕ → ℕ) (R : ℕ → List ℕ × Option Marks → List ℕ × ℕ → Type 0) where
       abbrev pub Moves : Type 0
-      Moves = (p q : ℕ) (σ : List ℕ × Marks) (τ : List ℕ × ℕ) → p ≤ q → R p σ τ → R q σ τ
+      Moves = (p q : ℕ) (σ : List ℕ × Option Marks) (τ : List ℕ × ℕ) → p ≤ q → R p σ τ → R q σ τ
 
       abbrev pub Meets : Type 0
       Meets =
-          (p : ℕ) (σ : List ℕ × Marks) (τ : List ℕ × ℕ) → p + (9 + wd) ≤ e → R p σ τ
-          → R (p + (9 + wd)) (store σ.0 (p + 9) (le wd rest), marked_at p e σ.1) (store τ.0 (p + 9) (le wd (f τ.1)), suc τ.1)
+          (p : ℕ) (σ : List ℕ × Option Marks) (τ : List ℕ × ℕ) → p + (9 + wd) ≤ e → R p σ τ
+          → R (p + (9 + wd)) (store σ.0 (p + 9) (le wd rest), Some (marked_at p σ.1)) (store τ.0 (p + 9) (le wd (f τ.1)), suc τ.1)
 
-      met : Moves → Meets → (p n : ℕ) (σ : List ℕ × Marks) (τ : List ℕ × ℕ) (b : Bool) → (b ≡ true → n ≡ 9 + wd) → p + n ≤ e → R p σ τ
-          → R (p + n) (pick b (store σ.0 (p + 9) (le wd rest), marked_at p e σ.1) σ) (pick b (store τ.0 (p + 9) (le wd (f τ.1)), suc τ.1) τ)
+      met : Moves → Meets → (p n : ℕ) (σ : List ℕ × Option Marks) (τ : List ℕ × ℕ) (b : Bool) → (b ≡ true → n ≡ 9 + wd) → p + n ≤ e → R p σ τ
+          → R (p + n) (pick b (store σ.0 (p + 9) (le wd rest), Some (marked_at p σ.1)) σ) (pick b (store τ.0 (p + 9) (le wd (f τ.1)), suc τ.1) τ)
       unfolding pick
       met h k p n σ τ true z i r = let y = z refl in rw y (k p σ τ (omega arith) r)
       met h k p n σ τ false z i r = h p (p + n) σ τ (omega arith) r

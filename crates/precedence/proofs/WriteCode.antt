@@ -1,12 +1,14 @@
 -- The ways out of copy_long, put_run, put_attributes and fall_through. Assumes nothing.
 use mathlib.Core.Path.{◌≡◌, refl, sym, ap, ◌∙◌}
-use mathlib.Core.Logic.{inl}
+use mathlib.Core.Logic.{◌⊎◌, inl, inr}
 use mathlib.Core.List.{List, [], ◌∷◌, ◌++◌}
 use Prim.Native.Nat.{ℕ, suc, ◌+◌, ◌-◌, ◌*◌, ◌<◌, ◌≤◌}
 use native.Mathlib.Omega.{arith}
 use native.Mathlib.Numerals.{add-one}
 use borrow.Author.Rules.{rules}
-use borrow.Author.Tests.{eq-eqb, ne_eqb}
+use mathlib.Core.Bool.{Bool, true, false, not}
+use borrow.Author.Tests.{eq-eqb, ne_eqb, leb-true, leb-false, not-true, not-false}
+use lib.Dec.{leb}
 use lib.ListN.{length, set, get_or, length-set, length-append}
 use lib.Seq.{get_or-set_other}
 use Rattle.octets.specs.Working.Choice.{pick}
@@ -19,7 +21,7 @@ use Rattle.octets.proofs.StoreLaws.{store-none, store-append}
 use Rattle.texts.proofs.TableStays.{part-agree}
 use Rattle.resolve.proofs.CellsLaws.{store-past}
 use Rattle.precedence.specs.Write.{Puts, kept_one, kept_bytes, single_head, fall_bytes}
-use Rattle.precedence.proofs.WriteLaws.{puts_beside, puts_on, puts_upto, puts_append, puts_none, puts_whole, puts_not}
+use Rattle.precedence.proofs.WriteLaws.{fits_or_not, puts_beside, puts_on, puts_upto, puts_append, puts_none, puts_whole, puts_not}
 
 -- ---- copy_long: what is left, from i to e, goes to q on; what is below `to` is as it was
 pub record Moving (w : List ℕ) (a e to : ℕ) (out : List ℕ) (i q : ℕ) : Type 0 where
@@ -31,70 +33,81 @@ pub record Moving (w : List ℕ) (a e to : ℕ) (out : List ℕ) (i q : ℕ) : T
   pub same : length out ≡ length w
   pub kept : (k : ℕ) → k < to → get_or out k 0 ≡ get_or w k 0
 
-pub moving_start : (w : List ℕ) (a e to : ℕ) → a ≤ e → e ≤ to → to + (e - a) ≤ length w → Moving w a e to w a to
-moving_start w a e to h k l = record { carry = refl; upto = h; below = k; on = omega arith; room = l; same = refl; kept = λ k h. refl }
+pub moving_start : (w : List ℕ) (a e to : ℕ) → a ≤ e → e ≤ to → to + (e - a) ≤ length w → Moving w a e to w (a + 0) (to + 0)
+moving_start w a e to h k l = let x : a + 0 ≡ a = omega arith in let y : to + 0 ≡ to = omega arith in rw (x, y) record { carry = refl; upto = h; below = k; on = omega arith; room = l; same = refl; kept = λ k h. refl }
 
 store-one : (s : List ℕ) (at v : ℕ) (vs : List ℕ) → store s at (v ∷ vs) ≡ store (set s at v) (at + 1) vs
 unfolding store
 store-one s at v vs = rw add-one
 
-module _ (w : List ℕ) (a e to : ℕ) (out : List ℕ) (i q : ℕ) (g : Moving w a e to out i q) where
-  pub moving_room : i < e → q < length out
+module _ (w : List ℕ) (a e to : ℕ) (out : List ℕ) (k : ℕ) (g : Moving w a e to out (a + k) (to + k)) where
+  pub moving_room : k < e - a → to + k < length out
   moving_room h = omega (arith, g.room)
 
-  pub moving_inside : i < e → i < length out
+  pub moving_inside : k < e - a → a + k < length out
   moving_inside h = omega (arith, g.room, g.below, g.on)
 
-  pub moving_next : i < e → Moving w a e to (set out q (get_or out i 0)) (i + 1) (q + 1)
+  pub moving_next : k < e - a → Moving w a e to (set out (to + k) (get_or out (a + k) 0)) (a + (k + 1)) (to + (k + 1))
   moving_next h =
+      let i = a + k in
+      let q = to + k in
+      let l : i < e = omega arith in
+      let y : a + (k + 1) ≡ i + 1 = omega arith in
+      let z : to + (k + 1) ≡ q + 1 = omega arith in
       let v : get_or out i 0 ≡ get_or w i 0 = g.kept i (omega (arith, g.below)) in
       let n = length-set out q (get_or out i 0) in
-      record {
-        carry = sym (store-one out q (get_or out i 0) (part (i + 1) e w)) ∙ ap (λ (x : ℕ). store out q (x ∷ part (i + 1) e w)) v ∙ ap (store out q) (sym (part-one i e w h (omega (arith, g.below, g.on, g.room, g.same)))) ∙ g.carry;
+      rw (y, z) (record {
+        carry = sym (store-one out q (get_or out i 0) (part (i + 1) e w)) ∙ ap (λ (x : ℕ). store out q (x ∷ part (i + 1) e w)) v ∙ ap (store out q) (sym (part-one i e w l (omega (arith, g.below, g.on, g.room, g.same)))) ∙ g.carry;
         upto = omega arith;
         below = g.below;
         on = omega (arith, g.on);
         room = omega (arith, g.room, n);
         same = n ∙ g.same;
-        kept = λ k l. get_or-set_other out q k (get_or out i 0) 0 (λ z. absurd (omega (arith, g.on, z))) ∙ g.kept k l;
-      }
+        kept = λ j p. get_or-set_other out q j (get_or out i 0) 0 (λ z. absurd (omega (arith, g.on, z))) ∙ g.kept j p;
+      })
 
-  pub moving_done : e ≤ i → out ≡ store w to (part a e w)
-  moving_done h = sym (store-none out q) ∙ ap (store out q) (sym (part_none i e w h)) ∙ g.carry
+  pub moving_done : e - a ≤ k → out ≡ store w to (part a e w)
+  moving_done h = sym (store-none out (to + k)) ∙ ap (store out (to + k)) (sym (part_none (a + k) e w (omega arith))) ∙ g.carry
 
   pub moving_same : length out ≡ length w
   moving_same = g.same
 
 pub ruleset moving = (rules, moving_start, moving_room, moving_inside, moving_next, moving_done, moving_same)
 
+-- ---- fits
+module _ (lim to n : ℕ) (r : Bool) (q : r ≡ leb (to + n) lim) where
+  pub fits_not : not r ≡ true → lim < to + n
+  fits_not e = leb-false (to + n) lim (sym q ∙ not-true r e)
+
+  pub fits_so : not r ≡ false → to + n ≤ lim
+  fits_so e = leb-true (to + n) lim (sym q ∙ not-false r e)
+
 -- ---- put_run
 module _ (w : List ℕ) (a e lim to : ℕ) (h : a ≤ e) (k : e ≤ to) (l : lim ≤ length w) where
-  pub run_behind : lim < to → Puts w lim to (part a e w) (lim + 1) w
-  run_behind z = puts_not w lim to (part a e w) (omega arith)
+  pub run_over : lim < to + (e - a) → Puts w lim to (part a e w) (lim + 1) w
+  run_over z = puts_not w lim to (part a e w) (over_part z (fits_or_not e (length w)))
+    where
+      over_part : lim < to + (e - a) → (e ≤ length w) ⊎ (length w < e) → lim < to + length (part a e w)
+      over_part z (inl o) = omega (arith, part_length a e w o)
+      over_part z (inr o) = omega arith
 
-  pub run_over : to ≤ lim → lim - to < e - a → Puts w lim to (part a e w) (lim + 1) w
-  run_over y z = puts_not w lim to (part a e w) (omega (arith, part_length a e w (omega arith)))
+  pub run_whole : to + (e - a) ≤ lim → (w1 : List ℕ) → w1 ≡ store w to (part a e w) → Puts w lim to (part a e w) (to + (e - a)) w1
+  run_whole y w1 j = puts_whole w lim to (part a e w) w1 (e - a) (sym (part_length a e w (omega arith))) (omega arith) j
 
-  pub run_whole : to ≤ lim → e - a ≤ lim - to → (w1 : List ℕ) → w1 ≡ store w to (part a e w) → Puts w lim to (part a e w) (to + (e - a)) w1
-  run_whole y z w1 j = puts_whole w lim to (part a e w) w1 (e - a) (sym (part_length a e w (omega arith))) (omega arith) j
-
-pub ruleset running = (rules, run_behind, run_over, run_whole)
+pub ruleset running = (rules, fits_not, fits_so, run_over, run_whole)
 
 -- ---- put_attribute
 module _ (w : List ℕ) (a e k i j lim to : ℕ) where
-  pub kept-first : k ≡ i → to ≤ lim + 1 → Puts w lim to (kept_one w a e k i j) to w
+  pub kept_not : (k ≡ i) ⊎ ((k ≡ i → ⊥) × (k ≡ j)) → to ≤ lim + 1 → Puts w lim to (kept_one w a e k i j) to w
   unfolding kept_one pick
-  kept-first z h = let y = eq-eqb k i z in rw y (puts_none w lim to h)
+  kept_not (inl z) h = let y = eq-eqb k i z in rw y (puts_none w lim to h)
+  kept_not (inr (x, z)) h = let y = eq-eqb k j z in let u = ne_eqb k i x in rw (u, y) (puts_none w lim to h)
 
-  pub kept_second : (k ≡ i → ⊥) → k ≡ j → to ≤ lim + 1 → Puts w lim to (kept_one w a e k i j) to w
+  pub kept-other : (r : ℕ) (w1 : List ℕ) → (k ≡ i → ⊥) × (k ≡ j → ⊥) → Puts w lim to (part a e w) r w1 → Puts w lim to (kept_one w a e k i j) r w1
   unfolding kept_one pick
-  kept_second x z h = let y = eq-eqb k j z in let u = ne_eqb k i x in rw (u, y) (puts_none w lim to h)
+  kept-other r w1 (x, z) p = let y = ne_eqb k j z in let u = ne_eqb k i x in rw (u, y) p
 
-  pub kept-other : (r : ℕ) (w1 : List ℕ) → (k ≡ i → ⊥) → (k ≡ j → ⊥) → Puts w lim to (part a e w) r w1 → Puts w lim to (kept_one w a e k i j) r w1
-  unfolding kept_one pick
-  kept-other r w1 x z p = let y = ne_eqb k j z in let u = ne_eqb k i x in rw (u, y) p
-
-pub ruleset keeping_one = (rules, kept-first, kept_second, kept-other)
+pub ruleset keeping_one = (rules, kept_not, kept-other)
 
 -- ---- put_attributes: what is to come, put behind, makes the whole
 pub record Keeping (wd lim to : ℕ) (w : List ℕ) (at n i j : ℕ) (out : List ℕ) (a k q : ℕ) : Type 0 where
@@ -212,18 +225,15 @@ fall_length wd span below =
     omega (arith, single_length wd span, length-le 8 span, length-le wd below)
 
 module _ (w : List ℕ) (lim to wd span below : ℕ) where
-  pub fall_behind : lim < to → Puts w lim to (fall_bytes wd span below) (lim + 1) w
-  fall_behind z = puts_not w lim to (fall_bytes wd span below) (omega arith)
+  pub fall_over : lim < to + (23 + 2 * wd) → Puts w lim to (fall_bytes wd span below) (lim + 1) w
+  fall_over z = puts_not w lim to (fall_bytes wd span below) (omega (arith, fall_length wd span below))
 
-  pub fall_over : to ≤ lim → lim - to < 23 + 2 * wd → Puts w lim to (fall_bytes wd span below) (lim + 1) w
-  fall_over y z = puts_not w lim to (fall_bytes wd span below) (omega (arith, fall_length wd span below))
-
-  pub fall_whole : to ≤ lim → 23 + 2 * wd ≤ lim - to → (s : ℕ) (w1 w2 : List ℕ) → s ≡ span → w1 ≡ store w to (single_head wd s) → w2 ≡ store w1 (to + (14 + wd)) (36 ∷ (le 8 s ++ le wd below)) → Puts w lim to (fall_bytes wd span below) (to + (23 + 2 * wd)) w2
+  pub fall_whole : to + (23 + 2 * wd) ≤ lim → (s : ℕ) (w1 w2 : List ℕ) → s ≡ span → w1 ≡ store w to (single_head wd s) → w2 ≡ store w1 (to + (14 + wd)) (36 ∷ (le 8 s ++ le wd below)) → Puts w lim to (fall_bytes wd span below) (to + (23 + 2 * wd)) w2
   unfolding fall_bytes
-  fall_whole y z s w1 w2 e p q =
+  fall_whole y s w1 w2 e p q =
       let n = single_length wd s in
       let m = store-append w to (to + (14 + wd)) (single_head wd s) (36 ∷ (le 8 s ++ le wd below)) (omega arith) in
       let j : w2 ≡ store w to (fall_bytes wd span below) = rw (← e) (q ∙ ap (λ (x : List ℕ). store x (to + (14 + wd)) (36 ∷ (le 8 s ++ le wd below))) p ∙ m) in
       puts_whole w lim to (fall_bytes wd span below) w2 (23 + 2 * wd) (sym (fall_length wd span below)) (omega arith) j
 
-pub ruleset falling = (rules, command_put, single_put, nonterminal_put, fall_behind, fall_over, fall_whole)
+pub ruleset falling = (rules, command_put, single_put, nonterminal_put, fits_not, fits_so, fall_over, fall_whole)

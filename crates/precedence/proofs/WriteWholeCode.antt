@@ -20,7 +20,7 @@ use Rattle.grades.proofs.AnnotationsCode.{times-attributes}
 use Rattle.precedence.specs.Substitute.{substitute_out}
 use Rattle.precedence.specs.Write.{Puts, kept_bytes, head_out, fewer_by, stripped_out, PutsRenamed}
 use Rattle.precedence.proofs.WriteLaws.{puts_beside, puts_on, puts_upto, puts_append, puts_whole, puts_not}
-use Rattle.precedence.proofs.WriteCode.{kept-agree}
+use Rattle.precedence.proofs.WriteCode.{kept-agree, fits_not, fits_so}
 
 -- ---- put_byte
 set_store : (s : List ℕ) (at v : ℕ) → set s at v ≡ store s at (v ∷ [])
@@ -28,13 +28,13 @@ unfolding store
 set_store s at v = refl
 
 module _ (w : List ℕ) (b lim to : ℕ) where
-  pub byte_over : lim ≤ to → Puts w lim to (b ∷ []) (lim + 1) w
+  pub byte_over : lim < to + 1 → Puts w lim to (b ∷ []) (lim + 1) w
   byte_over h = puts_not w lim to (b ∷ []) (omega arith)
 
-  pub byte_put : to < lim → Puts w lim to (b ∷ []) (to + 1) (set w to b)
+  pub byte_put : to + 1 ≤ lim → Puts w lim to (b ∷ []) (to + 1) (set w to b)
   byte_put h = puts_whole w lim to (b ∷ []) (set w to b) 1 refl (omega arith) (set_store w to b)
 
-pub ruleset byting = (rules, byte_over, byte_put)
+pub ruleset byting = (rules, fits_not, fits_so, byte_over, byte_put)
 
 -- ---- what stands below stays, and there is room
 module _ (w w1 : List ℕ) (lim to : ℕ) (xs : List ℕ) (q : ℕ) (g : Puts w lim to xs q w1) where

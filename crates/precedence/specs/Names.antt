@@ -1,5 +1,5 @@
 -- The names of levels: texts that have no bytes yet, in the table of texts. Assumes nothing: these are definitions.
-use Rattle.std.specs.Prelude.{◌≡◌, true, List, [], ◌∷◌, ◌++◌, ℕ, zero, suc, ◌+◌, ◌*◌, ◌/◌, ◌%◌, ◌≤◌, ◌<◌, ltb, length, get_or}
+use Rattle.std.specs.Prelude.{◌≡◌, true, Option, Some, None, List, [], ◌∷◌, ◌++◌, ℕ, zero, suc, ◌+◌, ◌*◌, ◌/◌, ◌%◌, ◌≤◌, ◌<◌, ltb, length, get_or}
 use Rattle.octets.specs.Working.Choice.{pick}
 use Rattle.parse_tree.specs.Plain.Tree.{Text}
 use Rattle.parse_tree.specs.Plain.Texts.{number, distinct, with_new}
@@ -10,6 +10,16 @@ use Rattle.texts.specs.Texts.{marked_text, Whole}
 use Rattle.texts.specs.Table.{texts, Above, Is}
 use Rattle.grades.specs.Grade.{level_digits}
 use Rattle.precedence.specs.declared.names.LevelName.{LevelName}
+
+-- a text, with a level's digits behind it where there is a level
+abbrev pub spelt : Text → Option ℕ → Text
+spelt t (Some v) = t ++ level_digits v
+spelt t None = t
+
+-- such a level has 32 bits
+abbrev pub LevelSmall : Option ℕ → Type 0
+LevelSmall (Some v) = v < 4294967296
+LevelSmall None = Unit
 
 -- the name of a level: the text of number b, then the level's digits
 unfoldable pub level_text : List ℕ → List ℕ → Map → ℕ → ℕ → Text

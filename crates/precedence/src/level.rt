@@ -6,11 +6,10 @@ ghost use Rattle.precedence.specs.Write.{Puts};
 ghost use Rattle.precedence.specs.Level.{named_out, nonterminal_out, key_side, KeyInside, PutsKey, KeysInside, PutsAlternatives, level_count, LevelInside, PutsLevel};
 
 use crate::substitute::put_atom;
-use crate::write::{fall_through, put_alternative, put_run};
+use crate::write::{fall_through, fits, put_alternative, put_run};
 use grades::annotations::{annotations, first_alternative};
 use grades::{Assoc, Ids};
 use octets::numbers::{atom_at, u64_at};
-use octets::wide::from8;
 
 // One level: its keys from first up to last, its name, and that of the next lower level; its own where it is the lowest.
 #[derive(Clone, Copy)]
@@ -27,10 +26,7 @@ fn put_number(work: &mut [u8], v: u32, width: usize, lim: usize, to: usize) -> u
     requires { (2 ≤ width) × (width ≤ 3) × (lim + 16 ≤ length work.old) }
     ensures { Puts work.old lim to (le width v) result work.new }
 {
-    if lim < to {
-        return lim + 1;
-    }
-    if lim - to < width {
+    if !fits(lim, to, width) {
         return lim + 1;
     }
     put_atom(work, to, width, v);
@@ -70,17 +66,12 @@ fn put_nonterminal_head(
 fn side_of(k: usize) -> Assoc
     ensures { result ≡ key_side k }
 {
-    let s = k % 4;
-    if s == 0 {
-        return Assoc::Left;
+    match k % 4 {
+        0 => Assoc::Left,
+        1 => Assoc::Right,
+        2 => Assoc::NonAssoc,
+        _ => Assoc::FullyAssoc,
     }
-    if s == 1 {
-        return Assoc::Right;
-    }
-    if s == 2 {
-        return Assoc::NonAssoc;
-    }
-    Assoc::FullyAssoc
 }
 
 // The alternative of a key without its first `precedence` and its first `assoc`.
@@ -101,7 +92,7 @@ fn put_key(
     let at = places + 8 * (k / 4 % 65536);
     let p = u64_at(work, at) as usize;
     let e = u64_at(work, at + 8) as usize;
-    let n = from8(work[p + 9]);
+    let n = usize::from(work[p + 9]);
     let f = annotations(work, p + (14 + width), n, width, ids);
     let side = side_of(k);
     put_alternative(
@@ -135,12 +126,10 @@ fn put_alternatives(
     requires { (2 ≤ width) × (width ≤ 3) × KeysInside width work.old places keys l lim to × (to ≤ lim + 1) × (lim + 16 ≤ length work.old) }
     ensures { PutsAlternatives width ids places keys target l lim work.old to result work.new }
 {
-    let mut i = l.first;
     let mut q = to;
-    while i < l.last {
+    for i in l.first..l.last {
         let k = u64_at(work, keys + 8 * i) as usize;
         q = put_key(work, places, k, width, ids, target, l, lim, q);
-        i += 1;
     }
     q
 }

@@ -1,17 +1,16 @@
 // The name of a level: the nonterminal's name, then the level in decimal. It has no bytes yet: its record's mark is the number of the nonterminal's name, times 2^32, and the level.
-ghost use Rattle.std.specs.Prelude.{◌≡◌, ◌++◌, ◌+◌, ◌*◌, ◌<◌, eqb, length, get_or};
+ghost use Rattle.std.specs.Prelude.{◌≡◌, ◌<◌, length, get_or};
 ghost use Rattle.octets.specs.Plain.Runs.{same_as};
 ghost use Rattle.texts.specs.Hash.{hash_from, hash_of};
 ghost use Rattle.texts.specs.Table.{Finds};
 ghost use Rattle.grades.specs.Grade.{level_digits};
-ghost use Rattle.precedence.specs.Names.{Naming, Based, Spelled, BaseText, Describing, Described, LevelNamed, level_text, named_text, named_texts};
+ghost use Rattle.precedence.specs.Names.{LevelSmall, spelt, Naming, Based, Spelled, BaseText, Describing, Described, LevelNamed, level_text, named_text, named_texts};
 
 use grades::grade::{decimal_size, digit};
-use octets::wide::from32;
+use texts::Map;
 use texts::fields::{hash, head, link, mark, write};
 use texts::hash::{bucket, next};
 use texts::text::text_at;
-use texts::{Found, Map};
 
 // The number of a text, and how many there are then.
 #[derive(Clone, Copy)]
@@ -25,74 +24,55 @@ fn digit_at(v: usize, i: usize) -> u8
     requires { (v < 4294967296) × (i < length (level_digits v)) }
     ensures { result ≡ get_or (level_digits v) i 0 }
 {
-    let mut k = decimal_size(v) - i;
+    let n = decimal_size(v);
     let mut q = v;
-    while 1 < k {
+    for _ in i + 1..n {
         q /= 10;
-        k -= 1;
     }
     digit(q % 10)
 }
 
-// The i-th byte of a text and a level's digits behind it.
-fn byte_of(t: &[u8], v: usize, i: usize) -> u8
-    requires { (v < 4294967296) × (i < length t.now + length (level_digits v)) }
-    ensures { result ≡ get_or (t.now ++ level_digits v) i 0 }
+// How many bytes a text has, with a level's digits behind it where there is a level.
+fn long(t: &[u8], v: Option<usize>) -> usize
+    requires { LevelSmall v }
+    ensures { result ≡ length (spelt t.now v) }
 {
-    if i < t.len() {
-        return t[i];
+    match v {
+        Some(v) => t.len() + decimal_size(v),
+        None => t.len(),
     }
-    digit_at(v, i - t.len())
 }
 
-fn is_byte(t: &[u8], b: &[u8], v: usize, i: usize) -> bool
-    requires { (v < 4294967296) × (i < length t.now) × (i < length b.now + length (level_digits v)) }
-    ensures { result ≡ eqb (get_or t.now i 0) (get_or (b.now ++ level_digits v) i 0) }
+// The i-th of them.
+fn byte_of(t: &[u8], v: Option<usize>, i: usize) -> u8
+    requires { LevelSmall v × (i < length (spelt t.now v)) }
+    ensures { result ≡ get_or (spelt t.now v) i 0 }
 {
-    t[i] == byte_of(b, v, i)
-}
-
-// Whether t is b and a level's digits behind it.
-fn is_spelled(t: &[u8], b: &[u8], v: usize) -> bool
-    requires { (v < 4294967296) × (length b.now < 65536) }
-    ensures { result ≡ same_as t.now (b.now ++ level_digits v) }
-{
-    let n = b.len() + decimal_size(v);
-    if t.len() != n {
-        return false;
-    }
-    let mut i = 0;
-    while i < n {
-        if !is_byte(t, b, v, i) {
-            return false;
+    match v {
+        Some(v) => {
+            if i < t.len() {
+                t[i]
+            } else {
+                digit_at(v, i - t.len())
+            }
         }
-        i += 1;
+        None => t[i],
     }
-    true
-}
-
-fn same_byte(a: &[u8], u: usize, b: &[u8], v: usize, i: usize) -> bool
-    requires { (u < 4294967296) × (v < 4294967296) × (i < length a.now + length (level_digits u)) × (i < length b.now + length (level_digits v)) }
-    ensures { result ≡ eqb (get_or (a.now ++ level_digits u) i 0) (get_or (b.now ++ level_digits v) i 0) }
-{
-    byte_of(a, u, i) == byte_of(b, v, i)
 }
 
 // Whether a and the digits of u are b and the digits of v: where one text ends is no matter.
-fn same_names(a: &[u8], u: usize, b: &[u8], v: usize) -> bool
-    requires { (u < 4294967296) × (v < 4294967296) × (length a.now < 65536) × (length b.now < 65536) }
-    ensures { result ≡ same_as (a.now ++ level_digits u) (b.now ++ level_digits v) }
+fn same_names(a: &[u8], u: Option<usize>, b: &[u8], v: Option<usize>) -> bool
+    requires { LevelSmall u × LevelSmall v }
+    ensures { result ≡ same_as (spelt a.now u) (spelt b.now v) }
 {
-    let n = b.len() + decimal_size(v);
-    if a.len() + decimal_size(u) != n {
+    let n = long(b, v);
+    if long(a, u) != n {
         return false;
     }
-    let mut i = 0;
-    while i < n {
-        if !same_byte(a, u, b, v, i) {
+    for i in 0..n {
+        if byte_of(a, u, i) != byte_of(b, v, i) {
             return false;
         }
-        i += 1;
     }
     true
 }
@@ -113,10 +93,8 @@ fn add_digits(x: usize, v: usize) -> usize
 {
     let n = decimal_size(v);
     let mut h = x;
-    let mut i = 0;
-    while i < n {
+    for i in 0..n {
         h = next(h, digit_at(v, i));
-        i += 1;
     }
     h
 }
@@ -144,16 +122,15 @@ pub fn is_level_name<'a>(
     let b = base_text(tape, work, m, base);
     let x = mark(work, m.base, k);
     if k < m.count {
-        return is_spelled(text_at(tape, work, x), b, level);
+        return same_names(text_at(tape, work, x), None, b, Some(level));
     }
     let c = x / 4294967296;
     let v = x % 4294967296;
-    if c == base {
-        if v == level {
-            return true;
-        }
+    if c == base && v == level {
+        true
+    } else {
+        same_names(base_text(tape, work, m, c), Some(v), b, Some(level))
     }
-    same_names(base_text(tape, work, m, c), v, b, level)
 }
 
 // The same, where a hash that differs says no.
@@ -169,10 +146,7 @@ fn matches<'a>(
     requires { Based tape.now work.now m base × (level < 4294967296) × Spelled tape.now work.now m k × (h ≡ hash_of (level_text tape.now work.now m base level)) }
     ensures { result ≡ same_as (named_text tape.now work.now m k) (level_text tape.now work.now m base level) }
 {
-    if hash(work, m.base, k) != h {
-        return false;
-    }
-    is_level_name(tape, work, m, base, level, k)
+    hash(work, m.base, k) == h && is_level_name(tape, work, m, base, level, k)
 }
 
 // The number of a level's name, of those of the table and described.
@@ -184,20 +158,20 @@ pub fn find_name<'a>(
     base: usize,
     level: usize,
     h: usize,
-) -> Found
+) -> Option<usize>
     requires { Naming tape.now work.now m n × (base < m.count) × (level < 4294967296) × (h ≡ hash_of (level_text tape.now work.now m base level)) }
     ensures { Finds (named_texts tape.now work.now m n) (level_text tape.now work.now m base level) result }
 {
     let y = bucket(h, m.buckets);
-    let mut j = from32(head(work, m.base, y));
+    let mut j = head(work, m.base, y) as usize;
     while 0 < j {
         let i = j - 1;
         if matches(tape, work, m, base, level, i, h) {
-            return Found::At(i);
+            return Some(i);
         }
         j = link(work, m.base, i);
     }
-    Found::Nothing
+    None
 }
 
 // Record n describes the name of a level, and comes into its chain.
@@ -223,8 +197,8 @@ pub fn level_name(
 {
     let h = level_hash(tape, work, m, base, level);
     match find_name(tape, work, m, n, base, level, h) {
-        Found::At(k) => LevelName { name: k, count: n },
-        Found::Nothing => {
+        Some(k) => LevelName { name: k, count: n },
+        None => {
             describe(tape, work, m, n, base, level, h);
             LevelName {
                 name: n,

@@ -1,5 +1,5 @@
 // An alternative of one level, written behind what is written so far. What does not fit before lim is not written, and the cursor stops at lim + 1.
-ghost use Rattle.std.specs.Prelude.{◌≡◌, [], ◌∷◌, ◌++◌, ◌+◌, ◌-◌, ◌*◌, ◌≤◌, length};
+ghost use Rattle.std.specs.Prelude.{◌≡◌, [], ◌∷◌, ◌++◌, ◌+◌, ◌-◌, ◌*◌, ◌≤◌, leb, length};
 ghost use Rattle.octets.specs.Plain.Numbers.{le_at, le};
 ghost use Rattle.octets.specs.Plain.Runs.{part};
 ghost use Rattle.octets.specs.Working.Stores.{store};
@@ -10,7 +10,6 @@ use crate::substitute::{put_atom, substitute};
 use grades::Assoc;
 use grades::annotations::symbols;
 use octets::numbers::{store16, store64, u64_at};
-use octets::wide::from8;
 
 // The n bytes from a on, 8 to 16 of them, to another place: two numbers, which may overlap.
 fn copy_short(work: &mut [u8], a: usize, n: usize, to: usize)
@@ -23,17 +22,13 @@ fn copy_short(work: &mut [u8], a: usize, n: usize, to: usize)
     store64(work, to + (n - 8), y);
 }
 
-// The bytes from a up to e, to a place behind them, one by one: the loop becomes moves of many bytes.
+// The bytes from a up to e, to a place behind them, one by one: the loop becomes moves of many bytes. (A slice's own copy_within would count down here.)
 fn copy_long(work: &mut [u8], a: usize, e: usize, to: usize)
     requires { (a ≤ e) × (e ≤ to) × (to + (e - a) ≤ length work.old) }
     ensures { work.new ≡ store work.old to (part a e work.old) }
 {
-    let mut i = a;
-    let mut q = to;
-    while i < e {
-        work[q] = work[i];
-        i += 1;
-        q += 1;
+    for i in 0..e - a {
+        work[to + i] = work[a + i];
     }
 }
 
@@ -43,13 +38,18 @@ pub fn copy_within(work: &mut [u8], a: usize, e: usize, to: usize)
     ensures { work.new ≡ store work.old to (part a e work.old) }
 {
     let n = e - a;
-    if n < 8 {
-        return copy_long(work, a, e, to);
+    if 8 <= n && n <= 16 {
+        copy_short(work, a, n, to);
+    } else {
+        copy_long(work, a, e, to);
     }
-    if 16 < n {
-        return copy_long(work, a, e, to);
-    }
-    copy_short(work, a, n, to);
+}
+
+// Whether n bytes from `to` on end at lim or before.
+pub fn fits(lim: usize, to: usize, n: usize) -> bool
+    ensures { result ≡ leb (to + n) lim }
+{
+    to <= lim && n <= lim - to
 }
 
 // The bytes from a up to e, if they end at lim or before.
@@ -57,10 +57,7 @@ pub fn put_run(work: &mut [u8], a: usize, e: usize, lim: usize, to: usize) -> us
     requires { (a ≤ e) × (e ≤ to) × (lim ≤ length work.old) }
     ensures { Puts work.old lim to (part a e work.old) result work.new }
 {
-    if lim < to {
-        return lim + 1;
-    }
-    if lim - to < e - a {
+    if !fits(lim, to, e - a) {
         return lim + 1;
     }
     copy_within(work, a, e, to);
@@ -81,13 +78,11 @@ fn put_attribute(
     requires { (a ≤ e) × (e ≤ to) × (to ≤ lim + 1) × (lim + 16 ≤ length work.old) }
     ensures { Puts work.old lim to (kept_one work.old a e k i j) result work.new }
 {
-    if k == i {
-        return to;
+    if k == i || k == j {
+        to
+    } else {
+        put_run(work, a, e, lim, to)
     }
-    if k == j {
-        return to;
-    }
-    put_run(work, a, e, lim, to)
 }
 
 // n attributes but those of the indices i and j; n where there is none.
@@ -106,12 +101,10 @@ pub fn put_attributes(
 {
     let long = 2 + 3 * width;
     let mut a = at;
-    let mut k = 0;
     let mut q = to;
-    while k < n {
+    for k in 0..n {
         q = put_attribute(work, a, a + long, k, i, j, lim, q);
         a += long;
-        k += 1;
     }
     q
 }
@@ -157,10 +150,7 @@ pub fn fall_through(
     requires { (2 ≤ width) × (width ≤ 3) × (p + 9 ≤ length work.old) × (lim + 16 ≤ length work.old) }
     ensures { Puts work.old lim to (fall_bytes width (le_at 8 work.old (p + 1)) below) result work.new }
 {
-    if lim < to {
-        return lim + 1;
-    }
-    if lim - to < 23 + 2 * width {
+    if !fits(lim, to, 23 + 2 * width) {
         return lim + 1;
     }
     let span = u64_at(work, p + 1);
@@ -169,11 +159,12 @@ pub fn fall_through(
     to + (23 + 2 * width)
 }
 
-fn put_byte(work: &mut [u8], b: u8, lim: usize, to: usize) -> usize
-    requires { lim + 16 ≤ length work.old }
+// A byte, if it ends at lim or before.
+pub fn put_byte(work: &mut [u8], b: u8, lim: usize, to: usize) -> usize
+    requires { lim ≤ length work.old }
     ensures { Puts work.old lim to (b ∷ []) result work.new }
 {
-    if lim <= to {
+    if !fits(lim, to, 1) {
         return lim + 1;
     }
     work[to] = b;
@@ -194,13 +185,7 @@ fn put_head(work: &mut [u8], p: usize, count: u8, width: usize, lim: usize, to: 
 fn fewer(m: u8, n: usize, i: usize) -> u8
     ensures { result ≡ fewer_by m n i }
 {
-    if n <= i {
-        return m;
-    }
-    if m == 0 {
-        return m;
-    }
-    m - 1
+    if i < n { m.saturating_sub(1) } else { m }
 }
 
 // The alternative from p up to e without the attributes i and j.
@@ -218,7 +203,7 @@ fn put_parts(
     ensures { Puts work.old lim to (stripped_out width work.old p e i j) result work.new }
 {
     let m = work[p + 9];
-    let n = from8(m);
+    let n = usize::from(m);
     let a = p + (14 + width);
     let q = put_head(work, p, fewer(fewer(m, n, i), n, j), width, lim, to);
     let r = put_attributes(work, a, n, i, j, width, lim, q);

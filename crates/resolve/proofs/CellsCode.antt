@@ -1,10 +1,11 @@
 -- What is known of a name: the ways out of known, def and define. Assumes nothing.
 use mathlib.Core.Path.{◌≡◌, refl}
 use mathlib.Core.List.{List}
-use Prim.Native.Nat.{ℕ, ◌+◌, ◌*◌, ◌≤◌, ◌<◌}
+use Prim.Native.Nat.{ℕ, ◌+◌, ◌-◌, ◌*◌, ◌≤◌, ◌<◌}
 use borrow.Author.Rules.{rules}
 use borrow.Author.Tests.{le-leb, lt-leb, ne_eqb}
 use lib.ListN.{length}
+use Rattle.std.specs.Prelude.{Some, None}
 use Rattle.octets.specs.Working.Choice.{pick}
 use Rattle.octets.specs.Plain.Numbers.{le}
 use Rattle.octets.specs.Working.Stores.{store}
@@ -12,7 +13,7 @@ use Rattle.octets.proofs.ChoiceLaws.{by_pick}
 use Rattle.octets.proofs.StoreLaws.{length_store}
 use Rattle.texts.specs.declared.Map.{Map}
 use Rattle.texts.specs.Fields.{cell_at}
-use Rattle.resolve.specs.declared.Found.{Found}
+use Rattle.resolve.specs.declared.Definition.{Definition}
 use Rattle.resolve.specs.Cells.{known_at, found_by, define_at}
 
 module _ (m : Map) (w : List ℕ) (id k : ℕ) (e : k ≡ id) where
@@ -35,15 +36,25 @@ module _ (m : Map) (w : List ℕ) (id k : ℕ) (e : k ≡ id) where
   define_none h d = cc (le-leb m.count k h)
 
 -- ---- def
-pub def_nothing : (d x : ℕ) → d ≡ x → d ≡ 0 → Found.Nothing ≡ found_by x
-unfolding found_by pick
-def_nothing d x e h = cc
+module _ (d x : ℕ) (e : d ≡ x) where
+  pub def_nothing : d ≡ 0 → None ≡ found_by x
+  unfolding found_by pick
+  def_nothing h = cc
 
-pub def_is : (d x : ℕ) → d ≡ x → (d ≡ 0 → ⊥) → Found.Is d ≡ found_by x
-unfolding found_by pick
-def_is d x e h = cc (ne_eqb d 0 h)
+  module _ (h : d ≡ 0 → ⊥) where
+    pub def_terminal : d ≡ 1 → Some Definition.Terminal ≡ found_by x
+    unfolding found_by pick
+    def_terminal i = cc
 
-pub ruleset celling = (rules, known_none, known_is, define_is, define_none, def_nothing, def_is)
+    pub def_nonterminal : (d ≡ 1 → ⊥) → d < 512 → Some (Definition.Nonterminal (d - 2)) ≡ found_by x
+    unfolding found_by pick
+    def_nonterminal i j = cc (ne_eqb d 0 h, ne_eqb d 1 i, lt-leb 512 d j)
+
+    pub def_argument : 512 ≤ d → Some Definition.Argument ≡ found_by x
+    unfolding found_by pick
+    def_argument j = cc (ne_eqb d 0 h, le-leb 512 d j)
+
+pub ruleset celling = (rules, known_none, known_is, define_is, define_none, def_nothing, def_terminal, def_nonterminal, def_argument)
 
 -- ---- what a definition leaves
 pub length_define : (m : Map) (w : List ℕ) (k d : ℕ) → length (define_at m w k d) ≡ length w

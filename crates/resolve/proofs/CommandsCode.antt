@@ -4,8 +4,9 @@ use mathlib.Core.List.{List}
 use Prim.Native.Nat.{ℕ, zero, suc, ◌+◌, ◌-◌, ◌≤◌, ◌<◌}
 use native.Mathlib.Omega.{arith}
 use borrow.Author.Rules.{rules}
-use borrow.Author.Tests.{lt-ltb, le-ltb, le-leb, lt-leb, ne_eqb}
+use borrow.Author.Tests.{le-leb, lt-leb, ne_eqb}
 use lib.ListN.{length, get_or, set, length-set}
+use Rattle.std.specs.Prelude.{Option, Some, None, Result, Ok, Err}
 use Rattle.octets.specs.Working.Choice.{pick}
 use Rattle.octets.specs.Plain.Numbers.{le_at}
 use Rattle.parse_tree.specs.Working.Nodes.{span_in}
@@ -13,11 +14,10 @@ use Rattle.parse_tree.specs.Working.Refusals.{refusal_over}
 use Rattle.parse_tree.specs.declared.refusal.Refusal.{Refusal}
 use Rattle.parse_tree.specs.declared.syntax.Span.{Span}
 use Rattle.texts.specs.declared.Map.{Map}
-use Rattle.resolve.specs.declared.Found.{Found}
-use Rattle.resolve.specs.declared.Verdict.{Verdict}
+use Rattle.resolve.specs.declared.Definition.{Definition}
 use Rattle.resolve.specs.Cells.{Room, known_at, found_by}
 use Rattle.resolve.specs.Names.{condition_says, nonterminal_says, macro_says, ambiguous_says}
-use Rattle.resolve.specs.Commands.{long_of, asked_at, RunEnd, ran, stopped, run_then, Runs, run_out}
+use Rattle.resolve.specs.Commands.{long_of, becomes, stays, asked_at, asked_then, RunEnd, ran, stopped, run_then, Runs, run_out}
 
 -- ---- long
 module _ (wd c : ℕ) where
@@ -78,47 +78,67 @@ pub ruleset lengthening = (rules, long_18, long_19, long_20, long_32, long_33, l
 
 -- ---- asked
 module _ (m : Map) (wd : ℕ) (w : List ℕ) (at c : ℕ) where
-  module _ (id : ℕ) (i : id ≡ le_at wd w (at + 9)) (f : Found) (j : f ≡ found_by (known_at m w id)) (r : ℕ) where
-    pub asked_ambiguous : c ≡ 32 → r ≡ ambiguous_says f → r ≡ asked_at m wd w at c
-    unfolding asked_at pick
-    asked_ambiguous e h = cc
+  module _ (f : Option Definition) (j : f ≡ found_by (known_at m w (le_at wd w (at + 9)))) where
+    module _ (e : c ≡ 32) (r : Result ℕ ℕ) (h : r ≡ ambiguous_says f) where
+      pub asked_ambiguous-no : (q : ℕ) → r ≡ Err q → Err q ≡ asked_at m wd w at c
+      unfolding asked_at pick becomes
+      asked_ambiguous-no q z = rw (e, ← j, ← h, z) refl
 
-    pub asked_nonterminal : c ≡ 36 → r ≡ nonterminal_says f → r ≡ asked_at m wd w at c
-    unfolding asked_at pick
-    asked_nonterminal e h = cc
+      pub asked_ambiguous-yes : (k : ℕ) → r ≡ Ok k → Ok (Some k) ≡ asked_at m wd w at c
+      unfolding asked_at pick becomes
+      asked_ambiguous-yes k z = rw (e, ← j, ← h, z) refl
 
-    pub asked_macro : c ≡ 37 → (b k : ℕ) → b ≡ get_or w (at + 9 + wd) 0 → k ≡ b → r ≡ macro_says f k → r ≡ asked_at m wd w at c
-    unfolding asked_at pick
-    asked_macro e x k g l h = cc
+    module _ (e : c ≡ 36) (r : Result (Unit {0}) ℕ) (h : r ≡ nonterminal_says f) where
+      pub asked_nonterminal-no : (q : ℕ) → r ≡ Err q → Err q ≡ asked_at m wd w at c
+      unfolding asked_at pick stays
+      asked_nonterminal-no q z = rw (e, ← j, ← h, z) refl
 
-    pub asked_condition : c ≡ 20 → r ≡ condition_says f → r ≡ asked_at m wd w at c
-    unfolding asked_at pick
-    asked_condition e h = cc
+      pub asked_nonterminal-yes : (u : Unit {0}) → r ≡ Ok u → Ok None ≡ asked_at m wd w at c
+      unfolding asked_at pick stays
+      asked_nonterminal-yes u z = rw (e, ← j, ← h, z) refl
 
-  pub asked_other : (c ≡ 32 → ⊥) → (c ≡ 36 → ⊥) → (c ≡ 37 → ⊥) → (c ≡ 20 → ⊥) → 0 ≡ asked_at m wd w at c
+    module _ (e : c ≡ 20) (r : Result (Unit {0}) ℕ) (h : r ≡ condition_says f) where
+      pub asked_condition-no : (q : ℕ) → r ≡ Err q → Err q ≡ asked_at m wd w at c
+      unfolding asked_at pick stays
+      asked_condition-no q z = rw (e, ← j, ← h, z) refl
+
+      pub asked_condition-yes : (u : Unit {0}) → r ≡ Ok u → Ok None ≡ asked_at m wd w at c
+      unfolding asked_at pick stays
+      asked_condition-yes u z = rw (e, ← j, ← h, z) refl
+
+    module _ (e : c ≡ 37) (k : ℕ) (i : k ≡ get_or w (at + 9 + wd) 0) (r : Result (Unit {0}) ℕ) (h : r ≡ macro_says f k) where
+      pub asked_macro-no : (q : ℕ) → r ≡ Err q → Err q ≡ asked_at m wd w at c
+      unfolding asked_at pick stays
+      asked_macro-no q z = rw (e, ← j, ← i, ← h, z) refl
+
+      pub asked_macro-yes : (u : Unit {0}) → r ≡ Ok u → Ok None ≡ asked_at m wd w at c
+      unfolding asked_at pick stays
+      asked_macro-yes u z = rw (e, ← j, ← i, ← h, z) refl
+
+  pub asked_other : (c ≡ 32 → ⊥) → (c ≡ 36 → ⊥) → (c ≡ 37 → ⊥) → (c ≡ 20 → ⊥) → Ok None ≡ asked_at m wd w at c
   unfolding asked_at pick
   asked_other a b d e = cc (ne_eqb c 32 a, ne_eqb c 36 b, ne_eqb c 37 d, ne_eqb c 20 e)
 
-pub ruleset asking = (rules, asked_ambiguous, asked_nonterminal, asked_macro, asked_condition, asked_other)
+pub ruleset asking = (rules, asked_ambiguous-no, asked_ambiguous-yes, asked_nonterminal-no, asked_nonterminal-yes, asked_macro-no, asked_macro-yes, asked_condition-no, asked_condition-yes, asked_other)
 
 -- ---- runs
-pub runs_fine : (x : RunEnd) (w : List ℕ) → x ≡ ran w → Runs x Verdict.Fine w
+pub runs_fine : (x : RunEnd) (w : List ℕ) → x ≡ ran w → Runs x (Ok tt) w
 unfolding Runs
 runs_fine x w e = rw e (refl, refl)
 
-pub runs_refused : (x : RunEnd) (q : ℕ) (s : Span) (w : List ℕ) → x ≡ stopped q s → Runs x (Verdict.Refused (refusal_over q s)) w
+pub runs_refused : (x : RunEnd) (q : ℕ) (s : Span) (w : List ℕ) → x ≡ stopped q s → Runs x (Err (refusal_over q s)) w
 unfolding Runs
 runs_refused x q s w e = rw e refl
 
-pub fine_not : {why : Refusal} → Verdict.Fine ≡ Verdict.Refused why → ⊥
+pub fine_not : {why : Refusal} → ◌≡◌ {A = Result (Unit {0}) Refusal} (Ok tt) (Err why) → ⊥
 fine_not {why} e = let z : ◌≡◌ {A = ℕ} 0 1 = cc in omega arith
 
-pub then-refused : (x : RunEnd) (f : List ℕ → RunEnd) (why : Refusal) (w w' : List ℕ) → Runs x (Verdict.Refused why) w → Runs (run_then x f) (Verdict.Refused why) w'
+pub then-refused : (x : RunEnd) (f : List ℕ → RunEnd) (why : Refusal) (w w' : List ℕ) → Runs x (Err why) w → Runs (run_then x f) (Err why) w'
 unfolding Runs run_then
 then-refused (ran v) f why w w' h = absurd (fine_not (sym h.0))
 then-refused (stopped q s) f why w w' h = h
 
-pub then-fine : (x : RunEnd) (f : List ℕ → RunEnd) (w : List ℕ) → Runs x Verdict.Fine w → run_then x f ≡ f w
+pub then-fine : (x : RunEnd) (f : List ℕ → RunEnd) (w : List ℕ) → Runs x (Ok tt) w → run_then x f ≡ f w
 unfolding Runs run_then
 then-fine (ran v) f w h = ap f (sym h.1)
 then-fine (stopped q s) f w h = absurd (fine_not h)
@@ -144,25 +164,23 @@ run_end m wd zero w p e h = refl
 run_end m wd (suc n) w p e h = cc (le-leb e p h)
 
 module _ (m : Map) (wd e at : ℕ) (w₀ w : List ℕ) (p : ℕ) (g : Running m wd e at w₀ w p) where
-  pub run_done : e ≤ p → Runs (run_out m wd e w₀ at e) Verdict.Fine w
+  pub run_done : e ≤ p → Runs (run_out m wd e w₀ at e) (Ok tt) w
   run_done h = runs_fine _ w (sym g.rest ∙ run_end m wd g.fuel w p e h)
 
-  module _ (h : p < e) (c : ℕ) (i : c ≡ get_or w p 0) (q : ℕ) (j : q ≡ asked_at m wd w p c) where
+  module _ (h : p < e) (c : ℕ) (i : c ≡ get_or w p 0) (r : Result (Option ℕ) ℕ) (j : r ≡ asked_at m wd w p c) where
     abbrev left : ℕ
     left = g.fuel - 1
 
-    opened : run_out m wd g.fuel w p e ≡ run_out m wd (suc left) w p e
-    opened = let z : g.fuel ≡ suc left = omega (arith, g.enough) in ap (λ (n : ℕ). run_out m wd n w p e) z
-
-    asked_is : asked_at m wd w p (get_or w p 0) ≡ q
-    asked_is = cc
-
-    asked_next : q ≡ 0 → (l : ℕ) → l ≡ long_of wd c → run_out m wd (suc left) w p e ≡ run_out m wd left w (p + l) e
+    opened : run_out m wd g.fuel w p e
+        ≡ asked_then r (run_out m wd left w (p + long_of wd c) e) (λ k. run_out m wd left (set w p k) (p + (9 + wd)) e) (λ q. stopped q (span_in w (p + 1)))
     unfolding run_out pick
-    asked_next z l k = cc (lt-leb e p h, asked_is)
+    opened =
+        let z : g.fuel ≡ suc left = omega (arith, g.enough) in
+        ap (λ (n : ℕ). run_out m wd n w p e) z ∙ simp (lt-leb e p h, sym i, sym j)
 
-    pub run_next : q ≡ 0 → (l : ℕ) → l ≡ long_of wd c → 0 < l → Running m wd e at w₀ w (p + l)
-    run_next z l k o = record {
+    pub run_next : (o : Option ℕ) → r ≡ Ok o → o ≡ None → (l : ℕ) → l ≡ long_of wd c → 0 < l → Running m wd e at w₀ w (p + l)
+    unfolding asked_then
+    run_next o y z l k x = record {
       room = g.room;
       narrow = g.narrow;
       wide = g.wide;
@@ -170,35 +188,28 @@ module _ (m : Map) (wd e at : ℕ) (w₀ w : List ℕ) (p : ℕ) (g : Running m 
       same = g.same;
       fuel = left;
       enough = omega (arith, g.enough);
-      rest = sym (asked_next z l k) ∙ sym opened ∙ g.rest;
+      rest = rw (k, ← g.rest, opened, y, z) refl;
     }
 
-    asked_stop : (q ≡ 0 → ⊥) → q < 32 → run_out m wd (suc left) w p e ≡ stopped q (span_in w (p + 1))
-    unfolding run_out pick
-    asked_stop z l = cc (lt-leb e p h, asked_is, ne_eqb q 0 z, lt-ltb q 32 l)
-
-    pub run_refused : (q ≡ 0 → ⊥) → q < 32 → (n : ℕ) → n ≡ q → (s : Span) → s ≡ span_in w (p + 1) → (why : Refusal) → why ≡ refusal_over n s → (w' : List ℕ)
-        → Runs (run_out m wd e w₀ at e) (Verdict.Refused why) w'
-    run_refused z l n k s o why u w' =
+    pub run_refused : (q : ℕ) → r ≡ Err q → (s : Span) → s ≡ span_in w (p + 1) → (why : Refusal) → why ≡ refusal_over q s → (w' : List ℕ) → Runs (run_out m wd e w₀ at e) (Err why) w'
+    unfolding asked_then
+    run_refused q z s o why u w' =
         let v : why ≡ refusal_over q (span_in w (p + 1)) = cc in
-        rw v (runs_refused _ q (span_in w (p + 1)) w' (sym g.rest ∙ opened ∙ asked_stop z l))
+        rw v (runs_refused _ q (span_in w (p + 1)) w' (rw (← g.rest, opened, z) refl))
 
-    asked_rewritten : (q ≡ 0 → ⊥) → 32 ≤ q → run_out m wd (suc left) w p e ≡ run_out m wd left (set w p q) (p + (9 + wd)) e
-    unfolding run_out pick
-    asked_rewritten z l = cc (lt-leb e p h, asked_is, ne_eqb q 0 z, le-ltb q 32 l)
-
-    pub run_rewritten : (q ≡ 0 → ⊥) → 32 ≤ q → Running m wd e at w₀ (set w p q) (p + (9 + wd))
-    run_rewritten z l =
-        let k = length-set w p q in
+    pub run_rewritten : (o : Option ℕ) → r ≡ Ok o → (k : ℕ) → o ≡ Some k → Running m wd e at w₀ (set w p k) (p + (9 + wd))
+    unfolding asked_then
+    run_rewritten o y k z =
+        let l = length-set w p k in
         record {
-          room = rw k g.room;
+          room = rw l g.room;
           narrow = g.narrow;
           wide = g.wide;
-          inside = rw k g.inside;
-          same = k ∙ g.same;
+          inside = rw l g.inside;
+          same = l ∙ g.same;
           fuel = left;
           enough = omega (arith, g.enough);
-          rest = sym (asked_rewritten z l) ∙ sym opened ∙ g.rest;
+          rest = rw (← g.rest, opened, y, z) refl;
         }
 
 pub ruleset running = (rules, run_start, run_done, run_next, run_refused, run_rewritten)

@@ -35,7 +35,7 @@ use Rattle.resolve.specs.Whole.{Apart}
 use Rattle.resolve.proofs.CellsLaws.{part_apart, known_off}
 use Rattle.resolve.proofs.GrammarLaws.{named}
 use Rattle.resolve.proofs.NamesMean.{meant, condition_code}
-use Rattle.resolve.proofs.CommandsStep.{enough, up_to, up_to_end, passes, condition_step}
+use Rattle.resolve.proofs.CommandsStep.{enough, up_to, up_to_end, passes, checked_then, condition_step}
 use Rattle.resolve.proofs.SymbolsMean.{SymsTold, syms_told}
 
 -- what the run over alternatives comes to: those of a yes are stored, as long as they were; a no is the same
@@ -107,7 +107,7 @@ module _ (m : Map) (wd e : ℕ) (ts : List Text) where
         let z : d ≡ p + (10 + wd + wd) = omega (arith, x.rest.end, length-le wd (number ts c.rhs)) in
         go (lookup G ps c.lhs) (rw (agree c.lhs) at (condition_step m wd e w p d (number ts c.lhs) c.span (omega arith) x.code x.span x.name z))
       where
-        go : (o : Option Def) → up_to m wd e w p ≡ pick (eqb (condition_code o) 0) (up_to m wd e w d) (stopped (condition_code o) c.span)
+        go : (o : Option Def) → up_to m wd e w p ≡ checked_then m wd e (condition_code o) (up_to m wd e w d) (λ q. stopped q c.span)
             → Checked w p d (elim o [ none ↦ no 8 c.span | some d ↦ cond (eqb (kind d) 3) (yes tt) (no 9 c.span) ])
         go none z = z
         go (some terminal_def) z = z

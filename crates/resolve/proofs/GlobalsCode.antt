@@ -1,15 +1,14 @@
 -- The globals: the ways out of description, declared, declare, declare_each and globals. Assumes nothing.
 use mathlib.Core.Path.{◌≡◌, refl, sym, ap, ◌∙◌}
 use mathlib.Core.Bool.{Bool, true, false}
-use mathlib.Core.List.{List, [], ◌∷◌}
-use Prim.Native.Nat.{ℕ, suc, ◌+◌, ◌-◌, ◌*◌, ◌≤◌, ◌<◌}
+use mathlib.Core.List.{List}
+use Prim.Native.Nat.{ℕ, suc, min, ◌+◌, ◌-◌, ◌*◌, ◌≤◌, ◌<◌}
 use native.Mathlib.Omega.{arith}
 use borrow.Author.Rules.{rules}
-use borrow.Author.Tests.{lt-ltb, le-ltb, eq-eqb, ne_eqb}
-use denote.Enum.Declared.{tag_of}
-use types.Run.{OneOf}
-use lib.Dec.{eqb}
+use borrow.Author.Tests.{ltb-true, ltb-false, eq-eqb, ne_eqb}
+use lib.Dec.{ltb}
 use lib.ListN.{length, get_or}
+use Rattle.std.specs.Prelude.{Result, Ok, Err}
 use Rattle.octets.specs.Working.Choice.{pick}
 use Rattle.octets.specs.Plain.Numbers.{le_at}
 use Rattle.parse_tree.specs.Working.Nodes.{span_in}
@@ -17,27 +16,23 @@ use Rattle.parse_tree.specs.Working.Refusals.{refusal_over}
 use Rattle.parse_tree.specs.declared.refusal.Refusal.{Refusal}
 use Rattle.parse_tree.specs.declared.syntax.Span.{Span}
 use Rattle.texts.specs.declared.Map.{Map}
-use Rattle.resolve.specs.declared.Found.{Found}
 use Rattle.resolve.specs.declared.Grammar.{Grammar}
-use Rattle.resolve.specs.declared.Verdict.{Verdict}
-use Rattle.resolve.specs.Cells.{known_at, found_by, define_at}
+use Rattle.resolve.specs.Cells.{known_at, define_at}
 use Rattle.resolve.specs.Commands.{ran, run_then, Runs}
 use Rattle.resolve.specs.Items.{Standing, item_place_in}
 use Rattle.resolve.specs.Globals.{describe, declared_at, declare_out, each_out, globals_out}
-use Rattle.resolve.specs.contracts.Found.{the_type as found_type}
-use Rattle.resolve.proofs.NamesCode.{is_nothing}
 use Rattle.resolve.proofs.CommandsCode.{runs_fine, runs_refused, then-refused, then-fine}
 
 -- ---- description
-pub describe-low : (d : ℕ) → d < 3 → d ≡ describe d
+pub described : (d r : ℕ) → r ≡ min d 3 → r ≡ describe d
 unfolding describe pick
-describe-low d h = cc (lt-ltb d 3 h)
+described d r e = go (ltb d 3) refl
+  where
+    go : (x : Bool) → ltb d 3 ≡ x → r ≡ pick x d 3
+    go true h = let z = ltb-true d 3 h in omega arith
+    go false h = let z = ltb-false d 3 h in omega arith
 
-pub describe-macro : (d : ℕ) → 3 ≤ d → 3 ≡ describe d
-unfolding describe pick
-describe-macro d h = cc (le-ltb d 3 h)
-
-pub ruleset describing = (rules, describe-low, describe-macro)
+pub ruleset describing = (rules, described)
 
 -- ---- declared
 module _ (wd : ℕ) (w : List ℕ) (at c : ℕ) where
@@ -52,47 +47,25 @@ module _ (wd : ℕ) (w : List ℕ) (at c : ℕ) where
 pub ruleset declaring = (rules, declared_nonterminal, declared_terminal)
 
 -- ---- declare
-nothing_is : {d : ℕ} → Found.Nothing ≡ Found.Is d → ⊥
-nothing_is {d} e = let z : ◌≡◌ {A = ℕ} 0 1 = cc in omega arith
-
-picked_nothing : (b : Bool) (x : ℕ) → pick b Found.Nothing (Found.Is x) ≡ Found.Nothing → b ≡ true
-unfolding pick
-picked_nothing true x h = refl
-picked_nothing false x h = absurd (nothing_is (sym h))
-
-picked_is : (b : Bool) (x d : ℕ) → pick b Found.Nothing (Found.Is x) ≡ Found.Is d → (b ≡ false) × (x ≡ d)
-unfolding pick
-picked_is true x d h = absurd (nothing_is h)
-picked_is false x d h = (refl, cc)
-
--- what a definition was made of
-nothing-from : (x : ℕ) → found_by x ≡ Found.Nothing → eqb x 0 ≡ true
-unfolding found_by
-nothing-from x h = picked_nothing (eqb x 0) x h
-
-is_from : (x d : ℕ) → found_by x ≡ Found.Is d → (eqb x 0 ≡ false) × (x ≡ d)
-unfolding found_by
-is_from x d h = picked_is (eqb x 0) x d h
-
-module _ (m : Map) (wd : ℕ) (w : List ℕ) (at d id : ℕ) (i : id ≡ le_at wd w (at + 9)) (f : Found) (j : f ≡ found_by (known_at m w id)) where
-  pub declare_new : OneOf (1 ∷ []) (tag_of found_type f) → (w' : List ℕ) → w' ≡ define_at m w id d → Runs (declare_out m wd w at d) Verdict.Fine w'
+module _ (m : Map) (wd : ℕ) (w : List ℕ) (at d id : ℕ) (i : id ≡ le_at wd w (at + 9)) (old : ℕ) (j : old ≡ known_at m w id) where
+  pub declare_new : old ≡ 0 → (w' : List ℕ) → w' ≡ define_at m w id d → Runs (declare_out m wd w at d) (Ok tt) w'
   unfolding declare_out pick
-  declare_new h w' e = runs_fine _ w' (let z = nothing-from (known_at m w id) (sym j ∙ is_nothing f h) in cc)
+  declare_new h w' e = runs_fine _ w' (cc)
 
-  module _ (old : ℕ) (e : f ≡ Found.Is old) (a b : ℕ) (k : a ≡ describe d) (l : b ≡ describe old) (s : Span) (o : s ≡ span_in w (at + 1)) where
-    pub declare_again : a ≡ b → (why : Refusal) → why ≡ refusal_over 5 s → (w' : List ℕ) → Runs (declare_out m wd w at d) (Verdict.Refused why) w'
+  module _ (e : old ≡ 0 → ⊥) (a b : ℕ) (k : a ≡ describe d) (l : b ≡ describe old) (s : Span) (o : s ≡ span_in w (at + 1)) where
+    pub declare_again : a ≡ b → (why : Refusal) → why ≡ refusal_over 5 s → (w' : List ℕ) → Runs (declare_out m wd w at d) (Err why) w'
     unfolding declare_out pick
     declare_again h why u w' =
         let v : why ≡ refusal_over 5 (span_in w (at + 1)) = cc in
-        let x = is_from (known_at m w id) old (sym j ∙ e) in
-        rw v (runs_refused _ 5 (span_in w (at + 1)) w' (cc (x.0, x.1, eq-eqb a b h)))
+        let z : describe d ≡ describe old = cc in
+        rw v (runs_refused _ 5 (span_in w (at + 1)) w' (cc (ne_eqb old 0 e, eq-eqb (describe d) (describe old) z)))
 
-    pub declare_other : (a ≡ b → ⊥) → (why : Refusal) → why ≡ refusal_over 6 s → (w' : List ℕ) → Runs (declare_out m wd w at d) (Verdict.Refused why) w'
+    pub declare_other : (a ≡ b → ⊥) → (why : Refusal) → why ≡ refusal_over 6 s → (w' : List ℕ) → Runs (declare_out m wd w at d) (Err why) w'
     unfolding declare_out pick
     declare_other h why u w' =
         let v : why ≡ refusal_over 6 (span_in w (at + 1)) = cc in
-        let x = is_from (known_at m w id) old (sym j ∙ e) in
-        rw v (runs_refused _ 6 (span_in w (at + 1)) w' (cc (x.0, x.1, ne_eqb a b h)))
+        let z : describe d ≡ describe old → ⊥ = λ y. h (k ∙ y ∙ sym l) in
+        rw v (runs_refused _ 6 (span_in w (at + 1)) w' (cc (ne_eqb old 0 e, ne_eqb (describe d) (describe old) z)))
 
 pub ruleset entering = (rules, declare_new, declare_again, declare_other)
 
@@ -111,7 +84,7 @@ unfolding each_out
 none_left m t which n i w e = rw e refl
 
 module _ (m : Map) (t : Grammar) (which : ℕ) (w₀ w : List ℕ) (i : ℕ) (g : EachLeft m t which w₀ w i) where
-  pub each-done : t.count ≤ i → Runs (each_out m t which t.count 0 w₀) Verdict.Fine w
+  pub each-done : t.count ≤ i → Runs (each_out m t which t.count 0 w₀) (Ok tt) w
   each-done h = runs_fine _ w (sym g.rest ∙ none_left m t which (t.count - i) i w (omega arith))
 
   module _ (h : i < t.count) where
@@ -139,15 +112,15 @@ module _ (m : Map) (t : Grammar) (which : ℕ) (w₀ w : List ℕ) (i : ℕ) (g 
       pub each-skip : (get_or w p 0 ≡ which → ⊥) → (w'' : List ℕ) → w'' ≡ w → EachLeft m t which w₀ w'' (i + 1)
       each-skip n w'' a = rw a (each-kept w refl (skipped n))
 
-      module _ (z : get_or w p 0 ≡ which) (d : ℕ) (q : d ≡ declared_at t.width w p which) (v : Verdict) (w' : List ℕ) (o : Runs (declare_out m t.width w p d) v w') where
+      module _ (z : get_or w p 0 ≡ which) (d : ℕ) (q : d ≡ declared_at t.width w p which) (v : Result (Unit {0}) Refusal) (w' : List ℕ) (o : Runs (declare_out m t.width w p d) v w') where
         one : each_out m t which (suc (t.count - (i + 1))) i w ≡ run_then (declare_out m t.width w p d) (λ w''. each_out m t which (t.count - (i + 1)) (i + 1) w'')
         unfolding each_out pick
         one = cc (eq-eqb (get_or w p 0) which z)
 
-        pub each-refused : (why : Refusal) → v ≡ Verdict.Refused why → (w'' : List ℕ) → Runs (each_out m t which t.count 0 w₀) (Verdict.Refused why) w''
+        pub each-refused : (why : Refusal) → v ≡ Err why → (w'' : List ℕ) → Runs (each_out m t which t.count 0 w₀) (Err why) w''
         each-refused why u w'' = rw (← g.rest, opened, one) (then-refused _ _ why w' w'' (rw u at o))
 
-        pub each_next : v ≡ Verdict.Fine → length w' ≡ length w → (w'' : List ℕ) → w'' ≡ w' → EachLeft m t which w₀ w'' (i + 1)
+        pub each_next : v ≡ Ok tt → length w' ≡ length w → (w'' : List ℕ) → w'' ≡ w' → EachLeft m t which w₀ w'' (i + 1)
         each_next u l w'' a = rw a (each-kept w' l (one ∙ then-fine _ _ w' (rw u at o)))
 
 pub ruleset enumerating = (rules, each_start, each-done, each-listed, each_read, each-room, each-skip, each-refused, each_next)
@@ -160,20 +133,20 @@ pub standing_twice : (m : Map) (t : Grammar) (w w1 w2 : List ℕ) → Standing m
 standing_twice m t w w1 w2 g l k = rw (k, l) g
 
 -- v1, v2 and v3 are what the three answered
-module _ (m : Map) (t : Grammar) (w : List ℕ) (v1 : Verdict) (w1 : List ℕ) (i : Runs (each_out m t 16 t.count 0 w) v1 w1) where
-  pub globals-first : (why : Refusal) → v1 ≡ Verdict.Refused why → (w' : List ℕ) → Runs (globals_out m t w) (Verdict.Refused why) w'
+module _ (m : Map) (t : Grammar) (w : List ℕ) (v1 : Result (Unit {0}) Refusal) (w1 : List ℕ) (i : Runs (each_out m t 16 t.count 0 w) v1 w1) where
+  pub globals-first : (why : Refusal) → v1 ≡ Err why → (w' : List ℕ) → Runs (globals_out m t w) (Err why) w'
   unfolding globals_out
   globals-first why e w' = then-refused _ _ why w1 w' (rw e at i)
 
-  module _ (e : v1 ≡ Verdict.Fine) (v2 : Verdict) (w2 : List ℕ) (j : Runs (each_out m t 48 t.count 0 w1) v2 w2) where
+  module _ (e : v1 ≡ Ok tt) (v2 : Result (Unit {0}) Refusal) (w2 : List ℕ) (j : Runs (each_out m t 48 t.count 0 w1) v2 w2) where
     after : globals_out m t w ≡ run_then (each_out m t 48 t.count 0 w1) (λ w₂. each_out m t 49 t.count 0 w₂)
     unfolding globals_out
     after = then-fine _ _ w1 (rw e at i)
 
-    pub globals-second : (why : Refusal) → v2 ≡ Verdict.Refused why → (w' : List ℕ) → Runs (globals_out m t w) (Verdict.Refused why) w'
+    pub globals-second : (why : Refusal) → v2 ≡ Err why → (w' : List ℕ) → Runs (globals_out m t w) (Err why) w'
     globals-second why u w' = rw after (then-refused _ _ why w2 w' (rw u at j))
 
-    pub globals-third : v2 ≡ Verdict.Fine → (v3 : Verdict) (w3 : List ℕ) → Runs (each_out m t 49 t.count 0 w2) v3 w3 → Runs (globals_out m t w) v3 w3
+    pub globals-third : v2 ≡ Ok tt → (v3 : Result (Unit {0}) Refusal) (w3 : List ℕ) → Runs (each_out m t 49 t.count 0 w2) v3 w3 → Runs (globals_out m t w) v3 w3
     globals-third u v3 w3 k = let z = after ∙ then-fine _ _ w2 (rw u at j) in rw z k
 
 pub ruleset resolving = (rules, standing_as, standing_twice, globals-first, globals-second, globals-third)

@@ -2,14 +2,16 @@
 use mathlib.Core.Path.{◌≡◌, refl, sym, ap, ◌∙◌}
 use mathlib.Core.Bool.{Bool, true, false, not, false≢true}
 use mathlib.Core.List.{List}
-use Prim.Native.Nat.{ℕ, zero, suc, ◌+◌, ◌-◌, ◌*◌, ◌%◌, ◌^◌, ◌≤◌, ◌<◌}
+use Prim.Native.Nat.{ℕ, zero, suc, min, ◌+◌, ◌-◌, ◌*◌, ◌%◌, ◌^◌, ◌≤◌, ◌<◌}
 use native.Mathlib.Omega.{arith}
 use native.Mathlib.Nat.{suc-mul, mul-le-mul}
 use borrow.Author.Rules.{rules}
-use borrow.Author.Tests.{lt-ltb, le-ltb, le-leb, lt-leb, ne_eqb, not-true, not-false}
+use borrow.Author.Tests.{lt-ltb, le-ltb, le-leb, lt-leb, ne_eqb, ltb-true, ltb-false, not-true, not-false}
 use mir.Syntax.{w64}
 use mir.Val.{Fits}
+use lib.Dec.{ltb}
 use lib.ListN.{length, get_or}
+use Rattle.std.specs.Prelude.{Result, Ok, Err}
 use Rattle.octets.specs.Working.Choice.{pick}
 use Rattle.octets.specs.Plain.Numbers.{le_at}
 use Rattle.parse_tree.specs.Working.Nodes.{span_in}
@@ -19,7 +21,6 @@ use Rattle.parse_tree.specs.declared.syntax.Span.{Span}
 use Rattle.texts.specs.declared.Map.{Map}
 use Rattle.resolve.specs.declared.Grammar.{Grammar}
 use Rattle.resolve.specs.Cells.{Room, known_at, define_at}
-use Rattle.resolve.specs.declared.Verdict.{Verdict}
 use Rattle.resolve.specs.Commands.{ran, run_then, Runs, run_out}
 use Rattle.resolve.specs.Items.{Standing, item_place_in, Marking, marked, twice, marks_out, Marks, unmarks_out, marked_then, parts_out, item_out, items_out}
 use Rattle.resolve.proofs.CellsCode.{length_define}
@@ -31,16 +32,15 @@ module _ (t : Grammar) (w : List ℕ) (i : ℕ) where
   unfolding item_place_in pick
   place_behind h = cc (le-leb t.count i h)
 
-  module _ (h : i < t.count) (v : ℕ) (e : v ≡ le_at 8 w (t.list + 8 * i)) where
-    pub place_far : t.end - t.at < v → t.end ≡ item_place_in t w i
-    unfolding item_place_in pick
-    place_far g = cc (lt-leb t.count i h, lt-ltb (t.end - t.at) v g)
+  pub place_is : i < t.count → (v : ℕ) → v ≡ le_at 8 w (t.list + 8 * i) → t.at ≤ t.end → (d : ℕ) → d ≡ min v (t.end - t.at) → t.at + d ≡ item_place_in t w i
+  unfolding item_place_in pick
+  place_is h v e o d z = rw (lt-leb t.count i h, ← e) (go (ltb (t.end - t.at) v) refl)
+    where
+      go : (x : Bool) → ltb (t.end - t.at) v ≡ x → t.at + d ≡ pick x t.end (t.at + v)
+      go true y = let q = ltb-true (t.end - t.at) v y in omega arith
+      go false y = let q = ltb-false (t.end - t.at) v y in omega arith
 
-    pub place_is : v ≤ t.end - t.at → t.at + v ≡ item_place_in t w i
-    unfolding item_place_in pick
-    place_is g = cc (lt-leb t.count i h, le-ltb (t.end - t.at) v g)
-
-pub ruleset placing = (rules, place_behind, place_far, place_is)
+pub ruleset placing = (rules, place_behind, place_is)
 
 -- ---- the walks over arguments
 more : (k x : ℕ) → 0 < k → k * x ≡ x + (k - 1) * x
@@ -114,11 +114,13 @@ module _ (m : Map) (wd : ℕ) (w : List ℕ) (p id : ℕ) (i : id ≡ le_at wd w
     pub mark_twice : 512 ≤ d → (w' : List ℕ) → Marks (marks_out m wd n w₀ at) false w'
     mark_twice o w' = marks_twice _ w' (sym g.rest ∙ marked_before k h o)
 
-    pub mark_next : d < 512 → (w' : List ℕ) → w' ≡ define_at m w id (d + 512) → MarksLeft m wd n at w₀ w' (p + (1 + wd)) (k - 1)
-    mark_next o w' e = record {
-      listed = listed_next m wd w₀ w p k g.listed h w' (ap length e ∙ length_define m w id (d + 512));
-      rest = rw e (sym (marked_now k h o) ∙ g.rest);
-    }
+    pub mark_next : d < 512 → (j : ℕ) → k ≡ j + 1 → (w' : List ℕ) → w' ≡ define_at m w id (d + 512) → MarksLeft m wd n at w₀ w' (p + (1 + wd)) j
+    mark_next o j z w' e =
+        let y : j ≡ k - 1 = omega arith in
+        rw y (record {
+          listed = listed_next m wd w₀ w p k g.listed h w' (ap length e ∙ length_define m w id (d + 512));
+          rest = rw e (sym (marked_now k h o) ∙ g.rest);
+        })
 
 pub ruleset marking = (rules, argument-inside, argument-fits, argument-ends, mark_start, mark_done, mark_twice, mark_next)
 
@@ -144,12 +146,15 @@ unfolding unmarks_out
 unmarked_now m wd w p zero h = absurd (omega arith)
 unmarked_now m wd w p (suc k) h = let z : suc k - 1 ≡ k = omega arith in cc
 
-pub unmark_next : (m : Map) (wd n at : ℕ) (w₀ w : List ℕ) (p k : ℕ) → UnmarksLeft m wd n at w₀ w p k → 0 < k → (id : ℕ) → id ≡ le_at wd w (p + 1) → (d : ℕ) → d ≡ known_at m w id
-    → (w' : List ℕ) → w' ≡ define_at m w id (d % 512) → UnmarksLeft m wd n at w₀ w' (p + (1 + wd)) (k - 1)
-unmark_next m wd n at w₀ w p k g h id i d j w' e = record {
-  listed = listed_next m wd w₀ w p k g.listed h w' (ap length e ∙ length_define m w id (d % 512));
-  rest = (let z = unmarked_now m wd w p k h in cc) ∙ g.rest;
-}
+pub unmark_next : (m : Map) (wd n at : ℕ) (w₀ w : List ℕ) (p k : ℕ) → UnmarksLeft m wd n at w₀ w p k → (j : ℕ) → k ≡ j + 1 → (id : ℕ) → id ≡ le_at wd w (p + 1) → (d : ℕ) → d ≡ known_at m w id
+    → (w' : List ℕ) → w' ≡ define_at m w id (d % 512) → UnmarksLeft m wd n at w₀ w' (p + (1 + wd)) j
+unmark_next m wd n at w₀ w p k g j y id i d x w' e =
+    let h : 0 < k = omega arith in
+    let v : j ≡ k - 1 = omega arith in
+    rw v (record {
+      listed = listed_next m wd w₀ w p k g.listed h w' (ap length e ∙ length_define m w id (d % 512));
+      rest = (let z = unmarked_now m wd w p k h in cc) ∙ g.rest;
+    })
 
 pub ruleset unmarking = (rules, argument-inside, argument-fits, argument-ends, unmark_start, unmark_done, unmark_next)
 
@@ -205,7 +210,7 @@ module _ (m : Map) (t : Grammar) (w : List ℕ) (at e n b : ℕ) (i : b ≡ get_
   abbrev args : ℕ
   args = at + 13 + t.width
 
-  pub item_none : t.end < at + 13 + t.width + n * (1 + t.width) → Runs (item_out m t w at e) Verdict.Fine w
+  pub item_none : t.end < at + 13 + t.width + n * (1 + t.width) → Runs (item_out m t w at e) (Ok tt) w
   unfolding item_out pick
   item_none h = runs_fine _ w (cc (lt-ltb t.end (args + n * (1 + t.width)) h))
 
@@ -214,22 +219,22 @@ module _ (m : Map) (t : Grammar) (w : List ℕ) (at e n b : ℕ) (i : b ≡ get_
     unfolding item_out pick
     parts = cc (le-ltb t.end (args + n * (1 + t.width)) h)
 
-    pub item_twice : not r ≡ true → (s : Span) → s ≡ span_in w (at + 1) → (why : Refusal) → why ≡ refusal_over 7 s → (w' : List ℕ) → Runs (item_out m t w at e) (Verdict.Refused why) w'
+    pub item_twice : not r ≡ true → (s : Span) → s ≡ span_in w (at + 1) → (why : Refusal) → why ≡ refusal_over 7 s → (w' : List ℕ) → Runs (item_out m t w at e) (Err why) w'
     unfolding parts_out marked_then
     item_twice x s o why u w' =
         let v : why ≡ refusal_over 7 (span_in w (at + 1)) = cc in
         let y = twice_from (marks_out m t.width n w args) r w1 k (not-true r x) in
         rw v (runs_refused _ 7 (span_in w (at + 1)) w' (parts ∙ cc))
 
-    module _ (x : not r ≡ false) (v : Verdict) (w2 : List ℕ) (o : Runs (run_out m t.width e w1 (at + 13 + t.width + n * (1 + t.width)) e) v w2) where
+    module _ (x : not r ≡ false) (v : Result (Unit {0}) Refusal) (w2 : List ℕ) (o : Runs (run_out m t.width e w1 (at + 13 + t.width + n * (1 + t.width)) e) v w2) where
       going : item_out m t w at e ≡ run_then (run_out m t.width e w1 (args + n * (1 + t.width)) e) (λ w₂. ran (unmarks_out m t.width n w₂ args))
       unfolding parts_out marked_then
       going = let y = marked_from (marks_out m t.width n w args) r w1 k (not-false r x) in parts ∙ cc
 
-      pub item_refused : (why : Refusal) → v ≡ Verdict.Refused why → (w' : List ℕ) → Runs (item_out m t w at e) (Verdict.Refused why) w'
+      pub item_refused : (why : Refusal) → v ≡ Err why → (w' : List ℕ) → Runs (item_out m t w at e) (Err why) w'
       item_refused why u w' = rw going (then-refused _ _ why w2 w' (rw u at o))
 
-      pub item_done : v ≡ Verdict.Fine → (w3 : List ℕ) → w3 ≡ unmarks_out m t.width n w2 (at + 13 + t.width) → Runs (item_out m t w at e) Verdict.Fine w3
+      pub item_done : v ≡ Ok tt → (w3 : List ℕ) → w3 ≡ unmarks_out m t.width n w2 (at + 13 + t.width) → Runs (item_out m t w at e) (Ok tt) w3
       item_done u w3 z = runs_fine _ w3 (going ∙ then-fine _ _ w2 (rw u at o) ∙ ap ran (sym z))
 
 pub ruleset itemizing = (rules, item_times, item_fits_lem, item_room, item_inside, item_behind, item_none, item_twice, item_refused, item_done)
@@ -251,7 +256,7 @@ unfolding items_out
 none_left m t n i w e = rw e refl
 
 module _ (m : Map) (t : Grammar) (w₀ w : List ℕ) (i : ℕ) (g : ItemsLeft m t w₀ w i) where
-  pub items_done : t.count ≤ i → Runs (items_out m t t.count 0 w₀) Verdict.Fine w
+  pub items_done : t.count ≤ i → Runs (items_out m t t.count 0 w₀) (Ok tt) w
   items_done h = runs_fine _ w (sym g.rest ∙ none_left m t (t.count - i) i w (omega arith))
 
   module _ (h : i < t.count) where
@@ -282,15 +287,15 @@ module _ (m : Map) (t : Grammar) (w₀ w : List ℕ) (i : ℕ) (g : ItemsLeft m 
       pub items_skip : (get_or w p 0 ≡ 16 → ⊥) → (w'' : List ℕ) → w'' ≡ w → ItemsLeft m t w₀ w'' (i + 1)
       items_skip n w'' a = rw a (items_kept w refl (skipped n))
 
-      module _ (z : get_or w p 0 ≡ 16) (e : ℕ) (q : e ≡ item_place_in t w (i + 1)) (v : Verdict) (w' : List ℕ) (o : Runs (item_out m t w p e) v w') where
+      module _ (z : get_or w p 0 ≡ 16) (e : ℕ) (q : e ≡ item_place_in t w (i + 1)) (v : Result (Unit {0}) Refusal) (w' : List ℕ) (o : Runs (item_out m t w p e) v w') where
         one : items_out m t (suc (t.count - (i + 1))) i w ≡ run_then (item_out m t w p e) (λ w''. items_out m t (t.count - (i + 1)) (i + 1) w'')
         unfolding items_out pick
         one = cc
 
-        pub items_refused : (why : Refusal) → v ≡ Verdict.Refused why → (w'' : List ℕ) → Runs (items_out m t t.count 0 w₀) (Verdict.Refused why) w''
+        pub items_refused : (why : Refusal) → v ≡ Err why → (w'' : List ℕ) → Runs (items_out m t t.count 0 w₀) (Err why) w''
         items_refused why u w'' = rw (← g.rest, opened, one) (then-refused _ _ why w' w'' (rw u at o))
 
-        pub items_next : v ≡ Verdict.Fine → length w' ≡ length w → (w'' : List ℕ) → w'' ≡ w' → ItemsLeft m t w₀ w'' (i + 1)
+        pub items_next : v ≡ Ok tt → length w' ≡ length w → (w'' : List ℕ) → w'' ≡ w' → ItemsLeft m t w₀ w'' (i + 1)
         items_next u l w'' a = rw a (items_kept w' l (one ∙ then-fine _ _ w' (rw u at o)))
 
 pub ruleset iterating = (rules, items_start, items_done, items_listed, items_read, items_room, items_skip, items_refused, items_next)

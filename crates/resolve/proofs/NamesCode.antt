@@ -1,94 +1,114 @@
--- What one name is answered: one law for each way out of the functions of names.rt. Assumes nothing.
+-- What one name is answered: the ways out of the functions of names.rt. Assumes nothing.
 use mathlib.Core.Path.{◌≡◌, refl}
-use mathlib.Core.List.{[], ◌∷◌}
-use Prim.Native.Nat.{ℕ, ◌-◌, ◌<◌, ◌≤◌}
+use mathlib.Core.Logic.{◌⊎◌, inl, inr}
+use Prim.Native.Nat.{ℕ, zero, suc}
 use borrow.Author.Rules.{rules}
-use borrow.Author.Tests.{le-leb, lt-leb, eq-eqb, ne_eqb}
-use denote.Enum.Declared.{tag_of}
-use types.Run.{OneOf, miss}
+use borrow.Author.Tests.{eq-eqb, ne_eqb}
+use Rattle.std.specs.Prelude.{Option, Some, None, Ok, Err}
 use Rattle.octets.specs.Working.Choice.{pick}
-use Rattle.resolve.specs.declared.Found.{Found}
-use Rattle.resolve.specs.contracts.Found.{the_type as found_type}
+use Rattle.resolve.specs.declared.Definition.{Definition}
 use Rattle.resolve.specs.Names.{condition_says, nonterminal_says, macro_says, ambiguous_says}
 
 -- ---- no definition
-pub is_nothing : (f : Found) → OneOf (1 ∷ []) (tag_of found_type f) → f ≡ Found.Nothing
-is_nothing (Found.Is d) h = absurd (miss (1 ∷ []) 0 tt h)
-is_nothing Found.Nothing h = refl
-
-module _ (f : Found) (h : OneOf (1 ∷ []) (tag_of found_type f)) where
-  pub condition_nothing : 8 ≡ condition_says f
+module _ (f : Option Definition) (e : f ≡ None) where
+  pub condition_nothing : Err 8 ≡ condition_says f
   unfolding condition_says
-  condition_nothing = rw (is_nothing f h) refl
+  condition_nothing = rw e refl
 
-  pub nonterminal_nothing : 8 ≡ nonterminal_says f
+  pub nonterminal_nothing : Err 8 ≡ nonterminal_says f
   unfolding nonterminal_says
-  nonterminal_nothing = rw (is_nothing f h) refl
+  nonterminal_nothing = rw e refl
 
-  pub macro_nothing : (k : ℕ) → 8 ≡ macro_says f k
+  pub macro_nothing : (k : ℕ) → Err 8 ≡ macro_says f k
   unfolding macro_says
-  macro_nothing k = rw (is_nothing f h) refl
+  macro_nothing k = rw e refl
 
-  pub ambiguous_nothing : 8 ≡ ambiguous_says f
+  pub ambiguous_nothing : Err 8 ≡ ambiguous_says f
   unfolding ambiguous_says
-  ambiguous_nothing = rw (is_nothing f h) refl
+  ambiguous_nothing = rw e refl
 
 -- ---- a definition
-module _ (f : Found) (d : ℕ) (e : f ≡ Found.Is d) where
+module _ (f : Option Definition) (d : Definition) (e : f ≡ Some d) where
+  -- of a terminal
+  module _ (h : d ≡ Definition.Terminal) where
+    pub nonterminal_terminal : Err 10 ≡ nonterminal_says f
+    unfolding nonterminal_says
+    nonterminal_terminal = rw (e, h) refl
+
+    pub ambiguous_terminal : Ok 33 ≡ ambiguous_says f
+    unfolding ambiguous_says
+    ambiguous_terminal = rw (e, h) refl
+
   -- of an argument
-  module _ (h : 512 ≤ d) where
-    pub condition_argument : 0 ≡ condition_says f
-    unfolding condition_says pick
-    condition_argument = cc (le-leb 512 d h)
+  module _ (h : d ≡ Definition.Argument) where
+    pub condition_argument : Ok tt ≡ condition_says f
+    unfolding condition_says
+    condition_argument = rw (e, h) refl
 
-    pub nonterminal_argument : 0 ≡ nonterminal_says f
-    unfolding nonterminal_says pick
-    nonterminal_argument = cc (le-leb 512 d h)
+    pub nonterminal_argument : Ok tt ≡ nonterminal_says f
+    unfolding nonterminal_says
+    nonterminal_argument = rw (e, h) refl
 
-    pub macro_argument : (k : ℕ) → 11 ≡ macro_says f k
+    pub ambiguous_argument : Ok 36 ≡ ambiguous_says f
+    unfolding ambiguous_says
+    ambiguous_argument = rw (e, h) refl
+
+  -- of one of two sorts
+  pub condition_global : (d ≡ Definition.Terminal) ⊎ ((n : ℕ) × (d ≡ Definition.Nonterminal n)) → Err 9 ≡ condition_says f
+  unfolding condition_says
+  condition_global (inl h) = rw (e, h) refl
+  condition_global (inr h) = rw (e, h.1) refl
+
+  pub macro_none : (d ≡ Definition.Terminal) ⊎ (d ≡ Definition.Argument) → (k : ℕ) → Err 11 ≡ macro_says f k
+  unfolding macro_says
+  macro_none (inl h) k = rw (e, h) refl
+  macro_none (inr h) k = rw (e, h) refl
+
+  -- of a nonterminal or a macro
+  module _ (n : ℕ) (h : d ≡ Definition.Nonterminal n) where
+    module _ (z : n ≡ 0) where
+      pub nonterminal_plain : Ok tt ≡ nonterminal_says f
+      unfolding nonterminal_says
+      nonterminal_plain = rw (e, h, z) refl
+
+      pub macro_plain : (k : ℕ) → Err 11 ≡ macro_says f k
+      unfolding macro_says
+      macro_plain k = rw (e, h, z) refl
+
+      pub ambiguous_plain : Ok 36 ≡ ambiguous_says f
+      unfolding ambiguous_says
+      ambiguous_plain = rw (e, h, z) refl
+
+    pub nonterminal_macro : (n ≡ 0 → ⊥) → Err 10 ≡ nonterminal_says f
+    unfolding nonterminal_says
+    nonterminal_macro z = rw (e, h) (go n z)
+      where
+        go : (n : ℕ) → (n ≡ 0 → ⊥) → Err 10 ≡ nonterminal_says (Some (Definition.Nonterminal n))
+        go zero z = absurd (z refl)
+        go (suc n) z = refl
+
+    pub ambiguous_macro : (n ≡ 0 → ⊥) → Err 13 ≡ ambiguous_says f
+    unfolding ambiguous_says
+    ambiguous_macro z = rw (e, h) (go n z)
+      where
+        go : (n : ℕ) → (n ≡ 0 → ⊥) → Err 13 ≡ ambiguous_says (Some (Definition.Nonterminal n))
+        go zero z = absurd (z refl)
+        go (suc n) z = refl
+
+    pub macro_fine : (n ≡ 0 → ⊥) → (k : ℕ) → n ≡ k → Ok tt ≡ macro_says f k
     unfolding macro_says pick
-    macro_argument k = cc (le-leb 512 d h)
+    macro_fine z k i = rw (e, h) (go n z i)
+      where
+        go : (n : ℕ) → (n ≡ 0 → ⊥) → n ≡ k → Ok tt ≡ macro_says (Some (Definition.Nonterminal n)) k
+        go zero z i = absurd (z refl)
+        go (suc n) z i = rw (eq-eqb (suc n) k i) refl
 
-    pub ambiguous_argument : 36 ≡ ambiguous_says f
-    unfolding ambiguous_says pick
-    ambiguous_argument = cc (le-leb 512 d h)
-
-  pub nonterminal_plain : d ≡ 2 → 0 ≡ nonterminal_says f
-  unfolding nonterminal_says pick
-  nonterminal_plain g = cc
-
-  pub ambiguous_terminal : d ≡ 1 → 33 ≡ ambiguous_says f
-  unfolding ambiguous_says pick
-  ambiguous_terminal g = cc
-
-  pub ambiguous_plain : d ≡ 2 → 36 ≡ ambiguous_says f
-  unfolding ambiguous_says pick
-  ambiguous_plain i = cc
-
-  -- of another global
-  module _ (h : d < 512) where
-    pub condition_global : 9 ≡ condition_says f
-    unfolding condition_says pick
-    condition_global = cc (lt-leb 512 d h)
-
-    pub nonterminal_other : (d ≡ 2 → ⊥) → 10 ≡ nonterminal_says f
-    unfolding nonterminal_says pick
-    nonterminal_other g = cc (lt-leb 512 d h, ne_eqb d 2 g)
-
-    pub macro_none : (k : ℕ) → d ≤ 2 → 11 ≡ macro_says f k
+    pub macro_count : (n ≡ 0 → ⊥) → (k : ℕ) → (n ≡ k → ⊥) → Err 12 ≡ macro_says f k
     unfolding macro_says pick
-    macro_none k g = cc (lt-leb 512 d h, le-leb d 2 g)
+    macro_count z k i = rw (e, h) (go n z i)
+      where
+        go : (n : ℕ) → (n ≡ 0 → ⊥) → (n ≡ k → ⊥) → Err 12 ≡ macro_says (Some (Definition.Nonterminal n)) k
+        go zero z i = absurd (z refl)
+        go (suc n) z i = rw (ne_eqb (suc n) k i) refl
 
-    pub macro_fine : (k : ℕ) → 2 < d → d - 2 ≡ k → 0 ≡ macro_says f k
-    unfolding macro_says pick
-    macro_fine k g i = cc (lt-leb 512 d h, lt-leb d 2 g, eq-eqb (d - 2) k i)
-
-    pub macro_count : (k : ℕ) → 2 < d → (d - 2 ≡ k → ⊥) → 12 ≡ macro_says f k
-    unfolding macro_says pick
-    macro_count k g i = cc (lt-leb 512 d h, lt-leb d 2 g, ne_eqb (d - 2) k i)
-
-    pub ambiguous_macro : (d ≡ 1 → ⊥) → (d ≡ 2 → ⊥) → 13 ≡ ambiguous_says f
-    unfolding ambiguous_says pick
-    ambiguous_macro g i = cc (lt-leb 512 d h, ne_eqb d 1 g, ne_eqb d 2 i)
-
-pub ruleset naming = (rules, condition_nothing, nonterminal_nothing, macro_nothing, ambiguous_nothing, condition_argument, nonterminal_argument, macro_argument, ambiguous_argument, condition_global, nonterminal_plain, nonterminal_other, macro_none, macro_fine, macro_count, ambiguous_terminal, ambiguous_plain, ambiguous_macro)
+pub ruleset naming = (rules, condition_nothing, nonterminal_nothing, macro_nothing, ambiguous_nothing, nonterminal_terminal, ambiguous_terminal, condition_argument, nonterminal_argument, ambiguous_argument, condition_global, macro_none, nonterminal_plain, macro_plain, ambiguous_plain, nonterminal_macro, ambiguous_macro, macro_fine, macro_count)

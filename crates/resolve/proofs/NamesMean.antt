@@ -6,6 +6,7 @@ use Prim.Native.Nat.{ℕ, zero, suc, ◌-◌}
 use native.Mathlib.Omega.{arith}
 use lib.Dec.{leb, eqb}
 use borrow.Author.Tests.{le-leb, lt-leb, eqb-true, eqb-false}
+use Rattle.std.specs.Prelude.{Result, Ok, Err}
 use Rattle.octets.specs.Working.Choice.{pick}
 use Rattle.passes.specs.Resolve.{Def, terminal_def, nonterminal_def, argument_def}
 use Rattle.resolve.specs.Cells.{found_by}
@@ -47,32 +48,32 @@ sort d = zeroth (eqb d 0) refl
     zeroth false z = large (leb 512 d) refl z
 
 -- ---- what a name is answered, by its definition as the passes have it
-unfoldable pub condition_code : Option Def → ℕ
-condition_code none = 8
-condition_code (some terminal_def) = 9
-condition_code (some (nonterminal_def k)) = 9
-condition_code (some argument_def) = 0
+unfoldable pub condition_code : Option Def → Result (Unit {0}) ℕ
+condition_code none = Err 8
+condition_code (some terminal_def) = Err 9
+condition_code (some (nonterminal_def k)) = Err 9
+condition_code (some argument_def) = Ok tt
 
-unfoldable pub nonterminal_code : Option Def → ℕ
-nonterminal_code none = 8
-nonterminal_code (some terminal_def) = 10
-nonterminal_code (some (nonterminal_def zero)) = 0
-nonterminal_code (some (nonterminal_def (suc k))) = 10
-nonterminal_code (some argument_def) = 0
+unfoldable pub nonterminal_code : Option Def → Result (Unit {0}) ℕ
+nonterminal_code none = Err 8
+nonterminal_code (some terminal_def) = Err 10
+nonterminal_code (some (nonterminal_def zero)) = Ok tt
+nonterminal_code (some (nonterminal_def (suc k))) = Err 10
+nonterminal_code (some argument_def) = Ok tt
 
-unfoldable pub macro_code : ℕ → Option Def → ℕ
-macro_code n none = 8
-macro_code n (some terminal_def) = 11
-macro_code n (some (nonterminal_def zero)) = 11
-macro_code n (some (nonterminal_def (suc k))) = pick (eqb (suc k) n) 0 12
-macro_code n (some argument_def) = 11
+unfoldable pub macro_code : ℕ → Option Def → Result (Unit {0}) ℕ
+macro_code n none = Err 8
+macro_code n (some terminal_def) = Err 11
+macro_code n (some (nonterminal_def zero)) = Err 11
+macro_code n (some (nonterminal_def (suc k))) = pick (eqb (suc k) n) (Ok tt) (Err 12)
+macro_code n (some argument_def) = Err 11
 
-unfoldable pub ambiguous_code : Option Def → ℕ
-ambiguous_code none = 8
-ambiguous_code (some terminal_def) = 33
-ambiguous_code (some (nonterminal_def zero)) = 36
-ambiguous_code (some (nonterminal_def (suc k))) = 13
-ambiguous_code (some argument_def) = 36
+unfoldable pub ambiguous_code : Option Def → Result ℕ ℕ
+ambiguous_code none = Err 8
+ambiguous_code (some terminal_def) = Ok 33
+ambiguous_code (some (nonterminal_def zero)) = Ok 36
+ambiguous_code (some (nonterminal_def (suc k))) = Err 13
+ambiguous_code (some argument_def) = Ok 36
 
 pub condition_says_lem : (d : ℕ) → condition_says (found_by d) ≡ condition_code (meant d)
 unfolding condition_says found_by condition_code meant pick
@@ -92,9 +93,9 @@ nonterminal_says_lem d = go (sort d)
     go : Sort d → nonterminal_says (found_by d) ≡ nonterminal_code (meant d)
     go (absent z) = simp z
     go (argued z h) = simp (z, h)
-    go (ending z h i l) = let q : d ≡ 1 = eqb-true d 1 i in rw q
-    go (plain z h i k l s) = simp (z, h, i, k, s)
-    go (many j z h i k l s) = simp (z, h, i, k, s)
+    go (ending z h i l) = simp (z, h, i)
+    go (plain z h i k l s) = simp (z, h, i, s)
+    go (many j z h i k l s) = simp (z, h, i, s)
 
 pub macro_says_lem : (d n : ℕ) → macro_says (found_by d) n ≡ macro_code n (meant d)
 unfolding macro_says found_by macro_code meant pick
@@ -103,9 +104,9 @@ macro_says_lem d n = go (sort d)
     go : Sort d → macro_says (found_by d) n ≡ macro_code n (meant d)
     go (absent z) = simp z
     go (argued z h) = simp (z, h)
-    go (ending z h i l) = simp (z, h, i, l)
-    go (plain z h i k l s) = simp (z, h, i, l, s)
-    go (many j z h i k l s) = simp (z, h, i, l, s)
+    go (ending z h i l) = simp (z, h, i)
+    go (plain z h i k l s) = simp (z, h, i, s)
+    go (many j z h i k l s) = simp (z, h, i, s)
 
 pub ambiguous_says_lem : (d : ℕ) → ambiguous_says (found_by d) ≡ ambiguous_code (meant d)
 unfolding ambiguous_says found_by ambiguous_code meant pick
@@ -115,5 +116,5 @@ ambiguous_says_lem d = go (sort d)
     go (absent z) = simp z
     go (argued z h) = simp (z, h)
     go (ending z h i l) = simp (z, h, i)
-    go (plain z h i k l s) = simp (z, h, i, k, s)
-    go (many j z h i k l s) = simp (z, h, i, k, s)
+    go (plain z h i k l s) = simp (z, h, i, s)
+    go (many j z h i k l s) = simp (z, h, i, s)

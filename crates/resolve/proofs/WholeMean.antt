@@ -6,6 +6,7 @@ use Prim.Native.Nat.{ℕ, ◌+◌, ◌*◌}
 use native.Mathlib.Omega.{arith}
 use borrow.Author.Rules.{rules}
 use lib.ListN.{length}
+use Rattle.std.specs.Prelude.{Result, Ok, Err}
 use Rattle.octets.specs.Working.Stores.{store}
 use Rattle.octets.proofs.LiesLaws.{lies_to}
 use Rattle.octets.proofs.StoreLaws.{length_store, lies_store, get_d_store_before, get_d_store_after}
@@ -17,7 +18,6 @@ use Rattle.texts.specs.declared.Map.{Map}
 use Rattle.passes.specs.Outcome.{Outcome, yes, no, after}
 use Rattle.passes.specs.Resolve.{globals, check_globals, validate_items, resolve}
 use Rattle.resolve.specs.declared.Grammar.{Grammar}
-use Rattle.resolve.specs.declared.Verdict.{Verdict}
 use Rattle.resolve.specs.Commands.{ran, stopped, Runs}
 use Rattle.resolve.specs.Items.{Standing, items_out}
 use Rattle.resolve.specs.Globals.{globals_out}
@@ -74,7 +74,7 @@ module _ (m : Map) (t : Grammar) (w : List ℕ) (standing : Standing m t (length
             others = λ i f. elim f.item [ inl l ↦ get_d_store_before u t.at (each R) i l | inr l ↦ get_d_store_after u t.at (each R) i (omega arith) ] ∙ cells.others i f.cell;
           }
 
-      items_answer : (r : Verdict) (w' : List ℕ) → Runs (items_out m t t.count 0 u) r w' → Answers m t ts (validate_items is is) w r w'
+      items_answer : (r : Result (Unit {0}) Refusal) (w' : List ℕ) → Runs (items_out m t t.count 0 u) r w' → Answers m t ts (validate_items is is) w r w'
       unfolding Runs Answers
       items_answer r w' k = go (validate_items is is) told (subst (λ (n : ℕ). Runs (items_out m t n 0 u) r w') h.many k)
         where
@@ -85,31 +85,31 @@ module _ (m : Map) (t : Grammar) (w : List ℕ) (standing : Standing m t (length
           go (no n s) q k = let z : Runs (stopped n s) r w' = rw q at k in z
 
     -- ---- both
-    refused_answer : (why : Refusal) (w₁ w' : List ℕ) → Runs (globals_out m t w) (Verdict.Refused why) w₁ → Answers m t ts (resolve is) w (Verdict.Refused why) w'
+    refused_answer : (why : Refusal) (w₁ w' : List ℕ) → Runs (globals_out m t w) (Err why) w₁ → Answers m t ts (resolve is) w (Err why) w'
     unfolding Runs Answers resolve
     refused_answer why w₁ w' k = go (check_globals [] (globals is)) says
       where
-        go : (o : Outcome (Unit {0})) → Says m ts (globals is) o (globals_out m t w) → Answers m t ts (after o (λ u. validate_items is is)) w (Verdict.Refused why) w'
-        go (yes u) (v, q, c) = let z : Runs (ran v) (Verdict.Refused why) w₁ = rw q at k in absurd (fine_not (sym z.0))
-        go (no n s) q = let z : Runs (stopped n s) (Verdict.Refused why) w₁ = rw q at k in z
+        go : (o : Outcome (Unit {0})) → Says m ts (globals is) o (globals_out m t w) → Answers m t ts (after o (λ u. validate_items is is)) w (Err why) w'
+        go (yes u) (v, q, c) = let z : Runs (ran v) (Err why) w₁ = rw q at k in absurd (fine_not (sym z.0))
+        go (no n s) q = let z : Runs (stopped n s) (Err why) w₁ = rw q at k in z
 
-    fine_answer : (w₁ : List ℕ) → Runs (globals_out m t w) Verdict.Fine w₁ → (r : Verdict) (w' : List ℕ) → Runs (items_out m t t.count 0 w₁) r w' → Answers m t ts (resolve is) w r w'
+    fine_answer : (w₁ : List ℕ) → Runs (globals_out m t w) (Ok tt) w₁ → (r : Result (Unit {0}) Refusal) (w' : List ℕ) → Runs (items_out m t t.count 0 w₁) r w' → Answers m t ts (resolve is) w r w'
     unfolding Runs Answers resolve
     fine_answer w₁ k r w' l = go (check_globals [] (globals is)) says
       where
         go : (o : Outcome (Unit {0})) → Says m ts (globals is) o (globals_out m t w) → Answers m t ts (after o (λ u. validate_items is is)) w r w'
         go (yes u) (v, q, c) =
-            let z : Runs (ran v) Verdict.Fine w₁ = rw q at k in
+            let z : Runs (ran v) (Ok tt) w₁ = rw q at k in
             items_answer v q c r w' (rw z.1 at l)
-        go (no n s) q = let z : Runs (stopped n s) Verdict.Fine w₁ = rw q at k in absurd (fine_not z)
+        go (no n s) q = let z : Runs (stopped n s) (Ok tt) w₁ = rw q at k in absurd (fine_not z)
 
   -- v and w₁ are what the globals left
-  module _ (v : Verdict) (w₁ : List ℕ) (k : Runs (globals_out m t w) v w₁) where
-    pub resolves_refused : (why : Refusal) → v ≡ Verdict.Refused why → Resolves m t w (Verdict.Refused why) w₁
+  module _ (v : Result (Unit {0}) Refusal) (w₁ : List ℕ) (k : Runs (globals_out m t w) v w₁) where
+    pub resolves_refused : (why : Refusal) → v ≡ Err why → Resolves m t w (Err why) w₁
     unfolding Resolves
     resolves_refused why e ts is h = refused_answer ts is h why w₁ w₁ (rw e at k)
 
-    pub resolves_fine : v ≡ Verdict.Fine → (r : Verdict) (w' : List ℕ) → Runs (items_out m t t.count 0 w₁) r w' → Resolves m t w r w'
+    pub resolves_fine : v ≡ Ok tt → (r : Result (Unit {0}) Refusal) (w' : List ℕ) → Runs (items_out m t t.count 0 w₁) r w' → Resolves m t w r w'
     unfolding Resolves
     resolves_fine e r w' l ts is h = fine_answer ts is h w₁ (rw e at k) r w' l
 

@@ -1,25 +1,36 @@
--- What one name is answered, by its definition (see Cells): 0 for a yes, 33 or 36 for the code that a 20 becomes, or the question's number.
+-- What one name is answered, by its definition (see Cells): a yes, with the code that a 20 becomes, or the question's number.
 -- Assumes nothing: these are definitions.
-use Rattle.std.specs.Prelude.{ℕ, ◌-◌, leb, eqb}
+use Rattle.std.specs.Prelude.{ℕ, zero, suc, eqb, Option, Some, None, Result, Ok, Err}
 use Rattle.octets.specs.Working.Choice.{pick}
-use Rattle.resolve.specs.declared.Found.{Found}
+use Rattle.resolve.specs.declared.Definition.{Definition}
 
 -- "condition's name defined? 8. An argument? 9"
-unfoldable pub condition_says : Found → ℕ
-condition_says (Found.Is d) = pick (leb 512 d) 0 9
-condition_says Found.Nothing = 8
+unfoldable pub condition_says : Option Definition → Result (Unit {0}) ℕ
+condition_says None = Err 8
+condition_says (Some Definition.Terminal) = Err 9
+condition_says (Some (Definition.Nonterminal n)) = Err 9
+condition_says (Some Definition.Argument) = Ok tt
 
 -- "Does 24 name a plain nonterminal or argument? 10"
-unfoldable pub nonterminal_says : Found → ℕ
-nonterminal_says (Found.Is d) = pick (leb 512 d) 0 (pick (eqb d 2) 0 10)
-nonterminal_says Found.Nothing = 8
+unfoldable pub nonterminal_says : Option Definition → Result (Unit {0}) ℕ
+nonterminal_says None = Err 8
+nonterminal_says (Some Definition.Terminal) = Err 10
+nonterminal_says (Some (Definition.Nonterminal zero)) = Ok tt
+nonterminal_says (Some (Definition.Nonterminal (suc n))) = Err 10
+nonterminal_says (Some Definition.Argument) = Ok tt
 
 -- "Does 25 name a macro? 11, with its count? 12"
-unfoldable pub macro_says : Found → ℕ → ℕ
-macro_says (Found.Is d) k = pick (leb 512 d) 11 (pick (leb d 2) 11 (pick (eqb (d - 2) k) 0 12))
-macro_says Found.Nothing k = 8
+unfoldable pub macro_says : Option Definition → ℕ → Result (Unit {0}) ℕ
+macro_says None k = Err 8
+macro_says (Some Definition.Terminal) k = Err 11
+macro_says (Some (Definition.Nonterminal zero)) k = Err 11
+macro_says (Some (Definition.Nonterminal (suc n))) k = pick (eqb (suc n) k) (Ok tt) (Err 12)
+macro_says (Some Definition.Argument) k = Err 11
 
 -- "Is 20 no macro? 13"
-unfoldable pub ambiguous_says : Found → ℕ
-ambiguous_says (Found.Is d) = pick (leb 512 d) 36 (pick (eqb d 1) 33 (pick (eqb d 2) 36 13))
-ambiguous_says Found.Nothing = 8
+unfoldable pub ambiguous_says : Option Definition → Result ℕ ℕ
+ambiguous_says None = Err 8
+ambiguous_says (Some Definition.Terminal) = Ok 33
+ambiguous_says (Some (Definition.Nonterminal zero)) = Ok 36
+ambiguous_says (Some (Definition.Nonterminal (suc n))) = Err 13
+ambiguous_says (Some Definition.Argument) = Ok 36

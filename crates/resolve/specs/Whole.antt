@@ -1,5 +1,5 @@
 -- What the pass says of items that stand in work, and leaves of them: what `resolve` of passes says of their tree. Assumes nothing: these are definitions.
-use Rattle.std.specs.Prelude.{◌≡◌, Bool, true, ◌⊎◌, List, ℕ, ◌+◌, ◌*◌, ◌≤◌, ◌<◌, length, take, get_or}
+use Rattle.std.specs.Prelude.{◌≡◌, Bool, true, ◌⊎◌, List, ℕ, ◌+◌, ◌*◌, ◌≤◌, ◌<◌, length, take, get_or, Result, Ok, Err}
 use Rattle.octets.specs.Plain.Numbers.{le_at, Bytes}
 use Rattle.octets.specs.Plain.Runs.{Lies}
 use Rattle.parse_tree.specs.Plain.Tree.{Text, Item}
@@ -7,13 +7,13 @@ use Rattle.parse_tree.specs.Plain.Texts.{distinct}
 use Rattle.parse_tree.specs.Plain.WriteTape.{bytes_of_each}
 use Rattle.parse_tree.specs.Working.Encode.{item_bytes}
 use Rattle.parse_tree.specs.Working.Refusals.{refusal_over}
+use Rattle.parse_tree.specs.declared.refusal.Refusal.{Refusal}
 use Rattle.parse_tree.specs.Working.Within.{Each, ItemWithin}
 use Rattle.texts.specs.declared.Map.{Map}
 use Rattle.texts.specs.Fields.{cell_at}
 use Rattle.passes.specs.Outcome.{Outcome, yes, no}
 use Rattle.passes.specs.Resolve.{resolve}
 use Rattle.resolve.specs.declared.Grammar.{Grammar}
-use Rattle.resolve.specs.declared.Verdict.{Verdict}
 
 -- two runs of bytes that share none
 abbrev pub Apart : ℕ → ℕ → ℕ → ℕ → Type 0
@@ -47,9 +47,9 @@ pub record Became (m : Map) (t : Grammar) (ts : List Text) (R : List Item) (w w'
   pub others : (i : ℕ) → Free m t i → get_or w' i 0 ≡ get_or w i 0
 
 -- a yes leaves the tree; a no gives the question's number and the span
-unfoldable pub Answers : Map → Grammar → List Text → Outcome (List Item) → List ℕ → Verdict → List ℕ → Type 0
-Answers m t ts (yes R) w r w' = (r ≡ Verdict.Fine) × Became m t ts R w w'
-Answers m t ts (no q p) w r w' = r ≡ Verdict.Refused (refusal_over q p)
+unfoldable pub Answers : Map → Grammar → List Text → Outcome (List Item) → List ℕ → Result (Unit {0}) Refusal → List ℕ → Type 0
+Answers m t ts (yes R) w r w' = (r ≡ Ok tt) × Became m t ts R w w'
+Answers m t ts (no q p) w r w' = r ≡ Err (refusal_over q p)
 
-unfoldable pub Resolves : Map → Grammar → List ℕ → Verdict → List ℕ → Type 0
+unfoldable pub Resolves : Map → Grammar → List ℕ → Result (Unit {0}) Refusal → List ℕ → Type 0
 Resolves m t w r w' = (ts : List Text) (is : List Item) → Holds w m t ts is → Answers m t ts (resolve is) w r w'

@@ -1,17 +1,18 @@
 // The commands of an item behind its arguments, one behind another: alternatives, attributes, conditions, and symbols outermost first.
 ghost use Rattle.std.specs.Prelude.{◌≡◌, ◌+◌, ◌≤◌, ◌<◌, length};
-ghost use Rattle.resolve.specs.Cells.{Room};
+ghost use Rattle.octets.specs.Plain.Numbers.{le_at};
+ghost use Rattle.resolve.specs.Cells.{Room, known_at, found_by};
 ghost use Rattle.resolve.specs.Commands.{long_of, asked_at, run_out, Runs};
 
-use crate::Verdict;
+use crate::Definition;
 use crate::cells::def;
 use crate::names::{
     rewrite_ambiguous_id, validate_condition, validate_macro, validate_nonterminal,
 };
 use octets::numbers::atom_at;
-use octets::wide::from8;
 use parse_tree::node::span_at;
 use parse_tree::refusal;
+use parse_tree::refusal::Refusal;
 use texts::Map;
 
 // How long a command is, by its code.
@@ -36,45 +37,51 @@ pub fn long(c: u8, width: usize) -> usize
     }
 }
 
-// What the command at a place, whose code is c, is answered: see `names`.
-fn asked(work: &[u8], m: Map, width: usize, at: usize, c: u8) -> u8
+// The definition of the name of the command at a place.
+fn named(work: &[u8], m: Map, width: usize, at: usize) -> Option<Definition>
+    requires { Room m (length work.now) × (2 ≤ width) × (width ≤ 3) × (at + 16 ≤ length work.now) }
+    ensures { result ≡ found_by (known_at m work.now (le_at width work.now (at + 9))) }
+{
+    def(work, m, atom_at(work, at + 9, width))
+}
+
+// What the command at a place, whose code is c, is answered (see `names`): the code that it becomes, none where it stays, or the question's number.
+fn asked(work: &[u8], m: Map, width: usize, at: usize, c: u8) -> Result<Option<u8>, usize>
     requires { Room m (length work.now) × (2 ≤ width) × (width ≤ 3) × (at + 16 ≤ length work.now) }
     ensures { result ≡ asked_at m width work.now at c }
 {
-    if c == 32 {
-        return rewrite_ambiguous_id(def(work, m, atom_at(work, at + 9, width)));
+    match c {
+        20 => validate_condition(named(work, m, width, at))?,
+        32 => return Ok(Some(rewrite_ambiguous_id(named(work, m, width, at))?)),
+        36 => validate_nonterminal(named(work, m, width, at))?,
+        37 => validate_macro(named(work, m, width, at), usize::from(work[at + 9 + width]))?,
+        _ => {}
     }
-    if c == 36 {
-        return validate_nonterminal(def(work, m, atom_at(work, at + 9, width)));
-    }
-    if c == 37 {
-        let f = def(work, m, atom_at(work, at + 9, width));
-        return validate_macro(f, from8(work[at + 9 + width]));
-    }
-    if c == 20 {
-        return validate_condition(def(work, m, atom_at(work, at + 9, width)));
-    }
-    0
+    Ok(None)
 }
 
 // The commands from a place up to e.
-pub fn validate_commands(work: &mut [u8], m: Map, width: usize, at: usize, e: usize) -> Verdict
+pub fn validate_commands(
+    work: &mut [u8],
+    m: Map,
+    width: usize,
+    at: usize,
+    e: usize,
+) -> Result<(), Refusal>
     requires { Room m (length work.old) × (2 ≤ width) × (width ≤ 3) × (e + 16 ≤ length work.old) }
     ensures { Runs (run_out m width e work.old at e) result work.new }
 {
     let mut p = at;
     while p < e {
         let c = work[p];
-        let q = asked(work, m, width, p, c);
-        if q == 0 {
-            p += long(c, width);
-        } else {
-            if q < 32 {
-                return Verdict::Refused(refusal::over(from8(q), span_at(work, p + 1)));
+        match asked(work, m, width, p, c) {
+            Err(question) => return Err(refusal::over(question, span_at(work, p + 1))),
+            Ok(None) => p += long(c, width),
+            Ok(Some(code)) => {
+                work[p] = code;
+                p += 9 + width;
             }
-            work[p] = q;
-            p += 9 + width;
         }
     }
-    Verdict::Fine
+    Ok(())
 }

@@ -5,23 +5,20 @@ ghost use Rattle.resolve.specs.Commands.{Runs};
 ghost use Rattle.resolve.specs.Items.{Standing};
 ghost use Rattle.resolve.specs.Globals.{describe, declared_at, declare_out, each_out, globals_out};
 
-use crate::cells::{def, define};
+use crate::Grammar;
+use crate::cells::{define, known};
 use crate::items::place;
-use crate::{Found, Grammar, Verdict};
 use octets::numbers::atom_at;
-use octets::wide::from8;
 use parse_tree::node::span_at;
 use parse_tree::refusal;
+use parse_tree::refusal::Refusal;
 use texts::Map;
 
-// The kinds: terminal, nonterminal and macro.
+// The kinds: 1 terminal, 2 nonterminal, 3 macro: the number of a cell, in fixed memory, up to 3.
 fn description(d: usize) -> usize
     ensures { result ≡ describe d }
 {
-    if d < 3 {
-        return d;
-    }
-    3
+    d.min(3)
 }
 
 // What the item at a place, whose code is c, defines its name to be.
@@ -30,58 +27,51 @@ fn declared(work: &[u8], width: usize, at: usize, c: u8) -> usize
     ensures { (result ≡ declared_at width work.now at c) × (result < 4294967296) }
 {
     if c == 16 {
-        return from8(work[at + 10 + width]) + 2;
+        usize::from(work[at + 10 + width]) + 2
+    } else {
+        1
     }
-    1
 }
 
 // Enters the global at a place, if its name is new.
-fn declare(work: &mut [u8], m: Map, width: usize, at: usize, d: usize) -> Verdict
+fn declare(work: &mut [u8], m: Map, width: usize, at: usize, d: usize) -> Result<(), Refusal>
     requires { Room m (length work.old) × (2 ≤ width) × (width ≤ 3) × (at + 16 ≤ length work.old) × (d < 4294967296) }
     ensures { Runs (declare_out m width work.old at d) result work.new }
 {
     let id = atom_at(work, at + 9, width);
-    let Found::Is(old) = def(work, m, id) else {
+    let old = known(work, m, id);
+    if old == 0 {
         define(work, m, id, d);
-        return Verdict::Fine;
-    };
-    if description(d) == description(old) {
-        return Verdict::Refused(refusal::over(5, span_at(work, at + 1)));
+        return Ok(());
     }
-    Verdict::Refused(refusal::over(6, span_at(work, at + 1)))
+    let question = if description(d) == description(old) {
+        5
+    } else {
+        6
+    };
+    Err(refusal::over(question, span_at(work, at + 1)))
 }
 
 // All globals of this code.
-fn declare_each(work: &mut [u8], m: Map, t: Grammar, which: u8) -> Verdict
+fn declare_each(work: &mut [u8], m: Map, t: Grammar, which: u8) -> Result<(), Refusal>
     requires { Standing m t (length work.old) }
     ensures { Runs (each_out m t which t.count 0 work.old) result work.new }
 {
-    let mut i = 0;
-    while i < t.count {
+    for i in 0..t.count {
         let p = place(work, t, i);
         if work[p] == which {
             let d = declared(work, t.width, p, which);
-            match declare(work, m, t.width, p, d) {
-                Verdict::Refused(why) => {
-                    return Verdict::Refused(why);
-                }
-                Verdict::Fine => {}
-            }
+            declare(work, m, t.width, p, d)?;
         }
-        i += 1;
     }
-    Verdict::Fine
+    Ok(())
 }
 
-pub fn globals(work: &mut [u8], m: Map, t: Grammar) -> Verdict
+pub fn globals(work: &mut [u8], m: Map, t: Grammar) -> Result<(), Refusal>
     requires { Standing m t (length work.old) }
     ensures { Runs (globals_out m t work.old) result work.new }
 {
-    match declare_each(work, m, t, 0x10) {
-        Verdict::Refused(why) => Verdict::Refused(why),
-        Verdict::Fine => match declare_each(work, m, t, 0x30) {
-            Verdict::Refused(why) => Verdict::Refused(why),
-            Verdict::Fine => declare_each(work, m, t, 0x31),
-        },
-    }
+    declare_each(work, m, t, 0x10)?;
+    declare_each(work, m, t, 0x30)?;
+    declare_each(work, m, t, 0x31)
 }

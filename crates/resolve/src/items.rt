@@ -4,13 +4,13 @@ ghost use Rattle.resolve.specs.Cells.{Room};
 ghost use Rattle.resolve.specs.Commands.{Runs};
 ghost use Rattle.resolve.specs.Items.{Standing, item_place_in, Marks, marks_out, unmarks_out, item_out, items_out};
 
+use crate::Grammar;
 use crate::cells::{define, known};
 use crate::commands::validate_commands;
-use crate::{Grammar, Verdict};
 use octets::numbers::{atom_at, u64_at};
-use octets::wide::from8;
 use parse_tree::node::span_at;
 use parse_tree::refusal;
+use parse_tree::refusal::Refusal;
 use texts::Map;
 
 // The place of the i-th item in work, of the end for the last and for any place behind it.
@@ -22,10 +22,7 @@ pub fn place(work: &[u8], t: Grammar, i: usize) -> usize
         return t.end;
     }
     let v = u64_at(work, t.list + 8 * i) as usize;
-    if t.end - t.at < v {
-        return t.end;
-    }
-    t.at + v
+    t.at + v.min(t.end - t.at)
 }
 
 // "arguments distinct? 7": the n arguments at a place are marked, as long as none has a mark.
@@ -34,8 +31,7 @@ fn validate_macro_args(work: &mut [u8], m: Map, width: usize, n: usize, at: usiz
     ensures { Marks (marks_out m width n work.old at) result work.new }
 {
     let mut p = at;
-    let mut k = n;
-    while 0 < k {
+    for _ in 0..n {
         let id = atom_at(work, p + 1, width);
         let d = known(work, m, id);
         if 512 <= d {
@@ -43,7 +39,6 @@ fn validate_macro_args(work: &mut [u8], m: Map, width: usize, n: usize, at: usiz
         }
         define(work, m, id, d + 512);
         p += 1 + width;
-        k -= 1;
     }
     true
 }
@@ -54,58 +49,45 @@ fn forget_macro_args(work: &mut [u8], m: Map, width: usize, n: usize, at: usize)
     ensures { work.new ≡ unmarks_out m width n work.old at }
 {
     let mut p = at;
-    let mut k = n;
-    while 0 < k {
+    for _ in 0..n {
         let id = atom_at(work, p + 1, width);
         let d = known(work, m, id);
         define(work, m, id, d % 512);
         p += 1 + width;
-        k -= 1;
     }
 }
 
 // The nonterminal from a place up to e.
-fn validate_item(work: &mut [u8], m: Map, t: Grammar, at: usize, e: usize) -> Verdict
+fn validate_item(work: &mut [u8], m: Map, t: Grammar, at: usize, e: usize) -> Result<(), Refusal>
     requires { Standing m t (length work.old) × (at + 16 ≤ length work.old) × (e ≤ t.end) × (0 < t.count) }
     ensures { Runs (item_out m t work.old at e) result work.new }
 {
-    let n = from8(work[at + 10 + t.width]);
+    let n = usize::from(work[at + 10 + t.width]);
     let a = at + 13 + t.width;
     let p = a + n * (1 + t.width);
     if t.end < p {
-        return Verdict::Fine;
+        return Ok(());
     }
     let span = span_at(work, at + 1);
     if !validate_macro_args(work, m, t.width, n, a) {
-        return Verdict::Refused(refusal::over(7, span));
+        return Err(refusal::over(7, span));
     }
-    match validate_commands(work, m, t.width, p, e) {
-        Verdict::Refused(why) => Verdict::Refused(why),
-        Verdict::Fine => {
-            forget_macro_args(work, m, t.width, n, a);
-            Verdict::Fine
-        }
-    }
+    validate_commands(work, m, t.width, p, e)?;
+    forget_macro_args(work, m, t.width, n, a);
+    Ok(())
 }
 
 // All items, in order.
-pub fn validate(work: &mut [u8], m: Map, t: Grammar) -> Verdict
+pub fn validate(work: &mut [u8], m: Map, t: Grammar) -> Result<(), Refusal>
     requires { Standing m t (length work.old) }
     ensures { Runs (items_out m t t.count 0 work.old) result work.new }
 {
-    let mut i = 0;
-    while i < t.count {
+    for i in 0..t.count {
         let p = place(work, t, i);
         if work[p] == 16 {
             let e = place(work, t, i + 1);
-            match validate_item(work, m, t, p, e) {
-                Verdict::Refused(why) => {
-                    return Verdict::Refused(why);
-                }
-                Verdict::Fine => {}
-            }
+            validate_item(work, m, t, p, e)?;
         }
-        i += 1;
     }
-    Verdict::Fine
+    Ok(())
 }

@@ -2,8 +2,6 @@
 // name is stands in the cell of its text's record. Touches those cells and the items, nothing else.
 #![tactic(auto)]
 
-use parse_tree::refusal::Refusal;
-
 pub mod cells;
 pub mod commands;
 pub mod globals;
@@ -22,16 +20,11 @@ pub struct Grammar {
     pub width: usize,
 }
 
-// What a scope says of a name: its definition, or nothing. A definition is 1 for a terminal, 2 and the number of its arguments for a
-// nonterminal; 512 more for an argument of the item at hand, which hides globals.
-#[derive(Clone, Copy)]
-pub enum Found {
-    Is(usize),
-    Nothing,
-}
-
-#[derive(Clone, Copy)]
-pub enum Verdict {
-    Fine,
-    Refused(Refusal),
+// What a scope says of a name that is defined: a terminal, a nonterminal or macro with so many arguments, or an argument of the item at
+// hand, which hides globals.
+#[derive(Clone, Copy, PartialEq, Eq)]
+pub enum Definition {
+    Terminal,
+    Nonterminal(usize),
+    Argument,
 }

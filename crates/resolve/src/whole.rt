@@ -3,17 +3,16 @@ ghost use Rattle.std.specs.Prelude.{length};
 ghost use Rattle.resolve.specs.Items.{Standing};
 ghost use Rattle.resolve.specs.Whole.{Resolves};
 
+use crate::Grammar;
 use crate::globals::globals;
 use crate::items::validate;
-use crate::{Grammar, Verdict};
+use parse_tree::refusal::Refusal;
 use texts::Map;
 
-pub fn resolve(work: &mut [u8], m: Map, t: Grammar) -> Verdict
+pub fn resolve(work: &mut [u8], m: Map, t: Grammar) -> Result<(), Refusal>
     requires { Standing m t (length work.old) }
     ensures { Resolves m t work.old result work.new }
 {
-    match globals(work, m, t) {
-        Verdict::Refused(why) => Verdict::Refused(why),
-        Verdict::Fine => validate(work, m, t),
-    }
+    globals(work, m, t)?;
+    validate(work, m, t)
 }

@@ -3,10 +3,10 @@ use mathlib.Core.Path.{◌≡◌, refl, ap, ◌∙◌}
 use mathlib.Core.Bool.{Bool, true, false}
 use mathlib.Core.Logic.{◌⊎◌, inl, inr}
 use mathlib.Core.List.{List}
-use Prim.Native.Nat.{ℕ, ◌+◌, ◌-◌, ◌*◌, ◌/◌, ◌≤◌, ◌<◌}
+use Prim.Native.Nat.{ℕ, ◌+◌, ◌-◌, ◌*◌, ◌/◌, ◌≤◌, ◌<◌, min}
 use native.Mathlib.Omega.{arith}
 use borrow.Author.Rules.{rules}
-use borrow.Author.Tests.{lt-ltb, le-ltb, ltb-true, ltb-false, eqb-true, eqb-false}
+use borrow.Author.Tests.{ltb-true, ltb-false, eqb-true, eqb-false}
 use lib.Dec.{eqb, ltb}
 use lib.ListN.{length, get_or}
 use Rattle.octets.specs.Working.Choice.{pick}
@@ -26,16 +26,15 @@ use Rattle.rounds.specs.Start.{Cleared}
 use Rattle.rounds.specs.Grounds.{buckets_of, Groundable, Grounds}
 
 -- ---- bucket_count
-module _ (size n : ℕ) (e : n ≡ size / 64 + 1) where
-  pub buckets_few : n < 4294967295 → n ≡ buckets_of size
-  unfolding buckets_of pick
-  buckets_few h = e ∙ cc (lt-ltb (size / 64 + 1) 4294967295 (omega arith))
-
-pub buckets_most : (size : ℕ) → 4294967295 ≤ size / 64 + 1 → 4294967295 ≡ buckets_of size
+pub buckets_least : (size n : ℕ) → n ≡ min (size / 64 + 1) 4294967295 → n ≡ buckets_of size
 unfolding buckets_of pick
-buckets_most size h = cc (le-ltb (size / 64 + 1) 4294967295 h)
+buckets_least size n e = go (ltb (size / 64 + 1) 4294967295) refl
+  where
+    go : (b : Bool) → ltb (size / 64 + 1) 4294967295 ≡ b → n ≡ pick b (size / 64 + 1) 4294967295
+    go true h = omega (arith, e, ltb-true (size / 64 + 1) 4294967295 h)
+    go false h = omega (arith, e, ltb-false (size / 64 + 1) 4294967295 h)
 
-pub ruleset bucketing = (rules, buckets_few, buckets_most)
+pub ruleset bucketing = (rules, buckets_least)
 
 buckets_some : (size : ℕ) → 9 ≤ size → (0 < buckets_of size) × (buckets_of size ≤ size / 9) × (buckets_of size ≤ 4294967295)
 unfolding buckets_of pick

@@ -19,12 +19,12 @@ use Rattle.resolve.specs.declared.Grammar.{Grammar}
 use Rattle.expander.specs.Names.{listed_texts}
 use Rattle.settling.specs.Settle.{new_bytes, some_long}
 use Rattle.appending.specs.declared.Appended.{Appended}
-use Rattle.macro_expand.specs.declared.Expanded.{Expanded}
+use Rattle.std.specs.Prelude.{Result, Ok, Err}
 use Rattle.rounds.specs.declared.Room.{Room}
 use Rattle.rounds.specs.declared.State.{State}
-use Rattle.rounds.specs.declared.Rounded.{Rounded}
+use Rattle.rounds.specs.declared.Progress.{Progress}
 use Rattle.rounds.specs.declared.round.Half.{Half}
-use Rattle.rounds.specs.Judge.{verdict, admitted, SomeStageSize}
+use Rattle.rounds.specs.Judge.{Verdict, verdict, admitted, SomeStageSize}
 use Rattle.rounds.specs.Start.{replaced_by}
 use Rattle.rounds.specs.Step.{RoundOutput, done, more, append_items, pending_round}
 use Rattle.rounds.specs.Standing.{RoundTrees, RoundStands}
@@ -41,39 +41,39 @@ unfolding refusal_at refusal_over
 at-nowhere q = refl
 
 -- ---- what draining came to, by the answer
-abbrev IsIs : Expanded → Type 0
-IsIs (Expanded.Is v) = Unit {0}
-IsIs (Expanded.Refused why) = ⊥
+abbrev IsIs : Result Appended Refusal → Type 0
+IsIs (Ok v) = Unit {0}
+IsIs (Err why) = ⊥
 
-abbrev appended_in : Appended → Expanded → Appended
-appended_in v (Expanded.Is x) = x
-appended_in v (Expanded.Refused why) = v
+abbrev appended_in : Appended → Result Appended Refusal → Appended
+appended_in v (Ok x) = x
+appended_in v (Err why) = v
 
-abbrev refusal_in : Refusal → Expanded → Refusal
-refusal_in y (Expanded.Is x) = y
-refusal_in y (Expanded.Refused why) = why
+abbrev refusal_in : Refusal → Result Appended Refusal → Refusal
+refusal_in y (Ok x) = y
+refusal_in y (Err why) = why
 
 pub record Items (s w : List ℕ) (room : Room) (t : Grammar) (z : State) (T : RoundTrees) (h : Half) (ground : List ℕ) (v : Appended) (w1 : List ℕ) : Type 0 where
   pub new : List Item
   pub is : drain T.definitions (pending_of T) ≡ yes new
   pub drained : Drained s w room t z T h ground new v w1
 
-module _ (s w : List ℕ) (room : Room) (t : Grammar) (z : State) (T : RoundTrees) (h : Half) (ground : List ℕ) (r : Expanded) (w1 : List ℕ) where
-  items_given : (v : Appended) → r ≡ Expanded.Is v → (o : Outcome (List Item)) → drain T.definitions (pending_of T) ≡ o → DrainedTo s w room t z T h ground o r w1 → Items s w room t z T h ground v w1
+module _ (s w : List ℕ) (room : Room) (t : Grammar) (z : State) (T : RoundTrees) (h : Half) (ground : List ℕ) (r : Result Appended Refusal) (w1 : List ℕ) where
+  items_given : (v : Appended) → r ≡ Ok v → (o : Outcome (List Item)) → drain T.definitions (pending_of T) ≡ o → DrainedTo s w room t z T h ground o r w1 → Items s w room t z T h ground v w1
   unfolding DrainedTo
   items_given v e (yes new) f (u, i, d) =
       let k : u ≡ v = ap (appended_in v) (sym i ∙ e) in
       record { new = new; is = f; drained = subst (λ (x : Appended). Drained s w room t z T h ground new x w1) k d }
   items_given v e (no n sp) f d = absurd (subst IsIs (sym e ∙ d) tt)
 
-  refused_given : (why : Refusal) → r ≡ Expanded.Refused why → (o : Outcome (List Item)) → DrainedTo s w room t z T h ground o r w1 → (n : ℕ) × (sp : Span) × (o ≡ no n sp) × (why ≡ refusal_over n sp)
+  refused_given : (why : Refusal) → r ≡ Err why → (o : Outcome (List Item)) → DrainedTo s w room t z T h ground o r w1 → (n : ℕ) × (sp : Span) × (o ≡ no n sp) × (why ≡ refusal_over n sp)
   unfolding DrainedTo
   refused_given why e (yes new) (u, i, d) = absurd (subst IsIs (sym i ∙ e) tt)
   refused_given why e (no n sp) d = (n, sp, refl, ap (refusal_in why) (sym e ∙ d))
 
 -- ---- answer_items: w is work after appending
 module _ (s w : List ℕ) (room : Room) (t : Grammar) (z : State) (h : Half) (v : Appended) where
-  abbrev verdict_all : ℕ
+  abbrev verdict_all : Verdict
   verdict_all = appended_verdict s w room z h v
 
   module _ (I : SomeAppended s w room t z h v) where
@@ -97,11 +97,11 @@ module _ (s w : List ℕ) (room : Room) (t : Grammar) (z : State) (h : Half) (v 
     items_ordered =
         omega (arith, appended.to_on s A.work room t z A.trees A.standing h I.before A.halfway P.pushed P.admitted I.new v w I.drained, (halves.items_lie s A.work room t z A.trees A.standing h I.before A.halfway).end)
 
-    fine : (q : ℕ) → q ≡ verdict_all → q ≤ 0 → Fine room (appended_stage (trees_in I) I.new)
-    fine q i l = judged ∙ admitted-fine verdict_all (appended_stage (trees_in I) I.new) (sym i ∙ (omega arith))
+    fine : (q : Verdict) → q ≡ verdict_all → (u : Unit {0}) → q ≡ Ok u → Fine room (appended_stage (trees_in I) I.new)
+    fine q i u l = judged ∙ admitted-fine verdict_all (appended_stage (trees_in I) I.new) u (sym i ∙ l)
 
-    pub items_settle : (q : ℕ) → q ≡ verdict_all → q ≤ 0 → SomeDrained s w room t z h v
-    items_settle q i l = record { items = I; admitted = fine q i l }
+    pub items_settle : (q : Verdict) → q ≡ verdict_all → (u : Unit {0}) → q ≡ Ok u → SomeDrained s w room t z h v
+    items_settle q i u l = record { items = I; admitted = fine q i u l }
 
     further : (x : State) (w2 : List ℕ) → Next s w2 room t x (trees_in I) I.new → Further s w2 room t x (trees_in I) (next_input (trees_in I) I.new (appended_stage (trees_in I) I.new))
     further x w2 n =
@@ -115,16 +115,16 @@ module _ (s w : List ℕ) (room : Room) (t : Grammar) (z : State) (h : Half) (v 
           standing = n.standing;
         }
 
-  pub items_refused : (q : ℕ) → q ≡ verdict_all → 0 < q → (why : Refusal) → why ≡ refusal_at q 0 → AnswersItems s w room t z h v (Rounded.Refused why) w
+  pub items_refused : (f : Verdict) → f ≡ verdict_all → (q : ℕ) → f ≡ Err q → (why : Refusal) → why ≡ refusal_at q 0 → AnswersItems s w room t z h v (Err why) w
   unfolding AnswersItems RoundTo
-  items_refused q i l why j I =
-      rw (judged I ∙ ap (λ (n : ℕ). admitted n (appended_stage (trees_in I) I.new)) (sym i) ∙ admitted-no q (appended_stage (trees_in I) I.new) l) (ap Rounded.Refused (j ∙ at-nowhere q))
+  items_refused f i q l why j I =
+      rw (judged I ∙ admitted-no verdict_all (appended_stage (trees_in I) I.new) q (sym i ∙ l)) (ap Err (j ∙ at-nowhere q))
 
-  pub items_more : (q : ℕ) → q ≡ verdict_all → q ≤ 0 → (x : State) (w2 : List ℕ) → SettlesRound s w room t z h v x w2 → AnswersItems s w room t z h v (Rounded.More x) w2
+  pub items_more : (q : Verdict) → q ≡ verdict_all → (u : Unit {0}) → q ≡ Ok u → (x : State) (w2 : List ℕ) → SettlesRound s w room t z h v x w2 → AnswersItems s w room t z h v (Ok (Progress.More x)) w2
   unfolding AnswersItems SettlesRound RoundTo
-  items_more q i l x w2 n I = rw (fine I q i l) (x, refl, further I x w2 (n (record { items = I; admitted = fine I q i l })))
+  items_more q i u l x w2 n I = rw (fine I q i u l) (x, refl, further I x w2 (n (record { items = I; admitted = fine I q i u l })))
 
-  pub items_verdict : (q : ℕ) → q ≡ verdict (h.g.m.count + v.count) (some_long (listed_texts s w h.g v.count)) v.deep (room.first + (room.end - z.low) + (v.to - room.y) + length (new_bytes s w h.g v.count)) room.cap
+  pub items_verdict : (q : Verdict) → q ≡ verdict (h.g.m.count + v.count) (some_long (listed_texts s w h.g v.count)) v.deep (room.first + (room.end - z.low) + (v.to - room.y) + length (new_bytes s w h.g v.count)) room.cap
       → q ≡ appended_verdict s w room z h v
   unfolding appended_verdict
   items_verdict q e = e
@@ -134,8 +134,8 @@ pub ruleset sizing_items = (rules, items_ask, items_sum, items_ordered, items_ve
 pub ruleset answering_items = (rules, items_settle, items_refused, items_more)
 
 -- ---- append
-module _ (s w : List ℕ) (room : Room) (t : Grammar) (z : State) (h : Half) (r : Expanded) (w1 : List ℕ) (d : DrainsPile s w room t z h r w1) where
-  module _ (v : Appended) (e : r ≡ Expanded.Is v) where
+module _ (s w : List ℕ) (room : Room) (t : Grammar) (z : State) (h : Half) (r : Result Appended Refusal) (w1 : List ℕ) (d : DrainsPile s w room t z h r w1) where
+  module _ (v : Appended) (e : r ≡ Ok v) where
     given : (K : SomePending s w room t z h) → Items s w room t z K.half.trees h K.half.halfway.middle v w1
     unfolding DrainsPile
     given K =
@@ -146,7 +146,7 @@ module _ (s w : List ℕ) (room : Room) (t : Grammar) (z : State) (h : Half) (r 
     pub append_items_lem : SomePending s w room t z h → SomeAppended s w1 room t z h v
     append_items_lem K = let g = given K in record { before = w; pending = K; new = g.new; is = g.is; drained = g.drained }
 
-    pub append_yes : (x : Rounded) (w2 : List ℕ) → AnswersItems s w1 room t z h v x w2 → AppendsRound s w room t z h x w2
+    pub append_yes : (x : Result Progress Refusal) (w2 : List ℕ) → AnswersItems s w1 room t z h v x w2 → AppendsRound s w room t z h x w2
     unfolding AppendsRound AnswersItems
     append_yes x w2 a work T S H p f =
         let K : SomePending s w room t z h = record { half = record { work = work; trees = T; standing = S; halfway = H }; pushed = p; admitted = f } in
@@ -154,17 +154,17 @@ module _ (s w : List ℕ) (room : Room) (t : Grammar) (z : State) (h : Half) (r 
         subst (λ (o : Outcome (List Item)). RoundTo s room t T (after o (λ new. after (sizes 2 room.cap (appended_stage T new)) (λ k. yes (more (next_input T new k))))) x w2) (sym g.is)
         (a (record { before = w; pending = K; new = g.new; is = g.is; drained = g.drained }))
 
-  pub append_no : (why : Refusal) → r ≡ Expanded.Refused why → AppendsRound s w room t z h (Rounded.Refused why) w1
+  pub append_no : (why : Refusal) → r ≡ Err why → AppendsRound s w room t z h (Err why) w1
   unfolding AppendsRound DrainsPile RoundTo
   append_no why e work T S H p f =
       let (n, sp, i, j) = refused_given s w room t z T h H.middle r w1 why e (drain T.definitions (pending_of T)) (d work T S H p f) in
-      rw i (ap Rounded.Refused j)
+      rw i (ap Err j)
 
 pub ruleset appending = (rules, append_items_lem, append_yes, append_no)
 
 -- ---- go_on: w is work after replacing
 module _ (s w : List ℕ) (room : Room) (t : Grammar) (z : State) (h : Half) where
-  abbrev verdict_half : ℕ
+  abbrev verdict_half : Verdict
   verdict_half = replaced_verdict s w room z h
 
   module _ (K : SomeHalf s w room t z h) where
@@ -185,8 +185,8 @@ module _ (s w : List ℕ) (room : Room) (t : Grammar) (z : State) (h : Half) whe
     count-is : length (pending_of T) ≡ h.r.pile
     count-is = tally.count-is s work room t z h w H T S
 
-    half_fine : (q : ℕ) → q ≡ verdict_half → q ≤ 0 → Fine room (replaced_stage T)
-    half_fine q i l = judged-half ∙ admitted-fine verdict_half (replaced_stage T) (sym i ∙ (omega arith))
+    half_fine : (q : Verdict) → q ≡ verdict_half → (u : Unit {0}) → q ≡ Ok u → Fine room (replaced_stage T)
+    half_fine q i u l = judged-half ∙ admitted-fine verdict_half (replaced_stage T) u (sym i ∙ l)
 
     abbrev append : Stage → Outcome RoundOutput
     append = append_items (sizes 2 room.cap) T.definitions T.old (replaced_by T.items T.keys)
@@ -204,35 +204,35 @@ module _ (s w : List ℕ) (room : Room) (t : Grammar) (z : State) (h : Half) whe
     some_pending [] e = absurd (e refl)
     some_pending (x ∷ xs) e = refl
 
-  module _ (q : ℕ) (i : q ≡ verdict_half) where
-    pub on_refused : 0 < q → (why : Refusal) → why ≡ refusal_at q 0 → AnswersHalf s w room t z h (Rounded.Refused why) w
+  module _ (f : Verdict) (i : f ≡ verdict_half) where
+    pub on_refused : (q : ℕ) → f ≡ Err q → (why : Refusal) → why ≡ refusal_at q 0 → AnswersHalf s w room t z h (Err why) w
     unfolding AnswersHalf RoundTo
-    on_refused l why j work T S H =
-        let k : sizes 2 room.cap (replaced_stage T) ≡ no q nowhere = judged-half work T S H ∙ ap (λ (n : ℕ). admitted n (replaced_stage T)) (sym i) ∙ admitted-no q (replaced_stage T) l in
-        rw (k, refused_either work T S H (pending_of T) q nowhere) (ap Rounded.Refused (j ∙ at-nowhere q))
+    on_refused q l why j work T S H =
+        let k : sizes 2 room.cap (replaced_stage T) ≡ no q nowhere = judged-half work T S H ∙ admitted-no verdict_half (replaced_stage T) q (sym i ∙ l) in
+        rw (k, refused_either work T S H (pending_of T) q nowhere) (ap Err (j ∙ at-nowhere q))
 
-    pub on_done : q ≤ 0 → h.expander.height ≡ 0 → AnswersHalf s w room t z h (Rounded.Done (record { expander = h.expander; m = z.m; from = z.from; end = z.end; done = h.r.to; low = z.low })) w
+    pub on_done : (u : Unit {0}) → f ≡ Ok u → h.expander.height ≡ 0 → AnswersHalf s w room t z h (Ok (Progress.Done (record { expander = h.expander; m = z.m; from = z.from; end = z.end; done = h.r.to; low = z.low }))) w
     unfolding AnswersHalf RoundTo
-    on_done l e work T S H =
-        let f = half_fine work T S H q i l in
+    on_done u l e work T S H =
+        let a = half_fine work T S H f i u l in
         let n : h.r.pile ≡ 0 = sym (tally.height_is s work room t z h w H) ∙ e in
-        rw (f, none_pending work T S H (pending_of T) (count-is work T S H ∙ n)) (record { expander = h.expander; m = z.m; from = z.from; end = z.end; done = h.r.to; low = z.low }, refl, judges.last-stands s work room t z T S h w H n f)
+        rw (a, none_pending work T S H (pending_of T) (count-is work T S H ∙ n)) (record { expander = h.expander; m = z.m; from = z.from; end = z.end; done = h.r.to; low = z.low }, refl, judges.last-stands s work room t z T S h w H n a)
 
-    pub on_append : SomeHalf s w room t z h → q ≤ 0 → (h.expander.height ≡ 0 → ⊥) → SomePending s w room t z h
-    on_append K l e = record { half = K; pushed = go h.r.pile (λ n. e (tally.height_is s K.work room t z h w K.halfway ∙ n)); admitted = half_fine K.work K.trees K.standing K.halfway q i l }
+    pub on_append : SomeHalf s w room t z h → (u : Unit {0}) → f ≡ Ok u → (h.expander.height ≡ 0 → ⊥) → SomePending s w room t z h
+    on_append K u l e = record { half = K; pushed = go h.r.pile (λ n. e (tally.height_is s K.work room t z h w K.halfway ∙ n)); admitted = half_fine K.work K.trees K.standing K.halfway f i u l }
       where
         go : (n : ℕ) → (n ≡ 0 → ⊥) → 0 < n
         go zero f = absurd (f refl)
         go (suc n) f = omega arith
 
-    pub on_more : q ≤ 0 → (h.expander.height ≡ 0 → ⊥) → (x : Rounded) (w2 : List ℕ) → AppendsRound s w room t z h x w2 → AnswersHalf s w room t z h x w2
+    pub on_more : (u : Unit {0}) → f ≡ Ok u → (h.expander.height ≡ 0 → ⊥) → (x : Result Progress Refusal) (w2 : List ℕ) → AppendsRound s w room t z h x w2 → AnswersHalf s w room t z h x w2
     unfolding AnswersHalf AppendsRound
-    on_more l e x w2 a work T S H =
-        let f = half_fine work T S H q i l in
-        let p = (on_append (record { work = work; trees = T; standing = S; halfway = H }) l e).pushed in
-        rw (f, some_pending work T S H (pending_of T) (λ k. e (tally.height_is s work room t z h w H ∙ sym (count-is work T S H) ∙ k))) (a work T S H p f)
+    on_more u l e x w2 a work T S H =
+        let b = half_fine work T S H f i u l in
+        let p = (on_append (record { work = work; trees = T; standing = S; halfway = H }) u l e).pushed in
+        rw (b, some_pending work T S H (pending_of T) (λ k. e (tally.height_is s work room t z h w H ∙ sym (count-is work T S H) ∙ k))) (a work T S H p b)
 
-  pub on_verdict : (q : ℕ) → q ≡ verdict (h.g.m.count + h.r.count) (some_long (listed_texts s w h.g h.r.count)) false (room.first + (room.end - z.low) + (h.r.to - room.y) + length (new_bytes s w h.g h.r.count)) room.cap
+  pub on_verdict : (q : Verdict) → q ≡ verdict (h.g.m.count + h.r.count) (some_long (listed_texts s w h.g h.r.count)) false (room.first + (room.end - z.low) + (h.r.to - room.y) + length (new_bytes s w h.g h.r.count)) room.cap
       → q ≡ replaced_verdict s w room z h
   unfolding replaced_verdict
   on_verdict q e = e

@@ -5,9 +5,10 @@ use mathlib.Core.Logic.{◌⊎◌, inl, inr}
 use mathlib.Core.List.{List, ◌++◌, append_assoc}
 use Prim.Native.Nat.{ℕ, ◌+◌, ◌-◌, ◌*◌, ◌/◌, ◌^◌, ◌≤◌, ◌<◌}
 use native.Mathlib.Omega.{arith}
-use borrow.Author.Tests.{leb-true, leb-false, ltb-true, ltb-false}
-use lib.Dec.{leb, ltb}
+use borrow.Author.Tests.{leb-true, leb-false}
+use lib.Dec.{leb}
 use lib.ListN.{length, length-append}
+use Rattle.std.specs.Prelude.{Ok, Err}
 use Rattle.octets.specs.Plain.Runs.{Lies}
 use Rattle.parse_tree.specs.Plain.Tree.{Text, Item, Stage}
 use Rattle.parse_tree.specs.Plain.Texts.{with_new, has}
@@ -35,7 +36,7 @@ use Rattle.macro_expand.proofs.PileStays.{pile_stays}
 use Rattle.rounds.specs.declared.Room.{Room}
 use Rattle.rounds.specs.declared.State.{State}
 use Rattle.rounds.specs.declared.round.Half.{Half}
-use Rattle.rounds.specs.Judge.{verdict, admitted, SomeStageSize}
+use Rattle.rounds.specs.Judge.{Verdict, verdict, admitted, SomeStageSize}
 use Rattle.rounds.specs.Paid.{Paid}
 use Rattle.rounds.specs.Start.{at_start}
 use Rattle.rounds.specs.Standing.{RoundTrees, round_atoms, RoundStands}
@@ -49,13 +50,10 @@ use Rattle.rounds.proofs.RoundHalf as halves
 use Rattle.rounds.proofs.RoundJudged.{listed-many, old_fits, shorts, work_long}
 use Rattle.rounds.proofs.RoundPile as piles
 
--- what was admitted has the verdict 0
-pub verdict-none : (q : ℕ) (g k : Stage) → admitted q g ≡ yes k → q ≡ 0
-verdict-none q g k e = go (ltb 0 q) refl
-  where
-    go : (b : Bool) → ltb 0 q ≡ b → q ≡ 0
-    go true f = absurd (no≢yes q nowhere k (sym (admitted-no q g (ltb-true 0 q f)) ∙ e))
-    go false f = omega (arith, ltb-false 0 q f)
+-- what was admitted has no verdict against it
+pub verdict-none : (v : Verdict) (g k : Stage) → admitted v g ≡ yes k → v ≡ Ok tt
+verdict-none (Ok u) g k e = refl
+verdict-none (Err q) g k e = absurd (no≢yes q nowhere k (sym (admitted-no (Err q) g q refl) ∙ e))
 
 -- a sum far below half of what a number holds
 small_sum : (first end low to y c past n : ℕ) → 8 * (first + c) ≤ n → n < 256 ^ 8 → to + first + past ≤ y + c + 1 → end ≡ low + past → y ≤ to → first + (end - low) + (to - y) < 9223372036854775808

@@ -18,7 +18,8 @@ use Rattle.expander.specs.declared.stage.Replaced.{Replaced}
 use Rattle.expander.specs.Ground.{stage_in}
 use Rattle.expander.specs.Stage.{SomeStage, Stages}
 use Rattle.appending.specs.declared.Appended.{Appended}
-use Rattle.macro_expand.specs.declared.Expanded.{Expanded}
+use Rattle.std.specs.Prelude.{Result}
+use Rattle.parse_tree.specs.declared.refusal.Refusal.{Refusal}
 use Rattle.macro_expand.specs.Drain.{SomePile, Drains}
 use Rattle.settling.specs.declared.settle.Settled.{Settled}
 use Rattle.settling.specs.Settle.{SomePushed, MarkedPushed, Settling, Settles}
@@ -89,7 +90,7 @@ module _ (s w : List ℕ) (room : Room) (t : Grammar) (z : State) (h : Half) (K 
   unfolding limit_of
   pile_some w1 k = piles.some_pile s K.half.work room t z T S h w H K.pushed K.admitted w1 k
 
-pub pile_done : (s w : List ℕ) (room : Room) (t : Grammar) (z : State) (h : Half) (w1 : List ℕ) → Cleared h.g w w1 → (q : Expanded) (w2 : List ℕ)
+pub pile_done : (s w : List ℕ) (room : Room) (t : Grammar) (z : State) (h : Half) (w1 : List ℕ) → Cleared h.g w w1 → (q : Result Appended Refusal) (w2 : List ℕ)
     → Drains s w1 h.g h.r.pile (room.y + (room.cap - room.first - (room.end - z.low))) t (record { to = h.r.to; count = h.r.count; deep = false }) q w2 → DrainsPile s w room t z h q w2
 unfolding DrainsPile limit_of
 pile_done s w room t z h w1 k q w2 d work T S H p f = piles.drained s work room t z T S h w H p f w1 k q w2 d

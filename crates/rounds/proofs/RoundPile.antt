@@ -23,7 +23,9 @@ use Rattle.expander.proofs.GroundLaws.{Around, table-around, texts-around}
 use Rattle.expander.proofs.HeldStays.{around_wrote, wrote_same, above_wrote}
 use Rattle.settling.specs.Settle.{new_bytes}
 use Rattle.appending.specs.Pieces.{Appends}
-use Rattle.macro_expand.specs.declared.Expanded.{Expanded}
+use Rattle.std.specs.Prelude.{Result}
+use Rattle.appending.specs.declared.Appended.{Appended}
+use Rattle.parse_tree.specs.declared.refusal.Refusal.{Refusal}
 use Rattle.macro_expand.specs.Drain.{Declares, SomePile, items_piece, DrainedBy, Drains}
 use Rattle.rounds.specs.declared.Room.{Room}
 use Rattle.rounds.specs.declared.State.{State}
@@ -171,7 +173,7 @@ module _ (s w : List ℕ) (room : Room) (t : Grammar) (z : State) (T : RoundTree
     some_pile = record { places = starts.places; four = false; tree = T.definitions; pile = starts.pile }
 
     -- theorem: what draining it comes to
-    pub drained : (q : Expanded) (w''' : List ℕ) → Drains s w'' g r.pile (limit_of room z) t (at_start r) q w''' → DrainedTo s w' room t z T h w₁ (drain T.definitions (pending_of T)) q w'''
+    pub drained : (q : Result Appended Refusal) (w''' : List ℕ) → Drains s w'' g r.pile (limit_of room z) t (at_start r) q w''' → DrainedTo s w' room t z T h w₁ (drain T.definitions (pending_of T)) q w'''
     unfolding Drains DrainedTo DrainedBy
     drained q w''' d =
         go (drain T.definitions (pending_of T))

@@ -9,6 +9,7 @@ use native.Mathlib.Omega.{arith}
 use borrow.Author.Tests.{lt-ltb, ltb-false, leb-true}
 use lib.Dec.{leb, ltb}
 use lib.ListN.{length}
+use Rattle.std.specs.Prelude.{Ok, Err}
 use Rattle.octets.specs.Working.Choice.{pick}
 use Rattle.parse_tree.specs.Plain.Tree.{Text, star, plus, question, Syms, macro, group, Nonterminal, Item, item, Stage}
 use Rattle.parse_tree.specs.Plain.Texts.{with_new}
@@ -29,7 +30,7 @@ use Rattle.meaning.proofs.Calls.Staged.{admitted as passed}
 use Rattle.replacing.proofs.Going.{extends_refl, new_append, new_there}
 use Rattle.replacing.proofs.ThereBytes.{new_all}
 use Rattle.settling.specs.Settle.{some_long}
-use Rattle.rounds.specs.Judge.{verdict, admitted}
+use Rattle.rounds.specs.Judge.{Verdict, verdict, admitted}
 use Rattle.rounds.specs.Paid.{TreeKnown}
 use Rattle.rounds.proofs.JudgeMeans.{bytes_in, judge_means}
 
@@ -119,7 +120,7 @@ short t = ltb (length t) 65536
 -- the bytes matter only by whether they are too many
 verdict-as : (count : ℕ) (long deep : Bool) (a b cap : ℕ) → ltb cap a ≡ ltb cap b → verdict count long deep a cap ≡ verdict count long deep b cap
 unfolding verdict
-verdict-as count long deep a b cap e = ap (λ (c : Bool). pick (ltb 65536 count) 20 (pick long 20 (pick deep 20 (pick c 21 0)))) e
+verdict-as count long deep a b cap e = ap (λ (c : Bool). pick (ltb 65536 count) (Err 20) (pick long (Err 20) (pick deep (Err 20) (pick c (Err 21) (Ok tt))))) e
 
 module _ (cap : ℕ) (ts us : List Text) (old new : List Item) (atoms : (stage_of ts (old ++ new)).atoms ≡ ts ++ us) (shorts : each short ts ≡ true) (fits : each item_fits old ≡ true) where
   -- all of its bytes but the new texts'
@@ -141,7 +142,7 @@ module _ (cap : ℕ) (ts us : List Text) (old new : List Item) (atoms : (stage_o
       → sizes 2 cap (stage_of ts (old ++ new)) ≡ admitted (verdict (length ts + length us) (some_long us) deep (bytes + length (bytes_of_each (atom_bytes 2) us)) cap) (stage_of ts (old ++ new))
   judged deep d bytes h =
       judge_means cap ts us old new atoms shorts fits
-      ∙ ap (λ (q : ℕ). admitted q (stage_of ts (old ++ new))) (
+      ∙ ap (λ (q : Verdict). admitted q (stage_of ts (old ++ new))) (
       verdict-as (length ts + length us) (some_long us) (not (each item_fits new)) all_in (bytes + new_in) cap (same_test bytes h)
       ∙ ap (λ (b : Bool). verdict (length ts + length us) (some_long us) b (bytes + new_in) cap) (sym d))
 
@@ -168,23 +169,23 @@ fits_parts g e =
 
 -- ---- a verdict
 -- theorem
-pub verdict-parts : (count : ℕ) (long deep : Bool) (bytes cap : ℕ) → verdict count long deep bytes cap ≡ 0 → (count ≤ 65536) × (long ≡ false) × (deep ≡ false) × (bytes ≤ cap)
+pub verdict-parts : (count : ℕ) (long deep : Bool) (bytes cap : ℕ) → verdict count long deep bytes cap ≡ Ok tt → (count ≤ 65536) × (long ≡ false) × (deep ≡ false) × (bytes ≤ cap)
 unfolding verdict pick
 verdict-parts count long deep bytes cap e = go (ltb 65536 count) refl long deep (ltb cap bytes) refl e
   where
-    go : (a : Bool) → ltb 65536 count ≡ a → (b c d : Bool) → ltb cap bytes ≡ d → ◌≡◌ {A = ℕ} (pick a 20 (pick b 20 (pick c 20 (pick d 21 0)))) 0 → (count ≤ 65536) × (b ≡ false) × (c ≡ false) × (bytes ≤ cap)
-    go true x b c d y z = absurd (omega arith)
-    go false x true c d y z = absurd (omega arith)
-    go false x false true d y z = absurd (omega arith)
-    go false x false false true y z = absurd (omega arith)
+    go : (a : Bool) → ltb 65536 count ≡ a → (b c d : Bool) → ltb cap bytes ≡ d → ◌≡◌ {A = Verdict} (pick a (Err 20) (pick b (Err 20) (pick c (Err 20) (pick d (Err 21) (Ok tt))))) (Ok tt) → (count ≤ 65536) × (b ≡ false) × (c ≡ false) × (bytes ≤ cap)
+    go true x b c d y z = cc
+    go false x true c d y z = cc
+    go false x false true d y z = cc
+    go false x false false true y z = cc
     go false x false false false y z = (ltb-false 65536 count x, refl, refl, ltb-false cap bytes y)
 
 -- theorem
-pub admitted-fine : (q : ℕ) (g : Stage) → q ≡ 0 → admitted q g ≡ yes g
-unfolding admitted pick
-admitted-fine q g e = rw e refl
+pub admitted-fine : (v : Verdict) (g : Stage) (u : Unit {0}) → v ≡ Ok u → admitted v g ≡ yes g
+unfolding admitted
+admitted-fine v g u e = rw e refl
 
 -- theorem
-pub admitted-no : (q : ℕ) (g : Stage) → 0 < q → admitted q g ≡ no q nowhere
-unfolding admitted pick
-admitted-no q g l = rw (lt-ltb 0 q l) refl
+pub admitted-no : (v : Verdict) (g : Stage) (q : ℕ) → v ≡ Err q → admitted v g ≡ no q nowhere
+unfolding admitted
+admitted-no v g q e = rw e refl

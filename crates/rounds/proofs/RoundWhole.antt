@@ -10,6 +10,7 @@ use mir.Syntax.{w64}
 use mir.Val as Bound
 use lib.Dec.{ltb}
 use lib.ListN.{length}
+use Rattle.std.specs.Prelude.{Result, Err}
 use Rattle.parse_tree.specs.Plain.Tree.{Stage}
 use Rattle.parse_tree.specs.Working.Nodes.{span_in}
 use Rattle.parse_tree.specs.Working.Refusals.{refusal_over}
@@ -24,7 +25,7 @@ use Rattle.expander.specs.declared.Ground.{Ground}
 use Rattle.expander.specs.Ground.{key_at}
 use Rattle.rounds.specs.declared.Room.{Room}
 use Rattle.rounds.specs.declared.State.{State}
-use Rattle.rounds.specs.declared.Rounded.{Rounded}
+use Rattle.rounds.specs.declared.Progress.{Progress}
 use Rattle.rounds.specs.declared.round.Half.{Half}
 use Rattle.rounds.specs.Start.{replaced_by}
 use Rattle.rounds.specs.Step.{RoundOutput, append_items, pending_round, one_round}
@@ -91,12 +92,12 @@ module _ (s w : List ℕ) (room : Room) (t : Grammar) (z : State) (over : Bool) 
     count-is = tally.count-is s w room t z h w1 H T S
 
     last-is : (xs : List Pending) → pending_of T ≡ xs → b ≡ true → (why : Refusal) → why ≡ refusal_over 18 (span_in w1 (h.g.from + key_at w1 h.g (h.r.pile - 1) + 1))
-        → RoundTo s room t T (pending_round xs over (sizes 2 room.cap (replaced_stage T)) append) (Rounded.Refused why) w1
+        → RoundTo s room t T (pending_round xs over (sizes 2 room.cap (replaced_stage T)) append) (Err why) w1
     unfolding RoundTo
     last-is [] i f why j = absurd (omega (arith, pushed f, count-is, ap length i))
     last-is (x ∷ xs) i f why j =
         let k = lasts.last-span s H.middle h.g z.done h.r w1 T.items T.keys (halves.found s w room t z T S h w1 H).0 T.definitions (halves.replacing s w room t z T S h w1 H) x xs i in
-        rw (both over (ltb 0 h.r.pile) (sym e ∙ f)).0 (ap Rounded.Refused (j ∙ ap (refusal_over 18) k))
+        rw (both over (ltb 0 h.r.pile) (sym e ∙ f)).0 (ap Err (j ∙ ap (refusal_over 18) k))
 
     -- 18 is not asked
     on_is : (xs : List Pending) → pending_of T ≡ xs → b ≡ false → (r : Outcome Stage) → pending_round xs false r append ≡ pending_round xs over r append
@@ -107,12 +108,12 @@ module _ (s w : List ℕ) (room : Room) (t : Grammar) (z : State) (over : Bool) 
         go true y = absurd (omega (arith, ltb-false 0 h.r.pile (sym y ∙ f), count-is, ap length i))
         go false y = refl
 
-  pub round_refused : b ≡ true → (why : Refusal) → why ≡ refusal_over 18 (span_in w1 (h.g.from + key_at w1 h.g (h.expander.height - 1) + 1)) → OneRound s w room t z over (Rounded.Refused why) w1
+  pub round_refused : b ≡ true → (why : Refusal) → why ≡ refusal_over 18 (span_in w1 (h.g.from + key_at w1 h.g (h.expander.height - 1) + 1)) → OneRound s w room t z over (Err why) w1
   unfolding OneRound one_round
   round_refused f why j T S =
       last-is T S (pending_of T) refl f why (j ∙ ap (λ (n : ℕ). refusal_over 18 (span_in w1 (h.g.from + key_at w1 h.g (n - 1) + 1))) (tally.height_is s w room t z h w1 H))
 
-  pub round_on : b ≡ false → (x : Rounded) (w2 : List ℕ) → AnswersHalf s w1 room t z h x w2 → OneRound s w room t z over x w2
+  pub round_on : b ≡ false → (x : Result Progress Refusal) (w2 : List ℕ) → AnswersHalf s w1 room t z h x w2 → OneRound s w room t z over x w2
   unfolding OneRound one_round AnswersHalf
   round_on f x w2 a T S =
       subst (λ (o : Outcome RoundOutput). RoundTo s room t T o x w2) (on_is T S (pending_of T) refl f (sizes 2 room.cap (replaced_stage T))) (a w T S H)

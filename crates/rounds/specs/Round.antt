@@ -21,14 +21,15 @@ use Rattle.settling.specs.declared.settle.Settled.{Settled}
 use Rattle.settling.specs.Settle.{new_bytes, some_long, MarkedPushed, Settles}
 use Rattle.appending.specs.declared.Appended.{Appended}
 use Rattle.appending.specs.Pieces.{Appends}
-use Rattle.macro_expand.specs.declared.Expanded.{Expanded}
+use Rattle.std.specs.Prelude.{Result, Ok, Err}
+use Rattle.parse_tree.specs.declared.refusal.Refusal.{Refusal}
 use Rattle.macro_expand.specs.Drain.{items_piece}
 use Rattle.rounds.specs.declared.Room.{Room}
 use Rattle.rounds.specs.declared.State.{State}
 use Rattle.rounds.specs.declared.round.Half.{Half}
-use Rattle.rounds.specs.declared.Rounded.{Rounded}
+use Rattle.rounds.specs.declared.Progress.{Progress}
 use Rattle.rounds.specs.Steps.{numbers_pending}
-use Rattle.rounds.specs.Judge.{verdict}
+use Rattle.rounds.specs.Judge.{Verdict, verdict}
 use Rattle.rounds.specs.Start.{Cleared, StartsAppending, at_start, replaced_by}
 use Rattle.rounds.specs.Grounds.{Grounds}
 use Rattle.rounds.specs.Step.{RoundInput, RoundOutput, done, more, append_items, pending_round, one_round}
@@ -66,8 +67,8 @@ pub record SomeHalf (s w : List ℕ) (room : Room) (t : Grammar) (z : State) (h 
   pub standing : RoundStands s work room t z trees
   pub halfway : Halfway s work room t z h w
 
--- 20, 21 or 0 of that stage, by the numbers that stand in w
-unfoldable pub replaced_verdict : List ℕ → List ℕ → Room → State → Half → ℕ
+-- the verdict of that stage, by the numbers that stand in w
+unfoldable pub replaced_verdict : List ℕ → List ℕ → Room → State → Half → Verdict
 replaced_verdict s w room z h =
     verdict (h.g.m.count + h.r.count) (some_long (listed_texts s w h.g h.r.count)) false
     (room.first + (room.end - z.low) + (h.r.to - room.y) + length (new_bytes s w h.g h.r.count)) room.cap
@@ -105,12 +106,12 @@ pub record Drained (s w : List ℕ) (room : Room) (t : Grammar) (z : State) (T :
   pub starts : StartsAppending s ground h.g h.r T.items T.keys (limit_of room z) t false T.definitions middle
   pub appends : Appends s h.g h.r.pile (limit_of room z) starts.places middle (at_start h.r) (items_piece 2 new) v w'
 
-unfoldable pub DrainedTo : List ℕ → List ℕ → Room → Grammar → State → RoundTrees → Half → List ℕ → Outcome (List Item) → Expanded → List ℕ → Type 0
-DrainedTo s w room t z T h ground (yes new) r w' = (v : Appended) × (r ≡ Expanded.Is v) × Drained s w room t z T h ground new v w'
-DrainedTo s w room t z T h ground (no k sp) r w' = r ≡ Expanded.Refused (refusal_over k sp)
+unfoldable pub DrainedTo : List ℕ → List ℕ → Room → Grammar → State → RoundTrees → Half → List ℕ → Outcome (List Item) → Result Appended Refusal → List ℕ → Type 0
+DrainedTo s w room t z T h ground (yes new) r w' = (v : Appended) × (r ≡ Ok v) × Drained s w room t z T h ground new v w'
+DrainedTo s w room t z T h ground (no k sp) r w' = r ≡ Err (refusal_over k sp)
 
 -- of all trees
-unfoldable pub DrainsPile : List ℕ → List ℕ → Room → Grammar → State → Half → Expanded → List ℕ → Type 0
+unfoldable pub DrainsPile : List ℕ → List ℕ → Room → Grammar → State → Half → Result Appended Refusal → List ℕ → Type 0
 DrainsPile s w room t z h r w' = (work : List ℕ) (T : RoundTrees) → RoundStands s work room t z T → (H : Halfway s work room t z h w) → 0 < h.r.pile → Fine room (replaced_stage T)
     → DrainedTo s w room t z T h H.middle (drain T.definitions (pending_of T)) r w'
 
@@ -129,8 +130,8 @@ pub record SomeAppended (s w : List ℕ) (room : Room) (t : Grammar) (z : State)
 abbrev pub trees_in : {s w : List ℕ} {room : Room} {t : Grammar} {z : State} {h : Half} {v : Appended} → SomeAppended s w room t z h v → RoundTrees
 trees_in I = I.pending.half.trees
 
--- 20, 21 or 0 of their stage
-unfoldable pub appended_verdict : List ℕ → List ℕ → Room → State → Half → Appended → ℕ
+-- the verdict of their stage
+unfoldable pub appended_verdict : List ℕ → List ℕ → Room → State → Half → Appended → Verdict
 appended_verdict s w room z h v =
     verdict (h.g.m.count + v.count) (some_long (listed_texts s w h.g v.count)) v.deep
     (room.first + (room.end - z.low) + (v.to - room.y) + length (new_bytes s w h.g v.count)) room.cap
@@ -176,39 +177,39 @@ pub record Further (s w : List ℕ) (room : Room) (t : Grammar) (z : State) (T :
   pub input : input_of trees ≡ p
   pub standing : RoundStands s w room t z trees
 
-unfoldable pub RoundTo : List ℕ → Room → Grammar → RoundTrees → Outcome RoundOutput → Rounded → List ℕ → Type 0
-RoundTo s room t T (yes (done g)) r w' = (z : State) × (r ≡ Rounded.Done z) × Finished s w' room z T.first g
-RoundTo s room t T (yes (more p)) r w' = (z : State) × (r ≡ Rounded.More z) × Further s w' room t z T p
-RoundTo s room t T (no k sp) r w' = r ≡ Rounded.Refused (refusal_over k sp)
+unfoldable pub RoundTo : List ℕ → Room → Grammar → RoundTrees → Outcome RoundOutput → Result Progress Refusal → List ℕ → Type 0
+RoundTo s room t T (yes (done g)) r w' = (z : State) × (r ≡ Ok (Progress.Done z)) × Finished s w' room z T.first g
+RoundTo s room t T (yes (more p)) r w' = (z : State) × (r ≡ Ok (Progress.More z)) × Further s w' room t z T p
+RoundTo s room t T (no k sp) r w' = r ≡ Err (refusal_over k sp)
 
 -- what the next round begins with, where k is the appending stage
 abbrev pub next_input : RoundTrees → List Item → Stage → RoundInput
 next_input T new k = record { atoms = k.atoms; old = T.old ++ replaced_of T; fresh = new; keys = (replaced_by T.items T.keys).1.keys }
 
 -- 20 and 21 of the appending stage, and then the next round
-unfoldable pub AnswersItems : List ℕ → List ℕ → Room → Grammar → State → Half → Appended → Rounded → List ℕ → Type 0
+unfoldable pub AnswersItems : List ℕ → List ℕ → Room → Grammar → State → Half → Appended → Result Progress Refusal → List ℕ → Type 0
 AnswersItems s w room t z h v r w' = (I : SomeAppended s w room t z h v)
     → RoundTo s room t (trees_in I) (after (sizes 2 room.cap (appended_stage (trees_in I) I.new)) (λ k. yes (more (next_input (trees_in I) I.new k)))) r w'
 
 -- "then per round one after replacing symbols and one after appending items"; the second half alone
-unfoldable pub AppendsRound : List ℕ → List ℕ → Room → Grammar → State → Half → Rounded → List ℕ → Type 0
+unfoldable pub AppendsRound : List ℕ → List ℕ → Room → Grammar → State → Half → Result Progress Refusal → List ℕ → Type 0
 AppendsRound s w room t z h r w' = (work : List ℕ) (T : RoundTrees) → RoundStands s work room t z T → Halfway s work room t z h w → 0 < h.r.pile → Fine room (replaced_stage T)
     → RoundTo s room t T (append_items (sizes 2 room.cap) T.definitions T.old (replaced_by T.items T.keys) (replaced_stage T)) r w'
 
 -- both, where 18 is not asked
-unfoldable pub AnswersHalf : List ℕ → List ℕ → Room → Grammar → State → Half → Rounded → List ℕ → Type 0
+unfoldable pub AnswersHalf : List ℕ → List ℕ → Room → Grammar → State → Half → Result Progress Refusal → List ℕ → Type 0
 AnswersHalf s w room t z h r w' = (work : List ℕ) (T : RoundTrees) → RoundStands s work room t z T → Halfway s work room t z h w
     → RoundTo s room t T (pending_round (pending_of T) false (sizes 2 room.cap (replaced_stage T)) (append_items (sizes 2 room.cap) T.definitions T.old (replaced_by T.items T.keys))) r w'
 
 -- and the whole
-unfoldable pub OneRound : List ℕ → List ℕ → Room → Grammar → State → Bool → Rounded → List ℕ → Type 0
+unfoldable pub OneRound : List ℕ → List ℕ → Room → Grammar → State → Bool → Result Progress Refusal → List ℕ → Type 0
 OneRound s w room t z over r w' = (T : RoundTrees) → RoundStands s w room t z T → RoundTo s room t T (one_round (sizes 2 room.cap) T.definitions over (input_of T)) r w'
 
 -- ---- all of them: of so many in all those that are not done
-unfoldable pub RoundsTo : List ℕ → Room → List Text → Outcome Stage → Rounded → List ℕ → Type 0
-RoundsTo s room first (yes g) r w' = (z : State) × (r ≡ Rounded.Done z) × Finished s w' room z first g
-RoundsTo s room first (no k sp) r w' = r ≡ Rounded.Refused (refusal_over k sp)
+unfoldable pub RoundsTo : List ℕ → Room → List Text → Outcome Stage → Result Progress Refusal → List ℕ → Type 0
+RoundsTo s room first (yes g) r w' = (z : State) × (r ≡ Ok (Progress.Done z)) × Finished s w' room z first g
+RoundsTo s room first (no k sp) r w' = r ≡ Err (refusal_over k sp)
 
-unfoldable pub AllRounds : List ℕ → List ℕ → Room → Grammar → ℕ → State → Rounded → List ℕ → Type 0
+unfoldable pub AllRounds : List ℕ → List ℕ → Room → Grammar → ℕ → State → Result Progress Refusal → List ℕ → Type 0
 AllRounds s w room t limit z r w' = (T : RoundTrees) → RoundStands s w room t z T
     → RoundsTo s room T.first (rounds (sizes 2 room.cap) T.definitions (limit - z.expander.round) (round_atoms T) T.old (without_macros T.items) T.keys) r w'

@@ -4,7 +4,6 @@ ghost use Rattle.resolve.specs.Items.{item_place_in};
 ghost use Rattle.rounds.specs.Define.{Cells, Forgot, SomeDeclared, Definable, Defined, HeadAt, Headable, told_at, defined_at};
 
 use octets::numbers::atom_at;
-use octets::wide::from32;
 use resolve::Grammar;
 use resolve::items::place;
 use texts::Map;
@@ -15,10 +14,8 @@ pub fn forget(tape: &[u8], work: &mut [u8], m: Map)
     requires { Cells tape.now work.old m }
     ensures { Forgot tape.now work.old m work.new }
 {
-    let mut k = 0;
-    while k < m.count {
+    for k in 0..m.count {
         put_cell(work, m.base, k, 0);
-        k += 1;
     }
 }
 
@@ -28,7 +25,7 @@ fn define_macro(work: &mut [u8], m: Map, width: usize, p: usize, i: usize)
     ensures { work.new ≡ told_at m width work.old p i }
 {
     if work[p + 10 + width] != 0 {
-        let k = from32(atom_at(work, p + 9, width));
+        let k = atom_at(work, p + 9, width) as usize;
         put_cell(work, m.base, k, (i + 1) as u32);
     }
 }
@@ -49,9 +46,7 @@ fn define_items(tape: &[u8], work: &mut [u8], m: Map, t: Grammar)
     requires { Definable tape.now work.old m t }
     ensures { Defined tape.now work.old m t work.new }
 {
-    let mut i = t.count;
-    while 0 < i {
-        i -= 1;
+    for i in (0..t.count).rev() {
         define_item(work, m, t, i);
     }
 }

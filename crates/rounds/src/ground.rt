@@ -13,11 +13,7 @@ use texts::chain::empty;
 fn bucket_count(size: usize) -> usize
     ensures { result ≡ buckets_of size }
 {
-    let n = size / 64 + 1;
-    if n < 4294967295 {
-        return n;
-    }
-    4294967295
+    (size / 64 + 1).min(4294967295)
 }
 
 // The ground of a round whose unreplaced items stand from `from` up to `end`, in work up to `top`.
@@ -39,13 +35,13 @@ pub fn ground(
     let buckets = bucket_count(end - from);
     empty(work, keys, buckets);
     Ground {
-        m: m,
-        width: width,
-        from: from,
-        end: end,
-        keys: keys,
-        buckets: buckets,
-        slots: slots,
+        m,
+        width,
+        from,
+        end,
+        keys,
+        buckets,
+        slots,
     }
 }
 
@@ -54,9 +50,7 @@ pub fn clear_built(work: &mut [u8], g: Ground)
     requires { (72 ≤ g.slots) × (g.slots ≤ length work.old) }
     ensures { Cleared g work.old work.new }
 {
-    let mut i = 0;
-    while i < 9 {
+    for i in 0..9 {
         store64(work, g.slots - 72 + 8 * i, 0);
-        i += 1;
     }
 }

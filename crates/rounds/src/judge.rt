@@ -7,23 +7,17 @@ ghost use Rattle.rounds.specs.Judge.{verdict, SomeStageSize};
 use expander::Ground;
 use settling::settle::count_texts;
 
-// 20, 21, or 0: of a stage with so many atoms and bytes, where a text is too long or not, and a symbol nested too deep or not.
-pub fn judge(count: usize, long: bool, deep: bool, bytes: usize, cap: usize) -> usize
+// The question that refuses a stage with so many atoms and bytes, where a text is too long or not, and a symbol nested too deep or not.
+pub fn judge(count: usize, long: bool, deep: bool, bytes: usize, cap: usize) -> Result<(), usize>
     ensures { result ≡ verdict count long deep bytes cap }
 {
-    if 65536 < count {
-        return 20;
+    if 65536 < count || long || deep {
+        Err(20)
+    } else if cap < bytes {
+        Err(21)
+    } else {
+        Ok(())
     }
-    if long {
-        return 20;
-    }
-    if deep {
-        return 20;
-    }
-    if cap < bytes {
-        return 21;
-    }
-    0
 }
 
 // Of a stage with c new texts, which has so many bytes but for these; n symbols were pushed.
@@ -36,17 +30,16 @@ pub fn sizes(
     deep: bool,
     bytes: usize,
     cap: usize,
-) -> usize
+) -> Result<(), usize>
     requires { SomeStageSize tape.now work.now g n c bytes }
     ensures { result ≡ verdict (g.m.count + c) (some_long (listed_texts tape.now work.now g c)) deep (bytes + length (new_bytes tape.now work.now g c)) cap }
 {
     let k = g.m.count + c;
     if 65536 < k {
-        return 20;
+        return Err(20);
     }
-    let f = count_texts(tape, work, g, n, c);
-    if f.long {
-        return 20;
+    match count_texts(tape, work, g, n, c) {
+        None => Err(20),
+        Some(fresh) => judge(k, false, deep, bytes + fresh, cap),
     }
-    judge(k, false, deep, bytes + f.bytes, cap)
 }

@@ -1,7 +1,6 @@
 // The rounds of macro expansion: macros told in the cells of their names, a round's ground, its sizes, its two stages, and the loop. Touches nothing but the slices that it is handed.
 #![tactic(auto)]
 
-use parse_tree::refusal::Refusal;
 use texts::Map;
 
 pub mod define;
@@ -40,9 +39,9 @@ pub struct State {
     pub low: usize,
 }
 
+// What a round that is not refused leaves: another round is to come, or none.
 #[derive(Clone, Copy)]
-pub enum Rounded {
+pub enum Progress {
     More(State),
     Done(State),
-    Refused(Refusal),
 }

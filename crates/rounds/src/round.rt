@@ -8,11 +8,10 @@ ghost use Rattle.rounds.specs.Round.{SomeRound, Halfway, SomeHalf, replaced_verd
 use crate::ground::{clear_built, ground};
 use crate::judge::sizes;
 use crate::steps::{drained, push};
-use crate::{Expander, Room, Rounded, State};
+use crate::{Expander, Progress, Room, State};
 use appending::Appended;
 use expander::Ground;
 use expander::stage::{Replaced, replace_items};
-use macro_expand::Expanded;
 use macro_expand::drain::drain;
 use parse_tree::node::span_at;
 use parse_tree::refusal;
@@ -39,15 +38,18 @@ fn replace(tape: &[u8], work: &mut [u8], room: Room, t: Grammar, z: State) -> Ha
     let g = ground(tape, work, z.m, t.width, z.from, z.end, room.x);
     let r = replace_items(tape, work, g, z.done);
     let e = push(z.expander, r.pile);
-    Half {
-        g: g,
-        r: r,
-        expander: e,
-    }
+    Half { g, r, expander: e }
 }
 
 // The items of the pile, behind the replaced ones, as far as the output's length allows.
-fn expand_pile(tape: &[u8], work: &mut [u8], room: Room, t: Grammar, z: State, h: Half) -> Expanded
+fn expand_pile(
+    tape: &[u8],
+    work: &mut [u8],
+    room: Room,
+    t: Grammar,
+    z: State,
+    h: Half,
+) -> Result<Appended, Refusal>
     requires { SomePending tape.now work.old room t z h }
     ensures { DrainsPile tape.now work.old room t z h result work.new }
 {
@@ -94,18 +96,17 @@ fn settle_round(
     let end = room.x + (v.to - h.r.to);
     let q = settle_texts(tape, work, room, t, z, h, v);
     copy_down(work, h.r.to, v.to, room.x);
-    let m = q.m;
     State {
         expander: drained(h.expander),
-        m: m,
+        m: q.m,
         from: room.x,
-        end: end,
+        end,
         done: h.r.to,
         low: q.at,
     }
 }
 
-// 20 or 21 of the appending stage, or 0.
+// 20 or 21 of the appending stage, if it is refused.
 fn appended_size(
     tape: &[u8],
     work: &[u8],
@@ -114,7 +115,7 @@ fn appended_size(
     z: State,
     h: Half,
     v: Appended,
-) -> usize
+) -> Result<(), usize>
     requires { SomeAppended tape.now work.now room t z h v }
     ensures { result ≡ appended_verdict tape.now work.now room z h v }
 {
@@ -131,30 +132,41 @@ fn answer_items(
     z: State,
     h: Half,
     v: Appended,
-) -> Rounded
+) -> Result<Progress, Refusal>
     requires { SomeAppended tape.now work.old room t z h v }
     ensures { AnswersItems tape.now work.old room t z h v result work.new }
 {
-    let q = appended_size(tape, work, room, t, z, h, v);
-    if 0 < q {
-        return Rounded::Refused(refusal::at(q, 0));
+    match appended_size(tape, work, room, t, z, h, v) {
+        Err(q) => Err(refusal::at(q, 0)),
+        Ok(()) => Ok(Progress::More(settle_round(tape, work, room, t, z, h, v))),
     }
-    Rounded::More(settle_round(tape, work, room, t, z, h, v))
 }
 
 // The appending stage.
-fn append(tape: &[u8], work: &mut [u8], room: Room, t: Grammar, z: State, h: Half) -> Rounded
+fn append(
+    tape: &[u8],
+    work: &mut [u8],
+    room: Room,
+    t: Grammar,
+    z: State,
+    h: Half,
+) -> Result<Progress, Refusal>
     requires { SomePending tape.now work.old room t z h }
     ensures { AppendsRound tape.now work.old room t z h result work.new }
 {
-    match expand_pile(tape, work, room, t, z, h) {
-        Expanded::Refused(why) => Rounded::Refused(why),
-        Expanded::Is(v) => answer_items(tape, work, room, t, z, h, v),
-    }
+    let v = expand_pile(tape, work, room, t, z, h)?;
+    answer_items(tape, work, room, t, z, h, v)
 }
 
-// 20 or 21 of the replacing stage, or 0.
-fn replaced_size(tape: &[u8], work: &[u8], room: Room, t: Grammar, z: State, h: Half) -> usize
+// 20 or 21 of the replacing stage, if it is refused.
+fn replaced_size(
+    tape: &[u8],
+    work: &[u8],
+    room: Room,
+    t: Grammar,
+    z: State,
+    h: Half,
+) -> Result<(), usize>
     requires { SomeHalf tape.now work.now room t z h }
     ensures { result ≡ replaced_verdict tape.now work.now room z h }
 {
@@ -163,37 +175,36 @@ fn replaced_size(tape: &[u8], work: &[u8], room: Room, t: Grammar, z: State, h: 
 }
 
 // With 20 and 21 asked: with nothing pending this stage is the last.
-fn go_on(tape: &[u8], work: &mut [u8], room: Room, t: Grammar, z: State, h: Half) -> Rounded
+fn go_on(
+    tape: &[u8],
+    work: &mut [u8],
+    room: Room,
+    t: Grammar,
+    z: State,
+    h: Half,
+) -> Result<Progress, Refusal>
     requires { SomeHalf tape.now work.old room t z h }
     ensures { AnswersHalf tape.now work.old room t z h result work.new }
 {
-    let q = replaced_size(tape, work, room, t, z, h);
-    if 0 < q {
-        return Rounded::Refused(refusal::at(q, 0));
+    if let Err(q) = replaced_size(tape, work, room, t, z, h) {
+        return Err(refusal::at(q, 0));
     }
     if h.expander.height == 0 {
-        let m = z.m;
-        let e = h.expander;
-        return Rounded::Done(State {
-            expander: e,
-            m: m,
-            from: z.from,
-            end: z.end,
+        Ok(Progress::Done(State {
+            expander: h.expander,
             done: h.r.to,
-            low: z.low,
-        });
+            ..z
+        }))
+    } else {
+        append(tape, work, room, t, z, h)
     }
-    append(tape, work, room, t, z, h)
 }
 
 // Whether symbols are pending, n of them, and no round is left.
 fn too_many(over: bool, n: usize) -> bool
     ensures { result ≡ over && ltb 0 n }
 {
-    if over {
-        return 0 < n;
-    }
-    false
+    over && 0 < n
 }
 
 // "18, span of the last pushed", of n.
@@ -206,13 +217,21 @@ fn last_pushed(work: &[u8], g: Ground, n: usize) -> Refusal
 }
 
 // With `over` no round is left: what is pending is refused.
-pub fn round(tape: &[u8], work: &mut [u8], room: Room, t: Grammar, z: State, over: bool) -> Rounded
+pub fn round(
+    tape: &[u8],
+    work: &mut [u8],
+    room: Room,
+    t: Grammar,
+    z: State,
+    over: bool,
+) -> Result<Progress, Refusal>
     requires { SomeRound tape.now work.old room t z }
     ensures { OneRound tape.now work.old room t z over result work.new }
 {
     let h = replace(tape, work, room, t, z);
     if too_many(over, h.expander.height) {
-        return Rounded::Refused(last_pushed(work, h.g, h.expander.height));
+        Err(last_pushed(work, h.g, h.expander.height))
+    } else {
+        go_on(tape, work, room, t, z, h)
     }
-    go_on(tape, work, room, t, z, h)
 }

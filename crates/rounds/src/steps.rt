@@ -11,7 +11,7 @@ pub fn start(items: usize) -> Expander
     Expander {
         height: 0,
         round: 0,
-        items: items,
+        items,
     }
 }
 
@@ -19,11 +19,7 @@ pub fn start(items: usize) -> Expander
 pub fn push(e: Expander, n: usize) -> Expander
     ensures { result ≡ numbers_pending e n }
 {
-    Expander {
-        height: n,
-        round: e.round,
-        items: e.items,
-    }
+    Expander { height: n, ..e }
 }
 
 // The appending stage made an item of each of them.

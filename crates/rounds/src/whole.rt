@@ -2,7 +2,8 @@
 ghost use Rattle.rounds.specs.Round.{SomeRound, AllRounds};
 
 use crate::round::round;
-use crate::{Room, Rounded, State};
+use crate::{Progress, Room, State};
+use parse_tree::refusal::Refusal;
 use resolve::Grammar;
 
 // With no round left, what is pending is refused.
@@ -13,16 +14,16 @@ pub fn rounds(
     t: Grammar,
     limit: usize,
     z: State,
-) -> Rounded
+) -> Result<Progress, Refusal>
     requires { SomeRound tape.now work.old room t z }
     ensures { AllRounds tape.now work.old room t limit z result work.new }
 {
     let mut x = z;
+    // The rounds are counted in x itself.
     while x.expander.round < limit {
-        match round(tape, work, room, t, x, false) {
-            Rounded::Refused(why) => return Rounded::Refused(why),
-            Rounded::Done(y) => return Rounded::Done(y),
-            Rounded::More(y) => x = y,
+        match round(tape, work, room, t, x, false)? {
+            Progress::Done(y) => return Ok(Progress::Done(y)),
+            Progress::More(y) => x = y,
         }
     }
     round(tape, work, room, t, x, true)

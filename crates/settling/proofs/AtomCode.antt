@@ -2,7 +2,7 @@
 use mathlib.Core.Path.{◌≡◌, refl, sym, ap, ◌∙◌}
 use mathlib.Core.Logic.{inl}
 use mathlib.Core.List.{List, [], ◌∷◌, ◌++◌}
-use Prim.Native.Nat.{ℕ, ◌+◌, ◌-◌, ◌<◌, ◌≤◌}
+use Prim.Native.Nat.{ℕ, ◌+◌, ◌-◌}
 use native.Mathlib.Omega.{arith}
 use borrow.Author.Rules.{rules}
 use lib.ListN.{length, set, length-append}
@@ -15,7 +15,6 @@ use Rattle.parse_tree.specs.Plain.Tree.{Text}
 use Rattle.parse_tree.specs.Working.Nodes.{node_bytes}
 use Rattle.parse_tree.specs.Working.Encode.{atom_bytes}
 use Rattle.precedence.specs.Write.{Puts}
-use Rattle.precedence.proofs.WriteLaws.{puts_whole, puts_not}
 use Rattle.expander.specs.Ground.{printed_at}
 use Rattle.settling.specs.declared.copied.Print.{Print}
 use Rattle.settling.specs.Copied.{Copying, SaidSymbol}
@@ -28,19 +27,12 @@ set_store : (s : List ℕ) (at v : ℕ) → set s at v ≡ store s at (v ∷ [])
 unfolding store
 set_store s at v = refl
 
-module _ (w : List ℕ) (len lim to : ℕ) where
-  pub head_behind : lim < to → Puts w lim to (1 ∷ le 2 len) (lim + 1) w
-  head_behind h = puts_not w lim to (1 ∷ le 2 len) (omega arith)
+pub head_long : (len : ℕ) → length (1 ∷ le 2 len) ≡ 3
+head_long len = omega (arith, length-le 2 len)
 
-  pub head_over : to ≤ lim → lim - to < 3 → Puts w lim to (1 ∷ le 2 len) (lim + 1) w
-  head_over h k = puts_not w lim to (1 ∷ le 2 len) (omega (arith, length-le 2 len))
-
-  pub head_put : to ≤ lim → 3 ≤ lim - to → (w1 : List ℕ) → w1 ≡ store w (to + 1) (le 2 len) → Puts w lim to (1 ∷ le 2 len) (to + 3) (set w1 to 1)
-  head_put h k w1 e =
-      puts_whole w lim to (1 ∷ le 2 len) (set w1 to 1) 3 (omega (arith, length-le 2 len)) (omega arith)
-      (set_store w1 to 1 ∙ ap (λ (s : List ℕ). store s to (1 ∷ [])) e ∙ store-past w (to + 1) to (le 2 len) (1 ∷ []) (inl (omega arith)) ∙ store-append w to (to + 1) (1 ∷ []) (le 2 len) (omega arith))
-
-pub ruleset heading = (rules, head_behind, head_over, head_put)
+pub head_stored : (w w1 : List ℕ) (len to : ℕ) → w1 ≡ store w (to + 1) (le 2 len) → set w1 to 1 ≡ store w to (1 ∷ le 2 len)
+head_stored w w1 len to e =
+    set_store w1 to 1 ∙ ap (λ (s : List ℕ). store s to (1 ∷ [])) e ∙ store-past w (to + 1) to (le 2 len) (1 ∷ []) (inl (omega arith)) ∙ store-append w to (to + 1) (1 ∷ []) (le 2 len) (omega arith)
 
 -- ---- put_atom_text
 

@@ -1,5 +1,5 @@
 -- The ways out of built_length, put_bytes and put_built. Assumes nothing.
-use mathlib.Core.Path.{◌≡◌, refl, sym, ap, ◌∙◌}
+use mathlib.Core.Path.{◌≡◌, refl, ap, ◌∙◌}
 use mathlib.Core.List.{List, [], ◌∷◌, ◌++◌}
 use Prim.Native.Nat.{ℕ, ◌+◌, ◌-◌, ◌<◌, ◌≤◌}
 use native.Mathlib.Omega.{arith}
@@ -14,60 +14,30 @@ use Rattle.octets.proofs.StoreLaws.{store-append}
 use Rattle.parse_tree.specs.Plain.Tree.{Text}
 use Rattle.parse_tree.specs.Working.Nodes.{node_bytes}
 use Rattle.parse_tree.specs.Working.Encode.{atom_bytes}
-use Rattle.passes.specs.Macros.{vec_none, vec_one, pushed, some_text, none_text, one_chosen, all_chosen, v_name, e_name}
-use Rattle.laws.specs.Keys.{built_ins}
 use Rattle.texts.specs.Hash.{hash_of}
-use Rattle.appending.specs.Built.{built_text}
+use Rattle.appending.specs.declared.built.BuiltIn.{BuiltIn}
+use Rattle.appending.specs.Built.{number_of, built_text}
+use Rattle.settling.proofs.OneCode.{built_small}
 use Rattle.settling.specs.One.{TextPut}
 
-above : (k j : ℕ) → j ≤ k → (k ≡ j → ⊥) → j + 1 ≤ k
-above k j l e = omega arith
+-- ---- built_length and put_built: the k-th by its number
+module _ (k : ℕ) (b : BuiltIn) (t : Text) (e : number_of b ≡ k) (f : t ≡ built_text (number_of b)) where
+  text_is : t ≡ built_text k
+  text_is = f ∙ ap built_text e
 
-eighth : (k : ℕ) → k < 9 → (k ≡ 0 → ⊥) → (k ≡ 1 → ⊥) → (k ≡ 2 → ⊥) → (k ≡ 3 → ⊥) → (k ≡ 4 → ⊥) → (k ≡ 5 → ⊥) → (k ≡ 6 → ⊥) → (k ≡ 7 → ⊥) → k ≡ 8
-eighth k l a b c d e f g h = let z = above k 7 (above k 6 (above k 5 (above k 4 (above k 3 (above k 2 (above k 1 (above k 0 (omega arith) a) b) c) d) e) f) g) h in omega arith
+  pub built_long : length t ≡ length (built_text k)
+  built_long = ap length text_is
 
--- ---- built_length
-module _ (k : ℕ) where
-  long : (j n : ℕ) → k ≡ j → n ≡ length (built_text j) → n ≡ length (built_text k)
-  long j n e f = f ∙ ap (λ (i : ℕ). length (built_text i)) (sym e)
+  pub built_few : length t < 65536
+  built_few = omega (arith, built_long, built_small k)
 
-  pub long_none : k ≡ 0 → 13 ≡ length (built_text k)
-  unfolding built_text built_ins
-  long_none e = long 0 13 e refl
+  pub built_room : (end : ℕ) → 34 ≤ end → length t + 3 ≤ end
+  built_room end l = omega (arith, built_long, built_small k)
 
-  pub long_v : k ≡ 1 → 1 ≡ length (built_text k)
-  unfolding built_text built_ins
-  long_v e = long 1 1 e refl
+  pub puts_built : (w : List ℕ) (end r : ℕ) (w1 : List ℕ) → TextPut w t end r w1 → TextPut w (built_text k) end r w1
+  puts_built w end r w1 p = rw text_is at p
 
-  pub long_one : k ≡ 2 → 15 ≡ length (built_text k)
-  unfolding built_text built_ins
-  long_one e = long 2 15 e refl
-
-  pub long_push : k ≡ 3 → 31 ≡ length (built_text k)
-  unfolding built_text built_ins
-  long_push e = long 3 31 e refl
-
-  pub long_e : k ≡ 4 → 1 ≡ length (built_text k)
-  unfolding built_text built_ins
-  long_e e = long 4 1 e refl
-
-  pub long_some : k ≡ 5 → 8 ≡ length (built_text k)
-  unfolding built_text built_ins
-  long_some e = long 5 8 e refl
-
-  pub long_nothing : k ≡ 6 → 4 ≡ length (built_text k)
-  unfolding built_text built_ins
-  long_nothing e = long 6 4 e refl
-
-  pub long_chosen : k ≡ 7 → 2 ≡ length (built_text k)
-  unfolding built_text built_ins
-  long_chosen e = long 7 2 e refl
-
-  pub long_all : k < 9 → (k ≡ 0 → ⊥) → (k ≡ 1 → ⊥) → (k ≡ 2 → ⊥) → (k ≡ 3 → ⊥) → (k ≡ 4 → ⊥) → (k ≡ 5 → ⊥) → (k ≡ 6 → ⊥) → (k ≡ 7 → ⊥) → 4 ≡ length (built_text k)
-  unfolding built_text built_ins
-  long_all l a b c d e f g h = long 8 4 (eighth k l a b c d e f g h) refl
-
-pub ruleset built_long = (rules, long_none, long_v, long_one, long_push, long_e, long_some, long_nothing, long_chosen, long_all)
+pub ruleset by_number = (rules, built_long, built_few, built_room, puts_built)
 
 -- ---- put_bytes: the command, then the text
 set_store : (s : List ℕ) (at v : ℕ) → set s at v ≡ store s at (v ∷ [])
@@ -93,46 +63,3 @@ pub bytes_kept : (w w1 w2 : List ℕ) (to v : ℕ) → length w1 ≡ length (set
 bytes_kept w w1 w2 to v k l = omega (arith, k, l, length-set w to v)
 
 pub ruleset puts_bytes = (rules, head_room, bytes-room, bytes_put, bytes_kept)
-
--- ---- put_built
-module _ (w : List ℕ) (k end r : ℕ) (w1 : List ℕ) where
-  puts : (j : ℕ) → k ≡ j → TextPut w (built_text j) end r w1 → TextPut w (built_text k) end r w1
-  puts j e f = rw e f
-
-  pub puts_none : k ≡ 0 → TextPut w vec_none end r w1 → TextPut w (built_text k) end r w1
-  unfolding built_text built_ins
-  puts_none e f = puts 0 e f
-
-  pub puts_v : k ≡ 1 → TextPut w v_name end r w1 → TextPut w (built_text k) end r w1
-  unfolding built_text built_ins
-  puts_v e f = puts 1 e f
-
-  pub puts_one : k ≡ 2 → TextPut w vec_one end r w1 → TextPut w (built_text k) end r w1
-  unfolding built_text built_ins
-  puts_one e f = puts 2 e f
-
-  pub puts_push : k ≡ 3 → TextPut w pushed end r w1 → TextPut w (built_text k) end r w1
-  unfolding built_text built_ins
-  puts_push e f = puts 3 e f
-
-  pub puts_e : k ≡ 4 → TextPut w e_name end r w1 → TextPut w (built_text k) end r w1
-  unfolding built_text built_ins
-  puts_e e f = puts 4 e f
-
-  pub puts_some : k ≡ 5 → TextPut w some_text end r w1 → TextPut w (built_text k) end r w1
-  unfolding built_text built_ins
-  puts_some e f = puts 5 e f
-
-  pub puts_nothing : k ≡ 6 → TextPut w none_text end r w1 → TextPut w (built_text k) end r w1
-  unfolding built_text built_ins
-  puts_nothing e f = puts 6 e f
-
-  pub puts_chosen : k ≡ 7 → TextPut w one_chosen end r w1 → TextPut w (built_text k) end r w1
-  unfolding built_text built_ins
-  puts_chosen e f = puts 7 e f
-
-  pub puts_all : k < 9 → (k ≡ 0 → ⊥) → (k ≡ 1 → ⊥) → (k ≡ 2 → ⊥) → (k ≡ 3 → ⊥) → (k ≡ 4 → ⊥) → (k ≡ 5 → ⊥) → (k ≡ 6 → ⊥) → (k ≡ 7 → ⊥) → TextPut w all_chosen end r w1 → TextPut w (built_text k) end r w1
-  unfolding built_text built_ins
-  puts_all l a b c d e f g h p = puts 8 (eighth k l a b c d e f g h) p
-
-pub ruleset puts_built = (rules, puts_none, puts_v, puts_one, puts_push, puts_e, puts_some, puts_nothing, puts_chosen, puts_all)

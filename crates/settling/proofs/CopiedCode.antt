@@ -1,12 +1,13 @@
 -- The ways out of referred, numbered, known and put_known: the text of a symbol that stands already. Assumes nothing.
-use mathlib.Core.Path.{◌≡◌, sym, ap, ◌∙◌, subst}
+use mathlib.Core.Path.{◌≡◌, refl, sym, ap, ◌∙◌, subst}
 use mathlib.Core.Bool.{Bool, true}
 use mathlib.Core.Logic.{inl, inr}
 use mathlib.Core.List.{List, [], ◌∷◌, ◌++◌}
-use Prim.Native.Nat.{ℕ, ◌+◌, ◌-◌, ◌*◌, ◌/◌, ◌%◌, ◌<◌, ◌≤◌}
+use Prim.Native.Nat.{ℕ, ◌+◌, ◌*◌, ◌/◌, ◌%◌, ◌<◌, ◌≤◌}
 use native.Mathlib.Omega.{arith}
 use borrow.Author.Rules.{rules}
 use lib.ListN.{length, get_or}
+use Rattle.std.specs.Prelude.{Some, None}
 use Rattle.parse_tree.specs.Working.Within.{Each}
 use Rattle.texts.specs.Fields.{mark_at}
 use Rattle.texts.specs.Table.{texts}
@@ -26,7 +27,7 @@ use Rattle.octets.specs.Working.Choice.{pick}
 use Rattle.appending.proofs.BuiltGround.{odd_one, followed-even, followed-odd}
 use Rattle.appending.proofs.SymbolsTrees.{each-parts}
 use Rattle.settling.specs.declared.Source.{Source}
-use Rattle.settling.specs.Put.{source_text, Fixed, Marked}
+use Rattle.settling.specs.Put.{source_text, in_work, from_of, Fixed, Marked}
 use Rattle.settling.specs.declared.copied.Print.{Print}
 use Rattle.settling.specs.Copied.{TextStands, Numbered, Said, Copying, SaidSymbol, KnownText}
 use Rattle.settling.proofs.PutLaws.{puts_as}
@@ -63,25 +64,25 @@ module _ (s w : List ℕ) (x : Print) (p : ℕ) (G : Grounded s w x.g) (h : Said
         odd_done u f = f ∙ ap (slot_at w g) m ∙ sym (followed-odd w g v o) ∙ ap (followed w g) e
 
   -- ---- numbered
-  pub known_none : KnownText s w x p 0
-  known_none = record { stands = λ l. absurd (omega arith); is = λ l. absurd (omega arith) }
+  pub known_none : KnownText s w x p None
+  known_none = record { stands = λ k e. cc; is = λ k e. cc }
 
   module _ (u : ℕ) (f : u ≡ followed w g (slot_at w g p)) (z : u % 2 ≡ 0) where
-    known_some : Numbered x (u / 2) → KnownText s w x p (u / 2 + 1)
-    known_some n =
-        let y : u / 2 + 1 - 1 ≡ u / 2 = omega arith in
+    known_some : (k : ℕ) → k ≡ u / 2 → Numbered x k → KnownText s w x p (Some k)
+    known_some k i n =
         let e : followed w g (slot_at w g p) % 2 ≡ 0 = rw (← f) z in
-        let k : Numbered x (followed w g (slot_at w g p) / 2) = rw f at n in
+        let a : k ≡ followed w g (slot_at w g p) / 2 = i ∙ ap (λ (v : ℕ). v / 2) f in
+        let o : Numbered x (followed w g (slot_at w g p) / 2) = rw a at n in
         record {
-          stands = λ l. rw (y, f) (h.stands e k);
-          is = λ l. rw (y, f) (h.is e k);
+          stands = λ j y. (let b : j ≡ followed w g (slot_at w g p) / 2 = cc in rw b (h.stands e o));
+          is = λ j y. (let b : j ≡ followed w g (slot_at w g p) / 2 = cc in rw b (h.is e o));
         }
 
-    pub known_old : u / 2 < g.m.count → KnownText s w x p (u / 2 + 1)
-    known_old l = known_some (inl l)
+    pub known_old : u / 2 < g.m.count → KnownText s w x p (Some (u / 2))
+    known_old l = known_some (u / 2) refl (inl l)
 
-    pub known_new : x.first ≤ u / 2 → KnownText s w x p (u / 2 + 1)
-    known_new l = known_some (inr l)
+    pub known_new : x.first ≤ u / 2 → KnownText s w x p (Some (u / 2))
+    known_new l = known_some (u / 2) refl (inr l)
 
 pub ruleset referring = (rules, own_room, even_done, key_room, key_slot_room, odd_done)
 
@@ -101,8 +102,8 @@ module _ (s w : List ℕ) (x : Print) (left p : ℕ) (G : Grounded s w x.g) (h :
       keys_parts x.g.width (texts s w x.g.m) h.symbol p ∙ ap (λ (i : Bool). keys_of_all x.g.width (texts s w x.g.m) (children h.symbol) (p + size_of x.g.width (sym_node (texts s w x.g.m) h.symbol)) ++ own_keys i p) k in
       (each-parts (Said s w x) (keys_of_all x.g.width (texts s w x.g.m) (children h.symbol) (p + size_of x.g.width (sym_node (texts s w x.g.m) h.symbol))) (p ∷ []) (subst (Each (Said s w x)) is h.said)).1.0
 
-  pub known_not : KnownText s w x p 0
-  known_not = record { stands = λ l. absurd (omega arith); is = λ l. absurd (omega arith) }
+  pub known_not : KnownText s w x p None
+  known_not = record { stands = λ k e. cc; is = λ k e. cc }
 
 pub ruleset knowing = (rules, symbol_within, own-said, known_not)
 
@@ -119,7 +120,7 @@ module _ (s w : List ℕ) (x : Print) (k to : ℕ) (C : Copying s w x to) (t : T
       pub known_fixed : Fixed (length s) (length w) x.lim q
       known_fixed = record { ordered = m.ordered; tape = m.tape; work = m.work; behind = λ d. go d (rw (← e) at t.behind) }
         where
-          go : q.here ≡ true → Behind s x.lim y → x.lim ≤ q.from
+          go : in_work q ≡ true → Behind s x.lim y → x.lim ≤ from_of q
           go d (inl l) = absurd (omega (arith, m.far d))
           go d (inr l) = omega (arith, m.behind d)
 

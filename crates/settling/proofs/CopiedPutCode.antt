@@ -7,6 +7,7 @@ use native.Mathlib.Omega.{arith}
 use borrow.Author.Rules.{rules}
 use borrow.Author.Tests.{ne_eqb, le-ltb}
 use lib.ListN.{length, get_or}
+use Rattle.std.specs.Prelude.{Option, Some}
 use Rattle.octets.specs.Working.Choice.{pick}
 use Rattle.parse_tree.specs.Plain.Tree.{Text, Syms, nil, cons, count}
 use Rattle.parse_tree.specs.Plain.Display.{shown_all, shown_more, print}
@@ -61,11 +62,11 @@ module _ (s w : List ℕ) (x : Print) (left p to : ℕ) (C : Copying s w x to) (
     leaf_put n m e r w2 D = parts_put s w x left p h to C c d q w1 A [] q w1 still (none_shown (children h.symbol) (between_text h.symbol) (said_many s w x left p h c d ∙ sym m ∙ e)) r w2 D
 
   -- ---- put_one
-  pub copied_put : (k r : ℕ) (w1 : List ℕ) → KnownText s w x p k → 0 < k → Puts w x.lim to (marked_text s w (mark_at w g.m.base (k - 1))) r w1 → Puts w x.lim to (printed_at s w g p) r w1
-  copied_put k r w1 K l a = puts_as (K.is l) a
+  pub copied_put : (f : Option ℕ) (k r : ℕ) (w1 : List ℕ) → KnownText s w x p f → f ≡ Some k → Puts w x.lim to (marked_text s w (mark_at w g.m.base k)) r w1 → Puts w x.lim to (printed_at s w g p) r w1
+  copied_put f k r w1 K l a = puts_as (K.is k l) a
 
-  pub copied_stands : (k : ℕ) → KnownText s w x p k → 0 < k → TextStands s w x (k - 1)
-  copied_stands k K l = K.stands l
+  pub copied_stands : (f : Option ℕ) (k : ℕ) → KnownText s w x p f → f ≡ Some k → TextStands s w x k
+  copied_stands f k K l = K.stands k l
 
   -- ---- put_symbol
   module _ (c : ℕ) (d : c ≡ get_or w at 0) (q : ℕ) (w1 : List ℕ) (A : Puts w x.lim to (before_by g.width (texts s w g.m) w at c) q w1) where

@@ -2,7 +2,7 @@
 use mathlib.Core.Path.{◌≡◌, refl, sym, ap, ◌∙◌}
 use mathlib.Core.Logic.{inr}
 use mathlib.Core.List.{List, [], ◌∷◌, ◌++◌}
-use Prim.Native.Nat.{ℕ, ◌+◌, ◌-◌, ◌<◌, ◌≤◌}
+use Prim.Native.Nat.{ℕ, ◌+◌, ◌<◌, ◌≤◌}
 use native.Mathlib.Omega.{arith}
 use native.Mathlib.Numerals.{add-one}
 use borrow.Author.Rules.{rules}
@@ -11,13 +11,13 @@ use lib.ListN.{length, set, get_or, length-set}
 use lib.Seq.{get_or-set_other}
 use Rattle.octets.specs.Plain.Runs.{part}
 use Rattle.octets.specs.Working.Stores.{store}
-use Rattle.octets.proofs.PartLaws.{part_none, part-one, part_length}
+use Rattle.octets.proofs.PartLaws.{part_none, part-one}
 use Rattle.octets.proofs.StoreLaws.{store-none}
 use Rattle.parse_tree.specs.Plain.Tree.{Text}
 use Rattle.parse_tree.specs.Plain.Display.{escaped}
 use Rattle.display.proofs.StandsLaws.{escaped-one}
 use Rattle.precedence.specs.Write.{Puts}
-use Rattle.precedence.proofs.WriteLaws.{puts_beside, puts_none, puts_whole, puts_not}
+use Rattle.precedence.proofs.WriteLaws.{puts_beside, puts_none}
 use Rattle.settling.proofs.PutLaws.{puts_stop, then, puts_as}
 
 store-one : (s : List ℕ) (at v : ℕ) (vs : List ℕ) → store s at (v ∷ vs) ≡ store (set s at v) (at + 1) vs
@@ -63,33 +63,6 @@ module _ (w : List ℕ) (a e to : ℕ) (out : List ℕ) (i q : ℕ) (g : Moving 
   moving_same = g.same
 
 pub ruleset moving = (rules, moving_start, moving_room, moving_inside, moving_next, moving_done, moving_same)
-
--- ---- put_byte
-set_store : (s : List ℕ) (at v : ℕ) → set s at v ≡ store s at (v ∷ [])
-unfolding store
-set_store s at v = refl
-
-module _ (w : List ℕ) (b lim to : ℕ) where
-  pub byte_not : lim ≤ to → Puts w lim to (b ∷ []) (lim + 1) w
-  byte_not h = puts_not w lim to (b ∷ []) (omega arith)
-
-  pub byte_put : to < lim → Puts w lim to (b ∷ []) (to + 1) (set w to b)
-  byte_put h = puts_whole w lim to (b ∷ []) (set w to b) 1 refl (omega arith) (set_store w to b)
-
-pub ruleset byting = (rules, byte_not, byte_put)
-
--- ---- put_down, put_from: the bytes from a up to e of src
-module _ (src w : List ℕ) (a e lim to : ℕ) (h : a ≤ e) (l : e ≤ length src) where
-  pub run_behind : lim < to → Puts w lim to (part a e src) (lim + 1) w
-  run_behind z = puts_not w lim to (part a e src) (omega arith)
-
-  pub run_over : to ≤ lim → lim - to < e - a → Puts w lim to (part a e src) (lim + 1) w
-  run_over y z = puts_not w lim to (part a e src) (omega (arith, part_length a e src l))
-
-  pub run_whole : to ≤ lim → e - a ≤ lim - to → (w1 : List ℕ) → w1 ≡ store w to (part a e src) → Puts w lim to (part a e src) (to + (e - a)) w1
-  run_whole y z w1 j = puts_whole w lim to (part a e src) w1 (e - a) (sym (part_length a e src l)) (omega arith) j
-
-pub ruleset running = (rules, run_behind, run_over, run_whole)
 
 -- ---- put_two, put_inside
 pub two_put : (w w1 w2 : List ℕ) (x y lim to q r : ℕ) → Puts w lim to (x ∷ []) q w1 → Puts w1 lim q (y ∷ []) r w2 → Puts w lim to (x ∷ y ∷ []) r w2

@@ -27,7 +27,7 @@ use Rattle.display.specs.Follow.{quoted_text, word_at, leaf_text, mark_text, lab
 use Rattle.precedence.specs.Write.{Puts}
 use Rattle.precedence.proofs.WriteLaws.{puts_none}
 use Rattle.settling.specs.declared.Source.{Source}
-use Rattle.settling.specs.Put.{source_text, Fixed, Marked, PlacedText}
+use Rattle.settling.specs.Put.{source_text, in_work, Fixed, Marked, PlacedText}
 use Rattle.settling.proofs.PutLaws.{puts_stop, then, puts_as}
 use Rattle.settling.proofs.WordsLaws.{fixed_same, source_next}
 
@@ -40,7 +40,7 @@ module _ (s w : List ℕ) (x : ℕ) (g : Whole s w x) where
   unfolding atom_end
   tape_two h = omega (arith, tape_whole s w x g h)
 
-  pub tape_marked : (m n : ℕ) → x / 4 < length s → m ≡ le_at 2 s (x / 4 + 1) → n ≡ m → Marked s w x (record { here = false; from = x / 4 + 3; end = x / 4 + 3 + n })
+  pub tape_marked : (m n : ℕ) → x / 4 < length s → m ≡ le_at 2 s (x / 4 + 1) → n ≡ m → Marked s w x (Source.Tape (x / 4 + 3) (x / 4 + 3 + n))
   unfolding source_text pick atom_end atom_text
   tape_marked m n h e d =
       let z : n ≡ le_at 2 s (x / 4 + 1) = d ∙ e in
@@ -69,7 +69,7 @@ module _ (s w : List ℕ) (x : ℕ) (g : Whole s w x) where
       unfolding atom_end
       work_end f = record { fits = omega (arith, work_whole s w x g h, d, e) }
 
-      pub work_marked : Marked s w x (record { here = true; from = x + 4 * length s + 3; end = x + 4 * length s + 3 + n })
+      pub work_marked : Marked s w x (Source.Work (x + 4 * length s + 3) (x + 4 * length s + 3 + n))
       unfolding source_text pick atom_end atom_text
       work_marked =
           let z : n ≡ le_at 2 w (x + 4 * length s + 1) = d ∙ e in
@@ -94,10 +94,10 @@ module _ (wd : ℕ) (s w : List ℕ) (m : Map) (at x k : ℕ) (j : x ≡ le_at w
   unfolding texts
   many = length_texts s w m.base m.count
 
-  pub word_beyond : m.count ≤ k → PlacedText s w m (word_at wd (texts s w m) w at) (record { here = false; from = 0; end = 0 })
+  pub word_beyond : m.count ≤ k → PlacedText s w m (word_at wd (texts s w m) w at) (Source.Tape 0 0)
   unfolding source_text
   word_beyond l = record {
-    text = part_none 0 0 (pick false w s) (omega arith) ∙ sym (some ∙ get_or-eq_default (texts s w m) [] {n = k} (omega (arith, many)));
+    text = part_none 0 0 s (omega arith) ∙ sym (some ∙ get_or-eq_default (texts s w m) [] {n = k} (omega (arith, many)));
     fixed = λ z a. record { ordered = omega arith; tape = λ p. omega arith; work = λ p. absurd (not_here p); behind = λ p. absurd (not_here p) };
   }
 
@@ -108,7 +108,7 @@ module _ (wd : ℕ) (s w : List ℕ) (m : Map) (at x k : ℕ) (j : x ≡ le_at w
     fixed = λ z a. record { ordered = d.ordered; tape = d.tape; work = d.work; behind = λ h. omega (arith, low z a h, d.behind h) };
   }
     where
-      low : (z : ℕ) → Above s w m z → p.here ≡ true → z ≤ y + 4 * length s
+      low : (z : ℕ) → Above s w m z → in_work p ≡ true → z ≤ y + 4 * length s
       low z a h = go (a.above k l)
         where
           go : Behind s z (mark_at w m.base k) → z ≤ y + 4 * length s
@@ -121,38 +121,47 @@ word_whole s w m k y g h e = rw e (g.whole k h)
 pub ruleset wording = (rules, word_beyond, word_placed, word_whole)
 
 -- ---- put_text, put_escaped
-module _ (s w : List ℕ) (lim : ℕ) (p : Source) (f : Fixed (length s) (length w) lim p) where
-  pub source_ordered : p.from ≤ p.end
-  source_ordered = f.ordered
+module _ (s w : List ℕ) (lim : ℕ) (p : Source) (f : Fixed (length s) (length w) lim p) (a e : ℕ) where
+  module _ (h : p ≡ Source.Work a e) where
+    here : Fixed (length s) (length w) lim (Source.Work a e)
+    here = rw h at f
 
-  module _ (h : p.here ≡ true) where
-    pub here_behind : lim ≤ p.from
-    here_behind = f.behind h
+    pub here_ordered : a ≤ e
+    here_ordered = here.ordered
 
-    pub here_inside : p.end ≤ length w
-    here_inside = f.work h
+    pub here_behind : lim ≤ a
+    here_behind = here.behind refl
 
-    pub here_text : (to r : ℕ) (w1 : List ℕ) → Puts w lim to (part p.from p.end w) r w1 → Puts w lim to (source_text s w p) r w1
-    unfolding source_text pick
-    here_text to r w1 g = puts_as (ap (λ (b : Bool). part p.from p.end (pick b w s)) (sym h)) g
+    pub here_inside : e ≤ length w
+    here_inside = here.work refl
 
-    pub here_escaped : (to r : ℕ) (w1 : List ℕ) → Puts w lim to (escaped (part p.from p.end w) []) r w1 → Puts w lim to (escaped (source_text s w p) []) r w1
-    unfolding source_text pick
-    here_escaped to r w1 g = puts_as (ap (λ (b : Bool). escaped (part p.from p.end (pick b w s)) []) (sym h)) g
+    pub here_text : (to r : ℕ) (w1 : List ℕ) → Puts w lim to (part a e w) r w1 → Puts w lim to (source_text s w p) r w1
+    unfolding source_text
+    here_text to r w1 g = puts_as (sym (ap (source_text s w) h)) g
 
-  module _ (h : p.here ≡ false) where
-    pub tape_inside : p.end ≤ length s
-    tape_inside = f.tape h
+    pub here_escaped : (to r : ℕ) (w1 : List ℕ) → Puts w lim to (escaped (part a e w) []) r w1 → Puts w lim to (escaped (source_text s w p) []) r w1
+    unfolding source_text
+    here_escaped to r w1 g = puts_as (sym (ap (λ (q : Source). escaped (source_text s w q) []) h)) g
 
-    pub tape_put : (to r : ℕ) (w1 : List ℕ) → Puts w lim to (part p.from p.end s) r w1 → Puts w lim to (source_text s w p) r w1
-    unfolding source_text pick
-    tape_put to r w1 g = puts_as (ap (λ (b : Bool). part p.from p.end (pick b w s)) (sym h)) g
+  module _ (h : p ≡ Source.Tape a e) where
+    there : Fixed (length s) (length w) lim (Source.Tape a e)
+    there = rw h at f
 
-    pub tape_escaped : (to r : ℕ) (w1 : List ℕ) → Puts w lim to (escaped (part p.from p.end s) []) r w1 → Puts w lim to (escaped (source_text s w p) []) r w1
-    unfolding source_text pick
-    tape_escaped to r w1 g = puts_as (ap (λ (b : Bool). escaped (part p.from p.end (pick b w s)) []) (sym h)) g
+    pub tape_ordered : a ≤ e
+    tape_ordered = there.ordered
 
-pub ruleset reading = (rules, source_ordered, here_behind, here_inside, here_text, here_escaped, tape_inside, tape_put, tape_escaped)
+    pub tape_inside : e ≤ length s
+    tape_inside = there.tape refl
+
+    pub tape_put : (to r : ℕ) (w1 : List ℕ) → Puts w lim to (part a e s) r w1 → Puts w lim to (source_text s w p) r w1
+    unfolding source_text
+    tape_put to r w1 g = puts_as (sym (ap (source_text s w) h)) g
+
+    pub tape_escaped : (to r : ℕ) (w1 : List ℕ) → Puts w lim to (escaped (part a e s) []) r w1 → Puts w lim to (escaped (source_text s w p) []) r w1
+    unfolding source_text
+    tape_escaped to r w1 g = puts_as (sym (ap (λ (q : Source). escaped (source_text s w q) []) h)) g
+
+pub ruleset reading = (rules, here_ordered, here_behind, here_inside, here_text, here_escaped, tape_ordered, tape_inside, tape_put, tape_escaped)
 
 -- ---- put_quoted
 pub quoted_put : (s w w1 w2 w3 : List ℕ) (lim to q z r : ℕ) (p : Source) → Fixed (length s) (length w) lim p → Puts w lim to (34 ∷ []) q w1 → Puts w1 lim q (escaped (source_text s w1 p) []) z w2 → Puts w2 lim z (34 ∷ []) r w3

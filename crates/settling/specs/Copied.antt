@@ -1,5 +1,6 @@
 -- Printed forms of pushed symbols, in which the texts of inner symbols are copied that stand already. s is the tape, w is work before and w' after. Assumes nothing: these are definitions.
-use Rattle.std.specs.Prelude.{◌≡◌, Bool, ◌⊎◌, List, [], ℕ, ◌+◌, ◌-◌, ◌*◌, ◌/◌, ◌%◌, ◌≤◌, ◌<◌, length, get_or}
+use Rattle.std.specs.Prelude.{◌≡◌, Bool, ◌⊎◌, List, [], ℕ, ◌+◌, ◌*◌, ◌/◌, ◌%◌, ◌≤◌, ◌<◌, length, get_or}
+use Rattle.std.specs.Prelude.{Option, Some}
 use Rattle.parse_tree.specs.Plain.Tree.{Sym, Syms, count}
 use Rattle.parse_tree.specs.Plain.Display.{shown_all}
 use Rattle.parse_tree.specs.Working.Within.{Each}
@@ -66,10 +67,10 @@ pub record SaidSymbols (s w : List ℕ) (x : Print) (n left p : ℕ) : Type 0 wh
   pub inside : end ≤ size_in x.g
   pub said : Each (Said s w x) (keys_of_all x.g.width (texts s w x.g.m) symbols p)
 
--- r is 0, or one more than the number of a text that stands: the print of the symbol at p
-pub record KnownText (s w : List ℕ) (x : Print) (p r : ℕ) : Type 0 where
-  pub stands : 0 < r → TextStands s w x (r - 1)
-  pub is : 0 < r → marked_text s w (mark_at w x.g.m.base (r - 1)) ≡ printed_at s w x.g p
+-- if r is the number of a text, that stands: the print of the symbol at p
+pub record KnownText (s w : List ℕ) (x : Print) (p : ℕ) (r : Option ℕ) : Type 0 where
+  pub stands : (k : ℕ) → r ≡ Some k → TextStands s w x k
+  pub is : (k : ℕ) → r ≡ Some k → marked_text s w (mark_at w x.g.m.base k) ≡ printed_at s w x.g p
 
 -- a symbol around one other stands at p with the code c
 pub record SaidAround (s w : List ℕ) (x : Print) (left p c : ℕ) : Type 0 where

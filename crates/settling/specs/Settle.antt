@@ -1,6 +1,6 @@
 -- The new texts of a round, once their stage is admitted: how many bytes they have, their atoms written behind one another up to a place, and their records. s is the tape, w is work; n symbols
 -- were pushed, c texts are new. Assumes nothing: these are definitions.
-use Rattle.std.specs.Prelude.{◌≡◌, Bool, true, false, ◌||◌, ◌⊎◌, List, [], ◌∷◌, ℕ, ◌+◌, ◌-◌, ◌*◌, ◌%◌, ◌≤◌, ◌<◌, ltb, length, get_or}
+use Rattle.std.specs.Prelude.{◌≡◌, Bool, true, false, cond, ◌||◌, ◌⊎◌, List, [], ◌∷◌, ℕ, ◌+◌, ◌-◌, ◌*◌, ◌%◌, ◌≤◌, ◌<◌, ltb, length, get_or}
 use Rattle.octets.specs.Plain.Runs.{Lies}
 use Rattle.parse_tree.specs.Plain.Tree.{Text}
 use Rattle.parse_tree.specs.Plain.WriteTape.{bytes_of_each}
@@ -15,7 +15,7 @@ use Rattle.expander.specs.Held.{down, any_of, ref_in, is_text}
 use Rattle.expander.specs.Replace.{keys_of}
 use Rattle.expander.specs.Names.{listed_texts, named_in, Names}
 use Rattle.settling.specs.One.{new_cell}
-use Rattle.settling.specs.declared.settle.Fresh.{Fresh}
+use Rattle.std.specs.Prelude.{Option, Some, None}
 use Rattle.settling.specs.declared.settle.Settled.{Settled}
 
 -- the bytes of the new texts with their commands
@@ -34,9 +34,8 @@ pub record SomeNew (s w : List ℕ) (g : Ground) (n c : ℕ) : Type 0 where
   pub names : Names s w g n c places
   pub few : c ≤ 65536
 
-pub record Counts (s w : List ℕ) (g : Ground) (n c : ℕ) (r : Fresh) : Type 0 where
-  pub long : r.long ≡ some_long (listed_texts s w g c)
-  pub bytes : some_long (listed_texts s w g c) ≡ false → r.bytes ≡ length (new_bytes s w g c)
+unfoldable pub Counts : List ℕ → List ℕ → Ground → ℕ → ℕ → Option ℕ → Type 0
+Counts s w g n c r = r ≡ cond (some_long (listed_texts s w g c)) None (Some (length (new_bytes s w g c)))
 
 -- ---- written and entered
 

@@ -8,6 +8,7 @@ ghost use Rattle.expander.specs.Ground.{printed_at};
 ghost use Rattle.settling.specs.Atom.{AtomReady};
 
 use crate::copied::{Print, put_symbol};
+use appending::commands::put;
 use octets::numbers::store16;
 
 // The command of a text of so many bytes.
@@ -15,15 +16,10 @@ fn put_head(work: &mut [u8], len: u16, lim: usize, to: usize) -> usize
     requires { lim ≤ length work.old }
     ensures { Puts work.old lim to (1 ∷ le 2 len) result work.new }
 {
-    if lim < to {
-        return lim + 1;
-    }
-    if lim - to < 3 {
-        return lim + 1;
-    }
-    store16(work, to + 1, len);
-    work[to] = 1;
-    to + 3
+    put(work, 3, lim, to, move |w| {
+        store16(w, to + 1, len);
+        w[to] = 1;
+    })
 }
 
 // The printed form of the pushed symbol at p, which has len bytes, as an atom that ends at x.lim.

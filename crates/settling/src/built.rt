@@ -3,26 +3,17 @@ ghost use Rattle.std.specs.Prelude.{◌≡◌, ◌+◌, ◌≤◌, ◌<◌, leng
 ghost use Rattle.appending.specs.Built.{built_text};
 ghost use Rattle.settling.specs.One.{TextPut};
 
+use appending::built::{bytes, of_number};
 use octets::numbers::store16;
 use octets::runs::copy;
 use texts::hash::hash;
 
-// How many bytes the k-th has.
+// How many bytes the k-th has. Its number is read from work.
 pub fn built_length(k: usize) -> usize
     requires { k < 9 }
     ensures { result ≡ length (built_text k) }
 {
-    match k {
-        0 => 13,
-        1 => 1,
-        2 => 15,
-        3 => 31,
-        4 => 1,
-        5 => 8,
-        6 => 4,
-        7 => 2,
-        _ => 4,
-    }
+    bytes(of_number(k)).len()
 }
 
 // A text as an atom that ends at `end`; says its hash.
@@ -42,15 +33,5 @@ pub fn put_built(work: &mut [u8], k: usize, end: usize) -> usize
     requires { (k < 9) × (34 ≤ end) × (end ≤ length work.old) }
     ensures { TextPut work.old (built_text k) end result work.new }
 {
-    match k {
-        0 => put_bytes(work, b"alloc::vec![]", end),
-        1 => put_bytes(work, b"v", end),
-        2 => put_bytes(work, b"alloc::vec![<>]", end),
-        3 => put_bytes(work, b"{ let mut v = v; v.push(e); v }", end),
-        4 => put_bytes(work, b"e", end),
-        5 => put_bytes(work, b"Some(<>)", end),
-        6 => put_bytes(work, b"None", end),
-        7 => put_bytes(work, b"<>", end),
-        _ => put_bytes(work, b"(<>)", end),
-    }
+    put_bytes(work, bytes(of_number(k)), end)
 }

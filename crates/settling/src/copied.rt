@@ -32,38 +32,36 @@ fn referred(tape: &[u8], work: &[u8], x: Print, p: usize) -> usize
 {
     let v = slot(work, x.g, p);
     if v % 2 == 0 {
-        return v;
+        v
+    } else {
+        slot(work, x.g, mark(work, x.g.keys, v / 2))
     }
-    slot(work, x.g, mark(work, x.g.keys, v / 2))
 }
 
-// The number of the text of the symbol at p, which is expanded, and one; 0 if that doesn't stand yet.
-fn numbered(tape: &[u8], work: &[u8], x: Print, p: usize) -> usize
+// The number of the text of the symbol at p, which is expanded, if that stands already.
+fn numbered(tape: &[u8], work: &[u8], x: Print, p: usize) -> Option<usize>
     requires { Grounded tape.now work.now x.g × Said tape.now work.now x p }
     ensures { KnownText tape.now work.now x p result }
 {
     let v = referred(tape, work, x, p);
-    if v % 2 != 0 {
-        return 0;
+    let k = v / 2;
+    if v % 2 == 0 && (k < x.g.m.count || x.first <= k) {
+        Some(k)
+    } else {
+        None
     }
-    if v / 2 < x.g.m.count {
-        return v / 2 + 1;
-    }
-    if v / 2 < x.first {
-        return 0;
-    }
-    v / 2 + 1
 }
 
 // The same of any symbol.
-fn known(tape: &[u8], work: &[u8], x: Print, left: usize, p: usize) -> usize
+fn known(tape: &[u8], work: &[u8], x: Print, left: usize, p: usize) -> Option<usize>
     requires { Grounded tape.now work.now x.g × SaidSymbol tape.now work.now x left p }
     ensures { KnownText tape.now work.now x p result }
 {
     if is_expanded(work[x.g.from + p]) {
-        return numbered(tape, work, x, p);
+        numbered(tape, work, x, p)
+    } else {
+        None
     }
-    0
 }
 
 // Text k of the records.
@@ -84,9 +82,10 @@ fn put_walked(tape: &[u8], work: &mut [u8], x: Print, left: usize, p: usize, to:
     let c = work[at];
     if inside(work, x.g.width, at, c) == 0 {
         let q = put_before(tape, work, x.g.m, x.g.width, at, c, x.lim, to);
-        return put_behind(work, x.g.width, at, c, x.lim, q);
+        put_behind(work, x.g.width, at, c, x.lim, q)
+    } else {
+        print_symbol(tape, work, x.g.m, x.g.width, left, at, x.lim, to)
     }
-    print_symbol(tape, work, x.g.m, x.g.width, left, at, x.lim, to)
 }
 
 // Copied if it stands already.
@@ -94,11 +93,10 @@ fn put_one(tape: &[u8], work: &mut [u8], x: Print, left: usize, p: usize, to: us
     requires { Copying tape.now work.old x to × SaidSymbol tape.now work.old x left p }
     ensures { Puts work.old x.lim to (printed_at tape.now work.old x.g p) result work.new }
 {
-    let k = known(tape, work, x, left, p);
-    if 0 < k {
-        return put_known(tape, work, x, k - 1, to);
+    match known(tape, work, x, left, p) {
+        Some(k) => put_known(tape, work, x, k, to),
+        None => put_walked(tape, work, x, left, p, to),
     }
-    put_walked(tape, work, x, left, p, to)
 }
 
 // Of one around one other, which has no text itself but whose inner one may have.
@@ -127,13 +125,11 @@ fn put_part(tape: &[u8], work: &mut [u8], x: Print, left: usize, p: usize, to: u
     ensures { Puts work.old x.lim to (printed_at tape.now work.old x.g p) result work.new }
 {
     let c = work[x.g.from + p];
-    if c < 39 {
-        return put_one(tape, work, x, left, p, to);
+    if 39 <= c && c <= 40 {
+        put_around(tape, work, x, left, p, c, to)
+    } else {
+        put_one(tape, work, x, left, p, to)
     }
-    if 40 < c {
-        return put_one(tape, work, x, left, p, to);
-    }
-    put_around(tape, work, x, left, p, c, to)
 }
 
 // The place behind the symbol at p, if more than one is to come.
@@ -147,9 +143,10 @@ fn behind(tape: &[u8], work: &[u8], x: Print, left: usize, p: usize, k: usize) -
     let at = x.g.from + p;
     let c = work[at];
     if inside(work, x.g.width, at, c) == 0 {
-        return p + long(c, x.g.width);
+        p + long(c, x.g.width)
+    } else {
+        skip(work, at, x.g.end, 1, x.g.width) - x.g.from
     }
-    skip(work, at, x.g.end, 1, x.g.width) - x.g.from
 }
 
 // Of n symbols that stand at p, straight inside a command of the code c.
@@ -167,15 +164,14 @@ fn put_parts(
     ensures { PutsAll tape.now work.old x n left p c to result work.new }
 {
     let mut a = p;
-    let mut k = n;
+    // 0 before the first, 1 before any other.
     let mut d = 0;
     let mut q = to;
-    while 0 < k {
+    for i in 0..n {
         let z = put_between(work, c, d, x.lim, q);
         q = put_part(tape, work, x, left, a, z);
-        a = behind(tape, work, x, left, a, k);
+        a = behind(tape, work, x, left, a, n - i);
         d = 1;
-        k -= 1;
     }
     q
 }

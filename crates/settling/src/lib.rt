@@ -12,12 +12,11 @@ pub mod put;
 pub mod settle;
 pub mod words;
 
-// Where a text stands: in work if `here`, else on the tape, from its first byte up to its end.
+// Where a text stands: on the tape or in work, from its first byte up to its end.
 #[derive(Clone, Copy)]
-pub struct Source {
-    pub here: bool,
-    pub from: usize,
-    pub end: usize,
+pub enum Source {
+    Tape(usize, usize),
+    Work(usize, usize),
 }
 
 // The place behind symbols, and the place to write on at.

@@ -10,7 +10,6 @@ use crate::built::{built_length, put_built};
 use crate::copied::Print;
 use expander::Ground;
 use octets::numbers::u64_at;
-use octets::wide::from32;
 use texts::fields::{cell, hash, mark, write};
 
 // The i-th entry of the list of new texts.
@@ -27,9 +26,10 @@ pub fn text_length(tape: &[u8], work: &[u8], g: Ground, v: usize) -> usize
     ensures { result ≡ stop (length (described_by tape.now work.now g v)) }
 {
     if v % 2 == 0 {
-        return from32(cell(work, g.keys, v / 2));
+        cell(work, g.keys, v / 2) as usize
+    } else {
+        built_length(v / 2)
     }
-    built_length(v / 2)
 }
 
 // The print that an even entry describes, which has len bytes, as an atom that ends at `end`; says its hash. New texts are written from number `first` on.
@@ -47,11 +47,7 @@ fn put_print(
 {
     let p = mark(work, g.keys, v / 2);
     let h = hash(work, g.keys, v / 2);
-    let x = Print {
-        g: g,
-        first: first,
-        lim: end,
-    };
+    let x = Print { g, first, lim: end };
     put_atom_text(tape, work, x, p, len);
     h
 }
@@ -70,19 +66,17 @@ fn put_new(
     ensures { TextPut work.old (described_by tape.now work.old g v) end result work.new }
 {
     if v % 2 == 0 {
-        return put_print(tape, work, g, first, v, len, end);
+        put_print(tape, work, g, first, v, len, end)
+    } else {
+        put_built(work, v / 2, end)
     }
-    put_built(work, v / 2, end)
 }
 
 // The cell of the text that an entry describes: a print counts as pushed, a built-in text doesn't.
 fn new_cell(v: usize) -> u32
     ensures { result ≡ new_cell v }
 {
-    if v % 2 != 0 {
-        return 0;
-    }
-    2147483648
+    if v % 2 == 0 { 2147483648 } else { 0 }
 }
 
 // The i-th new text as an atom that ends at `end`, and its record; says where it begins.

@@ -28,12 +28,12 @@ pub fn put_between(work: &mut [u8], c: u8, k: usize, lim: usize, to: usize) -> u
     ensures { Puts work.old lim to (between_by c k) result work.new }
 {
     if k == 0 {
-        return to;
+        to
+    } else if c == 37 {
+        put_two(work, 44, 32, lim, to)
+    } else {
+        put_byte(work, 32, lim, to)
     }
-    if c == 37 {
-        return put_two(work, 44, 32, lim, to);
-    }
-    put_byte(work, 32, lim, to)
 }
 
 // The name of the named symbol at a place.
@@ -72,23 +72,17 @@ pub fn put_before(
         let p = word_source(tape, work, m, width, at + 9);
         return put_leaf(tape, work, p, c, lim, to);
     }
-    if c == 37 {
-        let p = word_source(tape, work, m, width, at + 9);
-        return put_open(tape, work, p, lim, to);
+    match c {
+        37 => {
+            let p = word_source(tape, work, m, width, at + 9);
+            put_open(tape, work, p, lim, to)
+        }
+        38 => to,
+        39 => put_byte(work, 60, lim, to),
+        40 => put_named(tape, work, m, width, at, lim, to),
+        41 => put_byte(work, 40, lim, to),
+        _ => put_mark(work, c, lim, to),
     }
-    if c == 38 {
-        return to;
-    }
-    if c == 39 {
-        return put_byte(work, 60, lim, to);
-    }
-    if c == 40 {
-        return put_named(tape, work, m, width, at, lim, to);
-    }
-    if c == 41 {
-        return put_byte(work, 40, lim, to);
-    }
-    put_mark(work, c, lim, to)
 }
 
 // What stands behind them.
@@ -96,20 +90,16 @@ pub fn put_behind(work: &mut [u8], width: usize, at: usize, c: u8, lim: usize, t
     requires { Closing work.old width at c lim to }
     ensures { Puts work.old lim to (behind_by work.old at c) result work.new }
 {
-    if c == 37 {
-        return put_byte(work, 62, lim, to);
+    match c {
+        37 => put_byte(work, 62, lim, to),
+        38 => {
+            let b = op_byte(work[at + 9]);
+            put_byte(work, b, lim, to)
+        }
+        39 => put_byte(work, 62, lim, to),
+        41 => put_byte(work, 41, lim, to),
+        _ => to,
     }
-    if c == 38 {
-        let b = op_byte(work[at + 9]);
-        return put_byte(work, b, lim, to);
-    }
-    if c == 39 {
-        return put_byte(work, 62, lim, to);
-    }
-    if c == 41 {
-        return put_byte(work, 41, lim, to);
-    }
-    to
 }
 
 // What stands before the symbol at a place, the k-th inside one of the code c, and what it begins with.
@@ -157,10 +147,10 @@ pub fn print_list(
     ensures { PrintsList tape.now work.old m width n left at c lim to result work.new }
 {
     let mut p = at;
-    let mut k = n;
+    // 0 before the first, 1 before any other.
     let mut d = 0;
     let mut q = to;
-    while 0 < k {
+    for _ in 0..n {
         let f = open(tape, work, m, width, p, c, d, lim, q);
         let z = print_list(
             tape,
@@ -177,7 +167,6 @@ pub fn print_list(
         q = put_behind(work, width, p, f.code, lim, z.to);
         p = z.at;
         d = 1;
-        k -= 1;
     }
     Printed { at: p, to: q }
 }

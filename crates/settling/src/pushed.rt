@@ -25,13 +25,9 @@ fn mark_one(tape: &[u8], work: &mut [u8], g: Ground, j: usize)
     ensures { MarksOne tape.now work.old g j work.new }
 {
     let v = slot(work, g, mark(work, g.keys, j));
-    if v % 2 != 0 {
-        return;
+    if v % 2 == 0 && v / 2 < g.m.count {
+        mark_text(work, g.m.base, v / 2);
     }
-    if g.m.count <= v / 2 {
-        return;
-    }
-    mark_text(work, g.m.base, v / 2);
 }
 
 // Of all n.
@@ -39,9 +35,7 @@ pub fn mark_pushed(tape: &[u8], work: &mut [u8], g: Ground, n: usize)
     requires { SomePushed tape.now work.old g n }
     ensures { MarkedPushed tape.now work.old g n work.new }
 {
-    let mut j = 0;
-    while j < n {
+    for j in 0..n {
         mark_one(tape, work, g, j);
-        j += 1;
     }
 }

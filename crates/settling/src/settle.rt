@@ -6,13 +6,6 @@ use expander::Ground;
 use texts::Map;
 use texts::table::grow;
 
-// How many bytes the new texts have with their commands, and whether one is too long for a text.
-#[derive(Clone, Copy)]
-pub struct Fresh {
-    pub bytes: usize,
-    pub long: bool,
-}
-
 // The table with the new texts, and the place of the first.
 #[derive(Clone, Copy)]
 pub struct Settled {
@@ -20,27 +13,21 @@ pub struct Settled {
     pub at: usize,
 }
 
-// The bytes of c new texts; n symbols were pushed.
-pub fn count_texts(tape: &[u8], work: &[u8], g: Ground, n: usize, c: usize) -> Fresh
+// How many bytes c new texts have with their commands, if none is too long for a text; n symbols were pushed.
+pub fn count_texts(tape: &[u8], work: &[u8], g: Ground, n: usize, c: usize) -> Option<usize>
     requires { SomeNew tape.now work.now g n c }
     ensures { Counts tape.now work.now g n c result }
 {
-    let mut i = 0;
     let mut bytes = 0;
-    let mut long = false;
-    while i < c {
+    for i in 0..c {
         let v = entry(work, g, i);
         let l = text_length(tape, work, g, v);
-        bytes += 3 + l;
         if 65535 < l {
-            long = true;
+            return None;
         }
-        i += 1;
+        bytes += 3 + l;
     }
-    Fresh {
-        bytes: bytes,
-        long: long,
-    }
+    Some(bytes)
 }
 
 // The c new texts as atoms that end at `end`, by number, and their records; says the table with them.
@@ -48,12 +35,10 @@ pub fn settle(tape: &[u8], work: &mut [u8], g: Ground, n: usize, c: usize, end: 
     requires { Settling tape.now work.old g n c end }
     ensures { Settles tape.now work.old g c end result work.new }
 {
-    let mut i = c;
     let mut q = end;
-    while 0 < i {
-        q = write_text(tape, work, g, i - 1, q);
-        i -= 1;
+    for i in (0..c).rev() {
+        q = write_text(tape, work, g, i, q);
     }
     let m = grow(tape, work, g.m, g.m.count + c);
-    Settled { m: m, at: q }
+    Settled { m, at: q }
 }

@@ -11,7 +11,6 @@ ghost use Rattle.settling.specs.Put.{source_text, Fixed, Marked, PlacedText};
 use crate::Source;
 use crate::put::{escape_down, escape_from, put_byte, put_down, put_from, put_two};
 use octets::numbers::{atom_at, u16_at};
-use octets::wide::{from16, from32};
 use texts::Map;
 use texts::fields::mark;
 
@@ -22,19 +21,12 @@ pub fn mark_source(tape: &[u8], work: &[u8], x: usize) -> Source
 {
     if x / 4 < tape.len() {
         let a = x / 4 + 3;
-        let n = from16(u16_at(tape, x / 4 + 1));
-        return Source {
-            here: false,
-            from: a,
-            end: a + n,
-        };
-    }
-    let p = x + 4 * tape.len();
-    let n = from16(u16_at(work, p + 1));
-    Source {
-        here: true,
-        from: p + 3,
-        end: p + 3 + n,
+        let n = usize::from(u16_at(tape, x / 4 + 1));
+        Source::Tape(a, a + n)
+    } else {
+        let p = x + 4 * tape.len();
+        let n = usize::from(u16_at(work, p + 1));
+        Source::Work(p + 3, p + 3 + n)
     }
 }
 
@@ -43,16 +35,12 @@ pub fn word_source(tape: &[u8], work: &[u8], m: Map, width: usize, at: usize) ->
     requires { Worded tape.now work.now m × (2 ≤ width) × (width ≤ 3) × (at + width ≤ length work.now) }
     ensures { PlacedText tape.now work.now m (word_at width (texts tape.now work.now m) work.now at) result }
 {
-    let k = from32(atom_at(work, at, width));
-    if m.count <= k {
-        return Source {
-            here: false,
-            from: 0,
-            end: 0,
-        };
+    let k = atom_at(work, at, width) as usize;
+    if k < m.count {
+        mark_source(tape, work, mark(work, m.base, k))
+    } else {
+        Source::Tape(0, 0)
     }
-    let x = mark(work, m.base, k);
-    mark_source(tape, work, x)
 }
 
 // A text.
@@ -60,10 +48,10 @@ pub fn put_text(tape: &[u8], work: &mut [u8], p: Source, lim: usize, to: usize) 
     requires { (lim ≤ length work.old) × Fixed (length tape.now) (length work.old) lim p }
     ensures { Puts work.old lim to (source_text tape.now work.old p) result work.new }
 {
-    if p.here {
-        return put_down(work, p.from, p.end, lim, to);
+    match p {
+        Source::Tape(a, e) => put_from(tape, a, e, work, lim, to),
+        Source::Work(a, e) => put_down(work, a, e, lim, to),
     }
-    put_from(tape, p.from, p.end, work, lim, to)
 }
 
 // As it stands between quotes.
@@ -71,10 +59,10 @@ fn put_escaped(tape: &[u8], work: &mut [u8], p: Source, lim: usize, to: usize) -
     requires { (lim ≤ length work.old) × (to ≤ lim + 1) × Fixed (length tape.now) (length work.old) lim p }
     ensures { Puts work.old lim to (escaped (source_text tape.now work.old p) []) result work.new }
 {
-    if p.here {
-        return escape_down(work, p.from, p.end, lim, to);
+    match p {
+        Source::Tape(a, e) => escape_from(tape, a, e, work, lim, to),
+        Source::Work(a, e) => escape_down(work, a, e, lim, to),
     }
-    escape_from(tape, p.from, p.end, work, lim, to)
 }
 
 // With the quotes.
@@ -102,13 +90,11 @@ pub fn put_leaf(tape: &[u8], work: &mut [u8], p: Source, c: u8, lim: usize, to: 
     requires { (lim ≤ length work.old) × Fixed (length tape.now) (length work.old) lim p }
     ensures { Puts work.old lim to (leaf_text c (source_text tape.now work.old p)) result work.new }
 {
-    if c == 34 {
-        return put_quoted(tape, work, p, lim, to);
+    match c {
+        34 => put_quoted(tape, work, p, lim, to),
+        35 => put_regex(tape, work, p, lim, to),
+        _ => put_text(tape, work, p, lim, to),
     }
-    if c == 35 {
-        return put_regex(tape, work, p, lim, to);
-    }
-    put_text(tape, work, p, lim, to)
 }
 
 // `M<`.
@@ -135,13 +121,11 @@ pub fn put_mark(work: &mut [u8], c: u8, lim: usize, to: usize) -> usize
     requires { lim ≤ length work.old }
     ensures { Puts work.old lim to (mark_text c) result work.new }
 {
-    if c == 42 {
-        return put_two(work, 64, 76, lim, to);
+    match c {
+        42 => put_two(work, 64, 76, lim, to),
+        43 => put_two(work, 64, 82, lim, to),
+        _ => put_error(work, lim, to),
     }
-    if c == 43 {
-        return put_two(work, 64, 82, lim, to);
-    }
-    put_error(work, lim, to)
 }
 
 // `mut `, if the byte b says so.
@@ -151,9 +135,10 @@ fn put_label(work: &mut [u8], b: u8, lim: usize, to: usize) -> usize
 {
     if b == 1 {
         let x = put_two(work, 109, 117, lim, to);
-        return put_two(work, 116, 32, lim, x);
+        put_two(work, 116, 32, lim, x)
+    } else {
+        to
     }
-    to
 }
 
 // `x:` or `mut x:`.

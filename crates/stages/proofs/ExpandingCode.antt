@@ -19,13 +19,13 @@ use Rattle.resolve.specs.declared.Grammar.{Grammar}
 use Rattle.rounds.specs.declared.Expander.{Expander}
 use Rattle.rounds.specs.declared.Room.{Room}
 use Rattle.rounds.specs.declared.State.{State}
-use Rattle.rounds.specs.declared.Rounded.{Rounded}
+use Rattle.rounds.specs.declared.Progress.{Progress}
 use Rattle.rounds.specs.Steps.{numbers_at_start}
 use Rattle.rounds.specs.Standing.{RoundStands}
 use Rattle.rounds.specs.Define.{SomeDeclared, Defined}
 use Rattle.rounds.specs.Round.{SomeRound, Finished, RoundsTo, AllRounds}
 use Rattle.output.specs.Plain.Answers.{answer_of}
-use Rattle.output.specs.declared.Answer.{Answer}
+use Rattle.std.specs.Prelude.{Result, Ok, Err}
 use Rattle.output.specs.Working.Judging.{sized}
 use Rattle.output.specs.Working.Handing.{Staged, handed}
 use Rattle.output.specs.Working.Expanded.{LastStands, SomeLastStage, HandsLast}
@@ -67,7 +67,7 @@ module _ (s w : List ℕ) (m : Map) (t : Grammar) (room : Room) (low : ℕ) wher
     standing = first_stands s w m t room low A.four A.tree A.first A.past A.owed A.stands w₁ d;
   })
 
-  pub rounds_done : (limit : ℕ) (w₁ : List ℕ) → Defined s w m t w₁ → (e : Expander) → e ≡ numbers_at_start t.count → (r : Rounded) (w₂ : List ℕ) → AllRounds s w₁ room t limit (first_state e) r w₂ → FirstRounds s w m t room low limit r w₂
+  pub rounds_done : (limit : ℕ) (w₁ : List ℕ) → Defined s w m t w₁ → (e : Expander) → e ≡ numbers_at_start t.count → (r : Result Progress Refusal) (w₂ : List ℕ) → AllRounds s w₁ room t limit (first_state e) r w₂ → FirstRounds s w m t room low limit r w₂
   unfolding FirstRounds AllRounds macro_stages
   rounds_done limit w₁ d e i r w₂ a four G first past owed F =
       let n : limit - e.round ≡ limit = omega (arith, ap (λ (x : Expander). x.round) i) in
@@ -77,39 +77,39 @@ module _ (s w : List ℕ) (m : Map) (t : Grammar) (room : Room) (low : ℕ) wher
 pub ruleset macros-rounds = (rules, rounds_declared, rounds_some, rounds_done)
 
 -- ---- `answer_rounds`
-abbrev state_in : State → Rounded → State
-state_in z (Rounded.More x) = x
-state_in z (Rounded.Done x) = x
-state_in z (Rounded.Refused why) = z
+abbrev state_in : State → Result Progress Refusal → State
+state_in z (Ok (Progress.More x)) = x
+state_in z (Ok (Progress.Done x)) = x
+state_in z (Err why) = z
 
-abbrev refusal_in : Refusal → Rounded → Refusal
-refusal_in y (Rounded.More x) = y
-refusal_in y (Rounded.Done x) = y
-refusal_in y (Rounded.Refused why) = why
+abbrev refusal_in : Refusal → Result Progress Refusal → Refusal
+refusal_in y (Ok (Progress.More x)) = y
+refusal_in y (Ok (Progress.Done x)) = y
+refusal_in y (Err why) = why
 
-abbrev kind_of : Rounded → ℕ
-kind_of (Rounded.More x) = 0
-kind_of (Rounded.Done x) = 1
-kind_of (Rounded.Refused why) = 2
+abbrev kind_of : Result Progress Refusal → ℕ
+kind_of (Ok (Progress.More x)) = 0
+kind_of (Ok (Progress.Done x)) = 1
+kind_of (Err why) = 2
 
-module _ (s o w : List ℕ) (at n : ℕ) (room : Room) (r : Rounded) where
-  pub answer_refused : (why : Refusal) → r ≡ Rounded.Refused why → AnswersRounds s w at n room r o (Answer.No why) o
+module _ (s o w : List ℕ) (at n : ℕ) (room : Room) (r : Result Progress Refusal) where
+  pub answer_refused : (why : Refusal) → r ≡ Err why → AnswersRounds s w at n room r o (Err why) o
   unfolding AnswersRounds RoundsTo answer_of written refusal_over
   answer_refused why f x K = go x K.rounds
     where
-      go : (x : Outcome Stage) → RoundsTo s room K.first x r w → Staged x o (Answer.No why) o
+      go : (x : Outcome Stage) → RoundsTo s room K.first x r w → Staged x o (Err why) o
       go (yes g) (z, i, d) = absurd (omega (arith, ap kind_of (sym i ∙ f)))
-      go (no q sp) i = let j : why ≡ refusal_over q sp = ap (refusal_in why) (sym f ∙ i) in record { answered = ap Answer.No j; tree = refl }
+      go (no q sp) i = let j : why ≡ refusal_over q sp = ap (refusal_in why) (sym f ∙ i) in record { answered = ap Err j; tree = refl }
 
-  pub answer_never : (y : State) → r ≡ Rounded.More y → (why : Refusal) → AnswersRounds s w at n room r o (Answer.No why) o
+  pub answer_never : (y : State) → r ≡ Ok (Progress.More y) → (why : Refusal) → AnswersRounds s w at n room r o (Err why) o
   unfolding AnswersRounds RoundsTo
   answer_never y f why x K = go x K.rounds
     where
-      go : (x : Outcome Stage) → RoundsTo s room K.first x r w → Staged x o (Answer.No why) o
+      go : (x : Outcome Stage) → RoundsTo s room K.first x r w → Staged x o (Err why) o
       go (yes g) (z, i, d) = absurd (omega (arith, ap kind_of (sym i ∙ f)))
       go (no q sp) i = absurd (omega (arith, ap kind_of (sym i ∙ f)))
 
-  module _ (z : State) (f : r ≡ Rounded.Done z) where
+  module _ (z : State) (f : r ≡ Ok (Progress.Done z)) where
     module _ (x : Outcome Stage) (K : RoundsAnswer s w (length o) at n room r x) where
       -- the last stage, and that it is the answer
       ends : (x : Outcome Stage) → RoundsTo s room K.first x r w → (g : Stage) × (x ≡ yes g) × Finished s w room z K.first g
@@ -140,7 +140,7 @@ module _ (s o w : List ℕ) (at n : ℕ) (room : Room) (r : Rounded) where
     pub answer_last : SomeAnswer s w (length o) at n room r → SomeLastStage s w at n (length o) z.m room.y z.done
     answer_last A = some_last s w at n (length o) z.m room.y z.done (last A.outcome A.is).0 (stood_last A.outcome A.is)
 
-    pub answer_done : (x : Answer) (o₁ : List ℕ) → HandsLast s w at n z.m room.y z.done o x o₁ → AnswersRounds s w at n room r o x o₁
+    pub answer_done : (x : Result ℕ Refusal) (o₁ : List ℕ) → HandsLast s w at n z.m room.y z.done o x o₁ → AnswersRounds s w at n room r o x o₁
     unfolding HandsLast AnswersRounds
     answer_done x o₁ d y K = subst (λ (u : Outcome Stage). Staged u o x o₁) (sym (last y K).1) (d (last y K).0 (stood_last y K))
 
@@ -151,7 +151,7 @@ module _ (s o w : List ℕ) (m : Map) (t : Grammar) (at n : ℕ) (room : Room) (
   pub run_first : SomeRun s w (length o) m t at n room low → SomeFirst s w m t room low
   run_first A = record { four = A.four; tree = A.tree; first = A.first; past = A.past; owed = A.owed; stands = A.stands.stands }
 
-  module _ (limit : ℕ) (r : Rounded) (w₁ : List ℕ) (k : FirstRounds s w m t room low limit r w₁) (l : length w₁ ≡ length w) where
+  module _ (limit : ℕ) (r : Result Progress Refusal) (w₁ : List ℕ) (k : FirstRounds s w m t room low limit r w₁) (l : length w₁ ≡ length w) where
     run_says : (four : Bool) (G : Tree) (first past : List Text) (owed : ℕ) → RunStands s w (length o) m t at n room low four G first past owed
         → RoundsAnswer s w₁ (length o) at n room r (macro_stages (sizes 2 (length o)) limit (record { atoms = first ++ past; items = G }))
     unfolding FirstRounds
@@ -171,7 +171,7 @@ module _ (s o w : List ℕ) (m : Map) (t : Grammar) (at n : ℕ) (room : Room) (
       is = run_says A.four A.tree A.first A.past A.owed A.stands;
     }
 
-    pub run_done : (x : Answer) (o' : List ℕ) → AnswersRounds s w₁ at n room r o x o' → RunsTo s w m t at n room low limit o x o'
+    pub run_done : (x : Result ℕ Refusal) (o' : List ℕ) → AnswersRounds s w₁ at n room r o x o' → RunsTo s w m t at n room low limit o x o'
     unfolding AnswersRounds RunsTo
     run_done x o' d four G first past owed A = d (macro_stages (sizes 2 (length o)) limit (record { atoms = first ++ past; items = G })) (run_says four G first past owed A)
 
@@ -204,7 +204,7 @@ module _ (s o : List ℕ) (m : Map) (t : Grammar) (at : ℕ) (w : List ℕ) (a :
   unfolding expanded_of
   expanded_is limit = rw (admitted-is s (length o) m t at w a) refl
 
-  pub items_done : (room : Room) → room ≡ macros_room (length s) at (length o) → (limit : ℕ) (x : Answer) (o' : List ℕ) → RunsTo s w m t at m.count room room.end limit o x o'
+  pub items_done : (room : Room) → room ≡ macros_room (length s) at (length o) → (limit : ℕ) (x : Result ℕ Refusal) (o' : List ℕ) → RunsTo s w m t at m.count room room.end limit o x o'
       → Staged (expanded_of s limit (length o)) o x o'
   unfolding RunsTo
   items_done room e limit x o' d =
@@ -233,21 +233,21 @@ module _ (s o : List ℕ) (m : Map) (t : Grammar) (at : ℕ) (w : List ℕ) (a :
       ∙ sym (said s w m t at d (length o))
       ∙ admitted-is s (length o) m t at w a)
 
-  pub admitted-none : t.count ≡ 0 → (o' : List ℕ) → o' ≡ handed at s t.at w o → Staged (expanded_of s limit (length o)) o (Answer.Yes (length s)) o'
+  pub admitted-none : t.count ≡ 0 → (o' : List ℕ) → o' ≡ handed at s t.at w o → Staged (expanded_of s limit (length o)) o (Ok (length s)) o'
   admitted-none e o' h = rw (none_expanded e) (stood_yes s w m t at (admitted-stood s (length o) m t at w a) a.few o o' a.fits h)
 
 pub ruleset macros-admitting = (rules, some_items, admitted-inside, admitted-room, admitted-fits, admitted-none)
 
 -- ---- `expand_resolved`: y is what `judge` answered
-pub expand_no : (s w : List ℕ) (m : Map) (t : Grammar) (at : ℕ) → TapeResolves s (Resolved.Is m t at) w → (o : List ℕ) (y : Answer) → y ≡ sized m.count (length s) (length o) → (limit : ℕ) (why : Refusal)
-    → y ≡ Answer.No why → Staged (expanded_of s limit (length o)) o (Answer.No why) o
+pub expand_no : (s w : List ℕ) (r : Resolved) → TapeResolves s (Ok r) w → (o : List ℕ) (y : Result ℕ Refusal) → y ≡ sized r.texts.count (length s) (length o) → (limit : ℕ) (why : Refusal)
+    → y ≡ Err why → Staged (expanded_of s limit (length o)) o (Err why) o
 unfolding expanded_of
-expand_no s w m t at i o y j limit why e = staged_no (resolved s (length o)) (macro_stages (sizes 2 (length o)) limit) o why (stage_no s w m t at i o y j why e)
+expand_no s w r i o y j limit why e = staged_no (resolved s (length o)) (macro_stages (sizes 2 (length o)) limit) o why (stage_no s w r i o y j why e)
 
 pub ruleset macros-resolving = (rules, expand_no, resolved-admitted)
 
 -- ---- `expand_stage`
-pub expand_refused : (s : List ℕ) (x : Resolved) (w₁ : List ℕ) → TapeResolves s x w₁ → (o : List ℕ) (limit : ℕ) (why : Refusal) → x ≡ Resolved.Refused why → Staged (expanded_of s limit (length o)) o (Answer.No why) o
+pub expand_refused : (s : List ℕ) (x : Result Resolved Refusal) (w₁ : List ℕ) → TapeResolves s x w₁ → (o : List ℕ) (limit : ℕ) (why : Refusal) → x ≡ Err why → Staged (expanded_of s limit (length o)) o (Err why) o
 unfolding expanded_of
 expand_refused s x w₁ i o limit why e = staged_no (resolved s (length o)) (macro_stages (sizes 2 (length o)) limit) o why (stage_refused s x w₁ i o why e)
 

@@ -8,7 +8,6 @@ use native.Mathlib.Omega.{arith}
 use borrow.Author.Tests.{ltb-true, ltb-false}
 use lib.Dec.{ltb}
 use lib.ListN.{length, get_or, length-append}
-use Rattle.octets.proofs.ChoiceLaws.{by_pick}
 use Rattle.parse_tree.specs.Plain.Tree.{Text}
 use Rattle.parse_tree.specs.Plain.WriteTape.{bytes_of_each}
 use Rattle.parse_tree.specs.Working.Encode.{atom_bytes}
@@ -36,7 +35,7 @@ atoms_long (t ∷ ts) =
 
 pub some_linked : (n : ℕ) → 0 < n → 0 < linked n
 unfolding linked
-some_linked n h = by_pick (λ r. 0 < r) (ltb n 4294967295) (λ _. h) (λ _. omega arith)
+some_linked n h = omega arith
 
 -- ---- bytes that resolving leaves as they are: of a record, before its cell
 pub record_free : (m : Map) (t : Grammar) (k i : ℕ) → t.end ≤ m.base → m.base + 24 * k ≤ i → i < m.base + 24 * k + 20 → Free m t i

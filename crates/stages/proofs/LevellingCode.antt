@@ -10,7 +10,7 @@ use Rattle.texts.specs.declared.Map.{Map}
 use Rattle.passes.specs.Stages.{level_stage}
 use Rattle.passes.specs.Calls.{sizes}
 use Rattle.resolve.specs.declared.Grammar.{Grammar}
-use Rattle.output.specs.declared.Answer.{Answer}
+use Rattle.std.specs.Prelude.{Result, Ok, Err}
 use Rattle.output.specs.Working.Judging.{sized}
 use Rattle.output.specs.Working.Handing.{Staged, handed}
 use Rattle.stages.specs.declared.Resolved.{Resolved}
@@ -21,8 +21,8 @@ use Rattle.stages.proofs.LevellingMeanStage.{staged_no, none_staged, some_gramma
 use Rattle.stages.proofs.LevellingMeanSize.{levels-naming, levels-from, levels-cap, levels-sum, levels-no, levels-hands, levels-yes}
 
 -- ---- `level_stage`: x is what `resolve_tape` answered, and w₁ what it left
-module _ (s : List ℕ) (x : Resolved) (w₁ : List ℕ) (i : TapeResolves s x w₁) where
-  pub level_refused : (o : List ℕ) (why : Refusal) → x ≡ Resolved.Refused why → Staged (levelled_of s (length o)) o (Answer.No why) o
+module _ (s : List ℕ) (x : Result Resolved Refusal) (w₁ : List ℕ) (i : TapeResolves s x w₁) where
+  pub level_refused : (o : List ℕ) (why : Refusal) → x ≡ Err why → Staged (levelled_of s (length o)) o (Err why) o
   unfolding levelled_of
   level_refused o why e = staged_no (resolved s (length o)) (level_stage (sizes 2 (length o))) o why (stage_refused s x w₁ i o why e)
 
@@ -35,15 +35,15 @@ tape_room s o w h = omega arith
 pub ruleset level_staging = (rules, tape_room, level_refused, stage_stands, level_room)
 
 -- ---- `level_resolved`: y is what `judge` answered
-module _ (s w : List ℕ) (m : Map) (t : Grammar) (at : ℕ) (i : TapeResolves s (Resolved.Is m t at) w) (o : List ℕ) (y : Answer) (j : y ≡ sized m.count (length s) (length o)) where
-  pub resolved-no : (why : Refusal) → y ≡ Answer.No why → Staged (levelled_of s (length o)) o (Answer.No why) o
+module _ (s w : List ℕ) (r : Resolved) (i : TapeResolves s (Ok r) w) (o : List ℕ) (y : Result ℕ Refusal) (j : y ≡ sized r.texts.count (length s) (length o)) where
+  pub resolved-no : (why : Refusal) → y ≡ Err why → Staged (levelled_of s (length o)) o (Err why) o
   unfolding levelled_of
-  resolved-no why e = staged_no (resolved s (length o)) (level_stage (sizes 2 (length o))) o why (stage_no s w m t at i o y j why e)
+  resolved-no why e = staged_no (resolved s (length o)) (level_stage (sizes 2 (length o))) o why (stage_no s w r i o y j why e)
 
-  pub resolved-admitted : 8 * (length s + length o) ≤ length w → (n : ℕ) → y ≡ Answer.Yes n → SomeAdmitted s (length o) m t at w
+  pub resolved-admitted : 8 * (length s + length o) ≤ length w → (n : ℕ) → y ≡ Ok n → SomeAdmitted s (length o) r.texts r.grammar r.at w
   resolved-admitted h n e =
-      let d : Stood s w m t at = stood s (Resolved.Is m t at) w i m t at refl in
-      let k = judged s w m t at i o y j n e in
+      let d : Stood s w r.texts r.grammar r.at = stood s (Ok r) w i r refl in
+      let k = judged s w r i o y j n e in
       record {
         tape = d.tape;
         end = d.end;
@@ -75,7 +75,7 @@ module _ (s o : List ℕ) (m : Map) (t : Grammar) (at : ℕ) (w : List ℕ) (a :
   pub admitted-fits : length s ≤ length o
   admitted-fits = a.fits
 
-  pub admitted-none : t.count ≡ 0 → (o' : List ℕ) → o' ≡ handed at s t.at w o → Staged (levelled_of s (length o)) o (Answer.Yes (length s)) o'
+  pub admitted-none : t.count ≡ 0 → (o' : List ℕ) → o' ≡ handed at s t.at w o → Staged (levelled_of s (length o)) o (Ok (length s)) o'
   admitted-none e o' h = none_staged s (length o) m t at w a e o o' refl h
 
   pub room_sum : length w * 1 < 2 ^ 63 → 8 * (length s + length o) < 9223372036854775808

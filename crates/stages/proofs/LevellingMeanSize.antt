@@ -1,6 +1,6 @@
 -- The levelled stage of which the levels are written: its atoms, its bytes, and what is asked of its size. Assumes nothing.
 use mathlib.Core.Path.{◌≡◌, refl, sym, ap, ◌∙◌}
-use mathlib.Core.Bool.{Bool, true, false, not, ◌&&◌}
+use mathlib.Core.Bool.{Bool, true, false, true≢false, not, ◌&&◌}
 use mathlib.Core.Logic.{◌⊎◌, inl, inr}
 use mathlib.Core.List.{List, ◌++◌, append_assoc}
 use Prim.Native.Nat.{ℕ, ◌+◌, ◌-◌, ◌*◌, ◌/◌, ◌^◌, ◌≤◌, ◌<◌}
@@ -32,15 +32,24 @@ use Rattle.precedence.specs.Names.{Naming, named_texts}
 use Rattle.precedence.proofs.NamesMean.{named-texts, named-split}
 use Rattle.levels.specs.declared.Room.{Room}
 use Rattle.levels.specs.declared.Written.{Written}
-use Rattle.levels.specs.declared.fresh.Fresh.{Fresh}
 use Rattle.levels.specs.Fresh.{too_long, new_texts, fresh_of}
 use Rattle.levels.proofs.Fits.{levelled-fits}
 use Rattle.output.specs.Plain.Answers.{answer_of}
-use Rattle.output.specs.declared.Answer.{Answer}
+use Rattle.std.specs.Prelude.{Option, Some, None, Result, Ok, Err, IfSome}
+use Rattle.std.specs.Result.{result_ok}
 use Rattle.output.specs.Working.Judging.{sized, room_of, sized_levels}
 use Rattle.output.specs.Working.Handing.{Staged, HandsLevels, levels_tree, handed_levels}
 use Rattle.stages.specs.Levelling.{levelled_of, SomeLevels, SomeFitting}
 use Rattle.stages.proofs.LevellingMeanTexts.{bytes_both, all_short, described_length, described_bytes}
+
+-- the bytes of new names as they were counted, and whether one was too long
+abbrev bytes_in : Option ℕ → ℕ
+bytes_in None = 0
+bytes_in (Some b) = b
+
+abbrev long_in : Option ℕ → Bool
+long_in None = true
+long_in (Some b) = false
 
 module _ (s : List ℕ) (cap : ℕ) (m : Map) (at : ℕ) (room : Room) (v : Written) (w : List ℕ) (L : SomeLevels s cap m at room v w) where
   abbrev news : List Text
@@ -130,15 +139,21 @@ module _ (s : List ℕ) (cap : ℕ) (m : Map) (at : ℕ) (room : Room) (v : Writ
   pub levels-naming : Naming s w m v.count
   levels-naming = L.wrote.names.naming
 
-  -- ---- what `judge_levels` asks: f is what `count_bytes` answered
-  module _ (f : Fresh) (c : f ≡ fresh_of (new_texts s w m v.count)) where
-    bytes_is : f.bytes ≡ N
-    unfolding fresh_of
-    bytes_is = ap (λ (u : Fresh). u.bytes) c
+  -- ---- what `judge_levels` asks: f is what `count_bytes` answered, without the bytes where a name is too long
+  module _ (f : Option ℕ) (c : f ≡ result_ok (fresh_of (new_texts s w m v.count))) where
+    counted : (long_in f ≡ too_long news) × (long_in f ≡ false → bytes_in f ≡ N)
+    unfolding fresh_of pick
+    counted = rw c (go (too_long news))
+      where
+        go : (b : Bool) → (long_in (result_ok (pick b (Err N) (Ok N))) ≡ b) × (long_in (result_ok (pick b (Err N) (Ok N))) ≡ false → bytes_in (result_ok (pick b (Err N) (Ok N))) ≡ N)
+        go true = (refl, λ h. absurd (true≢false h))
+        go false = (refl, λ _. refl)
 
-    long_is : f.long ≡ too_long news
-    unfolding fresh_of
-    long_is = ap (λ (u : Fresh). u.long) c
+    long_is : long_in f ≡ too_long news
+    long_is = counted.0
+
+    bytes_is : long_in f ≡ false → bytes_in f ≡ N
+    bytes_is = counted.1
 
     pub levels-from : room.at ≤ v.to
     levels-from = to_from
@@ -147,41 +162,56 @@ module _ (s : List ℕ) (cap : ℕ) (m : Map) (at : ℕ) (room : Room) (v : Writ
     levels-cap h = omega (arith, L.enough)
 
     -- theorem: the sum doesn't wrap
-    pub levels-sum : length w * 1 < 2 ^ 63 → at + f.bytes + v.to < 18446744073709551616
-    levels-sum h =
-        let short : Each (λ (t : Text). length t < 65536) (texts s w m) = rw tape_texts L.within.short in
-        omega (arith, L.enough, L.inside, L.fits, bytes_is, described_bytes s w m short (v.count - m.count), levels-naming.few, to_upto, lim_is, at-is)
+    pub levels-sum : length w * 1 < 2 ^ 63 → IfSome f (λ bytes. at + bytes + v.to < 18446744073709551616)
+    levels-sum h = go f bytes_is
+      where
+        sum : at + N + v.to < 18446744073709551616
+        sum =
+            let short : Each (λ (t : Text). length t < 65536) (texts s w m) = rw tape_texts L.within.short in
+            omega (arith, L.enough, L.inside, L.fits, described_bytes s w m short (v.count - m.count), levels-naming.few, to_upto, lim_is, at-is)
+
+        go : (g : Option ℕ) → (long_in g ≡ false → bytes_in g ≡ N) → IfSome g (λ bytes. at + bytes + v.to < 18446744073709551616)
+        go None k = tt
+        go (Some b) k = let z : b ≡ N = k refl in rw z sum
 
     -- ---- and what it answers: y
-    module _ (y : Answer) (j : y ≡ sized_levels v room at f cap) where
+    module _ (y : Result ℕ Refusal) (j : y ≡ sized_levels v room at f cap) where
       -- by what is asked: a name too long, items that don't fit, atoms too many, a tape too long
       Judges : Bool → Bool → Bool → Bool → Type 0
       Judges long over many big =
           y
-          ≡ pick long (Answer.No (refusal_at 20 0))
-          (pick over (pick many (Answer.No (refusal_at 20 0)) (Answer.No (refusal_at 21 0)))
-          (pick many (Answer.No (refusal_at 20 0)) (pick big (Answer.No (refusal_at 21 0)) (Answer.Yes (at + f.bytes + (v.to - room.at))))))
+          ≡ pick long (Err (refusal_at 20 0))
+          (pick over (pick many (Err (refusal_at 20 0)) (Err (refusal_at 21 0)))
+          (pick many (Err (refusal_at 20 0)) (pick big (Err (refusal_at 21 0)) (Ok (at + bytes_in f + (v.to - room.at))))))
 
-      judges : Judges f.long (ltb room.lim v.to) (ltb 65536 v.count) (ltb cap (at + f.bytes + (v.to - room.at)))
+      judges : Judges (long_in f) (ltb room.lim v.to) (ltb 65536 v.count) (ltb cap (at + bytes_in f + (v.to - room.at)))
       unfolding Judges sized_levels sized pick
-      judges = let z : ltb cap (cap + 1) ≡ true = lt-ltb cap (cap + 1) (omega arith) in rw z at j
+      judges = go f j
+        where
+          go : (g : Option ℕ) → y ≡ sized_levels v room at g cap
+              → y
+              ≡ pick (long_in g) (Err (refusal_at 20 0))
+              (pick (ltb room.lim v.to) (pick (ltb 65536 v.count) (Err (refusal_at 20 0)) (Err (refusal_at 21 0)))
+              (pick (ltb 65536 v.count) (Err (refusal_at 20 0)) (pick (ltb cap (at + bytes_in g + (v.to - room.at))) (Err (refusal_at 21 0)) (Ok (at + bytes_in g + (v.to - room.at))))))
+          go None k = k
+          go (Some b) k = let z : ltb cap (cap + 1) ≡ true = lt-ltb cap (cap + 1) (omega arith) in rw z at k
 
-      yes_no : (n : ℕ) (why : Refusal) → Answer.Yes n ≡ Answer.No why → ⊥
+      yes_no : (n : ℕ) (why : Refusal) → Ok n ≡ Err why → ⊥
       yes_no n why z = let q : ◌≡◌ {A = ℕ} 0 1 = cc in omega arith
 
       -- the answer is a refusal, and the stage's
-      refused_20 : (o : List ℕ) (why : Refusal) → y ≡ Answer.No why → y ≡ Answer.No (refusal_at 20 0) → stage_fits 2 stage_for ≡ false → Staged (levelled_of s cap) o (Answer.No why) o
+      refused_20 : (o : List ℕ) (why : Refusal) → y ≡ Err why → y ≡ Err (refusal_at 20 0) → stage_fits 2 stage_for ≡ false → Staged (levelled_of s cap) o (Err why) o
       unfolding sizes answer_of written refusal_at
-      refused_20 o why z k e = let u : why ≡ refusal_at 20 0 = let q : Answer.No why ≡ Answer.No (refusal_at 20 0) = sym z ∙ k in cc in rw (levelled-said, e) (record { answered = rw u refl; tree = refl })
+      refused_20 o why z k e = let u : why ≡ refusal_at 20 0 = let q : Err why ≡ Err (refusal_at 20 0) = sym z ∙ k in cc in rw (levelled-said, e) (record { answered = rw u refl; tree = refl })
 
-      refused_21 : (o : List ℕ) (why : Refusal) → y ≡ Answer.No why → y ≡ Answer.No (refusal_at 21 0) → stage_fits 2 stage_for ≡ true → cap < at + N + B → Staged (levelled_of s cap) o (Answer.No why) o
+      refused_21 : (o : List ℕ) (why : Refusal) → y ≡ Err why → y ≡ Err (refusal_at 21 0) → stage_fits 2 stage_for ≡ true → cap < at + N + B → Staged (levelled_of s cap) o (Err why) o
       unfolding sizes answer_of written refusal_at
       refused_21 o why z k e h =
-          let u : why ≡ refusal_at 21 0 = let q : Answer.No why ≡ Answer.No (refusal_at 21 0) = sym z ∙ k in cc in
+          let u : why ≡ refusal_at 21 0 = let q : Err why ≡ Err (refusal_at 21 0) = sym z ∙ k in cc in
           let l : leb (length (tape_of 2 stage_for)) cap ≡ false = rw (tape_is 2 stage_for) (lt-leb (length (stage_bytes 2 stage_for)) cap (omega (arith, size_is))) in
           rw (levelled-said, e, l) (record { answered = rw u refl; tree = refl })
 
-      long_refused : f.long ≡ true → stage_fits 2 stage_for ≡ false
+      long_refused : long_in f ≡ true → stage_fits 2 stage_for ≡ false
       long_refused e = rw (fits_is, sym long_is ∙ e) (go (leb v.count 65536))
         where
           go : (b : Bool) → (b && (not true && true)) ≡ false
@@ -191,7 +221,7 @@ module _ (s : List ℕ) (cap : ℕ) (m : Map) (at : ℕ) (room : Room) (v : Writ
       many_refused : 65536 < v.count → stage_fits 2 stage_for ≡ false
       many_refused h = rw (fits_is, lt-leb v.count 65536 h) refl
 
-      few_admitted : f.long ≡ false → v.count ≤ 65536 → stage_fits 2 stage_for ≡ true
+      few_admitted : long_in f ≡ false → v.count ≤ 65536 → stage_fits 2 stage_for ≡ true
       few_admitted e h = rw (fits_is, sym long_is ∙ e, le-leb v.count 65536 h) refl
 
       -- items that fit end where the cursor is
@@ -202,35 +232,35 @@ module _ (s : List ℕ) (cap : ℕ) (m : Map) (at : ℕ) (room : Room) (v : Writ
       whole_bytes h = elim placed [ inl x ↦ x.1 | inr x ↦ absurd (omega (arith, x.1)) ]
 
       -- theorem: a refusal is the stage's
-      pub levels-no : (o : List ℕ) (why : Refusal) → y ≡ Answer.No why → Staged (levelled_of s cap) o (Answer.No why) o
+      pub levels-no : (o : List ℕ) (why : Refusal) → y ≡ Err why → Staged (levelled_of s cap) o (Err why) o
       unfolding Judges pick
-      levels-no o why z = go f.long refl (ltb room.lim v.to) refl (ltb 65536 v.count) refl (ltb cap (at + f.bytes + (v.to - room.at))) refl judges
+      levels-no o why z = go (long_in f) refl (ltb room.lim v.to) refl (ltb 65536 v.count) refl (ltb cap (at + bytes_in f + (v.to - room.at))) refl judges
         where
-          go : (long : Bool) → f.long ≡ long → (over : Bool) → ltb room.lim v.to ≡ over → (many : Bool) → ltb 65536 v.count ≡ many → (big : Bool) → ltb cap (at + f.bytes + (v.to - room.at)) ≡ big
-              → Judges long over many big → Staged (levelled_of s cap) o (Answer.No why) o
+          go : (long : Bool) → long_in f ≡ long → (over : Bool) → ltb room.lim v.to ≡ over → (many : Bool) → ltb 65536 v.count ≡ many → (big : Bool) → ltb cap (at + bytes_in f + (v.to - room.at)) ≡ big
+              → Judges long over many big → Staged (levelled_of s cap) o (Err why) o
           go true p over q many r big t k = refused_20 o why z k (long_refused p)
           go false p true q true r big t k = refused_20 o why z k (many_refused (ltb-true 65536 v.count r))
           go false p true q false r big t k = refused_21 o why z k (few_admitted p (ltb-false 65536 v.count r)) (let h = over_bytes (ltb-true room.lim v.to q) in omega arith)
           go false p false q true r big t k = refused_20 o why z k (many_refused (ltb-true 65536 v.count r))
           go false p false q false r true t k =
               let h = whole_bytes (ltb-false room.lim v.to q) in
-              refused_21 o why z k (few_admitted p (ltb-false 65536 v.count r)) (omega (arith, ltb-true cap (at + f.bytes + (v.to - room.at)) t, bytes_is, h.end))
-          go false p false q false r false t k = absurd (yes_no (at + f.bytes + (v.to - room.at)) why (sym k ∙ z))
+              refused_21 o why z k (few_admitted p (ltb-false 65536 v.count r)) (omega (arith, ltb-true cap (at + bytes_in f + (v.to - room.at)) t, bytes_is p, h.end))
+          go false p false q false r false t k = absurd (yes_no (at + bytes_in f + (v.to - room.at)) why (sym k ∙ z))
 
-      module _ (n : ℕ) (z : y ≡ Answer.Yes n) where
+      module _ (n : ℕ) (z : y ≡ Ok n) where
         -- a yes says that all fits
         record Fitting : Type 0 where
-          short : f.long ≡ false
+          short : long_in f ≡ false
           upto : v.to ≤ room.lim
           few : v.count ≤ 65536
-          fits : at + f.bytes + (v.to - room.at) ≤ cap
-          size : n ≡ at + f.bytes + (v.to - room.at)
+          fits : at + bytes_in f + (v.to - room.at) ≤ cap
+          size : n ≡ at + bytes_in f + (v.to - room.at)
 
         fitting : Fitting
         unfolding Judges pick
-        fitting = go f.long refl (ltb room.lim v.to) refl (ltb 65536 v.count) refl (ltb cap (at + f.bytes + (v.to - room.at))) refl judges
+        fitting = go (long_in f) refl (ltb room.lim v.to) refl (ltb 65536 v.count) refl (ltb cap (at + bytes_in f + (v.to - room.at))) refl judges
           where
-            go : (long : Bool) → f.long ≡ long → (over : Bool) → ltb room.lim v.to ≡ over → (many : Bool) → ltb 65536 v.count ≡ many → (big : Bool) → ltb cap (at + f.bytes + (v.to - room.at)) ≡ big
+            go : (long : Bool) → long_in f ≡ long → (over : Bool) → ltb room.lim v.to ≡ over → (many : Bool) → ltb 65536 v.count ≡ many → (big : Bool) → ltb cap (at + bytes_in f + (v.to - room.at)) ≡ big
                 → Judges long over many big → Fitting
             go true p over q many r big t k = absurd (yes_no n (refusal_at 20 0) (sym z ∙ k))
             go false p true q true r big t k = absurd (yes_no n (refusal_at 20 0) (sym z ∙ k))
@@ -241,8 +271,8 @@ module _ (s : List ℕ) (cap : ℕ) (m : Map) (at : ℕ) (room : Room) (v : Writ
               short = p;
               upto = ltb-false room.lim v.to q;
               few = ltb-false 65536 v.count r;
-              fits = ltb-false cap (at + f.bytes + (v.to - room.at)) t;
-              size = let c : Answer.Yes n ≡ Answer.Yes (at + f.bytes + (v.to - room.at)) = sym z ∙ k in cc;
+              fits = ltb-false cap (at + bytes_in f + (v.to - room.at)) t;
+              size = let c : Ok n ≡ Ok (at + bytes_in f + (v.to - room.at)) = sym z ∙ k in cc;
             }
 
         items_lie : Lies w room.at (bytes_of_each (item_bytes 2 us) tree) v.to
@@ -250,7 +280,7 @@ module _ (s : List ℕ) (cap : ℕ) (m : Map) (at : ℕ) (room : Room) (v : Writ
 
         -- theorem: the stage is admitted
         pub levels-fitting : SomeFitting s cap m at room v w
-        levels-fitting = record { levels = L; short = sym long_is ∙ fitting.short; upto = fitting.upto; few = fitting.few; fits = omega (arith, fitting.fits, bytes_is) }
+        levels-fitting = record { levels = L; short = sym long_is ∙ fitting.short; upto = fitting.upto; few = fitting.few; fits = omega (arith, fitting.fits, bytes_is fitting.short) }
 
         -- theorem: so the tree can be handed over
         pub levels-hands : HandsLevels s at w m room v cap
@@ -260,7 +290,7 @@ module _ (s : List ℕ) (cap : ℕ) (m : Map) (at : ℕ) (room : Room) (v : Writ
           short = sym long_is ∙ fitting.short;
           from = to_from;
           upto = omega (arith, fitting.upto, lim_is, at-is, L.enough);
-          fits = omega (arith, fitting.fits, bytes_is);
+          fits = omega (arith, fitting.fits, bytes_is fitting.short);
         }
 
         tree_is : tape_of 2 stage_for ≡ levels_tree s at w m room v
@@ -270,10 +300,10 @@ module _ (s : List ℕ) (cap : ℕ) (m : Map) (at : ℕ) (room : Room) (v : Writ
             ∙ ap (λ (x : List ℕ). part 0 at s ++ (bytes_of_each (atom_bytes 2) news ++ x)) (sym (lies_part w room.at v.to (bytes_of_each (item_bytes 2 us) tree) items_lie))
 
         -- theorem: and what is handed over is the stage's
-        pub levels-yes : (o o' : List ℕ) → o' ≡ handed_levels s at w m room v o → Staged (levelled_of s cap) o (Answer.Yes n) o'
+        pub levels-yes : (o o' : List ℕ) → o' ≡ handed_levels s at w m room v o → Staged (levelled_of s cap) o (Ok n) o'
         unfolding sizes answer_of written handed_levels
         levels-yes o o' h =
-            let x : length (tape_of 2 stage_for) ≡ n = ap length (tape_is 2 stage_for) ∙ omega (arith, size_is, fitting.size, bytes_is, items_lie.end) in
+            let x : length (tape_of 2 stage_for) ≡ n = ap length (tape_is 2 stage_for) ∙ omega (arith, size_is, fitting.size, bytes_is fitting.short, items_lie.end) in
             let l : leb (length (tape_of 2 stage_for)) cap ≡ true = le-leb (length (tape_of 2 stage_for)) cap (omega (arith, x, fitting.size, fitting.fits)) in
             rw (levelled-said, few_admitted fitting.short fitting.few, l)
-            (record { answered = ap Answer.Yes (sym x); tree = h ∙ ap (λ (u : List ℕ). u ++ drop (length u) o) (sym tree_is) })
+            (record { answered = ap Ok (sym x); tree = h ∙ ap (λ (u : List ℕ). u ++ drop (length u) o) (sym tree_is) })

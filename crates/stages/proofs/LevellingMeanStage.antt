@@ -27,11 +27,10 @@ use Rattle.resolve.specs.declared.Grammar.{Grammar}
 use Rattle.grades.specs.Ids.{ids_in}
 use Rattle.levels.specs.declared.Room.{Room}
 use Rattle.levels.specs.declared.Written.{Written}
-use Rattle.levels.specs.declared.Levelled.{Levelled}
 use Rattle.levels.specs.Expand.{LevelsFit, Wrote}
 use Rattle.levels.specs.Whole.{alternatives_in, GrammarStands, SomeGrammar, LevelledBy, Levels}
 use Rattle.output.specs.Plain.Answers.{answer_of}
-use Rattle.output.specs.declared.Answer.{Answer}
+use Rattle.std.specs.Prelude.{Result, Ok, Err}
 use Rattle.output.specs.Working.Judging.{room_of}
 use Rattle.output.specs.Working.Handing.{Staged, handed}
 use Rattle.stages.specs.Stages.{resolved}
@@ -40,7 +39,7 @@ use Rattle.stages.proofs.StoodMean.{Stood, said, said_yes, stood_yes}
 use Rattle.stages.proofs.LevellingMeanFew.{alternatives_few, names_most}
 
 -- ---- a refusal of the resolved stage is the answer
-pub staged_no : (x : Outcome Stage) (f : Stage → Outcome Stage) (o : List ℕ) (why : Refusal) → Staged x o (Answer.No why) o → Staged (after x f) o (Answer.No why) o
+pub staged_no : (x : Outcome Stage) (f : Stage → Outcome Stage) (o : List ℕ) (why : Refusal) → Staged x o (Err why) o → Staged (after x f) o (Err why) o
 unfolding answer_of
 staged_no (yes g) f o why h = absurd (let e = h.answered in let z : ◌≡◌ {A = ℕ} 0 1 = cc in omega arith)
 staged_no (no q p) f o why h = h
@@ -97,7 +96,7 @@ module _ (s : List ℕ) (cap : ℕ) (m : Map) (t : Grammar) (at : ℕ) (w : List
       levelled-is ∙ y ∙ sym x ∙ sym (said s w m t at admitted-stood cap)
 
   -- theorem: then it is handed over
-  pub none_staged : t.count ≡ 0 → (o o' : List ℕ) → cap ≡ length o → o' ≡ handed at s t.at w o → Staged (levelled_of s cap) o (Answer.Yes (length s)) o'
+  pub none_staged : t.count ≡ 0 → (o o' : List ℕ) → cap ≡ length o → o' ≡ handed at s t.at w o → Staged (levelled_of s cap) o (Ok (length s)) o'
   none_staged e o o' l h =
       let f : length s ≤ length o = omega (arith, a.fits) in
       rw (none_levelled e, l) (stood_yes s w m t at admitted-stood a.few o o' f h)
@@ -170,33 +169,33 @@ module _ (s : List ℕ) (cap : ℕ) (m : Map) (t : Grammar) (at : ℕ) (w : List
     some_grammar = record { four = true; items = a.tree; stands = grammar_stands }
 
     -- ---- what the pass answered, and left
-    module _ (x : Levelled) (w' : List ℕ) (p : Levels s m t room w x w') where
+    module _ (x : Result Written Refusal) (w' : List ℕ) (p : Levels s m t room w x w') where
       by_levels_lem : LevelledBy s m t room (check_levels a.tree) w a.tree x w'
       unfolding Levels
       by_levels_lem = p true a.tree grammar_stands
 
-      is_refused : (v : Written) (why : Refusal) → Levelled.Is v ≡ Levelled.Refused why → ⊥
+      is_refused : (v : Written) (why : Refusal) → Ok v ≡ Err why → ⊥
       is_refused v why e = let z : ◌≡◌ {A = ℕ} 0 1 = cc in omega arith
 
       -- theorem: a refusal is the stage's
-      pub levels-refused : (o : List ℕ) (why : Refusal) → x ≡ Levelled.Refused why → Staged (levelled_of s cap) o (Answer.No why) o
+      pub levels-refused : (o : List ℕ) (why : Refusal) → x ≡ Err why → Staged (levelled_of s cap) o (Err why) o
       unfolding LevelledBy level_stage levels answer_of written refusal_over
       levels-refused o why e = rw levelled-is (go (check_levels a.tree) by_levels_lem)
         where
           go : (z : Outcome (Unit {0})) → LevelledBy s m t room z w a.tree x w'
-              → Staged (after (after z (λ u. yes (levelled a.tree))) (λ L. sizes 2 cap (stage_of a.tape.atoms L))) o (Answer.No why) o
+              → Staged (after (after z (λ u. yes (levelled a.tree))) (λ L. sizes 2 cap (stage_of a.tape.atoms L))) o (Err why) o
           go (yes u) k = absurd (is_refused k.0 why (sym k.1 ∙ e))
           go (no q sp) k = let z : why ≡ refusal_over q sp = cc in record { answered = rw z refl; tree = refl }
 
       -- theorem: and a yes leaves the levels
-      pub levels-written : (v : Written) → x ≡ Levelled.Is v → SomeLevels s cap m at room v w'
+      pub levels-written : (v : Written) → x ≡ Ok v → SomeLevels s cap m at room v w'
       unfolding LevelledBy
       levels-written v e = go (check_levels a.tree) refl by_levels_lem
         where
           go : (z : Outcome (Unit {0})) → check_levels a.tree ≡ z → LevelledBy s m t room z w a.tree x w' → SomeLevels s cap m at room v w'
           go (no q sp) h k = absurd (is_refused v (refusal_over q sp) (sym e ∙ k))
           go (yes u) h k =
-              let c : k.0 ≡ v = let d : Levelled.Is k.0 ≡ Levelled.Is v = sym k.1 ∙ e in cc in
+              let c : k.0 ≡ v = let d : Ok k.0 ≡ Ok v = sym k.1 ∙ e in cc in
               let b : Wrote s m room 2 (ids_in a.tape.atoms) w (record { to = room.at; count = m.count }) A (levelled a.tree) v w' = rw (← c, ← a.levels.width, ← a.levels.texts-are) k.2 in
               record {
                 tape = a.tape;

@@ -47,9 +47,9 @@ use Rattle.passes.proofs.ResolveWithin.{KeptItems, resolve-alike}
 use Rattle.resolve.specs.Items.{Standing}
 use Rattle.resolve.specs.Whole.{Holds, Became, Answers, Resolves}
 use Rattle.resolve.specs.declared.Grammar.{Grammar}
-use Rattle.resolve.specs.declared.Verdict.{Verdict}
 use Rattle.resolve.proofs.CommandsCode.{fine_not}
 use Rattle.resolve.proofs.GrammarLaws.{row_start}
+use Rattle.std.specs.Prelude.{Result, Ok, Err}
 use Rattle.stages.specs.declared.Resolved.{Resolved}
 use Rattle.stages.specs.Stages.{Levelable, StandsBy, TapeReads, TapeResolves}
 use Rattle.stages.proofs.LevelableMean.{atoms_long, some_linked, record_free, before-free, table-but_cells, texts-but_cells, above_but_cells}
@@ -186,20 +186,20 @@ module _ (s w : List ℕ) (a : Atoms) (at n : ℕ) (v : Valid true 2 s w a at n)
         }
 
     -- r is what the pass answered, and w₂ what it left
-    module _ (f : (j : ℕ) → Bound.Fits w8 (get_or w₁ j 0)) (r : Verdict) (w₂ : List ℕ) (i : Resolves table grammar w₁ r w₂) where
+    module _ (f : (j : ℕ) → Bound.Fits w8 (get_or w₁ j 0)) (r : Result (Unit {0}) Refusal) (w₂ : List ℕ) (i : Resolves table grammar w₁ r w₂) where
       answers : Answers table grammar ts (resolve v.items) w₁ r w₂
       unfolding Resolves
       answers = i ts v.items (holds f)
 
-      reads : (x : Resolved) → StandsBy s tape (resolve v.items) x w₂ → TapeResolves s x w₂
+      reads : (x : Result Resolved Refusal) → StandsBy s tape (resolve v.items) x w₂ → TapeResolves s x w₂
       unfolding TapeResolves TapeReads decode
       reads x k = rw v.decoded k
 
-      valid_refused : (why : Refusal) → r ≡ Verdict.Refused why → TapeResolves s (Resolved.Refused why) w₂
+      valid_refused : (why : Refusal) → r ≡ Err why → TapeResolves s (Err why) w₂
       unfolding Answers StandsBy
-      valid_refused why e = reads (Resolved.Refused why) (go (resolve v.items) answers)
+      valid_refused why e = reads (Err why) (go (resolve v.items) answers)
         where
-          go : (o : Outcome Tree) → Answers table grammar ts o w₁ r w₂ → StandsBy s tape o (Resolved.Refused why) w₂
+          go : (o : Outcome Tree) → Answers table grammar ts o w₁ r w₂ → StandsBy s tape o (Err why) w₂
           go (yes R) k = absurd (fine_not (sym k.0 ∙ e))
           go (no q p) k = let z : why ≡ refusal_over q p = cc in rw z refl
 
@@ -246,15 +246,13 @@ module _ (s w : List ℕ) (a : Atoms) (at n : ℕ) (v : Valid true 2 s w a at n)
               heads = omega (arith, v.base, begins, v.ready.inside, few);
             }
 
-      valid_fine : r ≡ Verdict.Fine → TapeResolves s (Resolved.Is table grammar at) w₂
+      valid_fine : r ≡ Ok tt → TapeResolves s (Ok (record { texts = table; grammar = grammar; at = at })) w₂
       unfolding Answers StandsBy
-      valid_fine e = reads (Resolved.Is table grammar at) (go (resolve v.items) refl answers)
+      valid_fine e = reads (Ok (record { texts = table; grammar = grammar; at = at })) (go (resolve v.items) refl answers)
         where
-          go : (o : Outcome Tree) → resolve v.items ≡ o → Answers table grammar ts o w₁ r w₂ → StandsBy s tape o (Resolved.Is table grammar at) w₂
+          go : (o : Outcome Tree) → resolve v.items ≡ o → Answers table grammar ts o w₁ r w₂ → StandsBy s tape o (Ok (record { texts = table; grammar = grammar; at = at })) w₂
           go (yes R) q k = record {
-            table = table;
-            grammar = grammar;
-            place = at;
+            found = record { texts = table; grammar = grammar; at = at };
             is = refl;
             within = within;
             many = sym (length_atoms s a.count);
@@ -299,25 +297,25 @@ module _ (s w : List ℕ) (a : Atoms) (at n : ℕ) (v : Valid true 2 s w a at n)
         pub layout_standing : Standing table (grammar_of g) (length w₁)
         layout_standing = rw (items_there, list_there) (valid_standing room w₁ there)
 
-        module _ (f : (j : ℕ) → Bound.Fits w8 (get_or w₁ j 0)) (r : Verdict) (w₂ : List ℕ) (i : Resolves table (grammar_of g) w₁ r w₂) where
-          pub layout_refused : (why : Refusal) → r ≡ Verdict.Refused why → TapeResolves s (Resolved.Refused why) w₂
+        module _ (f : (j : ℕ) → Bound.Fits w8 (get_or w₁ j 0)) (r : Result (Unit {0}) Refusal) (w₂ : List ℕ) (i : Resolves table (grammar_of g) w₁ r w₂) where
+          pub layout_refused : (why : Refusal) → r ≡ Err why → TapeResolves s (Err why) w₂
           layout_refused why k = valid_refused room w₁ there f r w₂ (rw (items_there, list_there) at i) why k
 
-          pub layout_fine : r ≡ Verdict.Fine → TapeResolves s (Resolved.Is table (grammar_of g) at) w₂
+          pub layout_fine : r ≡ Ok tt → TapeResolves s (Ok (record { texts = table; grammar = grammar_of g; at = at })) w₂
           layout_fine k = rw (items_there, list_there) (valid_fine room w₁ there f r w₂ (rw (items_there, list_there) at i) k)
 
 pub ruleset validated = (rules, layout_fits, copy_inside, copy_room, grammar_fits, layout_standing, layout_refused, layout_fine)
 
 -- ---- `resolve_tape`: x is what `validate` answered
-module _ (s w : List ℕ) (x : Validated) (i : Validates true 2 s x w) where
-  pub tape_refused : (why : Refusal) → x ≡ Validated.Refused why → TapeResolves s (Resolved.Refused why) w
+module _ (s w : List ℕ) (x : Result Validated Refusal) (i : Validates true 2 s x w) where
+  pub tape_refused : (why : Refusal) → x ≡ Err why → TapeResolves s (Err why) w
   unfolding Validates TapeResolves TapeReads decode refusal_at
   tape_refused why e =
       let n : Refuses (decode_by true 2 s) why = rw e at i in
-      rw n.is (ap (λ (k : ℕ). Resolved.Refused (record { number = why.number; from = why.from; to = k })) n.twice)
+      rw n.is (ap (λ (k : ℕ). Err (record { number = why.number; from = why.from; to = k })) n.twice)
 
-  pub tape_valid : (a : Atoms) (at n : ℕ) → x ≡ Validated.Valid a at n → Valid true 2 s w a at n
+  pub tape_valid : (v : Validated) → x ≡ Ok v → Valid true 2 s w v.atoms v.at v.items
   unfolding Validates
-  tape_valid a at n e = rw e at i
+  tape_valid v e = rw e at i
 
 pub ruleset tapes_resolved = (rules, tape_refused, tape_valid)

@@ -27,7 +27,7 @@ use Rattle.passes.specs.Stages.{stage, resolve_stage}
 use Rattle.passes.specs.Calls.{read_as, sizes, written}
 use Rattle.resolve.specs.declared.Grammar.{Grammar}
 use Rattle.output.specs.Plain.Answers.{answer_of}
-use Rattle.output.specs.declared.Answer.{Answer}
+use Rattle.std.specs.Prelude.{Result, Ok, Err}
 use Rattle.output.specs.Working.Judging.{sized}
 use Rattle.output.specs.Working.Handing.{Staged, handed}
 use Rattle.stages.specs.declared.Resolved.{Resolved}
@@ -49,56 +49,53 @@ pub record Stood (s w : List ℕ) (m : Map) (t : Grammar) (at : ℕ) : Type 0 wh
   pub items : part t.at (t.at + (length s - at)) w ≡ bytes_of_each (item_bytes 2 tape.atoms) tree
   pub levels : Levelable s w m t at tape.atoms tree
 
-is_no : (m : Map) (t : Grammar) (at : ℕ) (why : Refusal) → Resolved.Is m t at ≡ Resolved.Refused why → ⊥
-is_no m t at why e = let z : ◌≡◌ {A = ℕ} 0 1 = cc in omega arith
+is_no : (r : Resolved) (why : Refusal) → Ok r ≡ Err why → ⊥
+is_no r why e = let z : ◌≡◌ {A = ℕ} 0 1 = cc in omega arith
 
 -- x is what `resolve_tape` answered, and w what it left
-module _ (s : List ℕ) (x : Resolved) (w : List ℕ) (i : TapeResolves s x w) where
-  pub stage_refused : (o : List ℕ) (why : Refusal) → x ≡ Resolved.Refused why → Staged (resolved s (length o)) o (Answer.No why) o
+module _ (s : List ℕ) (x : Result Resolved Refusal) (w : List ℕ) (i : TapeResolves s x w) where
+  pub stage_refused : (o : List ℕ) (why : Refusal) → x ≡ Err why → Staged (resolved s (length o)) o (Err why) o
   unfolding TapeResolves TapeReads StandsBy resolved resolve_stage answer_of written refusal_at refusal_over
   stage_refused o why e = go (decode s) refl i
     where
-      by : (g : Stage) (z : Outcome Tree) → StandsBy s g z x w → Staged (after z (λ R. stage (sizes 2 (length o)) g.atoms R)) o (Answer.No why) o
-      by g (yes R) k = absurd (is_no k.table k.grammar k.place why (sym k.is ∙ e))
+      by : (g : Stage) (z : Outcome Tree) → StandsBy s g z x w → Staged (after z (λ R. stage (sizes 2 (length o)) g.atoms R)) o (Err why) o
+      by g (yes R) k = absurd (is_no k.found why (sym k.is ∙ e))
       by g (no q p) k = let z : why ≡ refusal_over q p = cc in record { answered = rw z refl; tree = refl }
 
-      go : (z : Reading Stage) → decode s ≡ z → TapeReads s z x w → Staged (after (read_as z) (resolve_stage (sizes 2 (length o)))) o (Answer.No why) o
+      go : (z : Reading Stage) → decode s ≡ z → TapeReads s z x w → Staged (after (read_as z) (resolve_stage (sizes 2 (length o)))) o (Err why) o
       go (got g k) p h = by g (resolve g.items) h
       go (refused q k) p h = let z : why ≡ refusal_at q k = cc in record { answered = rw z refl; tree = refl }
 
-  pub stood : (m : Map) (t : Grammar) (at : ℕ) → x ≡ Resolved.Is m t at → Stood s w m t at
+  pub stood : (r : Resolved) → x ≡ Ok r → Stood s w r.texts r.grammar r.at
   unfolding TapeResolves TapeReads StandsBy
-  stood m t at e = go (decode s) refl i
+  stood r e = go (decode s) refl i
     where
-      by : (g : Stage) (k : ℕ) → decode s ≡ got g k → (z : Outcome Tree) → resolve g.items ≡ z → StandsBy s g z x w → Stood s w m t at
-      by g k p (no q sp) y h = absurd (is_no m t at (refusal_over q sp) (sym e ∙ h))
+      by : (g : Stage) (k : ℕ) → decode s ≡ got g k → (z : Outcome Tree) → resolve g.items ≡ z → StandsBy s g z x w → Stood s w r.texts r.grammar r.at
+      by g k p (no q sp) y h = absurd (is_no r (refusal_over q sp) (sym e ∙ h))
       by g k p (yes R) y h =
-          let c : h.table ≡ m = cc h.is in
-          let d : h.grammar ≡ t = cc h.is in
-          let f : h.place ≡ at = cc h.is in
-          record {
+          let c : h.found ≡ r = cc h.is in
+          let d : Stood s w h.found.texts h.found.grammar h.found.at = record {
             tape = g;
             end = k;
             tree = R;
             decoded = p;
             is = y;
             within = h.within;
-            many = ap (λ (u : Map). u.count) (sym c) ∙ h.many;
-            inside = subst (λ (u : ℕ). u ≤ length s) f h.inside;
-            atoms = ap (λ (u : ℕ). part 0 u s) (sym f) ∙ h.atoms;
-            room = subst (λ (u : Grammar). u.at + (length s - at) ≤ length w) d (subst (λ (u : ℕ). h.grammar.at + (length s - u) ≤ length w) f h.room);
-            items = subst (λ (u : Grammar). part u.at (u.at + (length s - at)) w ≡ bytes_of_each (item_bytes 2 g.atoms) R) d
-                (subst (λ (u : ℕ). part h.grammar.at (h.grammar.at + (length s - u)) w ≡ bytes_of_each (item_bytes 2 g.atoms) R) f h.items);
-            levels = subst (λ (u : ℕ). Levelable s w m t u g.atoms R) f
-                (subst (λ (u : Grammar). Levelable s w m u h.place g.atoms R) d (subst (λ (u : Map). Levelable s w u h.grammar h.place g.atoms R) c h.levels));
-          }
+            many = h.many;
+            inside = h.inside;
+            atoms = h.atoms;
+            room = h.room;
+            items = h.items;
+            levels = h.levels;
+          } in
+          subst (λ (u : Resolved). Stood s w u.texts u.grammar u.at) c d
 
-      go : (z : Reading Stage) → decode s ≡ z → TapeReads s z x w → Stood s w m t at
+      go : (z : Reading Stage) → decode s ≡ z → TapeReads s z x w → Stood s w r.texts r.grammar r.at
       go (got g k) p h = by g k p (resolve g.items) refl h
-      go (refused q k) p h = absurd (is_no m t at (refusal_at q k) (sym e ∙ h))
+      go (refused q k) p h = absurd (is_no r (refusal_at q k) (sym e ∙ h))
 
-  pub stage_stands : (m : Map) (t : Grammar) (at : ℕ) → x ≡ Resolved.Is m t at → TapeResolves s (Resolved.Is m t at) w
-  stage_stands m t at e = rw (← e) i
+  pub stage_stands : (r : Resolved) → x ≡ Ok r → TapeResolves s (Ok r) w
+  stage_stands r e = rw (← e) i
 
 -- ---- the stage of a resolved tape
 module _ (s w : List ℕ) (m : Map) (t : Grammar) (at : ℕ) (d : Stood s w m t at) where
@@ -123,69 +120,69 @@ module _ (s w : List ℕ) (m : Map) (t : Grammar) (at : ℕ) (d : Stood s w m t 
     pub said_yes : (cap : ℕ) → length s ≤ cap → resolved s cap ≡ yes tree_of
     said_yes cap fits = said cap ∙ admit_done d.tape d.tree d.is d.within cap (omega (arith, d.many)) (omega (arith, size_is))
 
-    pub stood_yes : (o o' : List ℕ) → length s ≤ length o → o' ≡ handed at s t.at w o → Staged (resolved s (length o)) o (Answer.Yes (length s)) o'
+    pub stood_yes : (o o' : List ℕ) → length s ≤ length o → o' ≡ handed at s t.at w o → Staged (resolved s (length o)) o (Ok (length s)) o'
     unfolding answer_of written handed
     stood_yes o o' fits h =
         let u : tape_of 2 tree_of ≡ part 0 at s ++ part t.at (t.at + (length s - at)) w = tape_is 2 tree_of ∙ bytes_are in
         let l : length (tape_of 2 tree_of) ≡ length s = ap length (tape_is 2 tree_of) ∙ size_is in
         rw (said_yes (length o) fits)
         (record {
-          answered = ap Answer.Yes (sym l);
+          answered = ap Ok (sym l);
           tree = h ∙ sym (append_assoc (part 0 at s) (part t.at (t.at + (length s - at)) w) (drop (length s) o)) ∙ (let g : drop (length (tape_of 2 tree_of)) o ≡ drop (length s) o = ap (λ (k : ℕ). drop k o) l in cc);
         })
 
 -- ---- handed over where `judge` admits it
-module _ (s w : List ℕ) (m : Map) (t : Grammar) (at : ℕ) (i : TapeResolves s (Resolved.Is m t at) w) where
-  abbrev d : Stood s w m t at
-  d = stood s (Resolved.Is m t at) w i m t at refl
+module _ (s w : List ℕ) (r : Resolved) (i : TapeResolves s (Ok r) w) where
+  abbrev d : Stood s w r.texts r.grammar r.at
+  d = stood s (Ok r) w i r refl
 
-  pub hand_inside : at ≤ length s
+  pub hand_inside : r.at ≤ length s
   hand_inside = d.inside
 
-  pub hand_room : t.at + (length s - at) ≤ length w
+  pub hand_room : r.grammar.at + (length s - r.at) ≤ length w
   hand_room = d.room
 
   -- y is what `judge` answered
-  module _ (o : List ℕ) (y : Answer) (j : y ≡ sized m.count (length s) (length o)) where
+  module _ (o : List ℕ) (y : Result ℕ Refusal) (j : y ≡ sized r.texts.count (length s) (length o)) where
     -- by what is asked of the sizes
     Judges : Bool → Bool → Type 0
-    Judges many long = y ≡ pick many (Answer.No (refusal_at 20 0)) (pick long (Answer.No (refusal_at 21 0)) (Answer.Yes (length s)))
+    Judges many long = y ≡ pick many (Err (refusal_at 20 0)) (pick long (Err (refusal_at 21 0)) (Ok (length s)))
 
-    judges : Judges (ltb 65536 m.count) (ltb (length o) (length s))
+    judges : Judges (ltb 65536 r.texts.count) (ltb (length o) (length s))
     unfolding sized Judges
     judges = j
 
-    yes_no : (n : ℕ) (why : Refusal) → Answer.Yes n ≡ Answer.No why → ⊥
+    yes_no : (n : ℕ) (why : Refusal) → Ok n ≡ Err why → ⊥
     yes_no n why z = let q : ◌≡◌ {A = ℕ} 0 1 = cc in omega arith
 
-    pub stage_no : (why : Refusal) → y ≡ Answer.No why → Staged (resolved s (length o)) o (Answer.No why) o
+    pub stage_no : (why : Refusal) → y ≡ Err why → Staged (resolved s (length o)) o (Err why) o
     unfolding Judges pick answer_of written refusal_at
-    stage_no why z = rw (said s w m t at d (length o)) (go (ltb 65536 m.count) refl (ltb (length o) (length s)) refl judges)
+    stage_no why z = rw (said s w r.texts r.grammar r.at d (length o)) (go (ltb 65536 r.texts.count) refl (ltb (length o) (length s)) refl judges)
       where
-        go : (a : Bool) → ltb 65536 m.count ≡ a → (b : Bool) → ltb (length o) (length s) ≡ b → Judges a b → Staged (sizes 2 (length o) (stage_of d.tape.atoms d.tree)) o (Answer.No why) o
+        go : (a : Bool) → ltb 65536 r.texts.count ≡ a → (b : Bool) → ltb (length o) (length s) ≡ b → Judges a b → Staged (sizes 2 (length o) (stage_of d.tape.atoms d.tree)) o (Err why) o
         go true p b q k =
-            let h = ltb-true 65536 m.count p in
+            let h = ltb-true 65536 r.texts.count p in
             let u : why ≡ refusal_at 20 0 = cc in
             rw (admit_many d.tape d.tree d.is d.within (length o) (omega (arith, d.many))) (record { answered = rw u refl; tree = refl })
         go false p true q k =
-            let h = ltb-false 65536 m.count p in
+            let h = ltb-false 65536 r.texts.count p in
             let l = ltb-true (length o) (length s) q in
             let u : why ≡ refusal_at 21 0 = cc in
-            rw (admit_long d.tape d.tree d.is d.within (length o) (omega (arith, d.many)) (omega (arith, size_is s w m t at d))) (record { answered = rw u refl; tree = refl })
+            rw (admit_long d.tape d.tree d.is d.within (length o) (omega (arith, d.many)) (omega (arith, size_is s w r.texts r.grammar r.at d))) (record { answered = rw u refl; tree = refl })
         go false p false q k = absurd (yes_no (length s) why (sym k ∙ z))
 
-    module _ (n : ℕ) (z : y ≡ Answer.Yes n) where
-      pub judged : (m.count ≤ 65536) × (length s ≤ length o) × (n ≡ length s)
+    module _ (n : ℕ) (z : y ≡ Ok n) where
+      pub judged : (r.texts.count ≤ 65536) × (length s ≤ length o) × (n ≡ length s)
       unfolding Judges pick
-      judged = go (ltb 65536 m.count) refl (ltb (length o) (length s)) refl judges
+      judged = go (ltb 65536 r.texts.count) refl (ltb (length o) (length s)) refl judges
         where
-          go : (a : Bool) → ltb 65536 m.count ≡ a → (b : Bool) → ltb (length o) (length s) ≡ b → Judges a b → (m.count ≤ 65536) × (length s ≤ length o) × (n ≡ length s)
+          go : (a : Bool) → ltb 65536 r.texts.count ≡ a → (b : Bool) → ltb (length o) (length s) ≡ b → Judges a b → (r.texts.count ≤ 65536) × (length s ≤ length o) × (n ≡ length s)
           go true p b q k = absurd (yes_no n (refusal_at 20 0) (sym z ∙ k))
           go false p true q k = absurd (yes_no n (refusal_at 21 0) (sym z ∙ k))
-          go false p false q k = (ltb-false 65536 m.count p, ltb-false (length o) (length s) q, (let c : Answer.Yes n ≡ Answer.Yes (length s) = sym z ∙ k in cc))
+          go false p false q k = (ltb-false 65536 r.texts.count p, ltb-false (length o) (length s) q, (let c : Ok n ≡ Ok (length s) = sym z ∙ k in cc))
 
       pub hand_fits : length s ≤ length o
       hand_fits = judged.1
 
-      pub stage_yes : (o' : List ℕ) → o' ≡ handed at s t.at w o → Staged (resolved s (length o)) o (Answer.Yes n) o'
-      stage_yes o' h = rw judged.2 (stood_yes s w m t at d judged.0 o o' judged.1 h)
+      pub stage_yes : (o' : List ℕ) → o' ≡ handed r.at s r.grammar.at w o → Staged (resolved s (length o)) o (Ok n) o'
+      stage_yes o' h = rw judged.2 (stood_yes s w r.texts r.grammar r.at d judged.0 o o' judged.1 h)

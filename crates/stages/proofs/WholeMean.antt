@@ -45,13 +45,12 @@ use Rattle.levels.specs.Settle.{name_bytes, SettlingNames, with_names, SettledNa
 use Rattle.rounds.specs.declared.Room as rounds-room
 use Rattle.rounds.specs.Begins.{BeginsRound}
 use Rattle.rounds.specs.Standing.{Mapped, GrownTrees}
-use Rattle.again.specs.declared.Again.{Again}
 use Rattle.again.specs.Whole.{AgainStands, SomeAgain, AgainReady, AgainBy, AgainTo}
 use Rattle.begins.proofs.LevelsFew.{levelled-few}
 use Rattle.begins.proofs.LevelsWithin.{levels-within, levelled-within}
 use Rattle.begins.proofs.LevelsBegin.{levels-begin}
 use Rattle.output.specs.Plain.Answers.{answer_of}
-use Rattle.output.specs.declared.Answer.{Answer}
+use Rattle.std.specs.Prelude.{Result, Ok, Err}
 use Rattle.output.specs.Working.Handing.{Staged}
 use Rattle.stages.specs.Levelling.{SomeLevels, SomeFitting}
 use Rattle.stages.specs.Expanding.{macros_room, first_trees, FirstStands, RunStands, SomeRun, RunsTo}
@@ -207,24 +206,24 @@ module _ (s : List ℕ) (cap : ℕ) (m : Map) (at : ℕ) (room : Room) (v : Writ
     pub whole_again : SomeAgain s w₁ (record { base = m.base; count = v.count; buckets = m.buckets }) 0 room.at v.to
     whole_again = record { tree = tree; stands = stands }
 
-    module _ (y : Again) (w₂ : List ℕ) (p : AgainTo s w₁ (record { base = m.base; count = v.count; buckets = m.buckets }) 0 room.at v.to y w₂) where
+    module _ (y : Result Grammar Refusal) (w₂ : List ℕ) (p : AgainTo s w₁ (record { base = m.base; count = v.count; buckets = m.buckets }) 0 room.at v.to y w₂) where
       by_again : AgainBy s w₁ n 0 room.at v.to (resolve tree) y w₂
       unfolding AgainTo
       by_again = p tree stands
 
-      is_refused : (t : Grammar) (why : Refusal) → Again.Is t ≡ Again.Refused why → ⊥
+      is_refused : (t : Grammar) (why : Refusal) → Ok t ≡ Err why → ⊥
       is_refused t why e = let z : ◌≡◌ {A = ℕ} 0 1 = cc in omega arith
 
       -- theorem: a refusal is the call's
-      pub whole_refused : (limit : ℕ) (o : List ℕ) (why : Refusal) → y ≡ Again.Refused why → Staged (whole_of s limit cap) o (Answer.No why) o
+      pub whole_refused : (limit : ℕ) (o : List ℕ) (why : Refusal) → y ≡ Err why → Staged (whole_of s limit cap) o (Err why) o
       unfolding AgainBy again_stages answer_of written refusal_over
       whole_refused limit o why e = rw (whole_is limit) (go (resolve tree) by_again)
         where
-          go : (z : Outcome Tree) → AgainBy s w₁ n 0 room.at v.to z y w₂ → Staged (after z (λ G. macro_stages (sizes 2 cap) limit (record { atoms = us; items = G }))) o (Answer.No why) o
+          go : (z : Outcome Tree) → AgainBy s w₁ n 0 room.at v.to z y w₂ → Staged (after z (λ G. macro_stages (sizes 2 cap) limit (record { atoms = us; items = G }))) o (Err why) o
           go (yes G) k = absurd (is_refused k.0 why (sym k.1 ∙ e))
           go (no a sp) k = let z : why ≡ refusal_over a sp = cc in record { answered = rw z refl; tree = refl }
 
-      module _ (t : Grammar) (e : y ≡ Again.Is t) where
+      module _ (t : Grammar) (e : y ≡ Ok t) where
         -- the items are resolved
         resolved : (G : Tree) × (resolve tree ≡ yes G) × AgainReady s w₁ n 0 room.at v.to G t w₂
         unfolding AgainBy
@@ -233,7 +232,7 @@ module _ (s : List ℕ) (cap : ℕ) (m : Map) (at : ℕ) (room : Room) (v : Writ
             go : (z : Outcome Tree) → resolve tree ≡ z → AgainBy s w₁ n 0 room.at v.to z y w₂ → (G : Tree) × (resolve tree ≡ yes G) × AgainReady s w₁ n 0 room.at v.to G t w₂
             go (no a sp) h k = absurd (is_refused t (refusal_over a sp) (sym e ∙ k))
             go (yes G) h k =
-                let c : k.0 ≡ t = let d : Again.Is k.0 ≡ Again.Is t = sym k.1 ∙ e in cc in
+                let c : k.0 ≡ t = let d : Ok k.0 ≡ Ok t = sym k.1 ∙ e in cc in
                 (G, h, subst (λ (u : Grammar). AgainReady s w₁ n 0 room.at v.to G u w₂) c k.2)
 
         abbrev G : Tree
@@ -326,7 +325,7 @@ module _ (s : List ℕ) (cap : ℕ) (m : Map) (at : ℕ) (room : Room) (v : Writ
         whole_run = record { four = false; tree = G; first = ts; past = news; owed = begins.0; stands = runs }
 
         -- theorem: and what they come to is the call's
-        pub whole_done : (limit : ℕ) (o : List ℕ) → cap ≡ length o → (r : Answer) (o' : List ℕ) → RunsTo s w₂ n t at m.count own low limit o r o' → Staged (whole_of s limit cap) o r o'
+        pub whole_done : (limit : ℕ) (o : List ℕ) → cap ≡ length o → (r : Result ℕ Refusal) (o' : List ℕ) → RunsTo s w₂ n t at m.count own low limit o r o' → Staged (whole_of s limit cap) o r o'
         unfolding RunsTo again_stages
         whole_done limit o l r o' d =
             let x = d false G ts news begins.0 (subst (λ (c : ℕ). RunStands s w₂ c n t at m.count own low false G ts news begins.0) l runs) in

@@ -11,11 +11,12 @@ use Rattle.passes.specs.Stages.{macro_stages}
 use Rattle.passes.specs.Calls.{sizes}
 use Rattle.resolve.specs.declared.Grammar.{Grammar}
 use Rattle.rounds.specs.declared.Room.{Room}
-use Rattle.rounds.specs.declared.Rounded.{Rounded}
+use Rattle.rounds.specs.declared.Progress.{Progress}
 use Rattle.rounds.specs.Define.{Items}
 use Rattle.rounds.specs.Standing.{RoundTrees, Mapped, GrownTrees}
 use Rattle.rounds.specs.Round.{RoundsTo}
-use Rattle.output.specs.declared.Answer.{Answer}
+use Rattle.std.specs.Prelude.{Result}
+use Rattle.parse_tree.specs.declared.refusal.Refusal.{Refusal}
 use Rattle.output.specs.Working.Handing.{Staged}
 use Rattle.stages.specs.Stages.{resolved}
 
@@ -59,14 +60,14 @@ pub record SomeFirst (s w : List ℕ) (m : Map) (t : Grammar) (room : Room) (low
   pub stands : FirstStands s w m t room low four tree first past owed
 
 -- r is what the rounds of every such stage come to
-unfoldable pub FirstRounds : List ℕ → List ℕ → Map → Grammar → Room → ℕ → ℕ → Rounded → List ℕ → Type 0
+unfoldable pub FirstRounds : List ℕ → List ℕ → Map → Grammar → Room → ℕ → ℕ → Result Progress Refusal → List ℕ → Type 0
 FirstRounds s w m t room low limit r w' = (four : Bool) (G : Tree) (first past : List Text) (owed : ℕ) → FirstStands s w m t room low four G first past owed
     → RoundsTo s room first (macro_stages (sizes 2 room.cap) limit (record { atoms = first ++ past; items = G })) r w'
 
 -- ---- the answer
 
 -- r says what the rounds came to: x; the tape has n atoms before `at`
-pub record RoundsAnswer (s w : List ℕ) (cap at n : ℕ) (room : Room) (r : Rounded) (x : Outcome Stage) : Type 0 where
+pub record RoundsAnswer (s w : List ℕ) (cap at n : ℕ) (room : Room) (r : Result Progress Refusal) (x : Outcome Stage) : Type 0 where
   pub first : List Text
   pub many : n ≡ length first
   pub inside : at ≤ length s
@@ -75,11 +76,11 @@ pub record RoundsAnswer (s w : List ℕ) (cap at n : ℕ) (room : Room) (r : Rou
   pub behind : room.y ≤ length w
   pub rounds : RoundsTo s room first x r w
 
-pub record SomeAnswer (s w : List ℕ) (cap at n : ℕ) (room : Room) (r : Rounded) : Type 0 where
+pub record SomeAnswer (s w : List ℕ) (cap at n : ℕ) (room : Room) (r : Result Progress Refusal) : Type 0 where
   pub outcome : Outcome Stage
   pub is : RoundsAnswer s w cap at n room r outcome
 
-unfoldable pub AnswersRounds : List ℕ → List ℕ → ℕ → ℕ → Room → Rounded → List ℕ → Answer → List ℕ → Type 0
+unfoldable pub AnswersRounds : List ℕ → List ℕ → ℕ → ℕ → Room → Result Progress Refusal → List ℕ → Result ℕ Refusal → List ℕ → Type 0
 AnswersRounds s w at n room r o a o' = (x : Outcome Stage) → RoundsAnswer s w (length o) at n room r x → Staged x o a o'
 
 -- ---- both: the first round to the output. The stage's texts are the tape's, n of them, which stand before `at`, and then the new ones
@@ -99,6 +100,6 @@ pub record SomeRun (s w : List ℕ) (cap : ℕ) (m : Map) (t : Grammar) (at n : 
   pub stands : RunStands s w cap m t at n room low four tree first past owed
 
 -- what is answered to every such stage
-unfoldable pub RunsTo : List ℕ → List ℕ → Map → Grammar → ℕ → ℕ → Room → ℕ → ℕ → List ℕ → Answer → List ℕ → Type 0
+unfoldable pub RunsTo : List ℕ → List ℕ → Map → Grammar → ℕ → ℕ → Room → ℕ → ℕ → List ℕ → Result ℕ Refusal → List ℕ → Type 0
 RunsTo s w m t at n room low limit o r o' = (four : Bool) (G : Tree) (first past : List Text) (owed : ℕ) → RunStands s w (length o) m t at n room low four G first past owed
     → Staged (macro_stages (sizes 2 (length o)) limit (record { atoms = first ++ past; items = G })) o r o'

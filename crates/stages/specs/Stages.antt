@@ -19,11 +19,12 @@ use Rattle.resolve.specs.declared.Grammar.{Grammar}
 use Rattle.resolve.proofs.GrammarLaws.{Row}
 use Rattle.levels.specs.Whole.{Before}
 use Rattle.output.specs.Plain.Answers.{answer_of}
-use Rattle.output.specs.declared.Answer.{Answer}
+use Rattle.std.specs.Prelude.{Result, Ok, Err}
+use Rattle.parse_tree.specs.declared.refusal.Refusal.{Refusal}
 use Rattle.stages.specs.declared.Resolved.{Resolved}
 
 -- behind question 1, without an output: the answer to 2 to 4, and work cleared
-pub record Judged (s w : List ℕ) (r : Answer) (w' : List ℕ) : Type 0 where
+pub record Judged (s w : List ℕ) (r : Result ℕ Refusal) (w' : List ℕ) : Type 0 where
   pub answered : r ≡ answer_of (read_as (read_tape true 2 s))
   pub zeroed : w' ≡ replicate (length w) 0
 
@@ -45,29 +46,27 @@ pub record Levelable (s w : List ℕ) (m : Map) (t : Grammar) (at : ℕ) (ts : L
   pub records : m.base + 24 * m.count ≤ 8 * length s
   pub heads : m.base + 24 * m.buckets ≤ 8 * length s
 
-pub record Stands (s : List ℕ) (g : Stage) (R : Tree) (r : Resolved) (w : List ℕ) : Type 0 where
-  pub table : Map
-  pub grammar : Grammar
-  pub place : ℕ
-  pub is : r ≡ Resolved.Is table grammar place
+pub record Stands (s : List ℕ) (g : Stage) (R : Tree) (r : Result Resolved Refusal) (w : List ℕ) : Type 0 where
+  pub found : Resolved
+  pub is : r ≡ Ok found
   pub within : StageWithin true 2 g
-  pub many : table.count ≡ length g.atoms
-  pub inside : place ≤ length s
-  pub atoms : part 0 place s ≡ bytes_of_each (atom_bytes 2) g.atoms
-  pub room : grammar.at + (length s - place) ≤ length w
-  pub items : part grammar.at (grammar.at + (length s - place)) w ≡ bytes_of_each (item_bytes 2 g.atoms) R
-  pub levels : Levelable s w table grammar place g.atoms R
+  pub many : found.texts.count ≡ length g.atoms
+  pub inside : found.at ≤ length s
+  pub atoms : part 0 found.at s ≡ bytes_of_each (atom_bytes 2) g.atoms
+  pub room : found.grammar.at + (length s - found.at) ≤ length w
+  pub items : part found.grammar.at (found.grammar.at + (length s - found.at)) w ≡ bytes_of_each (item_bytes 2 g.atoms) R
+  pub levels : Levelable s w found.texts found.grammar found.at g.atoms R
 
-unfoldable pub StandsBy : List ℕ → Stage → Outcome Tree → Resolved → List ℕ → Type 0
+unfoldable pub StandsBy : List ℕ → Stage → Outcome Tree → Result Resolved Refusal → List ℕ → Type 0
 StandsBy s g (yes R) r w = Stands s g R r w
-StandsBy s g (no q p) r w = r ≡ Resolved.Refused (refusal_over q p)
+StandsBy s g (no q p) r w = r ≡ Err (refusal_over q p)
 
 -- questions 2 to 4, then 5 to 13
-unfoldable pub TapeReads : List ℕ → Reading Stage → Resolved → List ℕ → Type 0
+unfoldable pub TapeReads : List ℕ → Reading Stage → Result Resolved Refusal → List ℕ → Type 0
 TapeReads s (got g e) r w = StandsBy s g (resolve g.items) r w
-TapeReads s (refused q p) r w = r ≡ Resolved.Refused (refusal_at q p)
+TapeReads s (refused q p) r w = r ≡ Err (refusal_at q p)
 
-unfoldable pub TapeResolves : List ℕ → Resolved → List ℕ → Type 0
+unfoldable pub TapeResolves : List ℕ → Result Resolved Refusal → List ℕ → Type 0
 TapeResolves s r w = TapeReads s (decode s) r w
 
 -- behind question 1: what the call says of the tape

@@ -1,23 +1,22 @@
 // Questions 2 to 13 and 17 to 21 of one tape: its grammar resolved in work, then the rounds of macro expansion behind the tape's share of it.
 ghost use Rattle.std.specs.Prelude.{◌≡◌, ◌+◌, ◌*◌, ◌≤◌, ◌<◌, length};
 ghost use Rattle.output.specs.Working.Handing.{Staged};
-ghost use Rattle.stages.specs.declared.Resolved.{Resolved};
 ghost use Rattle.stages.specs.Stages.{TapeResolves};
 ghost use Rattle.stages.specs.Levelling.{SomeAdmitted};
 ghost use Rattle.stages.specs.Expanding.{macros_room, expanded_of, SomeFirst, FirstRounds, SomeAnswer, AnswersRounds, SomeRun, RunsTo};
 
 use crate::Resolved;
 use crate::resolving::resolve_tape;
-use output::Answer;
 use output::expanded::hand_over_macros;
 use output::handing::hand_over;
 use output::room::judge;
 use parse_tree::refusal;
+use parse_tree::refusal::Refusal;
 use resolve::Grammar;
 use rounds::define::define;
 use rounds::steps::start;
 use rounds::whole::rounds;
-use rounds::{Room, Rounded, State};
+use rounds::{Progress, Room, State};
 use texts::Map;
 
 // Where macros stand in work, for a tape of so many bytes of which `at` are its atoms':
@@ -47,7 +46,7 @@ fn expand_rounds(
     room: Room,
     low: usize,
     limit: usize,
-) -> Rounded
+) -> Result<Progress, Refusal>
     requires { SomeFirst tape.now work.old m t room low }
     ensures { FirstRounds tape.now work.old m t room low limit result work.new }
 {
@@ -71,15 +70,14 @@ fn answer_rounds<'a>(
     at: usize,
     n: usize,
     room: Room,
-    r: Rounded,
-) -> Answer
+    r: Result<Progress, Refusal>,
+) -> Result<usize, Refusal>
     requires { SomeAnswer tape.now work.now (length output.old) at n room r }
     ensures { AnswersRounds tape.now work.now at n room r output.old result output.new }
 {
-    match r {
-        Rounded::Refused(why) => Answer::No(why),
-        Rounded::More(_) => Answer::No(refusal::at(18, 0)),
-        Rounded::Done(z) => { hand_over_macros(tape, at, work, z.m, n, room.y, z.done, output) },
+    match r? {
+        Progress::More(_) => Err(refusal::at(18, 0)),
+        Progress::Done(z) => hand_over_macros(tape, at, work, z.m, n, room.y, z.done, output),
     }
 }
 
@@ -95,7 +93,7 @@ pub fn run_rounds(
     room: Room,
     low: usize,
     limit: usize,
-) -> Answer
+) -> Result<usize, Refusal>
     requires { SomeRun tape.now work.old (length output.old) m t at n room low }
     ensures { RunsTo tape.now work.old m t at n room low limit output.old result output.new }
 {
@@ -112,7 +110,7 @@ fn expand_items(
     t: Grammar,
     at: usize,
     limit: usize,
-) -> Answer
+) -> Result<usize, Refusal>
     requires { (0 < t.count) × SomeAdmitted tape.now (length output.old) m t at work.old }
     ensures { Staged (expanded_of tape.now limit (length output.old)) output.old result output.new }
 {
@@ -129,13 +127,13 @@ fn expand_admitted(
     t: Grammar,
     at: usize,
     limit: usize,
-) -> Answer
+) -> Result<usize, Refusal>
     requires { SomeAdmitted tape.now (length output.old) m t at work.old }
     ensures { Staged (expanded_of tape.now limit (length output.old)) output.old result output.new }
 {
     if t.count == 0 {
         hand_over(tape, at, work, t.at, output);
-        return Answer::Yes(tape.len());
+        return Ok(tape.len());
     }
     expand_items(tape, output, work, m, t, at, limit)
 }
@@ -145,27 +143,26 @@ fn expand_resolved(
     tape: &[u8],
     output: &mut [u8],
     work: &mut [u8],
-    m: Map,
-    t: Grammar,
-    at: usize,
+    r: Resolved,
     limit: usize,
-) -> Answer
-    requires { TapeResolves tape.now (Resolved.Is m t at) work.old × (8 * (length tape.now + length output.old) ≤ length work.old) }
+) -> Result<usize, Refusal>
+    requires { TapeResolves tape.now (Ok r) work.old × (8 * (length tape.now + length output.old) ≤ length work.old) }
     ensures { Staged (expanded_of tape.now limit (length output.old)) output.old result output.new }
 {
-    match judge(m.count, tape.len(), output.len()) {
-        Answer::No(why) => Answer::No(why),
-        Answer::Yes(_) => expand_admitted(tape, output, work, m, t, at, limit),
-    }
+    judge(r.texts.count, tape.len(), output.len())?;
+    expand_admitted(tape, output, work, r.texts, r.grammar, r.at, limit)
 }
 
 // The expanded stage of a tape; work is long enough.
-pub fn expand_stage(tape: &[u8], output: &mut [u8], work: &mut [u8], limit: usize) -> Answer
+pub fn expand_stage(
+    tape: &[u8],
+    output: &mut [u8],
+    work: &mut [u8],
+    limit: usize,
+) -> Result<usize, Refusal>
     requires { 8 * (length tape.now + length output.old) ≤ length work.old }
     ensures { Staged (expanded_of tape.now limit (length output.old)) output.old result output.new }
 {
-    match resolve_tape(tape, work) {
-        Resolved::Refused(why) => Answer::No(why),
-        Resolved::Is(m, t, at) => expand_resolved(tape, output, work, m, t, at, limit),
-    }
+    let r = resolve_tape(tape, work)?;
+    expand_resolved(tape, output, work, r, limit)
 }

@@ -1,7 +1,6 @@
 // Questions 2 to 16 of one tape: its grammar resolved in work, then written level by level behind the tape's share of it.
 ghost use Rattle.std.specs.Prelude.{◌+◌, ◌*◌, ◌≤◌, ◌<◌, length};
 ghost use Rattle.output.specs.Working.Handing.{Staged};
-ghost use Rattle.stages.specs.declared.Resolved.{Resolved};
 ghost use Rattle.stages.specs.Stages.{TapeResolves};
 ghost use Rattle.stages.specs.Levelling.{levelled_of, SomeAdmitted, SomeLevels};
 
@@ -9,10 +8,10 @@ use crate::Resolved;
 use crate::resolving::resolve_tape;
 use levels::fresh::count_bytes;
 use levels::whole::expand_precedence;
-use levels::{Levelled, Room, Written};
-use output::Answer;
+use levels::{Room, Written};
 use output::handing::{hand_over, hand_over_levels};
 use output::room::{judge, judge_levels, levels_room};
+use parse_tree::refusal::Refusal;
 use resolve::Grammar;
 use texts::Map;
 
@@ -25,18 +24,14 @@ fn admit_levels<'a>(
     at: usize,
     room: Room,
     v: Written,
-) -> Answer
+) -> Result<usize, Refusal>
     requires { SomeLevels tape.now (length output.old) m at room v work.now }
     ensures { Staged (levelled_of tape.now (length output.old)) output.old result output.new }
 {
-    let f = count_bytes(tape, work, m, v.count);
-    match judge_levels(v, room, at, f, output.len()) {
-        Answer::No(why) => Answer::No(why),
-        Answer::Yes(n) => {
-            hand_over_levels(tape, at, work, m, room, v, output);
-            Answer::Yes(n)
-        }
-    }
+    let f = count_bytes(tape, work, m, v.count).ok();
+    let n = judge_levels(v, room, at, f, output.len())?;
+    hand_over_levels(tape, at, work, m, room, v, output);
+    Ok(n)
 }
 
 // A grammar with items, whose resolved stage is admitted.
@@ -47,15 +42,13 @@ fn level_items(
     m: Map,
     t: Grammar,
     at: usize,
-) -> Answer
+) -> Result<usize, Refusal>
     requires { (0 < t.count) × SomeAdmitted tape.now (length output.old) m t at work.old }
     ensures { Staged (levelled_of tape.now (length output.old)) output.old result output.new }
 {
     let room = levels_room(tape.len(), tape.len() - at, output.len());
-    match expand_precedence(tape, work, m, t, room) {
-        Levelled::Refused(why) => Answer::No(why),
-        Levelled::Is(v) => admit_levels(tape, output, work, m, at, room, v),
-    }
+    let v = expand_precedence(tape, work, m, t, room)?;
+    admit_levels(tape, output, work, m, at, room, v)
 }
 
 // A grammar whose resolved stage is admitted. One without items has no levels, and work may be too short for their room.
@@ -66,13 +59,13 @@ fn level_admitted(
     m: Map,
     t: Grammar,
     at: usize,
-) -> Answer
+) -> Result<usize, Refusal>
     requires { SomeAdmitted tape.now (length output.old) m t at work.old }
     ensures { Staged (levelled_of tape.now (length output.old)) output.old result output.new }
 {
     if t.count == 0 {
         hand_over(tape, at, work, t.at, output);
-        return Answer::Yes(tape.len());
+        return Ok(tape.len());
     }
     level_items(tape, output, work, m, t, at)
 }
@@ -82,26 +75,20 @@ fn level_resolved(
     tape: &[u8],
     output: &mut [u8],
     work: &mut [u8],
-    m: Map,
-    t: Grammar,
-    at: usize,
-) -> Answer
-    requires { TapeResolves tape.now (Resolved.Is m t at) work.old × (8 * (length tape.now + length output.old) ≤ length work.old) }
+    r: Resolved,
+) -> Result<usize, Refusal>
+    requires { TapeResolves tape.now (Ok r) work.old × (8 * (length tape.now + length output.old) ≤ length work.old) }
     ensures { Staged (levelled_of tape.now (length output.old)) output.old result output.new }
 {
-    match judge(m.count, tape.len(), output.len()) {
-        Answer::No(why) => Answer::No(why),
-        Answer::Yes(_) => level_admitted(tape, output, work, m, t, at),
-    }
+    judge(r.texts.count, tape.len(), output.len())?;
+    level_admitted(tape, output, work, r.texts, r.grammar, r.at)
 }
 
 // The levelled stage of a tape; work is long enough.
-pub fn level_stage(tape: &[u8], output: &mut [u8], work: &mut [u8]) -> Answer
+pub fn level_stage(tape: &[u8], output: &mut [u8], work: &mut [u8]) -> Result<usize, Refusal>
     requires { 8 * (length tape.now + length output.old) ≤ length work.old }
     ensures { Staged (levelled_of tape.now (length output.old)) output.old result output.new }
 {
-    match resolve_tape(tape, work) {
-        Resolved::Refused(why) => Answer::No(why),
-        Resolved::Is(m, t, at) => level_resolved(tape, output, work, m, t, at),
-    }
+    let r = resolve_tape(tape, work)?;
+    level_resolved(tape, output, work, r)
 }

@@ -1,7 +1,6 @@
 // The stages behind question 1: a tape, and work that is long enough, in; the last stage's answer, and its tree in the output, out.
 #![tactic(auto)]
 
-use parse_tree::refusal::Refusal;
 use resolve::Grammar;
 use texts::Map;
 
@@ -11,9 +10,10 @@ pub mod resolving;
 pub mod validating;
 pub mod whole;
 
-// The table of a tape's texts, its grammar resolved in work, and the place of the first item on the tape; or why the tape is refused.
+// The table of a tape's texts, its grammar resolved in work, and the place of the first item on the tape.
 #[derive(Clone, Copy)]
-pub enum Resolved {
-    Is(Map, Grammar, usize),
-    Refused(Refusal),
+pub struct Resolved {
+    pub texts: Map,
+    pub grammar: Grammar,
+    pub at: usize,
 }

@@ -5,46 +5,47 @@ ghost use Rattle.stages.specs.Stages.{TapeResolves};
 
 use crate::Resolved;
 use octets::runs::copy;
+use parse_tree::refusal::Refusal;
+use resolve::Grammar;
 use resolve::whole::resolve;
-use resolve::{Grammar, Verdict};
 use texts::Map;
+use validate::Validated;
 use validate::entry::validate;
 use validate::regions::layout;
-use validate::{Atoms, Validated};
 
-// A tape that was validated: n items stand from a place on.
-fn resolve_valid(tape: &[u8], work: &mut [u8], a: Atoms, at: usize, n: usize) -> Resolved
-    requires { Valid true 2 tape.now work.old a at n × (8 * length tape.now ≤ length work.old) }
+// A tape that was validated.
+fn resolve_valid(tape: &[u8], work: &mut [u8], v: Validated) -> Result<Resolved, Refusal>
+    requires { Valid true 2 tape.now work.old v.atoms v.at v.items × (8 * length tape.now ≤ length work.old) }
     ensures { TapeResolves tape.now result work.new }
 {
-    let size = tape.len() - at;
+    let size = tape.len() - v.at;
     let g = layout(size);
-    copy(tape, at, tape.len(), work, g.items);
+    copy(tape, v.at, tape.len(), work, g.items);
     let m = Map {
-        base: a.base,
-        count: a.count,
-        buckets: a.buckets,
+        base: v.atoms.base,
+        count: v.atoms.count,
+        buckets: v.atoms.buckets,
     };
     let t = Grammar {
         at: g.items,
         end: g.items + size,
         list: g.list,
-        count: n,
-        width: a.width,
+        count: v.items,
+        width: v.atoms.width,
     };
-    match resolve(work, m, t) {
-        Verdict::Refused(why) => Resolved::Refused(why),
-        Verdict::Fine => Resolved::Is(m, t, at),
-    }
+    resolve(work, m, t)?;
+    Ok(Resolved {
+        texts: m,
+        grammar: t,
+        at: v.at,
+    })
 }
 
 // Work has eight bytes for each of the tape's.
-pub fn resolve_tape(tape: &[u8], work: &mut [u8]) -> Resolved
+pub fn resolve_tape(tape: &[u8], work: &mut [u8]) -> Result<Resolved, Refusal>
     requires { 8 * length tape.now ≤ length work.old }
     ensures { TapeResolves tape.now result work.new }
 {
-    match validate(tape, work, 2, true) {
-        Validated::Refused(why) => Resolved::Refused(why),
-        Validated::Valid(a, at, n) => resolve_valid(tape, work, a, at, n),
-    }
+    let v = validate(tape, work, 2, true)?;
+    resolve_valid(tape, work, v)
 }

@@ -3,19 +3,16 @@ ghost use Rattle.std.specs.Prelude.{◌*◌, ◌≤◌, length};
 ghost use Rattle.stages.specs.Stages.{Judged};
 
 use octets::runs::clear;
-use output::Answer;
-use validate::Validated;
+use parse_tree::refusal::Refusal;
 use validate::entry::validate;
 
 // Work is long enough, and is cleared.
-pub fn validate_tape(tape: &[u8], work: &mut [u8]) -> Answer
+pub fn validate_tape(tape: &[u8], work: &mut [u8]) -> Result<usize, Refusal>
     requires { 8 * length tape.now ≤ length work.old }
     ensures { Judged tape.now work.old result work.new }
 {
     let v = validate(tape, work, 2, true);
     clear(work);
-    match v {
-        Validated::Refused(why) => Answer::No(why),
-        Validated::Valid(_, _, _) => Answer::Yes(tape.len()),
-    }
+    v?;
+    Ok(tape.len())
 }

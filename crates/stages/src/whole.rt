@@ -1,7 +1,6 @@
 // Questions 2 to 21 of one tape: its grammar resolved in work and levelled, the levels resolved again, then the rounds of macro expansion.
 ghost use Rattle.std.specs.Prelude.{◌+◌, ◌*◌, ◌≤◌, ◌<◌, length};
 ghost use Rattle.output.specs.Working.Handing.{Staged};
-ghost use Rattle.stages.specs.declared.Resolved.{Resolved};
 ghost use Rattle.stages.specs.Stages.{TapeResolves};
 ghost use Rattle.stages.specs.Levelling.{SomeAdmitted, SomeLevels, SomeFitting};
 ghost use Rattle.stages.specs.Whole.{whole_of, SomeSettled};
@@ -9,15 +8,14 @@ ghost use Rattle.stages.specs.Whole.{whole_of, SomeSettled};
 use crate::Resolved;
 use crate::expanding::{macros_room, run_rounds};
 use crate::resolving::resolve_tape;
-use again::Again;
 use again::whole::resolve_again;
 use levels::fresh::count_bytes;
 use levels::settle::settle_names;
 use levels::whole::expand_precedence;
-use levels::{Levelled, Room, Written};
-use output::Answer;
+use levels::{Room, Written};
 use output::handing::hand_over;
 use output::room::{judge, judge_levels, levels_room};
+use parse_tree::refusal::Refusal;
 use resolve::Grammar;
 use texts::Map;
 
@@ -34,19 +32,16 @@ fn whole_settled(
     x: rounds::Room,
     low: usize,
     limit: usize,
-) -> Answer
+) -> Result<usize, Refusal>
     requires { SomeSettled tape.now (length output.old) m at room v x low work.old }
     ensures { Staged (whole_of tape.now limit (length output.old)) output.old result output.new }
 {
     let n = Map {
-        base: m.base,
         count: v.count,
-        buckets: m.buckets,
+        ..m
     };
-    match resolve_again(tape, work, n, 0, room.at, v.to) {
-        Again::Refused(why) => Answer::No(why),
-        Again::Is(t) => { run_rounds(tape, output, work, n, t, at, m.count, x, low, limit) }
-    }
+    let t = resolve_again(tape, work, n, 0, room.at, v.to)?;
+    run_rounds(tape, output, work, n, t, at, m.count, x, low, limit)
 }
 
 // Levels whose stage is admitted.
@@ -59,7 +54,7 @@ fn whole_again(
     room: Room,
     v: Written,
     limit: usize,
-) -> Answer
+) -> Result<usize, Refusal>
     requires { SomeFitting tape.now (length output.old) m at room v work.old }
     ensures { Staged (whole_of tape.now limit (length output.old)) output.old result output.new }
 {
@@ -78,15 +73,13 @@ fn whole_levels(
     room: Room,
     v: Written,
     limit: usize,
-) -> Answer
+) -> Result<usize, Refusal>
     requires { SomeLevels tape.now (length output.old) m at room v work.old }
     ensures { Staged (whole_of tape.now limit (length output.old)) output.old result output.new }
 {
-    let f = count_bytes(tape, work, m, v.count);
-    match judge_levels(v, room, at, f, output.len()) {
-        Answer::No(why) => Answer::No(why),
-        Answer::Yes(_) => whole_again(tape, output, work, m, at, room, v, limit),
-    }
+    let f = count_bytes(tape, work, m, v.count).ok();
+    judge_levels(v, room, at, f, output.len())?;
+    whole_again(tape, output, work, m, at, room, v, limit)
 }
 
 // A grammar with items, whose resolved stage is admitted.
@@ -98,15 +91,13 @@ fn whole_items(
     t: Grammar,
     at: usize,
     limit: usize,
-) -> Answer
+) -> Result<usize, Refusal>
     requires { (0 < t.count) × SomeAdmitted tape.now (length output.old) m t at work.old }
     ensures { Staged (whole_of tape.now limit (length output.old)) output.old result output.new }
 {
     let room = levels_room(tape.len(), tape.len() - at, output.len());
-    match expand_precedence(tape, work, m, t, room) {
-        Levelled::Refused(why) => Answer::No(why),
-        Levelled::Is(v) => whole_levels(tape, output, work, m, at, room, v, limit),
-    }
+    let v = expand_precedence(tape, work, m, t, room)?;
+    whole_levels(tape, output, work, m, at, room, v, limit)
 }
 
 // A grammar whose resolved stage is admitted. One without items is its own last stage, and work may be too short for more.
@@ -118,13 +109,13 @@ fn whole_admitted(
     t: Grammar,
     at: usize,
     limit: usize,
-) -> Answer
+) -> Result<usize, Refusal>
     requires { SomeAdmitted tape.now (length output.old) m t at work.old }
     ensures { Staged (whole_of tape.now limit (length output.old)) output.old result output.new }
 {
     if t.count == 0 {
         hand_over(tape, at, work, t.at, output);
-        return Answer::Yes(tape.len());
+        return Ok(tape.len());
     }
     whole_items(tape, output, work, m, t, at, limit)
 }
@@ -134,27 +125,26 @@ fn whole_resolved(
     tape: &[u8],
     output: &mut [u8],
     work: &mut [u8],
-    m: Map,
-    t: Grammar,
-    at: usize,
+    r: Resolved,
     limit: usize,
-) -> Answer
-    requires { TapeResolves tape.now (Resolved.Is m t at) work.old × (8 * (length tape.now + length output.old) ≤ length work.old) }
+) -> Result<usize, Refusal>
+    requires { TapeResolves tape.now (Ok r) work.old × (8 * (length tape.now + length output.old) ≤ length work.old) }
     ensures { Staged (whole_of tape.now limit (length output.old)) output.old result output.new }
 {
-    match judge(m.count, tape.len(), output.len()) {
-        Answer::No(why) => Answer::No(why),
-        Answer::Yes(_) => whole_admitted(tape, output, work, m, t, at, limit),
-    }
+    judge(r.texts.count, tape.len(), output.len())?;
+    whole_admitted(tape, output, work, r.texts, r.grammar, r.at, limit)
 }
 
 // The last stage of a tape; work is long enough.
-pub fn whole_stage(tape: &[u8], output: &mut [u8], work: &mut [u8], limit: usize) -> Answer
+pub fn whole_stage(
+    tape: &[u8],
+    output: &mut [u8],
+    work: &mut [u8],
+    limit: usize,
+) -> Result<usize, Refusal>
     requires { 8 * (length tape.now + length output.old) ≤ length work.old }
     ensures { Staged (whole_of tape.now limit (length output.old)) output.old result output.new }
 {
-    match resolve_tape(tape, work) {
-        Resolved::Refused(why) => Answer::No(why),
-        Resolved::Is(m, t, at) => whole_resolved(tape, output, work, m, t, at, limit),
-    }
+    let r = resolve_tape(tape, work)?;
+    whole_resolved(tape, output, work, r, limit)
 }

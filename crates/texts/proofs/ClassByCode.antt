@@ -3,7 +3,7 @@ use mathlib.Core.Path.{◌≡◌, refl, sym, ap, ap₂, ◌∙◌}
 use mathlib.Core.Bool.{Bool, true, false, ◌&&◌, not, false≢true, and-true, and_assoc}
 use mathlib.Mathlib.Data.Bool.Basic.{and_elim_right}
 use mathlib.Core.List.{List, [], ◌∷◌}
-use Prim.Native.Nat.{ℕ, ◌+◌, ◌-◌, ◌<◌, ◌≤◌}
+use Prim.Native.Nat.{ℕ, ◌+◌, ◌-◌, ◌<◌, ◌≤◌, min}
 use native.Mathlib.Omega.{arith}
 use borrow.Author.Rules.{rules}
 use borrow.Author.Tests.{le-leb, lt-leb, ne_eqb, ltb-true, ltb-false, leb-true, leb-false, not-true, not-false}
@@ -11,31 +11,30 @@ use lib.Dec.{eqb, leb, ltb}
 use lib.ListN.{length, get_or, take, drop}
 use Rattle.octets.specs.Working.Choice.{pick}
 use Rattle.octets.specs.Plain.Runs.{part, same_as}
+use Rattle.octets.proofs.SameLaws.{said-text}
 use Rattle.octets.proofs.PartLaws.{part_none, part-one}
 use Rattle.parse_tree.specs.Plain.Tree.{Text}
 use Rattle.parse_tree.specs.Plain.Texts.{every, between, starts_name, in_name, name_bytes, is_name, is_literal, is_ascii, mut_text, error_text}
-use Rattle.texts.specs.Classes.{text_class, byte_class, least, lesser}
+use Rattle.texts.specs.Classes.{text_class, byte_class, least}
 
 every-same : (f g : ℕ → Bool) → ((b : ℕ) → f b ≡ g b) → (t : Text) → every f t ≡ every g t
 unfolding every
 every-same f g h [] = refl
 every-same f g h (b ∷ bs) = ap₂ (λ x y. x && y) (h b) (every-same f g h bs)
 
-lesser-leb : (j m n : ℕ) → leb j (lesser m n) ≡ leb j m && leb j n
-unfolding lesser pick
-lesser-leb j m n = go (ltb m n) refl (leb j m) refl (leb j n) refl
+min-leb : (j m n : ℕ) → leb j (min m n) ≡ leb j m && leb j n
+min-leb j m n = go (leb j m) refl (leb j n) refl
   where
-    go : (x : Bool) → ltb m n ≡ x → (y : Bool) → leb j m ≡ y → (z : Bool) → leb j n ≡ z → leb j (pick x m n) ≡ y && z
-    go true p true q z r = q ∙ sym (sym r ∙ le-leb j n (omega (arith, ltb-true m n p, leb-true j m q)))
-    go true p false q z r = q
-    go false p true q z r = r
-    go false p false q z r = lt-leb j n (omega (arith, ltb-false m n p, leb-false j m q))
+    go : (y : Bool) → leb j m ≡ y → (z : Bool) → leb j n ≡ z → leb j (min m n) ≡ y && z
+    go true q true r = le-leb j (min m n) (omega (arith, leb-true j m q, leb-true j n r))
+    go true q false r = lt-leb j (min m n) (omega (arith, leb-true j m q, leb-false j n r))
+    go false q z r = lt-leb j (min m n) (omega (arith, leb-false j m q))
 
 least-leb : (j m : ℕ) (t : Text) → leb j (least m t) ≡ leb j m && every (λ b. leb j (byte_class b)) t
 unfolding least every
 least-leb j m [] = sym (and-true (leb j m))
 least-leb j m (b ∷ bs) =
-    least-leb j (lesser m (byte_class b)) bs ∙ ap (λ (x : Bool). x && every (λ b. leb j (byte_class b)) bs) (lesser-leb j m (byte_class b))
+    least-leb j (min m (byte_class b)) bs ∙ ap (λ (x : Bool). x && every (λ b. leb j (byte_class b)) bs) (min-leb j m (byte_class b))
     ∙ and_assoc (leb j m) (leb j (byte_class b)) (every (λ b. leb j (byte_class b)) bs)
 
 -- ---- what a byte's class says
@@ -171,7 +170,7 @@ module _ (s : List ℕ) (a e m : ℕ) (p : m ≡ least 3 (part a e s)) (h : 3 �
       let n : every in_name (part a e s) ≡ true = sym (least-name (part a e s)) ∙ le-leb 3 (least 3 (part a e s)) (omega arith) in
       rw t (is_name_lem (get_or s a 0) (part (a + 1) e s) (sym q ∙ not-false x u) (rw t at n) (rw t at (sym i ∙ j)) (rw t at (sym y ∙ z)))
 
-pub ruleset judging = (rules, class_least, class_empty, class_digit, class_mut, class_error, class_name)
+pub ruleset judging = (rules, said-text, class_least, class_empty, class_digit, class_mut, class_error, class_name)
 
 -- ---- the classes are nested, so a number tells them
 name_all : (t : Text) → is_name t ≡ true → every in_name t ≡ true

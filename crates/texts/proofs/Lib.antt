@@ -1,5 +1,4 @@
 -- What the proofs of several functions, and of the crates above, use.
-mod ClassCode
 pub mod ClassByCode
 pub mod AtomsLaws
 pub mod FormLaws

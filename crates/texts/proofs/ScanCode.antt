@@ -1,14 +1,14 @@
 -- The loop of `scan`. Assumes nothing.
 use mathlib.Core.Path.{◌≡◌, ap}
 use mathlib.Core.List.{List}
-use Prim.Native.Nat.{ℕ, ◌+◌, ◌-◌, ◌<◌, ◌≤◌}
+use Prim.Native.Nat.{ℕ, ◌+◌, ◌-◌, ◌<◌, ◌≤◌, min}
 use native.Mathlib.Omega.{arith}
 use borrow.Author.Rules.{rules}
 use lib.ListN.{length, get_or}
 use lib.Seq.{take_all}
 use Rattle.octets.specs.Plain.Runs.{part}
 use Rattle.octets.proofs.PartLaws.{part_none, part-one}
-use Rattle.texts.specs.Classes.{byte_class, least, lesser}
+use Rattle.texts.specs.Classes.{byte_class, least}
 use Rattle.texts.specs.Hash.{hash_step, hash_from, hash_of}
 use Rattle.texts.proofs.HashLaws.{step_small, from_none, from_more}
 use Rattle.texts.specs.Scan.{Scans}
@@ -26,7 +26,7 @@ scan_start t =
     record { hash = ap (hash_from 0) z; class = ap (least 3) z; small = omega arith; upto = omega arith }
 
 module _ (t : List ℕ) (h m i : ℕ) (g : Scanning t h m i) where
-  pub scan_next : (b r k c : ℕ) → i < length t → b ≡ get_or t i 0 → r ≡ hash_step h b → k ≡ byte_class b → c ≡ lesser m k → Scanning t r c (i + 1)
+  pub scan_next : (b r k c : ℕ) → i < length t → b ≡ get_or t i 0 → r ≡ hash_step h b → k ≡ byte_class b → c ≡ min m k → Scanning t r c (i + 1)
   unfolding least
   scan_next b r k c l f p q o = record {
     hash = cc (part-one i (length t) t l (omega arith), from_more h (get_or t i 0) (part (i + 1) (length t) t), g.hash);

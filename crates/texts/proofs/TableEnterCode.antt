@@ -2,7 +2,7 @@
 use mathlib.Core.Path.{◌≡◌, refl, sym, ap, ◌∙◌}
 use mathlib.Core.Bool.{Bool, true, false}
 use mathlib.Core.List.{List, [], ◌∷◌, ◌++◌}
-use Prim.Native.Nat.{ℕ, ◌+◌, ◌*◌, ◌^◌, ◌<◌, ◌≤◌}
+use Prim.Native.Nat.{ℕ, ◌+◌, ◌*◌, ◌^◌, ◌<◌, ◌≤◌, min}
 use native.Mathlib.Omega.{arith}
 use native.Mathlib.Numerals.{add-one}
 use borrow.Author.Rules.{rules}
@@ -24,30 +24,20 @@ use Rattle.texts.proofs.TableFindCode.{linked-few, linked-many}
 
 pub linked-small : (k : ℕ) → linked k ≤ 4294967295
 unfolding linked
-linked-small k = by_pick (λ r. r ≤ 4294967295) (ltb k 4294967295) (λ e. let h = ltb-true k 4294967295 e in omega arith) (λ _. omega arith)
+linked-small k = omega arith
 
 linked-more : (k : ℕ) → k < 4294967295 → linked (k + 1) ≡ k + 1
-linked-more k h = go (ltb (k + 1) 4294967295) refl
-  where
-    go : (t : Bool) → ltb (k + 1) 4294967295 ≡ t → linked (k + 1) ≡ k + 1
-    go true e = linked-few (k + 1) (ltb-true (k + 1) 4294967295 e)
-    go false e = let l = ltb-false (k + 1) 4294967295 e in linked-many (k + 1) l ∙ (omega arith)
+unfolding linked
+linked-more k h = omega arith
 
 linked-mono : (k n : ℕ) → k ≤ n → linked k ≤ linked n
-linked-mono k n h = go (ltb n 4294967295) refl
-  where
-    go : (t : Bool) → ltb n 4294967295 ≡ t → linked k ≤ linked n
-    go true e = let l = ltb-true n 4294967295 e in omega (arith, linked-few n l, linked-le k)
-    go false e = let l = ltb-false n 4294967295 e in omega (arith, linked-many n l, linked-small k)
+unfolding linked
+linked-mono k n h = omega arith
 
--- ---- `lesser`
-pub lesser-few : (n : ℕ) → n < 4294967295 → n ≡ linked n
-lesser-few n h = sym (linked-few n h)
-
-pub lesser-many : (n : ℕ) → 4294967295 ≤ n → 4294967295 ≡ linked n
-lesser-many n h = sym (linked-many n h)
-
-pub ruleset lessening = (rules, lesser-few, lesser-many)
+-- what the code computes
+pub linked-is : (k r : ℕ) → r ≡ min k 4294967295 → r ≡ linked k
+unfolding linked
+linked-is k r e = e
 
 -- ---- `enter`
 module _ (s w : List ℕ) (m : Map) (x h : ℕ) (g : Entering s w m x h) where
@@ -178,7 +168,7 @@ module _ (b n y : ℕ) (e : y ≡ linked n) where
         after = λ i q. k.kept.after i (omega arith) (omega arith);
       }
 
-pub ruleset starting = (rules, start_room, started)
+pub ruleset starting = (rules, start_room, started, linked-is)
 
 -- ---- `spread`
 module _ (s w : List ℕ) (m : Map) (g : Spreading s w m) (y : ℕ) (e : y ≡ linked m.count) where
@@ -230,7 +220,7 @@ module _ (s w : List ℕ) (m : Map) (g : Spreading s w m) (y : ℕ) (e : y ≡ l
           after = λ i a. kept.after i (omega arith) (omega arith);
         }
 
-pub ruleset spreading = (rules, spread_room, spread_relinking, spread_done)
+pub ruleset spreading = (rules, linked-is, spread_room, spread_relinking, spread_done)
 
 -- ---- `grow`
 module _ (s w : List ℕ) (m : Map) (n : ℕ) (g : Growing s w m n) (k e : ℕ) (p : k ≡ linked m.count) (q : e ≡ linked n) where
@@ -274,4 +264,4 @@ module _ (s w : List ℕ) (m : Map) (n : ℕ) (g : Growing s w m n) (k e : ℕ) 
         after = λ i a c. j.kept.after i (omega arith) c;
       }
 
-pub ruleset growing = (rules, grow_relinking, grow_done)
+pub ruleset growing = (rules, linked-is, grow_relinking, grow_done)

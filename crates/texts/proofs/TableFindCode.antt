@@ -11,12 +11,12 @@ use lib.Dec.{eqb, ltb}
 use lib.ListN.{length, get_or}
 use Rattle.octets.specs.Working.Choice.{pick}
 use Rattle.octets.specs.Plain.Runs.{same_as}
-use Rattle.octets.proofs.SameLaws.{same_as-eq}
+use Rattle.octets.proofs.SameLaws.{same_as-eq, said-same}
 use Rattle.parse_tree.specs.Plain.Tree.{Text}
 use Rattle.parse_tree.specs.Plain.Texts.{has, number, distinct}
 use Rattle.parse_tree.proofs.TextLaws.{has-text, number-text}
 use Rattle.texts.specs.declared.Map.{Map}
-use Rattle.texts.specs.declared.Found.{Found}
+use Rattle.std.specs.Prelude.{Option, Some, None}
 use Rattle.texts.specs.Hash.{hash_of, bucket_of}
 use Rattle.texts.specs.Fields.{mark_at, hash_at, link_at, head_at, bucket_at, last}
 use Rattle.texts.specs.Texts.{marked_text, texts_of}
@@ -44,7 +44,7 @@ module _ (s w : List ℕ) (m : Map) (k : ℕ) (t : Text) (h : ℕ) where
   pub is_room : Table s w m → k < m.count → m.base + 24 * k + 24 ≤ length w
   is_room g l = omega (arith, g.room)
 
-pub ruleset judging = (rules, is_room, is_not, is_equal)
+pub ruleset judging = (rules, is_room, is_not, is_equal, said-same)
 
 -- ---- one text more
 pub has-snoc : (x : Text) (ts : List Text) (t : Text) → has x (ts ++ (t ∷ [])) ≡ has x ts || same_as t x
@@ -150,7 +150,7 @@ module _ (s w : List ℕ) (m : Map) (x : Text) (h : ℕ) (g : Table s w m) (p : 
     pub chase_room : m.base + 24 * (j - 1) + 24 ≤ length w
     chase_room = omega (arith, chase_below, g.room)
 
-    pub chase_found : (r : Bool) → r ≡ same_as (get_or (texts s w m) (j - 1) []) x → r ≡ true → Finds (texts s w m) x (Found.At (j - 1))
+    pub chase_found : (r : Bool) → r ≡ same_as (get_or (texts s w m) (j - 1) []) x → r ≡ true → Finds (texts s w m) x (Some (j - 1))
     unfolding Finds texts
     chase_found r e u = record {
       below = omega (arith, chase_below, length_texts s w m.base m.count);
@@ -182,12 +182,12 @@ pub record Resting (s w : List ℕ) (m : Map) (x : Text) (i : ℕ) : Type 0 wher
   pub all : m.count < i → has x (texts_of s w m.base m.count) ≡ false
 
 pub linked-few : (k : ℕ) → k < 4294967295 → linked k ≡ k
-unfolding linked pick
-linked-few k h = cc (lt-ltb k 4294967295 h)
+unfolding linked
+linked-few k h = omega arith
 
 pub linked-many : (k : ℕ) → 4294967295 ≤ k → linked k ≡ 4294967295
-unfolding linked pick
-linked-many k h = cc (le-ltb k 4294967295 h)
+unfolding linked
+linked-many k h = omega arith
 
 module _ (s w : List ℕ) (m : Map) (x : Text) where
   pub rest_start : has x (texts_of s w m.base (linked m.count)) ≡ false → Resting s w m x 4294967295
@@ -206,14 +206,14 @@ module _ (s w : List ℕ) (m : Map) (x : Text) where
           all = λ k. absurd (omega arith);
         }
 
-    pub rest_found : (r : Bool) → i < m.count → r ≡ same_as (get_or (texts s w m) i []) x → r ≡ true → Finds (texts s w m) x (Found.At i)
+    pub rest_found : (r : Bool) → i < m.count → r ≡ same_as (get_or (texts s w m) i []) x → r ≡ true → Finds (texts s w m) x (Some i)
     unfolding Finds texts
     rest_found r h e u = record {
       below = omega (arith, length_texts s w m.base m.count);
       text = same_as-eq (get_or (texts_of s w m.base m.count) i []) x (sym e ∙ u);
     }
 
-    pub rest_done : m.count ≤ i → Finds (texts s w m) x Found.Nothing
+    pub rest_done : m.count ≤ i → Finds (texts s w m) x None
     unfolding Finds texts
     rest_done h = go (ltb m.count i) refl
       where
@@ -224,24 +224,24 @@ module _ (s w : List ℕ) (m : Map) (x : Text) where
 pub ruleset resting = (rules, rest_start, rest_next, rest_found, rest_done)
 
 -- theorem: where no two texts are equal, the answer of `find` is the only one
-pub answer_is : (ts : List Text) (t : Text) (r : Found) → distinct ts ≡ true → Finds ts t r → r ≡ found_in ts t
+pub answer_is : (ts : List Text) (t : Text) (r : Option ℕ) → distinct ts ≡ true → Finds ts t r → r ≡ found_in ts t
 unfolding Finds found_in pick
-answer_is ts t (Found.At k) d a =
+answer_is ts t (Some k) d a =
     let n = number-text ts k d a.below in
     let y = has-text ts k a.below in
     let z = a.text in
     cc
-answer_is ts t Found.Nothing d a = cc
+answer_is ts t None d a = cc
 
 -- theorem: a text is found by its number
-pub answer_at : (ts : List Text) (t : Text) (k : ℕ) → distinct ts ≡ true → Finds ts t (Found.At k) → k ≡ number ts t
+pub answer_at : (ts : List Text) (t : Text) (k : ℕ) → distinct ts ≡ true → Finds ts t (Some k) → k ≡ number ts t
 unfolding Finds
 answer_at ts t k d a = sym (ap (number ts) (sym a.text) ∙ number-text ts k d a.below)
 
-pub answer_none : (ts : List Text) (t : Text) → Finds ts t Found.Nothing → has t ts ≡ false
+pub answer_none : (ts : List Text) (t : Text) → Finds ts t None → has t ts ≡ false
 unfolding Finds
 answer_none ts t a = a
 
-pub answer_has : (ts : List Text) (t : Text) (k : ℕ) → Finds ts t (Found.At k) → has t ts ≡ true
+pub answer_has : (ts : List Text) (t : Text) (k : ℕ) → Finds ts t (Some k) → has t ts ≡ true
 unfolding Finds
 answer_has ts t k a = let y = has-text ts k a.below in ap (λ (u : Text). has u ts) (sym a.text) ∙ y

@@ -96,7 +96,7 @@ module _ (s w w1 : List ℕ) (b n z : ℕ) (whole : (i : ℕ) → i < n → Whol
 
 pub linked-le : (k : ℕ) → linked k ≤ k
 unfolding linked
-linked-le k = by_pick (λ r. r ≤ k) (ltb k 4294967295) (λ _. omega arith) (λ e. ltb-false k 4294967295 e)
+linked-le k = omega arith
 
 -- ---- THE LAW for other regions: the records and the texts behind z are as they were
 module _ (s w w1 : List ℕ) (m : Map) (z : ℕ) (g : Table s w m) (a : Above s w m z) (l : length w1 ≡ length w) (far : Agree w w1 z (length w))

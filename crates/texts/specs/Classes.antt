@@ -1,5 +1,5 @@
 -- The class of a text as a number. Assumes nothing: these are definitions.
-use Rattle.std.specs.Prelude.{ℕ, [], ◌∷◌, ltb}
+use Rattle.std.specs.Prelude.{ℕ, [], ◌∷◌, min, ltb}
 use Rattle.octets.specs.Working.Choice.{pick}
 use Rattle.parse_tree.specs.Plain.Tree.{Text}
 use Rattle.parse_tree.specs.Plain.Texts.{is_name, is_literal, is_ascii, in_name}
@@ -12,9 +12,6 @@ text_class t = pick (is_name t) 3 (pick (is_literal t) 2 (pick (is_ascii t) 1 0)
 unfoldable pub byte_class : ℕ → ℕ
 byte_class b = pick (ltb 127 b) 0 (pick (ltb b 32) 1 (pick (ltb 126 b) 1 (pick (in_name b) 3 2)))
 
-unfoldable pub lesser : ℕ → ℕ → ℕ
-lesser m n = pick (ltb m n) m n
-
 unfoldable pub least : ℕ → Text → ℕ
 least m [] = m
-least m (b ∷ bs) = least (lesser m (byte_class b)) bs
+least m (b ∷ bs) = least (min m (byte_class b)) bs

@@ -1,10 +1,10 @@
 -- The table of texts in work w over the tape s, and what its functions do. Assumes nothing: these are definitions.
-use Rattle.std.specs.Prelude.{◌≡◌, false, List, [], ◌∷◌, ◌++◌, ℕ, ◌+◌, ◌*◌, ◌≤◌, ◌<◌, ltb, length, get_or}
+use Rattle.std.specs.Prelude.{◌≡◌, false, List, [], ◌∷◌, ◌++◌, ℕ, ◌+◌, ◌*◌, ◌≤◌, ◌<◌, min, length, get_or}
 use Rattle.octets.specs.Working.Choice.{pick}
 use Rattle.parse_tree.specs.Plain.Tree.{Text}
 use Rattle.parse_tree.specs.Plain.Texts.{has, number}
 use Rattle.texts.specs.declared.Map.{Map}
-use Rattle.texts.specs.declared.Found.{Found}
+use Rattle.std.specs.Prelude.{Option, Some, None}
 use Rattle.texts.specs.Hash.{hash_of}
 use Rattle.texts.specs.Fields.{mark_at, hash_at, cell_at, Chained}
 use Rattle.texts.specs.Texts.{marked_text, Whole, Behind, texts_of}
@@ -15,7 +15,7 @@ texts s w m = texts_of s w m.base m.count
 
 -- how many of k texts are in chains: a link has four bytes
 unfoldable pub linked : ℕ → ℕ
-linked k = pick (ltb k 4294967295) k 4294967295
+linked k = min k 4294967295
 
 -- THE INVARIANT: the records say texts that stand whole, and from the buckets' heads the links pass just those whose hash falls there
 pub record Table (s w : List ℕ) (m : Map) : Type 0 where
@@ -58,13 +58,13 @@ pub record Is (ts : List Text) (t : Text) (k : ℕ) : Type 0 where
   pub below : k < length ts
   pub text : get_or ts k [] ≡ t
 
-unfoldable pub Finds : List Text → Text → Found → Type 0
-Finds ts t (Found.At k) = Is ts t k
-Finds ts t Found.Nothing = has t ts ≡ false
+unfoldable pub Finds : List Text → Text → Option ℕ → Type 0
+Finds ts t (Some k) = Is ts t k
+Finds ts t None = has t ts ≡ false
 
 -- the answer where no two texts are equal
-unfoldable pub found_in : List Text → Text → Found
-found_in ts t = pick (has t ts) (Found.At (number ts t)) Found.Nothing
+unfoldable pub found_in : List Text → Text → Option ℕ
+found_in ts t = pick (has t ts) (Some (number ts t)) None
 
 -- ---- `enter`: what it asks, with a bound of the records from which on all texts in work stand
 pub record Entering (s w : List ℕ) (m : Map) (x h : ℕ) : Type 0 where

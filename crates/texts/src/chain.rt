@@ -30,10 +30,8 @@ pub fn empty(work: &mut [u8], base: usize, n: usize)
     requires { base + 24 * n ≤ length work.old }
     ensures { Relinked work.old work.new base 0 n }
 {
-    let mut y = 0;
-    while y < n {
+    for y in 0..n {
         put_head(work, base, y, 0);
-        y += 1;
     }
 }
 
@@ -42,10 +40,8 @@ pub fn relink(work: &mut [u8], base: usize, n: usize, k: usize, e: usize)
     requires { Relinking work.old base n k e }
     ensures { Relinked work.old work.new base e n }
 {
-    let mut i = k;
-    while i < e {
+    for i in k..e {
         let h = hash(work, base, i);
         link(work, base, n, i, h);
-        i += 1;
     }
 }

@@ -2,60 +2,37 @@
 ghost use Rattle.std.specs.Prelude.{◌≡◌, ◌≤◌, ◌<◌, length};
 ghost use Rattle.octets.specs.Plain.Runs.{part};
 ghost use Rattle.parse_tree.specs.Plain.Texts.{starts_name, in_name};
-ghost use Rattle.texts.specs.Classes.{text_class, byte_class, least, lesser};
+ghost use Rattle.texts.specs.Classes.{text_class, byte_class, least};
 
-use octets::runs::equal;
-
+#[tactic(auto, using(std::proofs::lemmas::Bool::Decides::nat_tests), unfolding(parse_tree::specs::Plain::Texts::starts_name))]
 fn starts_name(b: u8) -> bool
     ensures { result ≡ starts_name b }
 {
-    if b < 65 {
-        return false;
-    }
-    if b <= 90 {
-        return true;
-    }
-    if b == 95 {
-        return true;
-    }
-    if b < 97 {
-        return false;
-    }
-    b <= 122
+    matches!(b, b'A'..=b'Z' | b'_' | b'a'..=b'z')
 }
 
+#[tactic(auto, using(std::proofs::lemmas::Bool::Decides::nat_tests), unfolding(parse_tree::specs::Plain::Texts::in_name))]
 fn in_name(b: u8) -> bool
     ensures { result ≡ in_name b }
 {
-    if starts_name(b) {
-        return true;
-    }
-    if b < 48 {
-        return false;
-    }
-    b <= 57
+    starts_name(b) || matches!(b, b'0'..=b'9')
 }
 
-// By comparing.
+// By its ranges.
+#[tactic(auto, using(std::proofs::lemmas::Bool::Decides::nat_tests), unfolding(crate::specs::Classes::byte_class, octets::specs::Working::Choice::pick, parse_tree::specs::Plain::Texts::in_name, parse_tree::specs::Plain::Texts::starts_name))]
 fn slow_class(b: u8) -> usize
     ensures { result ≡ byte_class b }
 {
-    if 127 < b {
-        return 0;
+    match b {
+        b'A'..=b'Z' | b'_' | b'a'..=b'z' | b'0'..=b'9' => 3,
+        b' '..=b'~' => 2,
+        0..=127 => 1,
+        _ => 0,
     }
-    if b < 32 {
-        return 1;
-    }
-    if 126 < b {
-        return 1;
-    }
-    if in_name(b) {
-        return 3;
-    }
-    2
 }
 
-// One value to an arm: a table in memory that is only read.
+// One value to an arm: a table in memory that is only read, where ranges are asked one by one in the loop over every byte.
+#[tactic(auto, unfolding(crate::specs::Classes::byte_class, octets::specs::Working::Choice::pick, parse_tree::specs::Plain::Texts::in_name, parse_tree::specs::Plain::Texts::starts_name))]
 pub fn byte_class(b: u8) -> usize
     ensures { result ≡ byte_class b }
 {
@@ -192,34 +169,22 @@ pub fn byte_class(b: u8) -> usize
     }
 }
 
-pub fn lesser_of(m: usize, n: usize) -> usize
-    ensures { result ≡ lesser m n }
-{
-    if m < n {
-        return m;
-    }
-    n
-}
-
 // The class of the bytes from a up to e, whose least class is m.
 pub fn class_by(tape: &[u8], a: usize, e: usize, m: usize) -> usize
     requires { (a ≤ e) × (e ≤ length tape.now) × (m ≡ least 3 (part a e tape.now)) }
     ensures { result ≡ text_class (part a e tape.now) }
 {
     if m < 3 {
-        return m;
+        m
+    } else if e <= a {
+        2
+    } else if !starts_name(tape[a]) {
+        2
+    } else if &tape[a..e] == b"mut".as_slice() {
+        2
+    } else if &tape[a..e] == b"error".as_slice() {
+        2
+    } else {
+        3
     }
-    if e <= a {
-        return 2;
-    }
-    if !starts_name(tape[a]) {
-        return 2;
-    }
-    if equal(&tape[a..e], b"mut") {
-        return 2;
-    }
-    if equal(&tape[a..e], b"error") {
-        return 2;
-    }
-    3
 }

@@ -5,7 +5,6 @@ ghost use Rattle.octets.specs.Working.Stores.{store};
 ghost use Rattle.texts.specs.Fields.{mark_at, class_at, hash_at, link_at, head_at, cell_at, RecordWritten};
 
 use octets::numbers::{store32, store64, u32_at, u64_at};
-use octets::wide::from32;
 
 pub fn mark(work: &[u8], base: usize, k: usize) -> usize
     requires { base + 24 * k + 24 ≤ length work.now }
@@ -25,14 +24,14 @@ pub fn hash(work: &[u8], base: usize, k: usize) -> usize
     requires { base + 24 * k + 24 ≤ length work.now }
     ensures { (result ≡ hash_at work.now base k) × (result < 4294967296) }
 {
-    from32(u32_at(work, base + 24 * k + 8))
+    u32_at(work, base + 24 * k + 8) as usize
 }
 
 pub fn link(work: &[u8], base: usize, k: usize) -> usize
     requires { base + 24 * k + 24 ≤ length work.now }
     ensures { result ≡ link_at work.now base k }
 {
-    from32(u32_at(work, base + 24 * k + 12))
+    u32_at(work, base + 24 * k + 12) as usize
 }
 
 pub fn head(work: &[u8], base: usize, k: usize) -> u32

@@ -2,25 +2,21 @@
 ghost use Rattle.std.specs.Prelude.{◌≡◌, ◌≤◌, ◌<◌};
 ghost use Rattle.texts.specs.Hash.{hash_step, hash_of, bucket_of};
 
-use octets::wide::from8;
-
 // The hash of a text and a byte more.
 pub fn next(h: usize, b: u8) -> usize
     requires { h < 4294967296 }
     ensures { result ≡ hash_step h b }
 {
-    (h + from8(b)) * 2654435761 % 4294967296
+    (h + b as usize) * 2654435761 % 4294967296
 }
 
 // The hash of a text.
 pub fn hash(t: &[u8]) -> usize
     ensures { result ≡ hash_of t.now }
 {
-    let mut h: usize = 0;
-    let mut i = 0;
-    while i < t.len() {
-        h = next(h, t[i]);
-        i += 1;
+    let mut h = 0;
+    for b in t {
+        h = next(h, *b);
     }
     h
 }

@@ -19,10 +19,3 @@ pub struct Map {
     pub count: usize,
     pub buckets: usize,
 }
-
-// The number of a text, or none.
-#[derive(Clone, Copy)]
-pub enum Found {
-    At(usize),
-    Nothing,
-}

@@ -2,7 +2,7 @@
 ghost use Rattle.std.specs.Prelude.{◌≡◌};
 ghost use Rattle.texts.specs.Scan.{Scans};
 
-use crate::class::{byte_class, lesser_of};
+use crate::class::byte_class;
 use crate::hash::next;
 
 // The hash, and the least class of the bytes; 3 where there are none.
@@ -16,14 +16,11 @@ pub struct Scanned {
 pub fn scan(t: &[u8]) -> Scanned
     ensures { Scans t.now result.hash result.least }
 {
-    let mut h: usize = 0;
+    let mut h = 0;
     let mut m: usize = 3;
-    let mut i = 0;
-    while i < t.len() {
-        let b = t[i];
-        h = next(h, b);
-        m = lesser_of(m, byte_class(b));
-        i += 1;
+    for b in t {
+        h = next(h, *b);
+        m = m.min(byte_class(*b));
     }
     Scanned { hash: h, least: m }
 }

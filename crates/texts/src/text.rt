@@ -7,14 +7,13 @@ ghost use Rattle.texts.specs.Table.{Table, texts};
 use crate::Map;
 use crate::fields::mark;
 use octets::numbers::u16_at;
-use octets::wide::from16;
 
 // The text of the command 01 at a place.
 pub fn atom(s: &[u8], at: usize) -> &[u8]
     requires { atom_end s.now at ≤ length s.now }
     ensures { result.now ≡ atom_text s.now at }
 {
-    let n = from16(u16_at(s, at + 1));
+    let n = u16_at(s, at + 1) as usize;
     let a = at + 3;
     let e = a + n;
     &s[a..e]

@@ -1,6 +1,6 @@
 -- `enter_at` and `atoms`. Assumes nothing.
 use mathlib.Core.Path.{◌≡◌, refl, sym, ap, ◌∙◌}
-use mathlib.Core.Bool.{Bool, true, false}
+use mathlib.Core.Bool.{Bool, true, false, false≢true}
 use mathlib.Core.List.{List, [], ◌∷◌, ◌++◌}
 use Prim.Native.Nat.{ℕ, zero, suc, ◌+◌, ◌*◌, ◌-◌, ◌%◌, ◌^◌, ◌<◌, ◌≤◌}
 use native.Mathlib.Omega.{arith}
@@ -22,7 +22,8 @@ use Rattle.texts.specs.Atoms.{atom_end, atom_text, atoms_of, place_of}
 use Rattle.texts.specs.Classes.{text_class, least}
 use Rattle.texts.proofs.AtomsLaws.{class_small}
 use Rattle.texts.specs.declared.Map.{Map}
-use Rattle.texts.specs.declared.Found.{Found}
+use Rattle.std.specs.Option.{is_some}
+use Rattle.std.specs.Prelude.{Option, Some, None, Ok, Err}
 use Rattle.texts.specs.Hash.{hash_of}
 use Rattle.texts.specs.Fields.{class_at, cell_at}
 use Rattle.texts.specs.Texts.{marked_text, texts_of}
@@ -30,8 +31,6 @@ use Rattle.texts.specs.Table.{texts, linked, Finds, Entering, Entered, Started}
 use Rattle.texts.proofs.TableFindCode.{answer_none, answer_has, linked-few, linked-many}
 use Rattle.texts.proofs.TableMarks.{tape_mark_whole, tape_mark_text, tape_mark_behind, above_entered, above_none}
 use Rattle.texts.specs.Scan.{Scans}
-use Rattle.validate.specs.declared.Next.{Next}
-use Rattle.validate.specs.declared.Gathered.{Gathered}
 use Rattle.validate.specs.Regions.{regions_of}
 use Rattle.validate.specs.declared.regions.Regions.{Regions}
 use Rattle.validate.specs.Front.{Starts, Going, More, Nexts, Fronted}
@@ -92,7 +91,7 @@ module _ (s w : List ℕ) (m : Map) (at end n : ℕ) (g : Going s w m at end n) 
     pub next_hash : (v c : ℕ) → Scans t v c → v ≡ hash_of t
     next_hash v c q = q.hash
 
-    pub next_known : (r : Found) (k : ℕ) → Finds (texts s w m) t r → r ≡ Found.At k → Nexts s m at end n Next.Known w
+    pub next_known : (r : Option ℕ) (k : ℕ) → Finds (texts s w m) t r → r ≡ Some k → Nexts s m at end n None w
     unfolding Nexts
     next_known r k a p = record {
       before = m.count;
@@ -170,10 +169,14 @@ module _ (s w : List ℕ) (m : Map) (at end n : ℕ) (g : Going s w m at end n) 
         blank_then i true q l = let k = ltb-true i m.count q in x.cells i k ∙ g.blank i k
         blank_then i false q l = let z : i ≡ m.count = omega (arith, ltb-false i m.count q) in rw z x.cell
 
-        pub next_more : (r : Found) → Finds (texts s w m) t r → r ≡ Found.Nothing → length w1 ≡ length w → Nexts s m at end n (Next.Atom m1 (at + 3 + length t)) w1
+        none_known : (r : Option ℕ) → Finds (texts s w m) t r → is_some r ≡ false → has t (texts s w m) ≡ false
+        none_known None a p = answer_none (texts s w m) t a
+        none_known (Some k) a p = absurd (false≢true (sym p))
+
+        pub next_more : (r : Option ℕ) → Finds (texts s w m) t r → (b : Bool) → b ≡ is_some r → b ≡ false → length w1 ≡ length w → Nexts s m at end n (Some (m1, at + 3 + length t)) w1
         unfolding Nexts
-        next_more r a p l =
-            let none : has t (texts s w m) ≡ false = answer_none (texts s w m) t (rw p at a) in
+        next_more r a b o p l =
+            let none = none_known r a (sym o ∙ p) in
             record {
               going = record {
                 starts = record { here = g.starts.here; inside = g.starts.inside; small = rw l g.starts.small };
@@ -230,15 +233,15 @@ module _ (s w : List ℕ) (end n : ℕ) (g : Starts s w end n) where
   }
 
 module _ (s w : List ℕ) (m : Map) (at end n : ℕ) (g : Going s w m at end n) where
-  pub going_next : (r : Next) (m1 : Map) (e : ℕ) (w1 : List ℕ) → Nexts s m at end n r w1 → r ≡ Next.Atom m1 e → Going s w1 m1 e end n
+  pub going_next : (r : Option (Map × ℕ)) (m1 : Map) (e : ℕ) (w1 : List ℕ) → Nexts s m at end n r w1 → r ≡ Some (m1, e) → Going s w1 m1 e end n
   unfolding Nexts
   going_next r m1 e w1 a p = let b : More s w1 m1 at end n e = rw p at a in b.going
 
-  pub going_less : (r : Next) (m1 : Map) (e : ℕ) (w1 : List ℕ) → at < end → Nexts s m at end n r w1 → r ≡ Next.Atom m1 e → end - e < end - at
+  pub going_less : (r : Option (Map × ℕ)) (m1 : Map) (e : ℕ) (w1 : List ℕ) → at < end → Nexts s m at end n r w1 → r ≡ Some (m1, e) → end - e < end - at
   unfolding Nexts
   going_less r m1 e w1 h a p = let b : More s w1 m1 at end n e = rw p at a in omega (arith, b.on)
 
-  pub going_again : (r : Next) (w1 : List ℕ) → Nexts s m at end n r w1 → r ≡ Next.Known → (z : Refusal) → z ≡ refusal_at 3 at → Fronted s end n (Gathered.Refused z) w1
+  pub going_again : (r : Option (Map × ℕ)) (w1 : List ℕ) → Nexts s m at end n r w1 → r ≡ None → (z : Refusal) → z ≡ refusal_at 3 at → Fronted s end n (Err z) w1
   unfolding Nexts Fronted
   going_again r w1 a p z e = record { place = at; is = e; again = rw p at a }
 
@@ -251,7 +254,7 @@ module _ (s w : List ℕ) (m : Map) (at end n : ℕ) (g : Going s w m at end n) 
           absurd (omega (arith, place_mono s (suc m.count) n l, place_steps s m.count, g.here, g.starts.here))
       go false e = omega (arith, ltb-false m.count n e, g.upto)
 
-  pub going_done : end ≤ at → Fronted s end n (Gathered.All m) w
+  pub going_done : end ≤ at → Fronted s end n (Ok m) w
   unfolding Fronted
   going_done h =
       let z = all_read h in

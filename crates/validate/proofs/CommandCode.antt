@@ -1,5 +1,5 @@
 -- The ways out of `command`, its answers taken apart, and the loop of `commands`. Assumes nothing.
-use mathlib.Core.Path.{◌≡◌, refl, sym, ap, ◌∙◌}
+use mathlib.Core.Path.{◌≡◌, refl, sym, ap, subst, ◌∙◌}
 use mathlib.Core.Bool.{Bool, true, false, not}
 use mathlib.Core.List.{List, ◌∷◌}
 use Prim.Native.Nat.{ℕ, ◌+◌, ◌^◌, ◌<◌, ◌≤◌, zero, suc, ◌-◌}
@@ -21,10 +21,9 @@ use Rattle.parse_tree.specs.declared.syntax.Node.{Node}
 use Rattle.texts.specs.Atoms.{atoms_of}
 use Rattle.texts.proofs.AtomsLaws.{length_atoms}
 use Rattle.validate.specs.Steps.{asked_of, step_of, Refuses}
-use Rattle.validate.specs.Quick.{QuickCommand}
+use Rattle.validate.specs.Quick.{PassedCommand}
 use Rattle.validate.specs.declared.Atoms.{Atoms}
-use Rattle.validate.specs.declared.Asked.{Asked}
-use Rattle.validate.specs.declared.Step.{Step}
+use Rattle.std.specs.Prelude.{Result, Ok, Err}
 use Rattle.validate.proofs.CommandInside.{node_inside}
 
 -- ---- n is the command, c its class, o whether it may stand there
@@ -32,31 +31,31 @@ module _ (four : Bool) (s : List ℕ) (w atoms place left at : ℕ) (n : Node) (
   o_is : o ≡ allowed_at place (class_of (node_at w s at))
   o_is = r ∙ ap (allowed_at place) q ∙ ap (λ (x : Node). allowed_at place (class_of x)) p
 
-  pub not_allowed : (z : Refusal) → z ≡ refusal_at 2 at → not o ≡ true → Asked.Refused z ≡ asked_of (ask four w s (atoms_of s atoms) place left at)
+  pub not_allowed : (z : Refusal) → z ≡ refusal_at 2 at → not o ≡ true → Err z ≡ asked_of (ask four w s (atoms_of s atoms) place left at)
   unfolding ask pick asked_of
-  not_allowed z e h = ap Asked.Refused e ∙ simp (← o_is, not-true o h)
+  not_allowed z e h = ap Err e ∙ simp (← o_is, not-true o h)
 
   -- d is whether its operands are defined
   module _ (h : not o ≡ false) (d : Bool) (x : d ≡ defined atoms n) where
     d_is : d ≡ defined (length (atoms_of s atoms)) (node_at w s at)
     d_is = x ∙ ap (defined atoms) p ∙ ap (λ (k : ℕ). defined k (node_at w s at)) (sym (length_atoms s atoms))
 
-    pub not_defined : (z : Refusal) → z ≡ refusal_at 3 at → not d ≡ true → Asked.Refused z ≡ asked_of (ask four w s (atoms_of s atoms) place left at)
+    pub not_defined : (z : Refusal) → z ≡ refusal_at 3 at → not d ≡ true → Err z ≡ asked_of (ask four w s (atoms_of s atoms) place left at)
     unfolding ask pick asked_of
-    not_defined z e g = ap Asked.Refused e ∙ simp (← o_is, not-false o h, ← d_is, not-true d g)
+    not_defined z e g = ap Err e ∙ simp (← o_is, not-false o h, ← d_is, not-true d g)
 
-    pub too_deep : (z : Refusal) → z ≡ refusal_at 3 at → not d ≡ false → left < 1 → Asked.Refused z ≡ asked_of (ask four w s (atoms_of s atoms) place left at)
+    pub too_deep : (z : Refusal) → z ≡ refusal_at 3 at → not d ≡ false → left < 1 → Err z ≡ asked_of (ask four w s (atoms_of s atoms) place left at)
     unfolding ask pick asked_of
-    too_deep z e g k = ap Asked.Refused e ∙ simp (← o_is, not-false o h, ← d_is, not-false d g, lt-leb 1 left k)
+    too_deep z e g k = ap Err e ∙ simp (← o_is, not-false o h, ← d_is, not-false d g, lt-leb 1 left k)
 
     -- u is whether its texts suit
     module _ (g : not d ≡ false) (k : 1 ≤ left) (u : Bool) (y : u ≡ pick four (suits (atoms_of s atoms) n) true) where
       u_is : u ≡ pick four (suits (atoms_of s atoms) (node_at w s at)) true
       u_is = y ∙ ap (λ (x : Node). pick four (suits (atoms_of s atoms) x) true) p
 
-      pub not_suited : (z : Refusal) → z ≡ refusal_at 4 at → not u ≡ true → Asked.Refused z ≡ asked_of (ask four w s (atoms_of s atoms) place left at)
+      pub not_suited : (z : Refusal) → z ≡ refusal_at 4 at → not u ≡ true → Err z ≡ asked_of (ask four w s (atoms_of s atoms) place left at)
       unfolding ask pick asked_of
-      not_suited z e f = ap Asked.Refused e ∙ simp (← o_is, not-false o h, ← d_is, not-false d g, le-leb 1 left k, ← u_is, not-true u f)
+      not_suited z e f = ap Err e ∙ simp (← o_is, not-false o h, ← d_is, not-false d g, le-leb 1 left k, ← u_is, not-true u f)
 
       ask_is : not u ≡ false → ask four w s (atoms_of s atoms) place left at ≡ got n (at + size_of w n)
       unfolding ask pick
@@ -64,7 +63,7 @@ module _ (four : Bool) (s : List ℕ) (w atoms place left at : ℕ) (n : Node) (
           let here : ask four w s (atoms_of s atoms) place left at ≡ got (node_at w s at) (at + size_of w (node_at w s at)) = simp (← o_is, not-false o h, ← d_is, not-false d g, le-leb 1 left k, ← u_is, not-false u f) in
           here ∙ ap (λ (x : Node). got x (at + size_of w x)) (sym p)
 
-      pub asked_is : (z : ℕ) → not u ≡ false → z ≡ size_of w n → Asked.Is n (at + z) ≡ asked_of (ask four w s (atoms_of s atoms) place left at)
+      pub asked_is : (z : ℕ) → not u ≡ false → z ≡ size_of w n → Ok (n, at + z) ≡ asked_of (ask four w s (atoms_of s atoms) place left at)
       unfolding asked_of
       asked_is z f e = rw (e, ask_is f)
 
@@ -76,36 +75,36 @@ asked_fits s w atoms at n p d x g z e b l = record { fits = omega (arith, node_i
 pub ruleset commanding = (rules, not_allowed, not_defined, too_deep, not_suited, asked_is)
 
 -- ---- an answer, taken apart
-pub asked_got : (r : Reading Node) (n : Node) (e : ℕ) → Asked.Is n e ≡ asked_of r → r ≡ got n e
+pub asked_got : (r : Reading Node) (n : Node) (e : ℕ) → Ok (n, e) ≡ asked_of r → r ≡ got n e
 unfolding asked_of
-asked_got (got m d) n e h = cc
+asked_got (got m d) n e h = let p : (n, e) ≡ (m, d) = cc in ap (λ (x : Node × ℕ). got x.0 x.1) (sym p)
 asked_got (refused k p) n e h = absurd (let z : ◌≡◌ {A = ℕ} 0 1 = cc in omega arith)
 
 pub refuses_as : {A : Type 0} (r : Reading A) (k p : ℕ) (z : Refusal) → z ≡ refusal_at k p → r ≡ refused k p → Refuses r z
 unfolding refusal_at
 refuses_as r k p z e h = record { is = h ∙ ap (λ (y : Refusal). refused y.number y.from) (sym e); twice = ap (λ (y : Refusal). y.to) e ∙ sym (ap (λ (y : Refusal). y.from) e) }
 
-pub asked_refused : (r : Reading Node) (z : Refusal) → Asked.Refused z ≡ asked_of r → Refuses r z
+pub asked_refused : (r : Reading Node) (z : Refusal) → Err z ≡ asked_of r → Refuses r z
 unfolding asked_of
 asked_refused (got m d) z h = absurd (let n : ◌≡◌ {A = ℕ} 0 1 = cc in omega arith)
 asked_refused (refused k p) z h = let e : z ≡ refusal_at k p = cc in refuses_as (refused k p) k p z e refl
 
-pub step-refused : {A : Type 0} (r : Reading A) (z : Refusal) → Step.Refused z ≡ step_of r → Refuses r z
+pub step-refused : {A : Type 0} (r : Reading A) (z : Refusal) → Err z ≡ step_of r → Refuses r z
 unfolding step_of
 step-refused (got m d) z h = absurd (let n : ◌≡◌ {A = ℕ} 0 1 = cc in omega arith)
 step-refused (refused k p) z h = let e : z ≡ refusal_at k p = cc in refuses_as (refused k p) k p z e refl
 
 -- and put together again
-pub refuses_step : {A : Type 0} (r : Reading A) (z : Refusal) → Refuses r z → Step.Refused z ≡ step_of r
+pub refuses_step : {A : Type 0} (r : Reading A) (z : Refusal) → Refuses r z → Err z ≡ step_of r
 unfolding step_of refusal_at
-refuses_step r z h = ap (λ (n : ℕ). Step.Refused (record { number = z.number; from = z.from; to = n })) h.twice ∙ sym (ap step_of h.is)
+refuses_step r z h = ap (λ (n : ℕ). Err (record { number = z.number; from = z.from; to = n })) h.twice ∙ sym (ap step_of h.is)
 
 -- what was read, where it is not told
 pub record Read {A : Type 0} (r : Reading A) (e : ℕ) : Type 0 where
   pub value : A
   pub is : r ≡ got value e
 
-pub step-got : {A : Type 0} (r : Reading A) (e : ℕ) → Step.Next e ≡ step_of r → Read r e
+pub step-got : {A : Type 0} (r : Reading A) (e : ℕ) → Ok e ≡ step_of r → Read r e
 unfolding step_of
 step-got (got m d) e h = record { value = m; is = cc }
 step-got (refused j q) e h = absurd (let z : ◌≡◌ {A = ℕ} 0 1 = cc in omega arith)
@@ -128,8 +127,8 @@ step_then (got y e) g = refl
 step_then (refused k p) g = refl
 
 -- ---- readings in turn: k are to come from p on, and x is what all of them say
-module _ {A : Type 0} (f : ℕ → Reading A) (k p : ℕ) (x : Step) (inv : step_of (times f k p) ≡ x) where
-  pub times_none : k ≤ 0 → Step.Next p ≡ x
+module _ {A : Type 0} (f : ℕ → Reading A) (k p : ℕ) (x : Result ℕ Refusal) (inv : step_of (times f k p) ≡ x) where
+  pub times_none : k ≤ 0 → Ok p ≡ x
   unfolding times step_of
   times_none h = let z : k ≡ 0 = omega arith in rw z at inv
 
@@ -141,37 +140,39 @@ module _ {A : Type 0} (f : ℕ → Reading A) (k p : ℕ) (x : Step) (inv : step
       go zero e = absurd (omega arith)
       go (suc j) e = let z : j ≡ k - 1 = omega arith in rw z
 
-  pub times-next : (e : ℕ) → Step.Next e ≡ step_of (f p) → 0 < k → step_of (times f (k - 1) e) ≡ x
-  times-next e q h =
+  pub times-next : (e j : ℕ) → Ok e ≡ step_of (f p) → k ≡ j + 1 → step_of (times f j e) ≡ x
+  times-next e j q h =
       let r = step-got (f p) e q in
-      let o = opened h ∙ then_is (f p) (λ y e. then (times f (k - 1) e) (λ ys e'. got (y ∷ ys) e')) r.value e r.is in
-      sym (step_then (times f (k - 1) e) (λ ys. r.value ∷ ys)) ∙ sym (ap step_of o) ∙ inv
+      let o : times f k p ≡ then (times f (k - 1) e) (λ ys e'. got (r.value ∷ ys) e') = opened (omega arith) ∙ then_is (f p) (λ y e. then (times f (k - 1) e) (λ ys e'. got (y ∷ ys) e')) r.value e r.is in
+      let b : step_of (times f (k - 1) e) ≡ x = sym (step_then (times f (k - 1) e) (λ ys. r.value ∷ ys)) ∙ sym (ap step_of o) ∙ inv in
+      let n : k - 1 ≡ j = omega arith in
+      subst (λ (v : ℕ). step_of (times f v e) ≡ x) n b
 
-  pub times-stop : (z : Refusal) → Step.Refused z ≡ step_of (f p) → 0 < k → Step.Refused z ≡ x
+  pub times-stop : (z : Refusal) → Err z ≡ step_of (f p) → 0 < k → Err z ≡ x
   times-stop z r h =
       let o = refuses_then (f p) (λ y e. then (times f (k - 1) e) (λ ys e'. got (y ∷ ys) e')) z (step-refused (f p) z r) in
       refuses_step _ z o ∙ sym (ap step_of (opened h)) ∙ inv
 
 -- ---- `commands`
-module _ (four : Bool) (s : List ℕ) (w atoms place k p : ℕ) (x : Step) (inv : step_of (times (ask four w s (atoms_of s atoms) place 1) k p) ≡ x) (r : Asked) (i : r ≡ asked_of (ask four w s (atoms_of s atoms) place 1 p)) (h : 0 < k) where
-  pub commands_next : (n : Node) (e : ℕ) → r ≡ Asked.Is n e → step_of (times (ask four w s (atoms_of s atoms) place 1) (k - 1) e) ≡ x
+module _ (four : Bool) (s : List ℕ) (w atoms place k p : ℕ) (x : Result ℕ Refusal) (inv : step_of (times (ask four w s (atoms_of s atoms) place 1) k p) ≡ x) (r : Result (Node × ℕ) Refusal) (i : r ≡ asked_of (ask four w s (atoms_of s atoms) place 1 p)) where
+  pub commands_next : (y : Node × ℕ) (j : ℕ) → r ≡ Ok y → k ≡ j + 1 → step_of (times (ask four w s (atoms_of s atoms) place 1) j y.1) ≡ x
   unfolding step_of
-  commands_next n e q =
-      let z = asked_got (ask four w s (atoms_of s atoms) place 1 p) n e (sym q ∙ i) in
-      times-next (ask four w s (atoms_of s atoms) place 1) k p x inv e (rw z) h
+  commands_next y j q h =
+      let z = asked_got (ask four w s (atoms_of s atoms) place 1 p) y.0 y.1 (sym q ∙ i) in
+      times-next (ask four w s (atoms_of s atoms) place 1) k p x inv y.1 j (rw z) h
 
-  pub commands_stop : (z : Refusal) → r ≡ Asked.Refused z → Step.Refused z ≡ x
-  commands_stop z u =
+  pub commands_stop : (z : Refusal) → r ≡ Err z → 0 < k → Err z ≡ x
+  commands_stop z u h =
       let n = asked_refused (ask four w s (atoms_of s atoms) place 1 p) z (sym u ∙ i) in
       times-stop (ask four w s (atoms_of s atoms) place 1) k p x inv z (refuses_step _ z n) h
 
-pub commands_none : (four : Bool) (s : List ℕ) (w atoms place k p : ℕ) (x : Step) → step_of (times (ask four w s (atoms_of s atoms) place 1) k p) ≡ x → k ≤ 0 → Step.Next p ≡ x
+pub commands_none : (four : Bool) (s : List ℕ) (w atoms place k p : ℕ) (x : Result ℕ Refusal) → step_of (times (ask four w s (atoms_of s atoms) place 1) k p) ≡ x → k ≤ 0 → Ok p ≡ x
 commands_none four s w atoms place k p x inv h = times_none (ask four w s (atoms_of s atoms) place 1) k p x inv h
 
 -- f is what the quick look answered
-pub commands_quick : (s : List ℕ) (m : Atoms) (place k p f : ℕ) (x : Step) → step_of (times (ask m.four m.width s (atoms_of s m.count) place 1) k p) ≡ x → QuickCommand s m place p f → p < f → 0 < k
-    → step_of (times (ask m.four m.width s (atoms_of s m.count) place 1) (k - 1) f) ≡ x
+pub commands_quick : (s : List ℕ) (m : Atoms) (place k p f : ℕ) (x : Result ℕ Refusal) → step_of (times (ask m.four m.width s (atoms_of s m.count) place 1) k p) ≡ x → PassedCommand s m place p f → (j : ℕ) → k ≡ j + 1
+    → step_of (times (ask m.four m.width s (atoms_of s m.count) place 1) j f) ≡ x
 unfolding step_of
-commands_quick s m place k p f x inv g h l = times-next (ask m.four m.width s (atoms_of s m.count) place 1) k p x inv f (rw (g.passed h).asked) l
+commands_quick s m place k p f x inv g j l = times-next (ask m.four m.width s (atoms_of s m.count) place 1) k p x inv f j (rw g.asked) l
 
 pub ruleset commands = (rules, commands_next, commands_stop, commands_none, commands_quick)

@@ -18,11 +18,11 @@ use Rattle.parse_tree.specs.Working.Decode.{ask, read_argument, read_attribute, 
 use Rattle.parse_tree.specs.Working.Refusals.{refusal_at}
 use Rattle.parse_tree.specs.declared.syntax.Node.{Node}
 use Rattle.validate.specs.Steps.{step_of}
-use Rattle.validate.specs.declared.Step.{Step}
+use Rattle.std.specs.Prelude.{Ok}
 use Rattle.validate.proofs.CommandCode.{step-refused, refuses_step, refuses_then}
 
 -- what is read behind a command goes on from it, if it is of a kind that may stand at its place
-module _ {B : Type 0} (place at : ℕ) (f : Node → ℕ → Reading B) (on : (n : Node) (e : ℕ) → allowed_at place (class_of n) ≡ true → step_of (f n e) ≡ Step.Next e) where
+module _ {B : Type 0} (place at : ℕ) (f : Node → ℕ → Reading B) (on : (n : Node) (e : ℕ) → allowed_at place (class_of n) ≡ true → step_of (f n e) ≡ Ok e) where
   picked : (n : Node) (o d u : Bool) (e : ℕ) → allowed_at place (class_of n) ≡ o
       → step_of (then (pick o (pick d (pick u (got n e) (refused 4 at)) (refused 3 at)) (refused 2 at)) f) ≡ step_of (pick o (pick d (pick u (got n e) (refused 4 at)) (refused 3 at)) (refused 2 at))
   unfolding pick then step_of
@@ -37,7 +37,7 @@ module _ {B : Type 0} (place at : ℕ) (f : Node → ℕ → Reading B) (on : (n
       picked (node_at w s at) (allowed_at place (class_of (node_at w s at))) (defined (length ts) (node_at w s at) && leb 1 1) (pick four (suits ts (node_at w s at)) true) (at + size_of w (node_at w s at)) refl
 
 module _ (four : Bool) (w : ℕ) (s : List ℕ) (ts : List Text) (at : ℕ) where
-  only_argument : (n : Node) (e : ℕ) → allowed_at arguments_place (class_of n) ≡ true → step_of (expect_argument at (λ a d. got (text_of ts a.0) d) n e) ≡ Step.Next e
+  only_argument : (n : Node) (e : ℕ) → allowed_at arguments_place (class_of n) ≡ true → step_of (expect_argument at (λ a d. got (text_of ts a.0) d) n e) ≡ Ok e
   unfolding expect_argument step_of allowed_at table class_of
   only_argument (Node.Text k) e h = absurd (false≢true h)
   only_argument (Node.Nonterminal d) e h = absurd (false≢true h)
@@ -49,7 +49,7 @@ module _ (four : Bool) (w : ℕ) (s : List ℕ) (ts : List Text) (at : ℕ) wher
   only_argument (Node.Symbol p k) e h = absurd (false≢true h)
   only_argument Node.Unknown e h = absurd (false≢true h)
 
-  only_attribute : (n : Node) (e : ℕ) → allowed_at attributes_place (class_of n) ≡ true → step_of (expect_attribute at (λ a d. got (attribute_of ts a) d) n e) ≡ Step.Next e
+  only_attribute : (n : Node) (e : ℕ) → allowed_at attributes_place (class_of n) ≡ true → step_of (expect_attribute at (λ a d. got (attribute_of ts a) d) n e) ≡ Ok e
   unfolding expect_attribute step_of allowed_at table class_of
   only_attribute (Node.Text k) e h = absurd (false≢true h)
   only_attribute (Node.Nonterminal d) e h = absurd (false≢true h)
@@ -61,7 +61,7 @@ module _ (four : Bool) (w : ℕ) (s : List ℕ) (ts : List Text) (at : ℕ) wher
   only_attribute (Node.Symbol p k) e h = absurd (false≢true h)
   only_attribute Node.Unknown e h = absurd (false≢true h)
 
-  only_condition : (n : Node) (e : ℕ) → allowed_at conditions_place (class_of n) ≡ true → step_of (expect_condition at (λ c d. got (condition_of ts c) d) n e) ≡ Step.Next e
+  only_condition : (n : Node) (e : ℕ) → allowed_at conditions_place (class_of n) ≡ true → step_of (expect_condition at (λ c d. got (condition_of ts c) d) n e) ≡ Ok e
   unfolding expect_condition step_of allowed_at table class_of
   only_condition (Node.Text k) e h = absurd (false≢true h)
   only_condition (Node.Nonterminal d) e h = absurd (false≢true h)
@@ -93,7 +93,7 @@ module _ {A B C D : Type 0} where
   unfolding then step_of
   then-alike (got a e) y g h p q = go y p
     where
-      go : (y : Reading B) → Step.Next e ≡ step_of y → step_of (g a e) ≡ step_of (then y h)
+      go : (y : Reading B) → Ok e ≡ step_of y → step_of (g a e) ≡ step_of (then y h)
       go (got b d) z = let n : d ≡ e = cc in rw n (q a b e)
       go (refused k v) z = absurd (let n : ◌≡◌ {A = ℕ} 0 1 = cc in omega arith)
   then-alike (refused k v) y g h p q = refuses_step (then y h) (refusal_at k v) (refuses_then y h (refusal_at k v) (step-refused y (refusal_at k v) p))

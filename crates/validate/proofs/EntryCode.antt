@@ -8,6 +8,7 @@ use borrow.Author.Rules.{rules}
 use lib.ListN.{length, get_or}
 use mir.Syntax.{w8}
 use mir.Val.{Fits}
+use Rattle.std.specs.Prelude.{Result, Ok, Err}
 use Rattle.parse_tree.specs.Plain.Tree.{Stage}
 use Rattle.parse_tree.specs.Plain.Reading.{got, then}
 use Rattle.parse_tree.specs.Working.Decode.{read_atoms, read_items, decode_by}
@@ -21,9 +22,6 @@ use Rattle.validate.specs.Steps.{map_of, Refuses, Noted, Lists}
 use Rattle.validate.specs.Front.{Counted, Starts, All, Twice, Fronted}
 use Rattle.validate.specs.Whole.{Fronts, Validates}
 use Rattle.validate.specs.declared.Atoms.{Atoms}
-use Rattle.validate.specs.declared.Listed.{Listed}
-use Rattle.validate.specs.declared.Gathered.{Gathered}
-use Rattle.validate.specs.declared.Validated.{Validated}
 use Rattle.validate.proofs.CommandCode.{then_is, refuses_then, refuses_as}
 use Rattle.validate.proofs.FrontReads.{reads_all, reads_again}
 
@@ -35,14 +33,14 @@ pub front_starts : (s w : List ℕ) (at n : ℕ) → Counted s at n → 8 * leng
 front_starts s w at n g h = record { here = g.here; inside = g.inside; small = h }
 
 -- ---- `validate`: r is what `atoms` answered
-module _ (four : Bool) (width : ℕ) (s w : List ℕ) (at n : ℕ) (g : Counted s at n) (r : Gathered) (i : Fronted s at n r w) where
-  pub atoms_refused : (z : Refusal) → r ≡ Gathered.Refused z → Validates four width s (Validated.Refused z) w
+module _ (four : Bool) (width : ℕ) (s w : List ℕ) (at n : ℕ) (g : Counted s at n) (r : Result Map Refusal) (i : Fronted s at n r w) where
+  pub atoms_refused : (z : Refusal) → r ≡ Err z → Validates four width s (Err z) w
   unfolding Fronted Validates decode_by
   atoms_refused z e =
       let t : Twice s n z = rw e at i in
       refuses_then (read_atoms four width s (length s) [] 0) _ z (refuses_as _ 3 t.place z t.is (reads_again four width s at n g t.place t.again))
 
-  module _ (t : Map) (e : r ≡ Gathered.All t) where
+  module _ (t : Map) (e : r ≡ Ok t) where
     all : All s w t at n
     unfolding Fronted
     all = rw e at i
@@ -77,19 +75,19 @@ module _ (four : Bool) (width : ℕ) (s w : List ℕ) (at n : ℕ) (g : Counted 
 pub ruleset wholes = (rules, front_starts, atoms_refused, items_ready)
 
 -- ---- `validate_items`: y is what `items` answered, w1 what it left
-module _ (s w : List ℕ) (m : Atoms) (at : ℕ) (g : Fronts s w m at) (y : Listed) (w1 : List ℕ) (j : Lists s m at y w1) where
+module _ (s w : List ℕ) (m : Atoms) (at : ℕ) (g : Fronts s w m at) (y : Result ℕ Refusal) (w1 : List ℕ) (j : Lists s m at y w1) where
   behind : decode_by m.four m.width s ≡ then (read_items m.four m.width s (atoms_of s m.count) (length s) at) (λ is d. got (record { atoms = atoms_of s m.count; items = is }) d)
   unfolding decode_by
   behind = then_is (read_atoms m.four m.width s (length s) [] 0) _ (atoms_of s m.count) at g.read
 
-  pub items_refused : (z : Refusal) → y ≡ Listed.Refused z → Validates m.four m.width s (Validated.Refused z) w1
+  pub items_refused : (z : Refusal) → y ≡ Err z → Validates m.four m.width s (Err z) w1
   unfolding Lists Validates
   items_refused z f =
       let q : Refuses (read_items m.four m.width s (atoms_of s m.count) (length s) at) z = rw f at j in
       let n = refuses_then (read_items m.four m.width s (atoms_of s m.count) (length s) at) _ z q in
       record { is = behind ∙ n.is; twice = n.twice }
 
-  pub items_valid : (k : ℕ) → y ≡ Listed.All k → ((i : ℕ) → Fits w8 (get_or s i 0)) → Validates m.four m.width s (Validated.Valid m at k) w1
+  pub items_valid : (k : ℕ) → y ≡ Ok k → ((i : ℕ) → Fits w8 (get_or s i 0)) → Validates m.four m.width s (Ok (record { atoms = m; at = at; items = k })) w1
   unfolding Lists Validates
   items_valid k f b =
       let x : Noted s w1 m at k = rw f at j in

@@ -6,8 +6,8 @@ use Prim.Native.Nat.{ℕ, zero, suc, ◌+◌, ◌*◌, ◌-◌, ◌^◌, ◌<◌
 use native.Mathlib.Omega.{arith}
 use native.Mathlib.Numerals.{add-one}
 use borrow.Author.Rules.{rules}
-use borrow.Author.Tests.{lt-ltb, le-ltb, eq-eqb, ne_eqb, ltb-true, ltb-false}
-use lib.Dec.{eqb, ltb}
+use borrow.Author.Tests.{lt-ltb, le-ltb, eq-eqb, ne_eqb, ltb-true, ltb-false, leb-true, leb-false}
+use lib.Dec.{eqb, ltb, leb}
 use lib.ListN.{length, get_or}
 use mir.Syntax.{w64}
 use mir.Val.{Fits}
@@ -15,28 +15,37 @@ use Rattle.octets.specs.Working.Choice.{pick}
 use Rattle.octets.specs.Plain.Numbers.{le_at}
 use Rattle.octets.proofs.ChoiceLaws.{by_pick}
 use Rattle.texts.specs.Atoms.{atom_end, place_of}
-use Rattle.validate.specs.Front.{next_at, Counted}
+use Rattle.std.specs.Prelude.{Option, Some, None}
+use Rattle.std.specs.Bool.{then_some}
+use Rattle.validate.specs.Front.{next_at, Behind, Counted}
 
 module _ (s : List ℕ) (at : ℕ) where
-  pub behind_code : (get_or s at 0 ≡ 1 → ⊥) → at ≡ next_at s at
-  unfolding next_at pick
-  behind_code n = cc (ne_eqb (get_or s at 0) 1 n)
+  pub behind_end : length s ≤ at → Behind s at None
+  unfolding Behind
+  behind_end h = λ l. absurd (omega arith)
+
+  pub behind_code : (get_or s at 0 ≡ 1 → ⊥) → Behind s at None
+  unfolding Behind next_at pick
+  behind_code n = λ _. cc (ne_eqb (get_or s at 0) 1 n)
 
   module _ (o : get_or s at 0 ≡ 1) where
-    pub behind_short : length s - at < 3 → at ≡ next_at s at
-    unfolding next_at pick
-    behind_short h = cc (eq-eqb (get_or s at 0) 1 o, lt-ltb (length s - at) 3 h)
+    pub behind_short : length s - at < 3 → Behind s at None
+    unfolding Behind next_at pick
+    behind_short h = λ _. cc (eq-eqb (get_or s at 0) 1 o, lt-ltb (length s - at) 3 h)
 
-    module _ (h : 3 ≤ length s - at) (m n : ℕ) (p : m ≡ le_at 2 s (at + 1)) (q : n ≡ m) where
-      pub behind_cut : length s - at < 3 + n → at ≡ next_at s at
-      unfolding next_at pick
-      behind_cut k = cc (eq-eqb (get_or s at 0) 1 o, le-ltb (length s - at) 3 h, lt-ltb (length s - at) (3 + le_at 2 s (at + 1)) (omega arith))
+    module _ (h : 3 ≤ length s - at) (n : ℕ) (p : n ≡ le_at 2 s (at + 1)) where
+      -- b is whether its text is whole
+      pub behind_whole : (b : Bool) (r : Option ℕ) → b ≡ leb (3 + n) (length s - at) → r ≡ then_some b (at + 3 + n) → at < length s → Behind s at r
+      unfolding Behind next_at pick atom_end
+      behind_whole true r q e l =
+          let k : 3 + n ≤ length s - at = leb-true (3 + n) (length s - at) (sym q) in
+          let z : at + 3 + n ≡ next_at s at = cc (eq-eqb (get_or s at 0) 1 o, le-ltb (length s - at) 3 h, le-ltb (length s - at) (3 + le_at 2 s (at + 1)) (omega arith)) in
+          rw e (l, z, omega arith)
+      behind_whole false r q e l =
+          let k : length s - at < 3 + n = leb-false (3 + n) (length s - at) (sym q) in
+          rw e (λ _. cc (eq-eqb (get_or s at 0) 1 o, le-ltb (length s - at) 3 h, lt-ltb (length s - at) (3 + le_at 2 s (at + 1)) (omega arith)))
 
-      pub behind_done : 3 + n ≤ length s - at → at + 3 + n ≡ next_at s at
-      unfolding next_at pick atom_end
-      behind_done k = cc (eq-eqb (get_or s at 0) 1 o, le-ltb (length s - at) 3 h, le-ltb (length s - at) (3 + le_at 2 s (at + 1)) (omega arith))
-
-pub ruleset behinding = (rules, behind_code, behind_short, behind_cut, behind_done)
+pub ruleset behinding = (rules, behind_end, behind_code, behind_short, behind_whole)
 
 pub next_ge : (s : List ℕ) (at : ℕ) → at ≤ next_at s at
 unfolding next_at atom_end
@@ -69,27 +78,37 @@ pub count-start : (s : List ℕ) → Counting s 0 0
 unfolding place_of
 count-start s = record { here = refl; inside = omega arith; each = λ i h. absurd (omega arith) }
 
-module _ (s : List ℕ) (at k : ℕ) (g : Counting s at k) where
-  pub count_fits : length s < 2 ^ 64 → at < length s → Fits w64 (k + 1)
-  count_fits l h = record { fits = omega (arith, g.here, place_three s k) }
+-- r is what `behind` answered
+module _ (s : List ℕ) (at k : ℕ) (g : Counting s at k) (r : Option ℕ) (b : Behind s at r) where
+  module _ (e : ℕ) (q : r ≡ Some e) where
+    moves : (at < length s) × (e ≡ next_at s at) × (at < e)
+    unfolding Behind
+    moves = rw q at b
 
-  pub count_next : (e : ℕ) → at < length s → e ≡ next_at s at → at < e → Counting s e (k + 1)
-  unfolding place_of
-  count_next e l p h =
-      let q = next_is s at l (rw p at h) in
-      record { here = rw (add-one k) (p ∙ q.0 ∙ ap (atom_end s) g.here); inside = omega (arith, q.0, q.1); each = λ i n. go i (ltb i k) refl n }
-    where
-      go : (i : ℕ) (b : Bool) → ltb i k ≡ b → i < k + 1 → next_at s (place_of s i) ≡ place_of s (suc i)
-      go i true u n = g.each i (ltb-true i k u)
-      go i false u n =
-          let z : i ≡ k = omega (arith, ltb-false i k u) in
-          let y : place_of s i ≡ at = ap (place_of s) z ∙ sym g.here in
-          ap (next_at s) y ∙ (next_is s at l (rw p at h)).0 ∙ ap (atom_end s) (sym y)
+    pub count_fits : length s < 2 ^ 64 → Fits w64 (k + 1)
+    count_fits l = record { fits = omega (arith, g.here, place_three s k, moves.0) }
 
-  pub count-stop : (e : ℕ) → at < length s → e ≡ next_at s at → e ≤ at → Counted s at k
-  count-stop e l p h = record { here = g.here; inside = g.inside; each = g.each; stop = λ _. omega (arith, next_ge s at) }
+    pub count_less : length s - e < length s - at
+    count_less = omega (arith, moves.0, moves.2)
 
-  pub count-done : length s ≤ at → Counted s at k
-  count-done h = record { here = g.here; inside = g.inside; each = g.each; stop = λ l. absurd (omega arith) }
+    pub count_next : Counting s e (k + 1)
+    unfolding place_of
+    count_next =
+        let l = moves.0 in
+        let h = moves.2 in
+        let p = moves.1 in
+        let n = next_is s at l (rw p at h) in
+        record { here = rw (add-one k) (p ∙ n.0 ∙ ap (atom_end s) g.here); inside = omega (arith, p, n.0, n.1); each = λ i m. go l p h i (ltb i k) refl m }
+      where
+        go : at < length s → e ≡ next_at s at → at < e → (i : ℕ) (c : Bool) → ltb i k ≡ c → i < k + 1 → next_at s (place_of s i) ≡ place_of s (suc i)
+        go l p h i true u n = g.each i (ltb-true i k u)
+        go l p h i false u n =
+            let z : i ≡ k = omega (arith, ltb-false i k u) in
+            let y : place_of s i ≡ at = ap (place_of s) z ∙ sym g.here in
+            ap (next_at s) y ∙ (next_is s at l (rw p at h)).0 ∙ ap (atom_end s) (sym y)
 
-pub ruleset counting = (rules, count-start, count_fits, count_next, count-stop, count-done)
+  pub count-done : r ≡ None → Counted s at k
+  unfolding Behind
+  count-done q = record { here = g.here; inside = g.inside; each = g.each; stop = rw q at b }
+
+pub ruleset counting = (rules, count-start, count_fits, count_less, count_next, count-done)

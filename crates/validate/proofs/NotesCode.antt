@@ -36,8 +36,7 @@ use Rattle.texts.specs.Table.{Above, Stays}
 use Rattle.texts.proofs.TableStays.{stays_below, above_stays}
 use Rattle.validate.specs.Steps.{map_of, step_of, Listing, Lists}
 use Rattle.validate.specs.declared.Atoms.{Atoms}
-use Rattle.validate.specs.declared.Step.{Step}
-use Rattle.validate.specs.declared.Listed.{Listed}
+use Rattle.std.specs.Prelude.{Result, Ok, Err}
 use Rattle.validate.proofs.CommandCode.{step-got, step-refused, then_is, refuses_then}
 
 -- ---- the table stays where what is written ends before it
@@ -134,7 +133,7 @@ module _ (s : List ℕ) (m : Atoms) (at : ℕ) (w₀ w : List ℕ) (p k : ℕ) (
   read_none zero h = refl
   read_none (suc n) h = cc (le-leb (length s) p h)
 
-  pub items_none : length s ≤ p → Lists s m at (Listed.All k) w
+  pub items_none : length s ≤ p → Lists s m at (Ok k) w
   unfolding Lists
   items_none h = record {
     items = inv.done;
@@ -149,7 +148,7 @@ module _ (s : List ℕ) (m : Atoms) (at : ℕ) (w₀ w : List ℕ) (p k : ℕ) (
   items_behind = omega (arith, inv.few)
 
   -- r is the step over the next item
-  module _ (h : p < length s) (r : Step) (i : r ≡ step_of (read_item m.four m.width s (atoms_of s m.count) p)) where
+  module _ (h : p < length s) (r : Result ℕ Refusal) (i : r ≡ step_of (read_item m.four m.width s (atoms_of s m.count) p)) where
     opened : read_items m.four m.width s ts inv.fuel p ≡ then (read_item m.four m.width s ts p) (λ y e. then (read_items m.four m.width s ts (inv.fuel - 1) e) (λ ys d. got (y ∷ ys) d))
     unfolding read_items
     opened = go inv.fuel inv.enough
@@ -158,14 +157,14 @@ module _ (s : List ℕ) (m : Atoms) (at : ℕ) (w₀ w : List ℕ) (p k : ℕ) (
         go zero z = absurd (omega arith)
         go (suc n) z = let q : suc n - 1 ≡ n = omega arith in rw q (cc (lt-leb (length s) p h))
 
-    pub items_stop : (z : Refusal) → r ≡ Step.Refused z → Lists s m at (Listed.Refused z) w
+    pub items_stop : (z : Refusal) → r ≡ Err z → Lists s m at (Err z) w
     unfolding Lists
     items_stop z u =
         let a = refuses_then (read_item m.four m.width s ts p) (λ y e. then (read_items m.four m.width s ts (inv.fuel - 1) e) (λ ys d. got (y ∷ ys) d)) z (step-refused (read_item m.four m.width s ts p) z (sym u ∙ i)) in
         let b = refuses_then (read_items m.four m.width s ts inv.fuel p) (λ ys d. got (inv.done ++ ys) d) z (record { is = opened ∙ a.is; twice = a.twice }) in
         record { is = inv.rest ∙ b.is; twice = b.twice }
 
-    module _ (b : (j : ℕ) → Fits w8 (get_or s j 0)) (e : ℕ) (u : r ≡ Step.Next e) where
+    module _ (b : (j : ℕ) → Fits w8 (get_or s j 0)) (e : ℕ) (u : r ≡ Ok e) where
       -- the item that was read
       pub record Turn : Type 0 where
         pub next : Item

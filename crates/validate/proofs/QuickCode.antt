@@ -2,7 +2,7 @@
 use mathlib.Core.Path.{◌≡◌, refl, sym, ap, ◌∙◌}
 use mathlib.Core.Bool.{Bool, true, false, not, ◌&&◌, false≢true}
 use mathlib.Core.List.{List, [], ◌∷◌}
-use Prim.Native.Nat.{ℕ, zero, suc, ◌+◌, ◌-◌, ◌*◌, ◌<◌, ◌≤◌}
+use Prim.Native.Nat.{ℕ, zero, suc, ◌+◌, ◌-◌, ◌*◌, ◌^◌, ◌<◌, ◌≤◌}
 use native.Mathlib.Omega.{arith}
 use borrow.Author.Rules.{rules}
 use borrow.Author.Tests.{lt-ltb, le-ltb, le-leb, lt-leb, ne_eqb, not-true, not-false}
@@ -13,9 +13,9 @@ use Rattle.octets.specs.Plain.Numbers.{le_at, le}
 use Rattle.octets.proofs.ChoiceLaws.{by_pick, pick_same}
 use Rattle.octets.proofs.NumbersLaws.{length-le}
 use Rattle.parse_tree.specs.Plain.Texts.{is_name, is_literal}
-use Rattle.parse_tree.specs.Working.Nodes.{node_at, node_by, alternative_node_at, symbol_node_at, if_whole, span_in, named_leaf, bare_leaf, leaf_operand, size_of}
-use Rattle.parse_tree.specs.Working.Places.{class_of, allowed_at, table, alternatives_place, symbols_place}
-use Rattle.parse_tree.specs.Working.Questions.{defined, suits, alternative_defined, leaf_defined, leaf_suits, symbol_defined, symbol_suits}
+use Rattle.parse_tree.specs.Working.Nodes.{node_at, node_by, symbol_node_at, if_whole, span_in, named_leaf, bare_leaf, leaf_operand, size_of}
+use Rattle.parse_tree.specs.Working.Places.{class_of, allowed_at, table, symbols_place}
+use Rattle.parse_tree.specs.Working.Questions.{defined, suits, leaf_defined, leaf_suits, symbol_defined, symbol_suits}
 use Rattle.parse_tree.specs.Working.Operands.{inside_of}
 use Rattle.parse_tree.specs.Plain.Reading.{Reading, got, refused, then, times}
 use Rattle.parse_tree.specs.Working.Decode.{ask, read_sym}
@@ -23,21 +23,22 @@ use Rattle.parse_tree.specs.declared.syntax.Leaf.{Leaf}
 use Rattle.parse_tree.specs.declared.syntax.Around.{Around}
 use Rattle.parse_tree.specs.declared.syntax.Over.{Over}
 use Rattle.parse_tree.specs.declared.syntax.SymbolKind.{SymbolKind}
-use Rattle.parse_tree.specs.declared.syntax.Alternative.{Alternative}
 use Rattle.parse_tree.specs.declared.syntax.Node.{Node}
 use Rattle.parse_tree.specs.declared.refusal.Refusal.{Refusal}
 use Rattle.parse_tree.proofs.TextLaws.{both}
-use Rattle.parse_tree.proofs.SizeLaws.{alternative_size, leaf_size, repeat_size, choose_size, name_size, macro_size, group_size}
+use Rattle.parse_tree.proofs.SizeLaws.{leaf_size, repeat_size, choose_size, name_size, macro_size, group_size}
 use Rattle.texts.specs.Atoms.{atoms_of}
 use Rattle.validate.specs.Steps.{Ready, asked_of, step_of}
-use Rattle.validate.specs.Quick.{Kinded, Passing, QuickPassed, Quick, QuickInside, WholeAlternative, PassedAlternative, alternative_here, held_in, held_of}
+use Rattle.validate.specs.Quick.{Kinded, QuickPassed, QuickInside, held_in, held_of}
 use Rattle.validate.specs.declared.Atoms.{Atoms}
-use Rattle.validate.specs.declared.Asked.{Asked}
-use Rattle.validate.specs.declared.Step.{Step}
+use Rattle.std.specs.Prelude.{Option, IfSome, Result, Ok, Err}
+use Rattle.std.specs.Bool.{then_some}
+use mir.Syntax.{w64}
+use mir.Val.{Fits}
 use Rattle.validate.proofs.CommandCode.{asked_is, asked_got}
 use Rattle.validate.proofs.SymbolsCode.{walking, symbols_next, symbols_stop, symbol_leaf, symbol_around, symbol_over}
 
--- ---- `names`, `quotes`, `named`, `long`
+-- ---- `names`, `quotes`, `named`
 pub no_atom : (k j n : ℕ) (b : Bool) → j ≡ k → n ≤ j → false ≡ (ltb k n && b)
 no_atom k j n b e h = simp (le-ltb k n (omega arith))
 
@@ -71,32 +72,23 @@ module _ (n : ℕ) (s : List ℕ) (c k : ℕ) (four r : Bool) where
 
 pub ruleset leafing = (rules, named-quoted, named-regex, named-name)
 
-pub long_yes : (b : Bool) (n : ℕ) → b ≡ true → n ≡ pick b n 0
-unfolding pick
-long_yes b n e = rw e
-
-pub long_no : (b : Bool) (n : ℕ) → b ≡ false → 0 ≡ pick b n 0
-unfolding pick
-long_no b n e = rw e
-
-pub ruleset longing = (rules, long_yes, long_no)
+-- ---- what holds of x where b does
+pub some_if : {A : Type 0} (P : A → Type 0) (x : A) (b : Bool) (o : Option A) → (b ≡ true → P x) → o ≡ then_some b x → IfSome o P
+some_if P x true o g q = rw q (g refl)
+some_if P x false o g q = rw q tt
 
 -- ---- `passes`
 -- a kind that passes where b holds
 module _ (s : List ℕ) (m : Atoms) (c at : ℕ) (k : SymbolKind) (i : symbol_node_at m.width c s at ≡ Node.Symbol (span_in s (at + 1)) k) where
-  kinded : (b : Bool) (r z : ℕ) → b ≡ (symbol_defined m.count k && pick m.four (symbol_suits (atoms_of s m.count) k) true) → z ≡ size_of m.width (Node.Symbol (span_in s (at + 1)) k)
-      → z ≤ 10 + m.width → r ≡ pick b z 0 → Passing s m c at r
-  unfolding pick
-  kinded true r z p q l e = go (symbol_defined m.count k) refl (pick m.four (symbol_suits (atoms_of s m.count) k) true) refl p
-    where
-      go : (x : Bool) → symbol_defined m.count k ≡ x → (y : Bool) → pick m.four (symbol_suits (atoms_of s m.count) k) true ≡ y → true ≡ (x && y) → Passing s m c at r
-      go true u true v h = record { yes = λ _. record { kind = k; is = i; defined = u; suited = v; long = e ∙ q }; small = omega (arith, e) }
-      go true u false v h = absurd (false≢true (sym h))
-      go false u y v h = absurd (false≢true (sym h))
-  kinded false r z p q l e = record { yes = λ h. absurd (omega (arith, e)); small = omega (arith, e) }
+  kinded : (z : ℕ) → true ≡ (symbol_defined m.count k && pick m.four (symbol_suits (atoms_of s m.count) k) true) → z ≡ size_of m.width (Node.Symbol (span_in s (at + 1)) k)
+      → z ≤ 10 + m.width → Kinded s m c at z
+  kinded z p q l =
+      let h = both (symbol_defined m.count k) (pick m.four (symbol_suits (atoms_of s m.count) k) true) (sym p) in
+      record { kind = k; is = i; defined = h.0; suited = h.1; long = q; small = l }
 
-pub passes-not : (s : List ℕ) (m : Atoms) (c at : ℕ) → Passing s m c at 0
-passes-not s m c at = record { yes = λ h. absurd (omega arith); small = omega arith }
+  kinded_if : (b : Bool) (r : Option ℕ) (z : ℕ) → b ≡ (symbol_defined m.count k && pick m.four (symbol_suits (atoms_of s m.count) k) true) → z ≡ size_of m.width (Node.Symbol (span_in s (at + 1)) k)
+      → z ≤ 10 + m.width → r ≡ then_some b z → IfSome r (Kinded s m c at)
+  kinded_if b r z p q l e = some_if (Kinded s m c at) z b r (λ t. kinded z (sym t ∙ p) q l) e
 
 pub wholly : (s : List ℕ) (at n : ℕ) (x : Node) → at + n ≤ length s → if_whole s at n x ≡ x
 unfolding if_whole pick
@@ -157,76 +149,72 @@ module _ (w : ℕ) (s : List ℕ) (c at : ℕ) (room : at + (10 + w) ≤ length 
   at_bare h f37 f38 f39 f40 f41 = simp (le-ltb c 37 h, ne_eqb c 37 f37, ne_eqb c 38 f38, ne_eqb c 39 f39, ne_eqb c 40 f40, ne_eqb c 41 f41) (wholly s at 9 _ (omega arith))
 
 module _ (s v : List ℕ) (m : Atoms) (c at : ℕ) (g : Ready s v m) (room : at + (10 + m.width) ≤ length s) where
-  pub passes-named : (k r : ℕ) (b : Bool) → c < 37 → k ≡ le_at m.width s (at + 9) → b ≡ (leaf_defined m.count (named_leaf c k) && pick m.four (leaf_suits (atoms_of s m.count) (named_leaf c k)) true)
-      → r ≡ pick b (9 + m.width) 0 → Passing s m c at r
+  pub passes-named : (k : ℕ) (r : Option ℕ) (b : Bool) → c < 37 → k ≡ le_at m.width s (at + 9) → b ≡ (leaf_defined m.count (named_leaf c k) && pick m.four (leaf_suits (atoms_of s m.count) (named_leaf c k)) true)
+      → r ≡ then_some b (9 + m.width) → IfSome r (Kinded s m c at)
   unfolding symbol_defined symbol_suits
   passes-named k r b h e p q =
-      kinded s m c at (SymbolKind.Leaf (named_leaf c k)) (at_named m.width s c at room g.narrow h ∙ ap (λ (x : ℕ). Node.Symbol (span_in s (at + 1)) (SymbolKind.Leaf (named_leaf c x))) (sym e)) b r (9 + m.width) p
+      kinded_if s m c at (SymbolKind.Leaf (named_leaf c k)) (at_named m.width s c at room g.narrow h ∙ ap (λ (x : ℕ). Node.Symbol (span_in s (at + 1)) (SymbolKind.Leaf (named_leaf c x))) (sym e)) b r (9 + m.width) p
       (leaf_size m.width _ (span_in s (at + 1)) _ refl (named_leaf c k) m.width refl (named-size m.width c k)) (omega arith) q
 
-  pub passes-macro : (k x r : ℕ) (b : Bool) → c ≡ 37 → x ≡ get_or s (at + 9 + m.width) 0 → 1 ≤ x → k ≡ le_at m.width s (at + 9) → b ≡ (ltb k m.count && pick m.four (is_name (get_or (atoms_of s m.count) k [])) true)
-      → r ≡ pick b (10 + m.width) 0 → Passing s m c at r
+  pub passes-macro : (k x : ℕ) (r : Option ℕ) (b : Bool) → c ≡ 37 → x ≡ get_or s (at + 9 + m.width) 0 → 1 ≤ x → k ≡ le_at m.width s (at + 9) → b ≡ (ltb k m.count && pick m.four (is_name (get_or (atoms_of s m.count) k [])) true)
+      → r ≡ then_some b (10 + m.width) → IfSome r (Kinded s m c at)
   unfolding symbol_defined symbol_suits
   passes-macro k x r b h y f e p q =
       let z : leb 1 (get_or s (at + 9 + m.width) 0) ≡ true = le-leb 1 (get_or s (at + 9 + m.width) 0) (omega arith) in
-      kinded s m c at _ (at-macro m.width s c at room g.narrow h) b r (10 + m.width) (simp (← e, z, ← and-true (ltb k m.count)) p)
+      kinded_if s m c at _ (at-macro m.width s c at room g.narrow h) b r (10 + m.width) (simp (← e, z, ← and-true (ltb k m.count)) p)
       (macro_size m.width _ (span_in s (at + 1)) _ refl _ _ _ refl refl) (omega arith) q
 
-  pub passes-repeat : (x : ℕ) → c ≡ 38 → x ≡ get_or s (at + 9) 0 → x ≤ 2 → Passing s m c at 10
+  pub passes-repeat : (x : ℕ) (r : Option ℕ) (b : Bool) → c ≡ 38 → x ≡ get_or s (at + 9) 0 → b ≡ leb x 2 → r ≡ then_some b 10 → IfSome r (Kinded s m c at)
   unfolding symbol_defined symbol_suits pick
-  passes-repeat x h y f =
-      let z : leb (get_or s (at + 9) 0) 2 ≡ true = le-leb (get_or s (at + 9) 0) 2 (omega arith) in
-      kinded s m c at _ (at-repeat m.width s c at room g.narrow h) true 10 10 (simp (z, pick_same m.four true))
-      (repeat_size m.width _ (span_in s (at + 1)) _ refl _ _ refl refl) (omega arith) refl
+  passes-repeat x r b h y f q =
+      kinded_if s m c at _ (at-repeat m.width s c at room g.narrow h) b r 10 (f ∙ simp (y, pick_same m.four true, ← and-true (leb (get_or s (at + 9) 0) 2)))
+      (repeat_size m.width _ (span_in s (at + 1)) _ refl _ _ refl refl) (omega arith) q
 
-  pub passes-choose : c ≡ 39 → Passing s m c at 9
+  pub passes-choose : c ≡ 39 → Kinded s m c at 9
   unfolding symbol_defined symbol_suits pick
   passes-choose h =
-      kinded s m c at _ (at-choose m.width s c at room g.narrow h) true 9 9 (sym (pick_same m.four true)) (choose_size m.width _ (span_in s (at + 1)) _ refl _ refl refl) (omega arith) refl
+      kinded s m c at _ (at-choose m.width s c at room g.narrow h) 9 (sym (pick_same m.four true)) (choose_size m.width _ (span_in s (at + 1)) _ refl _ refl refl) (omega arith)
 
-  pub passes-name : (k x r : ℕ) (b : Bool) → c ≡ 40 → x ≡ get_or s (at + 9) 0 → x ≤ 1 → k ≡ le_at m.width s (at + 10) → b ≡ (ltb k m.count && pick m.four (is_name (get_or (atoms_of s m.count) k [])) true)
-      → r ≡ pick b (10 + m.width) 0 → Passing s m c at r
+  pub passes-name : (k x : ℕ) (r : Option ℕ) (b : Bool) → c ≡ 40 → x ≡ get_or s (at + 9) 0 → x ≤ 1 → k ≡ le_at m.width s (at + 10) → b ≡ (ltb k m.count && pick m.four (is_name (get_or (atoms_of s m.count) k [])) true)
+      → r ≡ then_some b (10 + m.width) → IfSome r (Kinded s m c at)
   unfolding symbol_defined symbol_suits
   passes-name k x r b h y f e p q =
       let z : leb (get_or s (at + 9) 0) 1 ≡ true = le-leb (get_or s (at + 9) 0) 1 (omega arith) in
-      kinded s m c at _ (at_name m.width s c at room g.narrow h) b r (10 + m.width) (simp (← e, z) p)
+      kinded_if s m c at _ (at_name m.width s c at room g.narrow h) b r (10 + m.width) (simp (← e, z) p)
       (name_size m.width _ (span_in s (at + 1)) _ refl _ _ _ refl refl) (omega arith) q
 
-  pub passes-group : c ≡ 41 → Passing s m c at 11
+  pub passes-group : c ≡ 41 → Kinded s m c at 11
   unfolding symbol_defined symbol_suits pick
   passes-group h =
-      kinded s m c at _ (at-group m.width s c at room g.narrow h) true 11 11 (sym (pick_same m.four true)) (group_size m.width _ (span_in s (at + 1)) _ refl _ _ refl refl) (omega (arith, g.narrow)) refl
+      kinded s m c at _ (at-group m.width s c at room g.narrow h) 11 (sym (pick_same m.four true)) (group_size m.width _ (span_in s (at + 1)) _ refl _ _ refl refl) (omega (arith, g.narrow))
 
-  pub passes-bare : 37 ≤ c → (c ≡ 37 → ⊥) → (c ≡ 38 → ⊥) → (c ≡ 39 → ⊥) → (c ≡ 40 → ⊥) → (c ≡ 41 → ⊥) → Passing s m c at 9
+  pub passes-bare : 37 ≤ c → (c ≡ 37 → ⊥) → (c ≡ 38 → ⊥) → (c ≡ 39 → ⊥) → (c ≡ 40 → ⊥) → (c ≡ 41 → ⊥) → Kinded s m c at 9
   unfolding symbol_defined symbol_suits pick
   passes-bare h f37 f38 f39 f40 f41 =
-      kinded s m c at (SymbolKind.Leaf (bare_leaf c)) (at_bare m.width s c at room g.narrow h f37 f38 f39 f40 f41) true 9 9 (bare_passes m.count s c m.four)
-      (leaf_size m.width _ (span_in s (at + 1)) _ refl (bare_leaf c) 0 refl (bare_size m.width c)) (omega arith) refl
+      kinded s m c at (SymbolKind.Leaf (bare_leaf c)) (at_bare m.width s c at room g.narrow h f37 f38 f39 f40 f41) 9 (bare_passes m.count s c m.four)
+      (leaf_size m.width _ (span_in s (at + 1)) _ refl (bare_leaf c) 0 refl (bare_size m.width c)) (omega arith)
 
-pub ruleset passing = (rules, passes-not, passes-named, passes-macro, passes-repeat, passes-choose, passes-name, passes-group, passes-bare)
+pub ruleset passing = (rules, passes-named, passes-macro, passes-repeat, passes-choose, passes-name, passes-group, passes-bare)
 
 -- ---- `quick`
-pub quick_not : (s : List ℕ) (m : Atoms) (left at : ℕ) → Quick s m left at at
-quick_not s m left at = record { passed = λ h. absurd (omega arith) }
+module _ (s : List ℕ) (m : Atoms) (left at c r : ℕ) (e : c ≡ get_or s at 0) (q : Kinded s m c at r) where
+  pub quick_fits : at < length s → 10 + m.width ≤ length s - at → length s < 2 ^ 64 → Fits w64 (at + r)
+  quick_fits h k l = record { fits = omega (arith, q.small) }
 
-module _ (s : List ℕ) (m : Atoms) (left at c r : ℕ) (e : c ≡ get_or s at 0) (g : Passing s m c at r) where
-  pub quick_yes : (left ≡ 0 → ⊥) → at < length s → 10 + m.width ≤ length s - at → 32 ≤ c → c ≤ 44 → Quick s m left at (at + r)
+  pub quick_yes : (left ≡ 0 → ⊥) → at < length s → 10 + m.width ≤ length s - at → 32 ≤ c → c ≤ 44 → QuickPassed s m left at (at + r)
   unfolding node_at node_by pick class_of allowed_at table defined suits
-  quick_yes d h k l u = record {
-    passed = λ z.
-        let q : Kinded s m c at r = g.yes (omega arith) in
-        let i : node_at m.width s at ≡ Node.Symbol (span_in s (at + 1)) q.kind = simp (lt-leb (length s) at h, ← e, le-ltb c 32 l, lt-ltb c 45 (omega arith)) q.is in
-        record {
-          kind = q.kind;
-          is = rw (← e) q.is;
-          asked = asked_got (ask m.four m.width s (atoms_of s m.count) symbols_place left at) (Node.Symbol (span_in s (at + 1)) q.kind) (at + r)
-              (asked_is m.four s m.width m.count symbols_place left at (Node.Symbol (span_in s (at + 1)) q.kind) (sym i) 7 refl true refl refl true (sym q.defined) refl (omega arith) true (sym q.suited) r refl q.long);
-          room = omega arith;
-          deep = omega arith;
-        };
-  }
+  quick_yes d h k l u =
+      let i : node_at m.width s at ≡ Node.Symbol (span_in s (at + 1)) q.kind = simp (lt-leb (length s) at h, ← e, le-ltb c 32 l, lt-ltb c 45 (omega arith)) q.is in
+      record {
+        kind = q.kind;
+        is = rw (← e) q.is;
+        asked = asked_got (ask m.four m.width s (atoms_of s m.count) symbols_place left at) (Node.Symbol (span_in s (at + 1)) q.kind) (at + r)
+            (asked_is m.four s m.width m.count symbols_place left at (Node.Symbol (span_in s (at + 1)) q.kind) (sym i) 7 refl true refl refl true (sym q.defined) refl (omega arith) true (sym q.suited) r refl q.long);
+        room = omega arith;
+        deep = omega arith;
+      }
 
-pub ruleset quickly = (rules, quick_not, quick_yes)
+pub ruleset quickly = (rules, quick_fits, quick_yes)
 
 -- ---- `held`
 module _ (w : ℕ) (s : List ℕ) (c at : ℕ) (e : c ≡ get_or s at 0) (narrow : 2 ≤ w) (room : at + (10 + w) ≤ length s) where
@@ -269,14 +257,14 @@ times-one {A = A} f e = go (f e) refl
 
 -- what stands inside says what the symbol says
 module _ (s : List ℕ) (m : Atoms) (left at f : ℕ) (p : QuickPassed s m left at f) where
-  asked : Asked.Is (Node.Symbol (span_in s (at + 1)) p.kind) f ≡ asked_of (ask m.four m.width s (atoms_of s m.count) symbols_place left at)
+  asked : Ok (Node.Symbol (span_in s (at + 1)) p.kind, f) ≡ asked_of (ask m.four m.width s (atoms_of s m.count) symbols_place left at)
   unfolding asked_of
   asked = rw p.asked
 
   deeper : left ≡ 0 → ⊥
   deeper z = absurd (omega (arith, p.deep))
 
-  inner : (k : SymbolKind) → p.kind ≡ k → (i : ℕ) → i ≡ held_in k → (y : Step) → y ≡ step_of (times (read_sym m.four m.width s (atoms_of s m.count) (left - 1)) i f)
+  inner : (k : SymbolKind) → p.kind ≡ k → (i : ℕ) → i ≡ held_in k → (y : Result ℕ Refusal) → y ≡ step_of (times (read_sym m.four m.width s (atoms_of s m.count) (left - 1)) i f)
       → y ≡ step_of (read_sym m.four m.width s (atoms_of s m.count) left at)
   unfolding held_in times step_of
   inner (SymbolKind.Leaf l) v i e y o =
@@ -287,56 +275,38 @@ module _ (s : List ℕ) (m : Atoms) (left at f : ℕ) (p : QuickPassed s m left 
   inner (SymbolKind.Over x) v i e y o =
       symbol_over m.four s m.width m.count left at _ asked (Node.Symbol (span_in s (at + 1)) p.kind) f refl deeper (span_in s (at + 1)) p.kind refl x i y v e o
 
-module _ (s : List ℕ) (m : Atoms) (left at f : ℕ) (q : Quick s m left at f) (h : at < f) where
+module _ (s : List ℕ) (m : Atoms) (left at f : ℕ) (q : QuickPassed s m left at f) where
   pub quick_room : at + (10 + m.width) ≤ length s
-  quick_room = (q.passed h).room
+  quick_room = q.room
 
   pub quick_deep : 1 ≤ left
-  quick_deep = omega (arith, (q.passed h).deep)
+  quick_deep = omega (arith, q.deep)
 
   pub quick_falls : (t : ℕ) → 2 * left + 1 ≡ t → 2 * (left - 1) + 1 < t
-  quick_falls t e = omega (arith, (q.passed h).deep)
+  quick_falls t e = omega (arith, q.deep)
 
   module _ (i : ℕ) (e : i ≡ held_of (symbol_node_at m.width (get_or s at 0) s at)) where
-    said : (y : Step) → y ≡ step_of (times (read_sym m.four m.width s (atoms_of s m.count) (left - 1)) i f) → y ≡ step_of (read_sym m.four m.width s (atoms_of s m.count) left at)
+    said : (y : Result ℕ Refusal) → y ≡ step_of (times (read_sym m.four m.width s (atoms_of s m.count) (left - 1)) i f) → y ≡ step_of (read_sym m.four m.width s (atoms_of s m.count) left at)
     unfolding held_of
-    said y o = inner s m left at f (q.passed h) (q.passed h).kind refl i (e ∙ ap held_of (q.passed h).is) y o
+    said y o = inner s m left at f q q.kind refl i (e ∙ ap held_of q.is) y o
 
     -- k are to come from `at` on, and x is what all of them say
-    module _ (k : ℕ) (x : Step) (inv : step_of (times (read_sym m.four m.width s (atoms_of s m.count) left) k at) ≡ x) (l : 0 < k) where
-      pub quick_next : i ≡ 0 → step_of (times (read_sym m.four m.width s (atoms_of s m.count) left) (k - 1) f) ≡ x
+    module _ (k : ℕ) (x : Result ℕ Refusal) (inv : step_of (times (read_sym m.four m.width s (atoms_of s m.count) left) k at) ≡ x) where
+      pub quick_next : i ≡ 0 → (j : ℕ) → k ≡ j + 1 → step_of (times (read_sym m.four m.width s (atoms_of s m.count) left) j f) ≡ x
       unfolding times step_of
-      quick_next z = symbols_next m.four s m.width m.count left k at x inv (Step.Next f) (said (Step.Next f) (rw z)) l f refl
+      quick_next z j l = symbols_next m.four s m.width m.count left k at x inv (Ok f) (said (Ok f) (rw z)) f j refl l
 
-      pub quick_behind : (d : ℕ) → QuickInside s m (left - 1) i f d → 0 < d → step_of (times (read_sym m.four m.width s (atoms_of s m.count) left) (k - 1) d) ≡ x
-      quick_behind d g z = symbols_next m.four s m.width m.count left k at x inv (Step.Next d) (said (Step.Next d) (sym (g.passed z))) l d refl
+      pub quick_behind : (d : ℕ) → QuickInside s m (left - 1) i f d → (j : ℕ) → k ≡ j + 1 → step_of (times (read_sym m.four m.width s (atoms_of s m.count) left) j d) ≡ x
+      quick_behind d g j l = symbols_next m.four s m.width m.count left k at x inv (Ok d) (said (Ok d) (sym g.passed)) d j refl l
 
-      module _ (y : Step) (o : y ≡ step_of (times (read_sym m.four m.width s (atoms_of s m.count) (left - 1)) i f)) where
-        pub quick_on : (d : ℕ) → y ≡ Step.Next d → step_of (times (read_sym m.four m.width s (atoms_of s m.count) left) (k - 1) d) ≡ x
-        quick_on d z = symbols_next m.four s m.width m.count left k at x inv y (said y o) l d z
+      module _ (y : Result ℕ Refusal) (o : y ≡ step_of (times (read_sym m.four m.width s (atoms_of s m.count) (left - 1)) i f)) where
+        pub quick_on : (d j : ℕ) → y ≡ Ok d → k ≡ j + 1 → step_of (times (read_sym m.four m.width s (atoms_of s m.count) left) j d) ≡ x
+        quick_on d j z l = symbols_next m.four s m.width m.count left k at x inv y (said y o) d j z l
 
-        pub quick_stop : (z : Refusal) → y ≡ Step.Refused z → Step.Refused z ≡ x
-        quick_stop z u = symbols_stop m.four s m.width m.count left k at x inv y (said y o) l z u
+        pub quick_stop : (z : Refusal) → y ≡ Err z → 0 < k → Err z ≡ x
+        quick_stop z u l = symbols_stop m.four s m.width m.count left k at x inv y (said y o) z u l
 
 pub ruleset stepping = (walking, quick_room, quick_deep, quick_falls, quick_behind, quick_on, quick_stop)
-
--- ---- `has_alternative`, `alternative_at`
-module _ (w : ℕ) (s : List ℕ) (at : ℕ) where
-  pub alternative_not : WholeAlternative w s at false
-  alternative_not = record { node = λ h. absurd (false≢true h); room = λ h. absurd (false≢true h) }
-
-  pub alternative_stands : (c : ℕ) → at < length s → 14 + w ≤ length s - at → c ≡ get_or s at 0 → c ≡ 18 → WholeAlternative w s at true
-  unfolding node_at node_by pick alternative_node_at alternative_here
-  alternative_stands c h k e f =
-      let z : get_or s at 0 ≡ 18 = sym e ∙ f in
-      record { node = λ _. simp (lt-leb (length s) at h, z) (wholly s at (14 + w) _ (omega arith)); room = λ _. omega arith }
-
-  pub alternative_read : (d : Alternative) → d.span.0 ≡ le_at 4 s (at + 1) → d.span.1 ≡ le_at 4 s (at + 1 + 4) → d.attributes ≡ get_or s (at + 9) 0 → d.conditions ≡ get_or s (at + 10) 0
-      → d.action ≡ get_or s (at + 11) 0 → d.text.0 ≡ le_at w s (at + 12) → d.symbols ≡ le_at 2 s (at + 12 + w) → d ≡ alternative_here w s at
-  unfolding alternative_here span_in
-  alternative_read d a b e f g h k = λ i. record { span = record { 0 = a i; 1 = b i }; attributes = e i; conditions = f i; action = g i; text = record { 0 = h i }; symbols = k i }
-
-pub ruleset whole_alternative = (rules, alternative_not, alternative_stands, alternative_read)
 
 -- ---- `alternative_passes`, `attribute_passes`: d is whether the operands are defined
 module _ (x d : Bool) (e : d ≡ x) where
@@ -353,31 +323,3 @@ module _ (x d : Bool) (e : d ≡ x) where
     passing_asked r f p = rw (← e, not-false d h, not-false four f) p
 
 pub ruleset passing_both = (rules, passing_undefined, passing_unasked, passing_asked)
-
--- ---- `quick_alternative`
-pub alternative_left : (s : List ℕ) (m : Atoms) (at : ℕ) → PassedAlternative s m at false
-alternative_left s m at = record { asked = λ h. absurd (false≢true h); room = λ h. absurd (false≢true h) }
-
-module _ (s : List ℕ) (m : Atoms) (at : ℕ) (o : Bool) (g : WholeAlternative m.width s at o) (h : not o ≡ false) where
-  pub alternative_room : at + (14 + m.width) ≤ length s
-  alternative_room = g.room (not-false o h)
-
-  pub alternative_passed : (a : Alternative) (r : Bool) → a ≡ alternative_here m.width s at
-      → r ≡ (alternative_defined m.count a && pick m.four (suits (atoms_of s m.count) (Node.Alternative a)) true) → PassedAlternative s m at r
-  unfolding class_of allowed_at table defined
-  alternative_passed a r q p =
-      let here : Node = Node.Alternative (alternative_here m.width s at) in
-      let d : Bool = alternative_defined m.count (alternative_here m.width s at) in
-      let u : Bool = pick m.four (suits (atoms_of s m.count) here) true in
-      let test : r ≡ (d && u) =
-      p ∙ ap (λ (x : Alternative). alternative_defined m.count x && pick m.four (suits (atoms_of s m.count) (Node.Alternative x)) true) q in
-      record {
-        asked = λ z.
-            asked_got (ask m.four m.width s (atoms_of s m.count) alternatives_place 1 at) here (at + (14 + m.width))
-            (asked_is m.four s m.width m.count alternatives_place 1 at here (sym (g.node (not-false o h))) 4 refl true refl refl
-            true (sym (both d u (sym test ∙ z)).0) refl (omega arith) true (sym (both d u (sym test ∙ z)).1) (14 + m.width) refl
-            (alternative_size m.width here (alternative_here m.width s at) refl));
-        room = λ _. alternative_room;
-      }
-
-pub ruleset quick_alternative = (rules, alternative_left, alternative_room, alternative_passed)

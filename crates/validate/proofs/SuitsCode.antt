@@ -1,11 +1,12 @@
 -- Question 4: one law for each way out. Assumes nothing.
-use mathlib.Core.Path.{◌≡◌, sym, ap, ◌∙◌}
+use mathlib.Core.Path.{◌≡◌, refl, sym, ap, ◌∙◌}
 use mathlib.Core.Bool.{Bool, true, false, not}
 use mathlib.Core.List.{List, []}
 use Prim.Native.Nat.{ℕ, ◌+◌, ◌*◌, ◌<◌, ◌≤◌}
 use native.Mathlib.Omega.{arith}
 use borrow.Author.Rules.{rules}
-use borrow.Author.Tests.{ne_eqb, not-true, not-false}
+use borrow.Author.Tests.{ne_eqb, eqb-true, eqb-false, le-leb, lt-leb, not-true, not-false}
+use denote.Enum.Declared.{tag_of}
 use lib.Dec.{leb, eqb}
 use lib.ListN.{length, get_or}
 use Rattle.octets.specs.Working.Choice.{pick}
@@ -29,10 +30,13 @@ use Rattle.parse_tree.specs.declared.syntax.Node.{Node}
 use Rattle.texts.specs.Atoms.{atoms_of}
 use Rattle.texts.specs.Classes.{text_class}
 use Rattle.texts.specs.Fields.{class_at}
-use Rattle.texts.proofs.AtomsLaws.{atoms_at_lem, class_beyond}
+use Rattle.texts.proofs.AtomsLaws.{atoms_at_lem, class_beyond, class_small}
 use Rattle.texts.proofs.ClassByCode.{class_is_name, class_is_literal, class_is_ascii}
 use Rattle.validate.specs.Steps.{map_of, Ready}
 use Rattle.validate.specs.declared.Atoms.{Atoms}
+use Rattle.validate.specs.declared.suits.Use.{Use}
+use Rattle.validate.specs.contracts.suits.Use.{the_type}
+use Rattle.validate.specs.Uses.{fits}
 
 -- ---- the class that a record holds
 module _ (s w : List ℕ) (m : Atoms) (k : ℕ) (g : Ready s w m) (h : k < m.count) where
@@ -45,21 +49,23 @@ module _ (s w : List ℕ) (m : Atoms) (k : ℕ) (g : Ready s w m) (h : k < m.cou
 
 pub ruleset holding = (rules, class_room, class_held, class_beyond)
 
--- ---- one text, by its class: j is the number k, and r the class
-module _ (ts : List Text) (k j r : ℕ) (p : j ≡ k) (q : r ≡ text_class (get_or ts j [])) where
-  at-k : r ≡ text_class (get_or ts k [])
-  at-k = q ∙ ap (λ (i : ℕ). text_class (get_or ts i [])) p
+-- ---- one text, by its class r
+at-three : (n : ℕ) → n < 4 → leb 3 n ≡ eqb n 3
+at-three n h = go (eqb n 3) refl
+  where
+    go : (b : Bool) → eqb n 3 ≡ b → leb 3 n ≡ eqb n 3
+    go true e = le-leb 3 n (omega (arith, eqb-true n 3 e)) ∙ sym e
+    go false e = let d = eqb-false n 3 e in lt-leb 3 n (omega arith) ∙ sym e
 
-  pub name_done : eqb r 3 ≡ is_name (get_or ts k [])
-  name_done = rw at-k (class_is_name (get_or ts k []))
+text_fits : (u : Use) (t : Text) → leb (tag_of the_type u + 1) (text_class t) ≡ fits u t
+text_fits Use.Ascii t = class_is_ascii t
+text_fits Use.Literal t = class_is_literal t
+text_fits Use.Name t = at-three (text_class t) (class_small t) ∙ class_is_name t
 
-  pub literal_done : leb 2 r ≡ is_literal (get_or ts k [])
-  literal_done = rw at-k (class_is_literal (get_or ts k []))
+pub fit_done : (ts : List Text) (k r : ℕ) (u : Use) → r ≡ text_class (get_or ts k []) → leb (tag_of the_type u + 1) r ≡ fits u (get_or ts k [])
+fit_done ts k r u q = ap (leb (tag_of the_type u + 1)) q ∙ text_fits u (get_or ts k [])
 
-  pub ascii-done : leb 1 r ≡ is_ascii (get_or ts k [])
-  ascii-done = rw at-k (class_is_ascii (get_or ts k []))
-
-pub ruleset texts = (rules, name_done, literal_done, ascii-done)
+pub ruleset texts = (rules, fit_done)
 
 -- ---- leaves
 module _ (ts : List Text) (l : Leaf) (r : Bool) where

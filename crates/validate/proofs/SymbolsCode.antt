@@ -2,7 +2,7 @@
 use mathlib.Core.Path.{◌≡◌, sym, ap, ◌∙◌}
 use mathlib.Core.Bool.{Bool}
 use mathlib.Core.List.{List, [], ◌∷◌}
-use Prim.Native.Nat.{ℕ, zero, suc, ◌-◌, ◌<◌, ◌≤◌}
+use Prim.Native.Nat.{ℕ, zero, suc, ◌+◌, ◌-◌, ◌<◌, ◌≤◌}
 use native.Mathlib.Omega.{arith}
 use borrow.Author.Rules.{rules}
 use denote.Enum.Declared.{tag_of}
@@ -25,20 +25,19 @@ use Rattle.parse_tree.specs.declared.refusal.Refusal.{Refusal}
 use Rattle.parse_tree.specs.declared.syntax.Node.{Node}
 use Rattle.texts.specs.Atoms.{atoms_of}
 use Rattle.validate.specs.Steps.{asked_of, step_of, Refuses}
-use Rattle.validate.specs.declared.Asked.{Asked}
-use Rattle.validate.specs.declared.Step.{Step}
+use Rattle.std.specs.Prelude.{Result, Ok, Err}
 use Rattle.validate.proofs.CommandKinds.{no_symbol}
 use Rattle.validate.proofs.CommandCode.{asked_got, asked_refused, refuses_step, then_is, refuses_then, step_then, times_none, times-next, times-stop}
 
 -- ---- `symbols`
-module _ (four : Bool) (s : List ℕ) (w atoms left k p : ℕ) (x : Step) (inv : step_of (times (read_sym four w s (atoms_of s atoms) left) k p) ≡ x) (r : Step) (i : r ≡ step_of (read_sym four w s (atoms_of s atoms) left p)) (h : 0 < k) where
-  pub symbols_next : (e : ℕ) → r ≡ Step.Next e → step_of (times (read_sym four w s (atoms_of s atoms) left) (k - 1) e) ≡ x
-  symbols_next e q = times-next (read_sym four w s (atoms_of s atoms) left) k p x inv e (sym q ∙ i) h
+module _ (four : Bool) (s : List ℕ) (w atoms left k p : ℕ) (x : Result ℕ Refusal) (inv : step_of (times (read_sym four w s (atoms_of s atoms) left) k p) ≡ x) (r : Result ℕ Refusal) (i : r ≡ step_of (read_sym four w s (atoms_of s atoms) left p)) where
+  pub symbols_next : (e j : ℕ) → r ≡ Ok e → k ≡ j + 1 → step_of (times (read_sym four w s (atoms_of s atoms) left) j e) ≡ x
+  symbols_next e j q h = times-next (read_sym four w s (atoms_of s atoms) left) k p x inv e j (sym q ∙ i) h
 
-  pub symbols_stop : (z : Refusal) → r ≡ Step.Refused z → Step.Refused z ≡ x
-  symbols_stop z u = times-stop (read_sym four w s (atoms_of s atoms) left) k p x inv z (sym u ∙ i) h
+  pub symbols_stop : (z : Refusal) → r ≡ Err z → 0 < k → Err z ≡ x
+  symbols_stop z u h = times-stop (read_sym four w s (atoms_of s atoms) left) k p x inv z (sym u ∙ i) h
 
-pub symbols_none : (four : Bool) (s : List ℕ) (w atoms left k p : ℕ) (x : Step) → step_of (times (read_sym four w s (atoms_of s atoms) left) k p) ≡ x → k ≤ 0 → Step.Next p ≡ x
+pub symbols_none : (four : Bool) (s : List ℕ) (w atoms left k p : ℕ) (x : Result ℕ Refusal) → step_of (times (read_sym four w s (atoms_of s atoms) left) k p) ≡ x → k ≤ 0 → Ok p ≡ x
 symbols_none four s w atoms left k p x inv h = times_none (read_sym four w s (atoms_of s atoms) left) k p x inv h
 
 -- ---- `symbol`
@@ -51,23 +50,23 @@ in_symbol four w s ts l sp k e = elim k [
 ]
 
 -- r is what `command` answered
-module _ (four : Bool) (s : List ℕ) (w atoms left at : ℕ) (r : Asked) (i : r ≡ asked_of (ask four w s (atoms_of s atoms) symbols_place left at)) where
-  pub symbol_refused : (z : Refusal) → r ≡ Asked.Refused z → Step.Refused z ≡ step_of (read_sym four w s (atoms_of s atoms) left at)
+module _ (four : Bool) (s : List ℕ) (w atoms left at : ℕ) (r : Result (Node × ℕ) Refusal) (i : r ≡ asked_of (ask four w s (atoms_of s atoms) symbols_place left at)) where
+  pub symbol_refused : (z : Refusal) → r ≡ Err z → Err z ≡ step_of (read_sym four w s (atoms_of s atoms) left at)
   unfolding read_sym step_of
   symbol_refused z u = go left (asked_refused (ask four w s (atoms_of s atoms) symbols_place left at) z (sym u ∙ i))
     where
-      go : (l : ℕ) → Refuses (ask four w s (atoms_of s atoms) symbols_place l at) z → Step.Refused z ≡ step_of (read_sym four w s (atoms_of s atoms) l at)
+      go : (l : ℕ) → Refuses (ask four w s (atoms_of s atoms) symbols_place l at) z → Err z ≡ step_of (read_sym four w s (atoms_of s atoms) l at)
       go zero n = refuses_step _ z (refuses_then (ask four w s (atoms_of s atoms) symbols_place zero at) _ z n)
       go (suc l) n = refuses_step _ z (refuses_then (ask four w s (atoms_of s atoms) symbols_place (suc l) at) _ z n)
 
-  module _ (n : Node) (e : ℕ) (q : r ≡ Asked.Is n e) where
+  module _ (n : Node) (e : ℕ) (q : r ≡ Ok (n, e)) where
     asked : ask four w s (atoms_of s atoms) symbols_place left at ≡ got n e
     asked = asked_got (ask four w s (atoms_of s atoms) symbols_place left at) n e (sym q ∙ i)
 
-    pub symbol_deep : (y : Refusal) → y ≡ refusal_at 3 at → left ≡ 0 → Step.Refused y ≡ step_of (read_sym four w s (atoms_of s atoms) left at)
+    pub symbol_deep : (y : Refusal) → y ≡ refusal_at 3 at → left ≡ 0 → Err y ≡ step_of (read_sym four w s (atoms_of s atoms) left at)
     unfolding read_sym step_of
     symbol_deep y u z =
-        ap Step.Refused u ∙ rw z (sym (ap step_of (then_is (ask four w s (atoms_of s atoms) symbols_place zero at) _ n e (rw z at asked))))
+        ap Err u ∙ rw z (sym (ap step_of (then_is (ask four w s (atoms_of s atoms) symbols_place zero at) _ n e (rw z at asked))))
 
     -- with nesting left
     module _ (h : left ≡ 0 → ⊥) where
@@ -78,9 +77,9 @@ module _ (four : Bool) (s : List ℕ) (w atoms left at : ℕ) (r : Asked) (i : r
       level : left ≡ suc (left - 1)
       level = omega arith
 
-      pub symbol_other : OneOf (0 ∷ 1 ∷ 2 ∷ 3 ∷ 4 ∷ 5 ∷ 6 ∷ 8 ∷ []) (tag_of the_type n) → (y : Refusal) → y ≡ refusal_at 2 at → Step.Refused y ≡ step_of (read_sym four w s (atoms_of s atoms) left at)
+      pub symbol_other : OneOf (0 ∷ 1 ∷ 2 ∷ 3 ∷ 4 ∷ 5 ∷ 6 ∷ 8 ∷ []) (tag_of the_type n) → (y : Refusal) → y ≡ refusal_at 2 at → Err y ≡ step_of (read_sym four w s (atoms_of s atoms) left at)
       unfolding step_of
-      symbol_other o y u = ap Step.Refused u ∙ sym (ap step_of (read (left - 1) level ∙ no_symbol at e (in_symbol four w s (atoms_of s atoms) (left - 1)) n o))
+      symbol_other o y u = ap Err u ∙ sym (ap step_of (read (left - 1) level ∙ no_symbol at e (in_symbol four w s (atoms_of s atoms) (left - 1)) n o))
 
       -- a symbol of each shape
       module _ (sp : Span) (k : SymbolKind) (u : n ≡ Node.Symbol sp k) where
@@ -88,17 +87,17 @@ module _ (four : Bool) (s : List ℕ) (w atoms left at : ℕ) (r : Asked) (i : r
         unfolding expect_symbol
         kind = read (left - 1) level ∙ ap (λ (x : Node). expect_symbol at (in_symbol four w s (atoms_of s atoms) (left - 1)) x e) u
 
-        pub symbol_leaf : (l : Leaf) → k ≡ SymbolKind.Leaf l → Step.Next e ≡ step_of (read_sym four w s (atoms_of s atoms) left at)
+        pub symbol_leaf : (l : Leaf) → k ≡ SymbolKind.Leaf l → Ok e ≡ step_of (read_sym four w s (atoms_of s atoms) left at)
         unfolding in_symbol step_of
         symbol_leaf l v = sym (ap step_of (kind ∙ ap (λ (x : SymbolKind). in_symbol four w s (atoms_of s atoms) (left - 1) sp x e) v))
 
-        pub symbol_around : (a : Around) (y : Step) → k ≡ SymbolKind.Around a → y ≡ step_of (read_sym four w s (atoms_of s atoms) (left - 1) e) → y ≡ step_of (read_sym four w s (atoms_of s atoms) left at)
+        pub symbol_around : (a : Around) (y : Result ℕ Refusal) → k ≡ SymbolKind.Around a → y ≡ step_of (read_sym four w s (atoms_of s atoms) (left - 1) e) → y ≡ step_of (read_sym four w s (atoms_of s atoms) left at)
         unfolding in_symbol
         symbol_around a y v o =
             o ∙ sym (step_then (read_sym four w s (atoms_of s atoms) (left - 1) e) (Sym.around sp (around_of (atoms_of s atoms) a)))
             ∙ sym (ap step_of (kind ∙ ap (λ (x : SymbolKind). in_symbol four w s (atoms_of s atoms) (left - 1) sp x e) v))
 
-        pub symbol_over : (x : Over) (j : ℕ) (y : Step) → k ≡ SymbolKind.Over x → j ≡ inside_of x → y ≡ step_of (times (read_sym four w s (atoms_of s atoms) (left - 1)) j e)
+        pub symbol_over : (x : Over) (j : ℕ) (y : Result ℕ Refusal) → k ≡ SymbolKind.Over x → j ≡ inside_of x → y ≡ step_of (times (read_sym four w s (atoms_of s atoms) (left - 1)) j e)
             → y ≡ step_of (read_sym four w s (atoms_of s atoms) left at)
         unfolding in_symbol
         symbol_over x j y v t o =

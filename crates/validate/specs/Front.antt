@@ -1,5 +1,5 @@
 -- The atoms at the front of a tape, counted, and the table of them; question 4 asks nothing of them. Assumes nothing: these are definitions.
-use Rattle.std.specs.Prelude.{◌≡◌, true, List, ℕ, suc, ◌+◌, ◌-◌, ◌*◌, ◌≤◌, ◌<◌, eqb, ltb, length, get_or}
+use Rattle.std.specs.Prelude.{◌≡◌, true, List, ℕ, suc, ◌+◌, ◌-◌, ◌*◌, ◌≤◌, ◌<◌, eqb, ltb, length, get_or, Option, Some, None, Result, Ok, Err}
 use Rattle.octets.specs.Working.Choice.{pick}
 use Rattle.octets.specs.Plain.Numbers.{le_at}
 use Rattle.parse_tree.specs.Plain.Texts.{has, distinct}
@@ -10,12 +10,15 @@ use Rattle.texts.specs.Classes.{text_class}
 use Rattle.texts.specs.declared.Map.{Map}
 use Rattle.texts.specs.Fields.{class_at, cell_at}
 use Rattle.texts.specs.Table.{Table, Above, texts, linked}
-use Rattle.validate.specs.declared.Next.{Next}
-use Rattle.validate.specs.declared.Gathered.{Gathered}
 
 -- behind the whole atom at a place, or that place
 unfoldable pub next_at : List ℕ → ℕ → ℕ
 next_at s at = pick (eqb (get_or s at 0) 1) (pick (ltb (length s - at) 3) at (pick (ltb (length s - at) (3 + le_at 2 s (at + 1))) at (atom_end s at))) at
+
+-- what `behind` says: where the whole atom at a place ends, or that none stands there
+unfoldable pub Behind : List ℕ → ℕ → Option ℕ → Type 0
+Behind s at (Some e) = (at < length s) × (e ≡ next_at s at) × (at < e)
+Behind s at None = at < length s → next_at s at ≡ at
 
 -- `front`: n atoms stand one behind another, and no whole one behind them
 pub record Counted (s : List ℕ) (at n : ℕ) : Type 0 where
@@ -57,9 +60,9 @@ pub record More (s w : List ℕ) (m : Map) (at end n e : ℕ) : Type 0 where
   pub on : at < e
 
 -- what `enter_at` says, and of the table that it leaves
-unfoldable pub Nexts : List ℕ → Map → ℕ → ℕ → ℕ → Next → List ℕ → Type 0
-Nexts s m at end n (Next.Atom m' e) w = More s w m' at end n e
-Nexts s m at end n Next.Known w = Again s n at
+unfoldable pub Nexts : List ℕ → Map → ℕ → ℕ → ℕ → Option (Map × ℕ) → List ℕ → Type 0
+Nexts s m at end n (Some (m', e)) w = More s w m' at end n e
+Nexts s m at end n None w = Again s n at
 
 -- the table of all n atoms, from eight bytes for each byte behind them on; no text stands in work
 pub record All (s w : List ℕ) (m : Map) (end n : ℕ) : Type 0 where
@@ -79,6 +82,6 @@ pub record Twice (s : List ℕ) (n : ℕ) (z : Refusal) : Type 0 where
   pub is : z ≡ refusal_at 3 place
   pub again : Again s n place
 
-unfoldable pub Fronted : List ℕ → ℕ → ℕ → Gathered → List ℕ → Type 0
-Fronted s end n (Gathered.All m) w = All s w m end n
-Fronted s end n (Gathered.Refused z) w = Twice s n z
+unfoldable pub Fronted : List ℕ → ℕ → ℕ → Result Map Refusal → List ℕ → Type 0
+Fronted s end n (Ok m) w = All s w m end n
+Fronted s end n (Err z) w = Twice s n z

@@ -16,9 +16,7 @@ use Rattle.texts.specs.declared.Map.{Map}
 use Rattle.texts.specs.Fields.{class_at, cell_at}
 use Rattle.texts.specs.Table.{Table, Above, texts}
 use Rattle.validate.specs.declared.Atoms.{Atoms}
-use Rattle.validate.specs.declared.Asked.{Asked}
-use Rattle.validate.specs.declared.Step.{Step}
-use Rattle.validate.specs.declared.Listed.{Listed}
+use Rattle.std.specs.Prelude.{Result, Ok, Err}
 
 -- the table of the atoms
 unfoldable pub map_of : Atoms → Map
@@ -34,13 +32,13 @@ pub record Ready (s w : List ℕ) (m : Atoms) : Type 0 where
   pub wide : m.width ≤ 3
 
 -- a reading's answer, without what was read
-unfoldable pub step_of : {A : Type 0} → Reading A → Step
-step_of (got x e) = Step.Next e
-step_of (refused k p) = Step.Refused (refusal_at k p)
+unfoldable pub step_of : {A : Type 0} → Reading A → Result ℕ Refusal
+step_of (got x e) = Ok e
+step_of (refused k p) = Err (refusal_at k p)
 
-unfoldable pub asked_of : Reading Node → Asked
-asked_of (got n e) = Asked.Is n e
-asked_of (refused k p) = Asked.Refused (refusal_at k p)
+unfoldable pub asked_of : Reading Node → Result (Node × ℕ) Refusal
+asked_of (got n e) = Ok (n, e)
+asked_of (refused k p) = Err (refusal_at k p)
 
 -- a reading refuses so: the place is an offset, twice
 pub record Refuses {A : Type 0} (r : Reading A) (z : Refusal) : Type 0 where
@@ -68,6 +66,6 @@ pub record Noted (s w : List ℕ) (m : Atoms) (at n : ℕ) : Type 0 where
   pub many : n ≡ length items
   pub noted : (i : ℕ) → i < n → le_at 8 w (48 + 8 * i) ≡ length (bytes_of_each (item_bytes m.width (atoms_of s m.count)) (take i items))
 
-unfoldable pub Lists : List ℕ → Atoms → ℕ → Listed → List ℕ → Type 0
-Lists s m at (Listed.All n) w = Noted s w m at n
-Lists s m at (Listed.Refused z) w = Refuses (read_items m.four m.width s (atoms_of s m.count) (length s) at) z
+unfoldable pub Lists : List ℕ → Atoms → ℕ → Result ℕ Refusal → List ℕ → Type 0
+Lists s m at (Ok n) w = Noted s w m at n
+Lists s m at (Err z) w = Refuses (read_items m.four m.width s (atoms_of s m.count) (length s) at) z

@@ -1,11 +1,12 @@
 -- What `validate` says of a tape whose atoms' numbers have so many bytes; four says whether question 4 is asked. Assumes nothing: these are definitions.
-use Rattle.std.specs.Prelude.{◌≡◌, Bool, List, [], ℕ, ◌+◌, ◌-◌, ◌*◌, ◌<◌, length, take}
+use Rattle.std.specs.Prelude.{◌≡◌, Bool, List, [], ℕ, ◌+◌, ◌-◌, ◌*◌, ◌<◌, length, take, Result, Ok, Err}
 use Rattle.octets.specs.Plain.Numbers.{le_at}
 use Rattle.parse_tree.specs.Plain.Tree.{Item}
 use Rattle.parse_tree.specs.Plain.Reading.{got}
 use Rattle.parse_tree.specs.Plain.WriteTape.{bytes_of_each}
 use Rattle.parse_tree.specs.Working.Decode.{decode_by, read_atoms, read_items}
 use Rattle.parse_tree.specs.Working.Encode.{item_bytes}
+use Rattle.parse_tree.specs.declared.refusal.Refusal.{Refusal}
 use Rattle.texts.specs.Atoms.{atoms_of, place_of}
 use Rattle.texts.specs.Table.{Above, linked}
 use Rattle.validate.specs.Steps.{Refuses, Itemed, Listing, map_of}
@@ -34,6 +35,6 @@ pub record Valid (four : Bool) (width : ℕ) (s w : List ℕ) (m : Atoms) (at n 
   pub many : n ≡ length items
   pub noted : (i : ℕ) → i < n → le_at 8 w (48 + 8 * i) ≡ length (bytes_of_each (item_bytes width (atoms_of s m.count)) (take i items))
 
-unfoldable pub Validates : Bool → ℕ → List ℕ → Validated → List ℕ → Type 0
-Validates four width s (Validated.Valid m at n) w = Valid four width s w m at n
-Validates four width s (Validated.Refused z) w = Refuses (decode_by four width s) z
+unfoldable pub Validates : Bool → ℕ → List ℕ → Result Validated Refusal → List ℕ → Type 0
+Validates four width s (Ok v) w = Valid four width s w v.atoms v.at v.items
+Validates four width s (Err z) w = Refuses (decode_by four width s) z

@@ -1,35 +1,31 @@
 // The atoms at the front of a tape, counted, then entered in the table, each new.
 ghost use Rattle.std.specs.Prelude.{◌≡◌, ◌<◌, length};
-ghost use Rattle.validate.specs.Front.{next_at, Counted, Going, Nexts, Starts, Fronted};
+ghost use Rattle.validate.specs.Front.{Behind, Counted, Going, Nexts, Starts, Fronted};
 
+use crate::Count;
 use crate::regions::layout;
-use crate::{Count, Gathered, Next};
 use octets::numbers::u16_at;
-use octets::wide::from16;
 use parse_tree::refusal;
+use parse_tree::refusal::Refusal;
+use texts::Map;
 use texts::class::class_by;
 use texts::scan::scan;
 use texts::table::{enter, find, start};
 use texts::text::atom;
-use texts::{Found, Map};
 
-// The place behind the atom at a place; the place itself where no whole one stands.
-fn behind(tape: &[u8], at: usize) -> usize
-    requires { at < length tape.now }
-    ensures { result ≡ next_at tape.now at }
+// The place behind the atom at a place; None where no whole one stands.
+fn behind(tape: &[u8], at: usize) -> Option<usize>
+    ensures { Behind tape.now at result }
 {
-    if tape[at] != 1 {
-        return at;
+    if tape.len() <= at || tape[at] != 1 {
+        return None;
     }
     let room = tape.len() - at;
     if room < 3 {
-        return at;
+        return None;
     }
-    let n = from16(u16_at(tape, at + 1));
-    if room < 3 + n {
-        return at;
-    }
-    at + 3 + n
+    let n = usize::from(u16_at(tape, at + 1));
+    (3 + n <= room).then_some(at + 3 + n)
 }
 
 // The atoms at the front.
@@ -38,25 +34,22 @@ pub fn front(tape: &[u8]) -> Count
 {
     let mut at = 0;
     let mut count = 0;
-    while at < tape.len() {
-        let e = behind(tape, at);
-        if e <= at {
-            return Count {
-                at: at,
-                count: count,
-            };
-        }
+    while let Some(e) = behind(tape, at) {
         at = e;
         count += 1;
     }
-    Count {
-        at: at,
-        count: count,
-    }
+    Count { at, count }
 }
 
-// The atom at a place.
-fn enter_at(tape: &[u8], work: &mut [u8], m: Map, at: usize, end: usize, count: usize) -> Next
+// The table with the atom at a place, and the place behind it; None where the text is known already.
+fn enter_at(
+    tape: &[u8],
+    work: &mut [u8],
+    m: Map,
+    at: usize,
+    end: usize,
+    count: usize,
+) -> Option<(Map, usize)>
     requires { Going tape.now work.old m at end count × (at < end) }
     ensures { Nexts tape.now m at end count result work.new }
 {
@@ -64,16 +57,16 @@ fn enter_at(tape: &[u8], work: &mut [u8], m: Map, at: usize, end: usize, count: 
     let f = scan(t);
     let a = at + 3;
     let e = a + t.len();
-    if let Found::At(k) = find(tape, work, m, t, f.hash) {
-        return Next::Known;
+    if find(tape, work, m, t, f.hash).is_some() {
+        return None;
     }
     let x = 4 * at + class_by(tape, a, e, f.least);
     let r = enter(tape, work, m, x, f.hash, 0);
-    Next::Atom(r, e)
+    Some((r, e))
 }
 
 // All of them, which are so many and stand before `end`.
-pub fn atoms(tape: &[u8], work: &mut [u8], end: usize, count: usize) -> Gathered
+pub fn atoms(tape: &[u8], work: &mut [u8], end: usize, count: usize) -> Result<Map, Refusal>
     requires { Starts tape.now work.old end count }
     ensures { Fronted tape.now end count result work.new }
 {
@@ -81,15 +74,11 @@ pub fn atoms(tape: &[u8], work: &mut [u8], end: usize, count: usize) -> Gathered
     let mut m = start(tape, work, g.records, count);
     let mut at = 0;
     while at < end {
-        match enter_at(tape, work, m, at, end, count) {
-            Next::Atom(r, e) => {
-                m = r;
-                at = e;
-            }
-            Next::Known => {
-                return Gathered::Refused(refusal::at(3, at));
-            }
-        }
+        let Some((r, e)) = enter_at(tape, work, m, at, end, count) else {
+            return Err(refusal::at(3, at));
+        };
+        m = r;
+        at = e;
     }
-    Gathered::All(m)
+    Ok(m)
 }

@@ -2,10 +2,6 @@
 // behind eight bytes for each of the items' bytes stands the table of atoms.
 #![tactic(auto)]
 
-use parse_tree::refusal::Refusal;
-use parse_tree::syntax::Node;
-use texts::Map;
-
 pub mod command;
 pub mod entry;
 pub mod front;
@@ -27,20 +23,6 @@ pub struct Atoms {
     pub four: bool,
 }
 
-// A command and the place behind it, or a refusal.
-#[derive(Clone, Copy)]
-pub enum Asked {
-    Is(Node, usize),
-    Refused(Refusal),
-}
-
-// The place behind what was read, or a refusal.
-#[derive(Clone, Copy)]
-pub enum Step {
-    Next(usize),
-    Refused(Refusal),
-}
-
 // How many whole atoms there are, and the place behind them.
 #[derive(Clone, Copy)]
 pub struct Count {
@@ -48,30 +30,10 @@ pub struct Count {
     pub count: usize,
 }
 
-// The table with another atom, and the place behind it; or one that was there before.
+// The table of the atoms, the place of the first item, and the number of items.
 #[derive(Clone, Copy)]
-pub enum Next {
-    Atom(Map, usize),
-    Known,
-}
-
-// The table of all atoms, or a refusal.
-#[derive(Clone, Copy)]
-pub enum Gathered {
-    All(Map),
-    Refused(Refusal),
-}
-
-// The number of items, or a refusal.
-#[derive(Clone, Copy)]
-pub enum Listed {
-    All(usize),
-    Refused(Refusal),
-}
-
-// The table of the atoms, the place of the first item, and the number of items; or a refusal.
-#[derive(Clone, Copy)]
-pub enum Validated {
-    Valid(Atoms, usize, usize),
-    Refused(Refusal),
+pub struct Validated {
+    pub atoms: Atoms,
+    pub at: usize,
+    pub items: usize,
 }

@@ -2,21 +2,16 @@
 ghost use Rattle.std.specs.Prelude.{◌≡◌};
 ghost use Rattle.parse_tree.specs.Working.Questions.{defined, leaf_defined, symbol_defined, alternative_defined, attribute_defined};
 
-use octets::wide::from32;
 use parse_tree::syntax::{Alternative, Around, Attribute, Condition, Leaf, Node, Over, SymbolKind};
 
 fn leaf_defined(l: Leaf, atoms: usize) -> bool
     ensures { result ≡ leaf_defined atoms l }
 {
     match l {
-        Leaf::AmbiguousId(a) => from32(a.0) < atoms,
-        Leaf::Bare(a) => from32(a.0) < atoms,
-        Leaf::Quoted(a) => from32(a.0) < atoms,
-        Leaf::Regex(a) => from32(a.0) < atoms,
-        Leaf::Nonterminal(a) => from32(a.0) < atoms,
-        Leaf::Lookahead => true,
-        Leaf::Lookbehind => true,
-        Leaf::Error => true,
+        Leaf::AmbiguousId(a) | Leaf::Quoted(a) | Leaf::Regex(a) => (a.0 as usize) < atoms,
+        Leaf::Bare(a) => (a.0 as usize) < atoms,
+        Leaf::Nonterminal(a) => (a.0 as usize) < atoms,
+        Leaf::Lookahead | Leaf::Lookbehind | Leaf::Error => true,
     }
 }
 
@@ -26,12 +21,7 @@ fn around_defined(a: Around, atoms: usize) -> bool
     match a {
         Around::Repeat(op) => op <= 2,
         Around::Choose => true,
-        Around::Name(m, n) => {
-            if 1 < m {
-                return false;
-            }
-            from32(n.0) < atoms
-        }
+        Around::Name(m, n) => m <= 1 && (n.0 as usize) < atoms,
     }
 }
 
@@ -39,12 +29,7 @@ fn over_defined(o: Over, atoms: usize) -> bool
     ensures { result ≡ symbol_defined atoms (SymbolKind.Over o) }
 {
     match o {
-        Over::Macro(n, k) => {
-            if atoms <= from32(n.0) {
-                return false;
-            }
-            1 <= k
-        }
+        Over::Macro(n, k) => (n.0 as usize) < atoms && 1 <= k,
         Over::Group(_) => true,
     }
 }
@@ -65,55 +50,30 @@ pub fn alternative_defined(a: Alternative, atoms: usize) -> bool
     if 1 < a.conditions {
         return false;
     }
-    if 4 < a.action {
-        return false;
+    match a.action {
+        1 | 2 => (a.text.0 as usize) < atoms,
+        0 | 3 | 4 => a.text.0 == 0,
+        _ => false,
     }
-    let text = a.text;
-    if a.action == 1 {
-        return from32(text.0) < atoms;
-    }
-    if a.action == 2 {
-        return from32(text.0) < atoms;
-    }
-    text.0 == 0
 }
 
 pub fn attribute_defined(a: Attribute, atoms: usize) -> bool
     ensures { result ≡ attribute_defined atoms a }
 {
-    let id = a.id;
-    let key = a.key;
-    let value = a.value;
-    if atoms <= from32(id.0) {
+    if atoms <= a.id.0 as usize {
         return false;
     }
-    if 1 < a.kind {
-        return false;
+    match a.kind {
+        0 => a.key.0 == 0 && a.value.0 == 0,
+        1 => (a.key.0 as usize) < atoms && (a.value.0 as usize) < atoms,
+        _ => false,
     }
-    if a.kind == 1 {
-        if atoms <= from32(key.0) {
-            return false;
-        }
-        return from32(value.0) < atoms;
-    }
-    if key.0 != 0 {
-        return false;
-    }
-    value.0 == 0
 }
 
 fn condition_defined(c: Condition, atoms: usize) -> bool
     ensures { result ≡ defined atoms (Node.Condition c) }
 {
-    let lhs = c.lhs;
-    let rhs = c.rhs;
-    if atoms <= from32(lhs.0) {
-        return false;
-    }
-    if 1 < c.op {
-        return false;
-    }
-    from32(rhs.0) < atoms
+    (c.lhs.0 as usize) < atoms && c.op <= 1 && (c.rhs.0 as usize) < atoms
 }
 
 // Whether every operand of a command is defined, where there are so many atoms, and in its values.
@@ -122,18 +82,9 @@ pub fn is_defined(n: Node, atoms: usize) -> bool
 {
     match n {
         Node::Text(_) => true,
-        Node::Nonterminal(d) => {
-            let name = d.name;
-            if atoms <= from32(name.0) {
-                return false;
-            }
-            d.flags <= 3
-        }
-        Node::Terminal(t) => {
-            let name = t.name;
-            from32(name.0) < atoms
-        }
-        Node::Argument(a) => from32(a.0) < atoms,
+        Node::Nonterminal(d) => (d.name.0 as usize) < atoms && d.flags <= 3,
+        Node::Terminal(t) => (t.name.0 as usize) < atoms,
+        Node::Argument(a) => (a.0 as usize) < atoms,
         Node::Alternative(a) => alternative_defined(a, atoms),
         Node::Attribute(a) => attribute_defined(a, atoms),
         Node::Condition(c) => condition_defined(c, atoms),

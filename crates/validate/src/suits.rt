@@ -1,14 +1,13 @@
 // Question 4 of one command: does each text suit its use?
 ghost use Rattle.std.specs.Prelude.{◌≡◌, true, [], get_or};
 ghost use Rattle.octets.specs.Working.Choice.{pick};
-ghost use Rattle.parse_tree.specs.Plain.Texts.{is_name, is_literal, is_ascii};
 ghost use Rattle.parse_tree.specs.Working.Questions.{suits, leaf_suits, symbol_suits};
 ghost use Rattle.texts.specs.Atoms.{atoms_of};
 ghost use Rattle.texts.specs.Classes.{text_class};
 ghost use Rattle.validate.specs.Steps.{Ready};
+ghost use Rattle.validate.specs.Uses.{fits};
 
 use crate::Atoms;
-use octets::wide::from32;
 use parse_tree::syntax::{Alternative, Around, Attribute, Condition, Leaf, Node, Over, SymbolKind};
 use texts::fields::class;
 
@@ -23,25 +22,20 @@ fn text_class(tape: &[u8], work: &[u8], m: Atoms, k: usize) -> usize
     class(work, m.base, k)
 }
 
-pub fn is_name(tape: &[u8], work: &[u8], m: Atoms, k: u32) -> bool
-    requires { Ready tape.now work.now m }
-    ensures { result ≡ is_name (get_or (atoms_of tape.now m.count) k []) }
-{
-    text_class(tape, work, m, from32(k)) == 3
+// What a text is used as; its number is the least class that suits.
+#[derive(Clone, Copy)]
+pub enum Use {
+    Ascii = 1,
+    Literal = 2,
+    Name = 3,
 }
 
-pub fn is_literal(tape: &[u8], work: &[u8], m: Atoms, k: u32) -> bool
+// Whether the k-th atom's text suits a use.
+pub fn is_fit(tape: &[u8], work: &[u8], m: Atoms, k: u32, used: Use) -> bool
     requires { Ready tape.now work.now m }
-    ensures { result ≡ is_literal (get_or (atoms_of tape.now m.count) k []) }
+    ensures { result ≡ fits used (get_or (atoms_of tape.now m.count) k []) }
 {
-    2 <= text_class(tape, work, m, from32(k))
-}
-
-fn is_ascii(tape: &[u8], work: &[u8], m: Atoms, k: u32) -> bool
-    requires { Ready tape.now work.now m }
-    ensures { result ≡ is_ascii (get_or (atoms_of tape.now m.count) k []) }
-{
-    1 <= text_class(tape, work, m, from32(k))
+    used as usize <= text_class(tape, work, m, k as usize)
 }
 
 fn leaf_suits(tape: &[u8], work: &[u8], m: Atoms, l: Leaf) -> bool
@@ -49,14 +43,11 @@ fn leaf_suits(tape: &[u8], work: &[u8], m: Atoms, l: Leaf) -> bool
     ensures { result ≡ leaf_suits (atoms_of tape.now m.count) l }
 {
     match l {
-        Leaf::AmbiguousId(a) => is_name(tape, work, m, a.0),
-        Leaf::Bare(a) => is_name(tape, work, m, a.0),
-        Leaf::Quoted(a) => is_literal(tape, work, m, a.0),
-        Leaf::Regex(a) => is_literal(tape, work, m, a.0),
-        Leaf::Nonterminal(a) => is_name(tape, work, m, a.0),
-        Leaf::Lookahead => true,
-        Leaf::Lookbehind => true,
-        Leaf::Error => true,
+        Leaf::AmbiguousId(a) => is_fit(tape, work, m, a.0, Use::Name),
+        Leaf::Bare(a) => is_fit(tape, work, m, a.0, Use::Name),
+        Leaf::Quoted(a) | Leaf::Regex(a) => is_fit(tape, work, m, a.0, Use::Literal),
+        Leaf::Nonterminal(a) => is_fit(tape, work, m, a.0, Use::Name),
+        Leaf::Lookahead | Leaf::Lookbehind | Leaf::Error => true,
     }
 }
 
@@ -66,15 +57,10 @@ fn symbol_suits(tape: &[u8], work: &[u8], m: Atoms, k: SymbolKind) -> bool
 {
     match k {
         SymbolKind::Leaf(l) => leaf_suits(tape, work, m, l),
-        SymbolKind::Around(a) => match a {
-            Around::Repeat(_) => true,
-            Around::Choose => true,
-            Around::Name(_, n) => is_name(tape, work, m, n.0),
-        },
-        SymbolKind::Over(o) => match o {
-            Over::Macro(n, _) => is_name(tape, work, m, n.0),
-            Over::Group(_) => true,
-        },
+        SymbolKind::Around(Around::Name(_, n)) => is_fit(tape, work, m, n.0, Use::Name),
+        SymbolKind::Around(Around::Repeat(_) | Around::Choose) => true,
+        SymbolKind::Over(Over::Macro(n, _)) => is_fit(tape, work, m, n.0, Use::Name),
+        SymbolKind::Over(Over::Group(_)) => true,
     }
 }
 
@@ -82,45 +68,29 @@ pub fn alternative_suits(tape: &[u8], work: &[u8], m: Atoms, a: Alternative) -> 
     requires { Ready tape.now work.now m }
     ensures { result ≡ suits (atoms_of tape.now m.count) (Node.Alternative a) }
 {
-    let text = a.text;
-    if a.action == 1 {
-        return is_ascii(tape, work, m, text.0);
+    match a.action {
+        1 | 2 => is_fit(tape, work, m, a.text.0, Use::Ascii),
+        _ => true,
     }
-    if a.action == 2 {
-        return is_ascii(tape, work, m, text.0);
-    }
-    true
 }
 
 pub fn attribute_suits(tape: &[u8], work: &[u8], m: Atoms, a: Attribute) -> bool
     requires { Ready tape.now work.now m }
     ensures { result ≡ suits (atoms_of tape.now m.count) (Node.Attribute a) }
 {
-    let id = a.id;
-    let key = a.key;
-    let value = a.value;
-    if !is_name(tape, work, m, id.0) {
+    if !is_fit(tape, work, m, a.id.0, Use::Name) {
         return false;
     }
-    if a.kind != 1 {
-        return true;
-    }
-    if !is_ascii(tape, work, m, key.0) {
-        return false;
-    }
-    is_ascii(tape, work, m, value.0)
+    a.kind != 1
+        || is_fit(tape, work, m, a.key.0, Use::Ascii)
+            && is_fit(tape, work, m, a.value.0, Use::Ascii)
 }
 
 fn condition_suits(tape: &[u8], work: &[u8], m: Atoms, c: Condition) -> bool
     requires { Ready tape.now work.now m }
     ensures { result ≡ suits (atoms_of tape.now m.count) (Node.Condition c) }
 {
-    let lhs = c.lhs;
-    let rhs = c.rhs;
-    if !is_name(tape, work, m, lhs.0) {
-        return false;
-    }
-    is_literal(tape, work, m, rhs.0)
+    is_fit(tape, work, m, c.lhs.0, Use::Name) && is_fit(tape, work, m, c.rhs.0, Use::Literal)
 }
 
 // Whether every text that a command uses suits its use.
@@ -129,21 +99,14 @@ fn is_suited(tape: &[u8], work: &[u8], m: Atoms, n: Node) -> bool
     ensures { result ≡ suits (atoms_of tape.now m.count) n }
 {
     match n {
-        Node::Text(_) => true,
-        Node::Nonterminal(d) => {
-            let name = d.name;
-            is_name(tape, work, m, name.0)
-        }
-        Node::Terminal(t) => {
-            let name = t.name;
-            is_name(tape, work, m, name.0)
-        }
-        Node::Argument(a) => is_name(tape, work, m, a.0),
+        Node::Text(_) | Node::Unknown => true,
+        Node::Nonterminal(d) => is_fit(tape, work, m, d.name.0, Use::Name),
+        Node::Terminal(t) => is_fit(tape, work, m, t.name.0, Use::Name),
+        Node::Argument(a) => is_fit(tape, work, m, a.0, Use::Name),
         Node::Alternative(a) => alternative_suits(tape, work, m, a),
         Node::Attribute(a) => attribute_suits(tape, work, m, a),
         Node::Condition(c) => condition_suits(tape, work, m, c),
         Node::Symbol(_, k) => symbol_suits(tape, work, m, k),
-        Node::Unknown => true,
     }
 }
 
@@ -152,8 +115,5 @@ pub fn is_apt(tape: &[u8], work: &[u8], m: Atoms, n: Node) -> bool
     requires { Ready tape.now work.now m }
     ensures { result ≡ pick m.four (suits (atoms_of tape.now m.count) n) true }
 {
-    if !m.four {
-        return true;
-    }
-    is_suited(tape, work, m, n)
+    !m.four || is_suited(tape, work, m, n)
 }

@@ -12,19 +12,20 @@ use Rattle.levels.specs.declared.Room.{Room}
 use Rattle.levels.specs.declared.Written.{Written}
 use Rattle.levels.specs.Fresh.{too_long, new_texts}
 use Rattle.output.specs.Plain.Answers.{answer_of}
-use Rattle.output.specs.declared.Answer.{Answer}
+use Rattle.std.specs.Prelude.{Result, Ok, Err}
+use Rattle.parse_tree.specs.declared.refusal.Refusal.{Refusal}
 
 -- the tape's bytes before `at`, then as many of work from a on as the tape has behind `at`, at the front of the output
 unfoldable pub handed : ℕ → List ℕ → ℕ → List ℕ → List ℕ → List ℕ
 handed at s a w o = part 0 at s ++ (part a (a + (length s - at)) w ++ drop (length s) o)
 
 -- the five words of an answer
-unfoldable pub words_of : Answer → List ℕ
-words_of (Answer.Yes n) = 1 ∷ n ∷ 0 ∷ 0 ∷ 0 ∷ []
-words_of (Answer.No why) = 0 ∷ why.number ∷ why.from ∷ why.to ∷ 0 ∷ []
+unfoldable pub words_of : Result ℕ Refusal → List ℕ
+words_of (Ok n) = 1 ∷ n ∷ 0 ∷ 0 ∷ 0 ∷ []
+words_of (Err why) = 0 ∷ why.number ∷ why.from ∷ why.to ∷ 0 ∷ []
 
 -- what is answered to a stage, and the output afterwards
-pub record Staged (x : Outcome Stage) (o : List ℕ) (r : Answer) (o' : List ℕ) : Type 0 where
+pub record Staged (x : Outcome Stage) (o : List ℕ) (r : Result ℕ Refusal) (o' : List ℕ) : Type 0 where
   pub answered : r ≡ answer_of x
   pub tree : o' ≡ written 2 x o
 

@@ -4,19 +4,18 @@ use Rattle.octets.specs.Working.Choice.{pick}
 use Rattle.parse_tree.specs.Working.Refusals.{refusal_at}
 use Rattle.levels.specs.declared.Room.{Room}
 use Rattle.levels.specs.declared.Written.{Written}
-use Rattle.levels.specs.declared.fresh.Fresh.{Fresh}
-use Rattle.output.specs.declared.Answer.{Answer}
+use Rattle.std.specs.Prelude.{Option, Some, None, Result, Ok, Err}
+use Rattle.parse_tree.specs.declared.refusal.Refusal.{Refusal}
 
 -- 20 and 21 of a stage of so many atoms and n bytes
-unfoldable pub sized : ℕ → ℕ → ℕ → Answer
-sized atoms n output = pick (ltb 65536 atoms) (Answer.No (refusal_at 20 0)) (pick (ltb output n) (Answer.No (refusal_at 21 0)) (Answer.Yes n))
+unfoldable pub sized : ℕ → ℕ → ℕ → Result ℕ Refusal
+sized atoms n output = pick (ltb 65536 atoms) (Err (refusal_at 20 0)) (pick (ltb output n) (Err (refusal_at 21 0)) (Ok n))
 
 -- where levels are written, for a tape of T bytes of which n are its items', and an output of W
 unfoldable pub room_of : ℕ → ℕ → ℕ → Room
 room_of T n W = record { arrays = 8 * T + 2 * n; at = 8 * T + 6 * W - 2 * (W / 9); lim = 8 * T + 6 * W - 2 * (W / 9) + W }
 
--- 20 and 21 of the levelled stage, of which v is written; the tape's atoms have `at` bytes, the new ones f's
-unfoldable pub sized_levels : Written → Room → ℕ → Fresh → ℕ → Answer
-sized_levels v room at f output =
-    pick f.long (Answer.No (refusal_at 20 0))
-    (pick (ltb room.lim v.to) (sized v.count (output + 1) output) (sized v.count (at + f.bytes + (v.to - room.at)) output))
+-- 20 and 21 of the levelled stage, of which v is written; the tape's atoms have `at` bytes, the new ones so many, or one of them is too long
+unfoldable pub sized_levels : Written → Room → ℕ → Option ℕ → ℕ → Result ℕ Refusal
+sized_levels v room at None output = Err (refusal_at 20 0)
+sized_levels v room at (Some bytes) output = pick (ltb room.lim v.to) (sized v.count (output + 1) output) (sized v.count (at + bytes + (v.to - room.at)) output)

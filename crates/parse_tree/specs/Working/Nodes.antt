@@ -8,6 +8,9 @@ use Rattle.parse_tree.specs.declared.syntax.Around.{Around}
 use Rattle.parse_tree.specs.declared.syntax.Over.{Over}
 use Rattle.parse_tree.specs.declared.syntax.SymbolKind.{SymbolKind}
 use Rattle.parse_tree.specs.declared.syntax.Node.{Node}
+use Rattle.parse_tree.specs.declared.syntax.NonterminalData.{NonterminalData}
+use Rattle.parse_tree.specs.declared.syntax.Alternative.{Alternative}
+use Rattle.parse_tree.specs.declared.syntax.Attribute.{Attribute}
 
 -- ---- to bytes
 
@@ -98,15 +101,19 @@ symbol_node_at w c s at =
 unfoldable pub text_node : List ℕ → ℕ → Node
 text_node s at = if_whole s at 3 (if_whole s at (3 + le_at 2 s (at + 1)) (Node.Text (le_at 2 s (at + 1))))
 
--- 10
-unfoldable pub nonterminal_node_at : ℕ → List ℕ → ℕ → Node
-nonterminal_node_at w s at = if_whole s at (13 + w) (Node.Nonterminal (record {
+-- the nonterminal that the bytes at a place say
+abbrev pub nonterminal_here : ℕ → List ℕ → ℕ → NonterminalData
+nonterminal_here w s at = record {
   span = span_in s (at + 1);
   name = record { 0 = le_at w s (at + 9) };
   flags = get_or s (at + 9 + w) 0;
   args = get_or s (at + 10 + w) 0;
   alternatives = le_at 2 s (at + 11 + w);
-}))
+}
+
+-- 10
+unfoldable pub nonterminal_node_at : ℕ → List ℕ → ℕ → Node
+nonterminal_node_at w s at = if_whole s at (13 + w) (Node.Nonterminal (nonterminal_here w s at))
 
 -- 30, 31
 unfoldable pub terminal_node_at : ℕ → ℕ → List ℕ → ℕ → Node
@@ -116,25 +123,33 @@ terminal_node_at w c s at = if_whole s at (9 + w) (Node.Terminal (record { span 
 unfoldable pub argument_node_at : ℕ → List ℕ → ℕ → Node
 argument_node_at w s at = if_whole s at (1 + w) (Node.Argument (record { 0 = le_at w s (at + 1) }))
 
--- 12
-unfoldable pub alternative_node_at : ℕ → List ℕ → ℕ → Node
-alternative_node_at w s at = if_whole s at (14 + w) (Node.Alternative (record {
+-- the alternative that the bytes at a place say
+abbrev pub alternative_here : ℕ → List ℕ → ℕ → Alternative
+alternative_here w s at = record {
   span = span_in s (at + 1);
   attributes = get_or s (at + 9) 0;
   conditions = get_or s (at + 10) 0;
   action = get_or s (at + 11) 0;
   text = record { 0 = le_at w s (at + 12) };
   symbols = le_at 2 s (at + 12 + w);
-}))
+}
 
--- 13
-unfoldable pub attribute_node_at : ℕ → List ℕ → ℕ → Node
-attribute_node_at w s at = if_whole s at (2 + w + w + w) (Node.Attribute (record {
+-- 12
+unfoldable pub alternative_node_at : ℕ → List ℕ → ℕ → Node
+alternative_node_at w s at = if_whole s at (14 + w) (Node.Alternative (alternative_here w s at))
+
+-- the attribute that the bytes at a place say
+abbrev pub attribute_here : ℕ → List ℕ → ℕ → Attribute
+attribute_here w s at = record {
   id = record { 0 = le_at w s (at + 1) };
   kind = get_or s (at + 1 + w) 0;
   key = record { 0 = le_at w s (at + 2 + w) };
   value = record { 0 = le_at w s (at + 2 + w + w) };
-}))
+}
+
+-- 13
+unfoldable pub attribute_node_at : ℕ → List ℕ → ℕ → Node
+attribute_node_at w s at = if_whole s at (2 + w + w + w) (Node.Attribute (attribute_here w s at))
 
 -- 14
 unfoldable pub condition_node_at : ℕ → List ℕ → ℕ → Node

@@ -1,6 +1,8 @@
 -- "Which command may stand where is a table of places by commands." Assumes nothing: these are definitions.
 use Rattle.std.specs.Prelude.{ℕ, Bool, List, [], ◌∷◌, get_or, eqb}
 use Rattle.parse_tree.specs.declared.syntax.Node.{Node}
+use Rattle.parse_tree.specs.declared.places.Place.{Place}
+use Rattle.parse_tree.specs.declared.places.Class.{Class}
 
 -- the columns: the class of a command
 unfoldable pub class_of : Node → ℕ
@@ -32,6 +34,27 @@ conditions_place = 5
 
 abbrev pub symbols_place : ℕ
 symbols_place = 6
+
+-- the numbers of the code's places and classes
+abbrev pub row : Place → ℕ
+row Place.Atoms = 0
+row Place.Items = items_place
+row Place.Arguments = arguments_place
+row Place.Alternatives = alternatives_place
+row Place.Attributes = attributes_place
+row Place.Conditions = conditions_place
+row Place.Symbols = symbols_place
+
+unfoldable pub column : Class → ℕ
+column Class.Text = 0
+column Class.Nonterminal = 1
+column Class.Terminal = 2
+column Class.Argument = 3
+column Class.Alternative = 4
+column Class.Attribute = 5
+column Class.Condition = 6
+column Class.Symbol = 7
+column Class.Unknown = 8
 
 -- 1 where the command may stand. "All atoms come first": what is no atom ends them and is asked as an item
 unfoldable pub table : List (List ℕ)

@@ -1,5 +1,6 @@
 use Rattle.again.proofs.ListCode.{listing}
 use Rattle.again.proofs.list.list_items.Goals as goal
+use Rattle.again.proofs.list.list_items.Goals.{then-is_item, else-is_item}
 
 pub overflow_mul-n : goal.overflow_mul-n
 overflow_mul-n c = search listing
@@ -13,11 +14,8 @@ store64-requires c = search listing
 pub overflow_add-n : goal.overflow_add-n
 overflow_add-n c = search listing
 
-pub loop-p-preserved-then-is_item : goal.loop-p-preserved-then-is_item
-loop-p-preserved-then-is_item c = search listing
-
 pub loop-p-preserved : goal.loop-p-preserved
-loop-p-preserved c = search listing
+loop-p-preserved c = elim c.if-is_item.branch [ then-is_item w ↦ search listing | else-is_item w ↦ search listing ]
 
 pub returns : goal.returns
 returns c = search listing

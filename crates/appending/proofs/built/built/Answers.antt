@@ -1,8 +1,11 @@
 use Rattle.appending.proofs.BuiltCode.{building}
 use Rattle.appending.proofs.built.built.Goals as goal
 
-pub word-v-requires : goal.word-v-requires
-word-v-requires c = search building
+pub word-requires : goal.word-requires
+word-requires c = search building
 
-pub returns-then-v-ne0 : goal.returns-then-v-ne0
-returns-then-v-ne0 c = search building
+pub first-requires : goal.first-requires
+first-requires c = search building
+
+pub returns-in-Some : goal.returns-in-Some
+returns-in-Some c = search building

@@ -13,11 +13,11 @@ put_next-requires c = (search asking, search asking, search asking)
 pub overflow_add-result : goal.overflow_add-result
 overflow_add-result c = search asking
 
-pub overflow_add-result-in-Nothing : goal.overflow_add-result-in-Nothing
-overflow_add-result-in-Nothing c = search asking
+pub overflow_add-result-in-None : goal.overflow_add-result-in-None
+overflow_add-result-in-None c = search asking
 
-pub returns-in-At : goal.returns-in-At
-returns-in-At c = search asking
+pub returns-in-Some : goal.returns-in-Some
+returns-in-Some c = search asking
 
-pub returns-in-Nothing : goal.returns-in-Nothing
-returns-in-Nothing c = search asking
+pub returns-in-None : goal.returns-in-None
+returns-in-None c = search asking

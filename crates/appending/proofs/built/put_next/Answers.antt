@@ -14,10 +14,10 @@ pub overflow_add-g-2 : goal.overflow_add-g-2
 overflow_add-g-2 c = search putting
 
 pub overflow_mul-i : goal.overflow_mul-i
-overflow_mul-i c = search putting
+overflow_mul-i c = rw c.number_of-i.ensures (search putting)
 
 pub overflow_add-i : goal.overflow_add-i
-overflow_add-i c = search putting
+overflow_add-i c = rw c.number_of-i.ensures (search putting)
 
 pub store64-requires : goal.store64-requires
 store64-requires c = search putting
@@ -29,4 +29,4 @@ pub overflow_add-g-4 : goal.overflow_add-g-4
 overflow_add-g-4 c = search putting
 
 pub returns : goal.returns
-returns c = search putting
+returns c = rw (← c.number_of-i.ensures) (search putting)

@@ -1,8 +1,10 @@
-use Rattle.appending.proofs.CommandsCode.{putting}
+use Rattle.std.proofs.Common.{rules}
+use Prim.Native.Nat.{◌+◌}
+use Rattle.appending.specs.Commands.{alternative_head}
+use Rattle.appending.proofs.CommandsCode.{put_ends, alternative_long}
 use Rattle.appending.proofs.commands.put_alternative.Goals as goal
 
-pub returns-then-lim-to-2 : goal.returns-then-lim-to-2
-returns-then-lim-to-2 c = search putting
-
 pub returns : goal.returns
-returns c = search putting
+returns c =
+    put_ends c.args.work.now (alternative_head c.args.width c.args.span c.args.act c.args.text c.args.symbols) (14 + c.args.width) c.args.lim c.args.to c.put.result c.put.new.work (alternative_long c.args.width c.args.span c.args.act c.args.text c.args.symbols)
+    (λ h. let p = c.put.ensures.whole h in let q = p.1 in (p.0, search (rules, q.met, q.shows, q.leaves))) c.put.ensures.over

@@ -1,8 +1,11 @@
-use Rattle.appending.proofs.CommandsCode.{putting}
+use Rattle.std.proofs.Common.{rules}
+use Prim.Native.Nat.{◌+◌}
+use mathlib.Core.List.{◌∷◌, ◌++◌}
+use Rattle.octets.specs.Plain.Numbers.{le}
+use Rattle.appending.proofs.CommandsCode.{put_ends, nonterminal_long}
 use Rattle.appending.proofs.commands.put_nonterminal.Goals as goal
 
-pub returns-then-lim-to-2 : goal.returns-then-lim-to-2
-returns-then-lim-to-2 c = search putting
-
 pub returns : goal.returns
-returns c = search putting
+returns c =
+    put_ends c.args.work.now (36 ∷ (le 8 c.args.span ++ le c.args.width c.args.k)) (9 + c.args.width) c.args.lim c.args.to c.put.result c.put.new.work (nonterminal_long c.args.width c.args.span c.args.k)
+    (λ h. let p = c.put.ensures.whole h in let q = p.1 in (p.0, search (rules, q.met, q.shows, q.leaves))) c.put.ensures.over

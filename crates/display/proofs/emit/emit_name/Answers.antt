@@ -1,8 +1,5 @@
 use Rattle.display.proofs.WindowCode.{prefixing}
 use Rattle.display.proofs.emit.emit_name.Goals as goal
 
-pub returns-then-b-eq1 : goal.returns-then-b-eq1
-returns-then-b-eq1 c = search prefixing
-
 pub returns : goal.returns
 returns c = search prefixing

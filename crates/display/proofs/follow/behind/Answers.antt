@@ -1,20 +1,20 @@
 use Rattle.display.proofs.MeetCode.{closing}
 use Rattle.display.proofs.follow.behind.Goals as goal
 
-pub returns-then-c-eq37 : goal.returns-then-c-eq37
-returns-then-c-eq37 c = search closing
+pub returns-in-37 : goal.returns-in-37
+returns-in-37 c = search closing
 
 pub bounds-work-at : goal.bounds-work-at
 bounds-work-at c = search closing
 
-pub returns-then-c-eq38 : goal.returns-then-c-eq38
-returns-then-c-eq38 c = search closing
+pub returns-in-38 : goal.returns-in-38
+returns-in-38 c = search closing
 
-pub returns-then-c-eq39 : goal.returns-then-c-eq39
-returns-then-c-eq39 c = search closing
+pub returns-in-39 : goal.returns-in-39
+returns-in-39 c = search closing
 
-pub returns-then-c-eq41 : goal.returns-then-c-eq41
-returns-then-c-eq41 c = search closing
+pub returns-in-41 : goal.returns-in-41
+returns-in-41 c = search closing
 
-pub returns : goal.returns
-returns c = search closing
+pub returns-in_default : goal.returns-in_default
+returns-in_default c = search closing

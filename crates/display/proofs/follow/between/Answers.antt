@@ -7,5 +7,5 @@ returns-then-k-eq0 c = search spacing
 pub returns-then-c-eq37 : goal.returns-then-c-eq37
 returns-then-c-eq37 c = search spacing
 
-pub returns : goal.returns
-returns c = search spacing
+pub returns-else-c-eq37 : goal.returns-else-c-eq37
+returns-else-c-eq37 c = search spacing

@@ -1,8 +1,11 @@
 use Rattle.display.proofs.MeetCode.{prefixing}
 use Rattle.display.proofs.follow.meet_name.Goals as goal
 
-pub returns-then-b-eq1 : goal.returns-then-b-eq1
-returns-then-b-eq1 c = search prefixing
+pub returns-in_err-p : goal.returns-in_err-p
+returns-in_err-p c = rw c.from_residual.ensures (search (prefixing, c.in_err-p.was))
+
+pub returns-in_err-q : goal.returns-in_err-q
+returns-in_err-q c = rw c.from_residual-in_err-q.ensures (search (prefixing, c.in_ok-p.was, c.in_err-q.was))
 
 pub returns : goal.returns
-returns c = search prefixing
+returns c = search (prefixing, c.in_ok-p.was, c.in_ok-q.was)

@@ -1,11 +1,11 @@
 use Rattle.display.proofs.FormCode.{leafing}
 use Rattle.display.proofs.form.leaf.Goals as goal
 
-pub returns-then-c-eq34 : goal.returns-then-c-eq34
-returns-then-c-eq34 c = search leafing
+pub returns-in-34 : goal.returns-in-34
+returns-in-34 c = search leafing
 
-pub returns-then-c-eq35 : goal.returns-then-c-eq35
-returns-then-c-eq35 c = search leafing
+pub returns-in-35 : goal.returns-in-35
+returns-in-35 c = search leafing
 
-pub returns : goal.returns
-returns c = search leafing
+pub returns-in_default : goal.returns-in_default
+returns-in_default c = search leafing

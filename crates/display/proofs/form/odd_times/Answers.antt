@@ -4,5 +4,5 @@ use Rattle.display.proofs.form.odd_times.Goals as goal
 pub returns-then-k-eq1 : goal.returns-then-k-eq1
 returns-then-k-eq1 c = search powering
 
-pub returns : goal.returns
-returns c = search powering
+pub returns-else-k-eq1 : goal.returns-else-k-eq1
+returns-else-k-eq1 c = search powering

@@ -1,4 +1,3 @@
-use Prim.Native.Nat.{◌-◌}
 use Rattle.display.proofs.WindowShow.{Going}
 use Rattle.display.proofs.window.+show.Given as goal
 
@@ -7,6 +6,3 @@ decreases-show l = l.left
 
 abbrev pub invariant-loop-k : goal.invariant-loop-k
 invariant-loop-k l = Going l.tape l.work l.m l.width l.left l.at l.initial.out l.initial.q l.c l.n l.out l.q l.k
-
-abbrev pub decreases-loop-k : goal.decreases-loop-k
-decreases-loop-k l = l.n - l.k

@@ -7,11 +7,11 @@ returns-then-i-j c = search judging
 pub returns-then-same : goal.returns-then-same
 returns-then-same c = search judging
 
-pub returns-then-i-w : goal.returns-then-i-w
-returns-then-i-w c = search judging
+pub returns-else-same : goal.returns-else-same
+returns-else-same c = search judging
 
 pub returns-then-same-2 : goal.returns-then-same-2
 returns-then-same-2 c = search judging
 
-pub returns : goal.returns
-returns c = search judging
+pub returns-else-same-2 : goal.returns-else-same-2
+returns-else-same-2 c = search judging

@@ -7,8 +7,11 @@ returns-then-hash-f c = search texting
 pub overflow_add-start : goal.overflow_add-start
 overflow_add-start c = search texting
 
-pub meet_symbol-q-requires : goal.meet_symbol-q-requires
-meet_symbol-q-requires c = search texting
+pub meet_symbol-requires : goal.meet_symbol-requires
+meet_symbol-requires c = search texting
 
-pub returns : goal.returns
-returns c = search texting
+pub returns-in-Some : goal.returns-in-Some
+returns-in-Some c = search texting
+
+pub returns-in-None : goal.returns-in-None
+returns-in-None c = search texting

@@ -4,8 +4,8 @@ use Rattle.expander.proofs.find.written.Goals as goal
 pub bucket-y-requires : goal.bucket-y-requires
 bucket-y-requires c = search seeking
 
-pub head-requires : goal.head-requires
-head-requires c = search seeking
+pub head-j-requires : goal.head-j-requires
+head-j-requires c = search seeking
 
 pub loop-j-init : goal.loop-j-init
 loop-j-init c = search seeking

@@ -1,5 +1,5 @@
 use Rattle.expander.proofs.MeetCode.{Meeting}
-use Prim.Native.Nat.{◌+◌, ◌-◌, ◌*◌}
+use Prim.Native.Nat.{◌+◌, ◌*◌}
 use Rattle.expander.proofs.meet.+meet_known_meet_symbol.Given as goal
 
 abbrev pub decreases-meet_known : goal.decreases-meet_known
@@ -9,7 +9,4 @@ abbrev pub decreases-meet_symbol : goal.decreases-meet_symbol
 decreases-meet_symbol l = 2 * l.left
 
 abbrev pub invariant-meet_symbol-loop-k : goal.invariant-meet_symbol-loop-k
-invariant-meet_symbol-loop-k l = Meeting l.tape l.work l.g l.left l.t l.at l.c l.n l.initial.q.i l.q l.k
-
-abbrev pub decreases-meet_symbol-loop-k : goal.decreases-meet_symbol-loop-k
-decreases-meet_symbol-loop-k l = l.n - l.k
+invariant-meet_symbol-loop-k l = Meeting l.tape l.work l.g l.left l.t l.fn.p l.c l.n l.q l.k

@@ -1,4 +1,4 @@
-use Prim.Native.Nat.{◌+◌, ◌*◌}
+use Prim.Native.Nat.{◌+◌, ◌-◌, ◌*◌}
 use Rattle.expander.proofs.ReplaceListCode.{Replacing}
 use Rattle.expander.proofs.replace.+replace_symbol_replace_symbols.Given as goal
 
@@ -9,7 +9,4 @@ abbrev pub decreases-replace_symbols : goal.decreases-replace_symbols
 decreases-replace_symbols l = 2 * l.left + 1
 
 abbrev pub invariant-replace_symbols-loop-i : goal.invariant-replace_symbols-loop-i
-invariant-replace_symbols-loop-i l = Replacing l.tape l.initial.work l.g l.left l.p l.k l.c l.n l.initial.q.form l.work l.q l.d l.i
-
-abbrev pub decreases-replace_symbols-loop-i : goal.decreases-replace_symbols-loop-i
-decreases-replace_symbols-loop-i l = l.i
+invariant-replace_symbols-loop-i l = Replacing l.tape l.initial.work l.g l.left l.p l.k l.c l.n l.initial.q.form l.work l.q l.i (l.k - l.i)

@@ -1,8 +1,8 @@
 use Rattle.expander.proofs.SlotsNumbered.{numbering}
 use Rattle.expander.proofs.slots.number.Goals as goal
 
-pub returns-then-v-eq0 : goal.returns-then-v-eq0
-returns-then-v-eq0 c = search numbering
+pub returns-in-Text : goal.returns-in-Text
+returns-in-Text c = search numbering
 
 pub mark-q-requires : goal.mark-q-requires
 mark-q-requires c = search numbering
@@ -13,8 +13,8 @@ put_new-requires c = (search numbering, search numbering, search numbering)
 pub overflow_add-result : goal.overflow_add-result
 overflow_add-result c = search numbering
 
-pub overflow_add-result-2 : goal.overflow_add-result-2
-overflow_add-result-2 c = search numbering
+pub overflow_add-result-in-Pushed : goal.overflow_add-result-in-Pushed
+overflow_add-result-in-Pushed c = search numbering
 
-pub returns : goal.returns
-returns c = search numbering
+pub returns-in-Pushed : goal.returns-in-Pushed
+returns-in-Pushed c = search numbering

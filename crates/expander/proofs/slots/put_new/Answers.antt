@@ -19,8 +19,8 @@ store64-requires c = search listing
 pub overflow_add-g-3 : goal.overflow_add-g-3
 overflow_add-g-3 c = search listing
 
-pub overflow_mul-g-2 : goal.overflow_mul-g-2
-overflow_mul-g-2 c = search listing
+pub put_slot-requires : goal.put_slot-requires
+put_slot-requires c = search listing
 
 pub returns : goal.returns
 returns c = search listing

@@ -1,17 +1,17 @@
 use Rattle.expander.proofs.SlotsCode.{referring}
 use Rattle.expander.proofs.slots.reference.Goals as goal
 
-pub slot-v-requires : goal.slot-v-requires
-slot-v-requires c = search referring
+pub tells-requires : goal.tells-requires
+tells-requires c = search referring
 
-pub returns-then-v-eq0 : goal.returns-then-v-eq0
-returns-then-v-eq0 c = search referring
+pub returns-in-Text : goal.returns-in-Text
+returns-in-Text c = search referring
 
 pub mark-requires : goal.mark-requires
 mark-requires c = search referring
 
-pub slot-requires : goal.slot-requires
-slot-requires c = search referring
+pub tells-requires-in-Pushed : goal.tells-requires-in-Pushed
+tells-requires-in-Pushed c = search referring
 
-pub returns : goal.returns
-returns c = search referring
+pub returns-in-Pushed : goal.returns-in-Pushed
+returns-in-Pushed c = search referring

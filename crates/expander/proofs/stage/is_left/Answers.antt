@@ -4,5 +4,5 @@ use Rattle.expander.proofs.stage.is_left.Goals as goal
 pub returns-then-is_expanded : goal.returns-then-is_expanded
 returns-then-is_expanded c = search leaving
 
-pub returns : goal.returns
-returns c = search leaving
+pub returns-else-is_expanded : goal.returns-else-is_expanded
+returns-else-is_expanded c = search leaving

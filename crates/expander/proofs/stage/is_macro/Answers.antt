@@ -7,5 +7,5 @@ bounds-work-at c = search defining
 pub returns-then-c-eq16 : goal.returns-then-c-eq16
 returns-then-c-eq16 c = search defining
 
-pub returns : goal.returns
-returns c = search defining
+pub returns-else-c-eq16 : goal.returns-else-c-eq16
+returns-else-c-eq16 c = search defining

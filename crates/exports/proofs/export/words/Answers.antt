@@ -1,8 +1,8 @@
 use Rattle.exports.proofs.ExportCode.{wording}
 use Rattle.exports.proofs.export.words.Goals as goal
 
-pub returns-in-Yes : goal.returns-in-Yes
-returns-in-Yes c = search wording
+pub returns-in-Ok : goal.returns-in-Ok
+returns-in-Ok c = search wording
 
-pub returns-in-No : goal.returns-in-No
-returns-in-No c = search wording
+pub returns-in-Err : goal.returns-in-Err
+returns-in-Err c = search wording

@@ -1,8 +1,8 @@
 use Rattle.grades.proofs.AlternativesCode.{ascending}
 use Rattle.grades.proofs.alternatives.ascends.Goals as goal
 
-pub returns-then-next-level : goal.returns-then-next-level
-returns-then-next-level c = search ascending
+pub returns-then-before : goal.returns-then-before
+returns-then-before c = search ascending
 
-pub returns : goal.returns
-returns c = search ascending
+pub returns-else-before : goal.returns-else-before
+returns-else-before c = search ascending

@@ -1,9 +1,5 @@
-use Prim.Native.Nat.{◌-◌}
 use Rattle.grades.proofs.AlternativesCode.{Walking}
 use Rattle.grades.proofs.alternatives.grade.Given as goal
 
 abbrev pub invariant-loop-i : goal.invariant-loop-i
-invariant-loop-i l = Walking l.tape l.initial.work l.m l.width l.ids l.places l.keys l.n l.at l.e l.work l.p l.i l.level l.side l.ascending
-
-abbrev pub decreases-loop-i : goal.decreases-loop-i
-decreases-loop-i l = l.n - l.i
+invariant-loop-i l = Walking l.tape l.initial.work l.m l.width l.ids l.places l.keys l.n l.at l.e l.work l.p l.i l.before.level l.before.side l.ascending

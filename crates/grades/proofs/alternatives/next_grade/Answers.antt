@@ -4,9 +4,6 @@ use Rattle.grades.proofs.alternatives.next_grade.Goals as goal
 pub returns-then-e-at : goal.returns-then-e-at
 returns-then-e-at c = search nexting
 
-pub returns-then-e-symbols : goal.returns-then-e-symbols
-returns-then-e-symbols c = search nexting
-
 pub graded-requires : goal.graded-requires
 graded-requires c = search nexting
 

@@ -4,8 +4,8 @@ use Rattle.grades.proofs.annotations.position.Goals as goal
 pub atom_at-requires : goal.atom_at-requires
 atom_at-requires c = search looking
 
-pub returns-then-id-from32 : goal.returns-then-id-from32
-returns-then-id-from32 c = search looking
+pub returns-then-id-atom_at : goal.returns-then-id-atom_at
+returns-then-id-atom_at c = search looking
 
 pub loop-i-preserved : goal.loop-i-preserved
 loop-i-preserved c = search looking

@@ -1,9 +1,5 @@
 use Rattle.grades.proofs.AnnotationsCode.{Looking}
-use Prim.Native.Nat.{◌-◌}
 use Rattle.grades.proofs.annotations.position.Given as goal
 
 abbrev pub invariant-loop-i : goal.invariant-loop-i
 invariant-loop-i l = Looking l.width l.id l.work l.at l.n l.size l.p l.i
-
-abbrev pub decreases-loop-i : goal.decreases-loop-i
-decreases-loop-i l = l.n - l.i

@@ -3,6 +3,3 @@ use Rattle.grades.proofs.grade.put_decimal.Given as goal
 
 abbrev pub invariant-loop-at : goal.invariant-loop-at
 invariant-loop-at l = Putting l.initial.out l.to l.v l.out l.at l.q
-
-abbrev pub decreases-loop-at : goal.decreases-loop-at
-decreases-loop-at l = l.at

@@ -13,5 +13,5 @@ returns-then-equal-3 c = search siding
 pub returns-then-equal-4 : goal.returns-then-equal-4
 returns-then-equal-4 c = search siding
 
-pub returns : goal.returns
-returns c = search siding
+pub returns-else-equal-4 : goal.returns-else-equal-4
+returns-else-equal-4 c = search siding

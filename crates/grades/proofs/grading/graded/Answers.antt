@@ -1,11 +1,11 @@
 use Rattle.grades.proofs.GradingCode.{grading}
 use Rattle.grades.proofs.grading.graded.Goals as goal
 
-pub returns-in-Nothing : goal.returns-in-Nothing
-returns-in-Nothing c = search grading
+pub returns-then-n-i : goal.returns-then-n-i
+returns-then-n-i c = search grading
 
-pub returns-in-Is : goal.returns-in-Is
-returns-in-Is c = search grading
+pub returns-in-None : goal.returns-in-None
+returns-in-None c = search grading
 
-pub returns : goal.returns
-returns c = search grading
+pub returns-in-Some : goal.returns-in-Some
+returns-in-Some c = search grading

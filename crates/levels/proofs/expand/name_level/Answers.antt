@@ -4,5 +4,5 @@ use Rattle.levels.proofs.expand.name_level.Goals as goal
 pub returns-then-highest : goal.returns-then-highest
 returns-then-highest c = search naming-level
 
-pub returns : goal.returns
-returns c = search naming-level
+pub returns-else-highest : goal.returns-else-highest
+returns-else-highest c = search naming-level

@@ -1,3 +1,4 @@
+use mathlib.Core.Path.{refl}
 use Rattle.std.proofs.Common.{rules}
 use Rattle.levels.proofs.StepCode.{describing_next, Below_next, naming-next, next_inside, next_steps}
 use Rattle.levels.proofs.expand.next_level.Goals as goal
@@ -12,9 +13,9 @@ pub write_level-to-requires : goal.write_level-to-requires
 write_level-to-requires c = (
   search rules,
   search rules,
-  next_inside _ _ _ _ _ _ _ _ _ _ _ _ _ _ c.requires.3 c.requires.2 _ c.group_end-j.ensures _ _ _ c.atom_at.ensures c.from32-base.ensures.0 c.u64_at.ensures _ _ c.name_level-x.ensures (search rules) (search rules) _ c.level_of-l.ensures,
+  next_inside _ _ _ _ _ _ _ _ _ _ _ _ _ _ c.requires.3 c.requires.2 _ c.group_end-j.ensures _ _ _ c.atom_at-base.ensures refl c.u64_at.ensures _ _ c.name_level-x.ensures (search rules) (search rules) _ c.level_of-l.ensures,
 )
 
 pub returns : goal.returns
 returns c =
-    next_steps _ _ _ _ _ _ _ _ _ _ _ _ _ _ c.requires.3 c.requires.2 _ c.group_end-j.ensures _ _ _ c.atom_at.ensures c.from32-base.ensures.0 c.u64_at.ensures _ _ c.name_level-x.ensures (search rules) (search rules) _ c.level_of-l.ensures c.requires.1 _ _ c.write_level-to.ensures
+    next_steps _ _ _ _ _ _ _ _ _ _ _ _ _ _ c.requires.3 c.requires.2 _ c.group_end-j.ensures _ _ _ c.atom_at-base.ensures refl c.u64_at.ensures _ _ c.name_level-x.ensures (search rules) (search rules) _ c.level_of-l.ensures c.requires.1 _ _ c.write_level-to.ensures

@@ -4,5 +4,5 @@ use Rattle.levels.proofs.expand.sorted.Goals as goal
 pub returns-then-ascending : goal.returns-then-ascending
 returns-then-ascending c = search sorting_keys
 
-pub returns : goal.returns
-returns c = search sorting_keys
+pub returns-else-ascending : goal.returns-else-ascending
+returns-else-ascending c = search sorting_keys

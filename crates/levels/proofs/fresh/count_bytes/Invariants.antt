@@ -1,9 +1,5 @@
 use Rattle.levels.proofs.FreshCode.{Counting}
-use Prim.Native.Nat.{◌-◌}
 use Rattle.levels.proofs.fresh.count_bytes.Given as goal
 
 abbrev pub invariant-loop-k : goal.invariant-loop-k
 invariant-loop-k l = Counting l.tape l.work l.fn.m l.n l.k l.bytes l.long
-
-abbrev pub decreases-loop-k : goal.decreases-loop-k
-decreases-loop-k l = l.n - l.k

@@ -3,6 +3,3 @@ use Rattle.levels.proofs.settle.settle_names.Given as goal
 
 abbrev pub invariant-loop-k : goal.invariant-loop-k
 invariant-loop-k l = Going l.tape l.initial.work l.m l.n l.end l.k l.q l.work
-
-abbrev pub decreases-loop-k : goal.decreases-loop-k
-decreases-loop-k l = l.k

@@ -1,14 +1,15 @@
+use Rattle.std.proofs.Common.{◌≡◌, ◌+◌, ◌-◌, ◌<◌, ◌≤◌, arith}
 use Rattle.listing.proofs.WalkLaws.{walking}
 use Rattle.listing.proofs.items.list_items.Goals as goal
 
-pub loop-k-init : goal.loop-k-init
-loop-k-init c = search walking
+pub loop-init : goal.loop-init
+loop-init c = search walking
 
 pub list_item-z-requires : goal.list_item-z-requires
-list_item-z-requires c = search walking
+list_item-z-requires c = let l : 0 < c.args.n - c.loop.counter = omega arith in search walking
 
-pub loop-k-preserved : goal.loop-k-preserved
-loop-k-preserved c = search walking
+pub loop-preserved : goal.loop-preserved
+loop-preserved c = let e : c.args.n - c.loop.counter ≡ c.args.n - (c.loop.counter + 1) + 1 = omega arith in search walking
 
 pub returns : goal.returns
-returns c = search walking
+returns c = let l : c.args.n - c.loop.counter ≤ 0 = omega arith in search walking

@@ -4,5 +4,5 @@ use Rattle.listing.proofs.tree.list_tree.Goals as goal
 pub list_valid-requires : goal.list_valid-requires
 list_valid-requires c = search trees
 
-pub returns-in-Refused : goal.returns-in-Refused
-returns-in-Refused c = first_of (search trees, search lasting)
+pub returns-in-Err : goal.returns-in-Err
+returns-in-Err c = first_of (search trees, search lasting)

@@ -4,8 +4,8 @@ use Rattle.listing.proofs.whole.listing.Goals as goal
 pub list_yes-requires : goal.list_yes-requires
 list_yes-requires c = search listing_tape
 
-pub returns-in-No : goal.returns-in-No
-returns-in-No c = search listing_tape
+pub returns-in-Err : goal.returns-in-Err
+returns-in-Err c = search listing_tape
 
-pub returns-in-Yes : goal.returns-in-Yes
-returns-in-Yes c = search listing_tape
+pub returns-in-Ok : goal.returns-in-Ok
+returns-in-Ok c = search listing_tape

@@ -16,8 +16,8 @@ span_at-requires c = search expanding_macro
 pub put_macro-requires : goal.put_macro-requires
 put_macro-requires c = search expanding_macro
 
-pub returns-in-Refused : goal.returns-in-Refused
-returns-in-Refused c = search expanding_macro
+pub returns-in-Err : goal.returns-in-Err
+returns-in-Err c = search expanding_macro
 
-pub returns-in-Many : goal.returns-in-Many
-returns-in-Many c = search expanding_macro
+pub returns-in-Ok : goal.returns-in-Ok
+returns-in-Ok c = search expanding_macro

@@ -1,3 +1,6 @@
+use mathlib.Core.Path.{◌≡◌}
+use Prim.Native.Nat.{◌+◌, ◌-◌, ◌≤◌, ◌<◌}
+use native.Mathlib.Omega.{arith}
 use Rattle.macro_expand.proofs.ExpandCode.{expanding_one}
 use Rattle.macro_expand.proofs.ExpandListCode.{filling}
 use Rattle.macro_expand.proofs.expand.+macro_expand_symbol_macro_expand_symbols.Goals as goal
@@ -5,11 +8,14 @@ use Rattle.macro_expand.proofs.expand.+macro_expand_symbol_macro_expand_symbols.
 pub macro_expand_symbol-parameter-requires : goal.macro_expand_symbol-parameter-requires
 macro_expand_symbol-parameter-requires t c = search expanding_one
 
-pub macro_expand_symbols-loop-i-preserved : goal.macro_expand_symbols-loop-i-preserved
-macro_expand_symbols-loop-i-preserved t c = search filling
+pub macro_expand_symbols-loop-preserved : goal.macro_expand_symbols-loop-preserved
+macro_expand_symbols-loop-preserved t c =
+    let z : 0 < c.args.k - c.loop.counter = omega arith in
+    let e : c.args.k - (c.loop.counter + 1) ≡ c.args.k - c.loop.counter - 1 = omega arith in
+    rw e (search filling)
 
 pub macro_expand_symbols-returns : goal.macro_expand_symbols-returns
-macro_expand_symbols-returns t c = search filling
+macro_expand_symbols-returns t c = let z : c.args.k - c.loop.counter ≤ 0 = omega arith in search filling
 
 pub macro_expand_symbols-macro_expand_symbol-r-requires : goal.macro_expand_symbols-macro_expand_symbol-r-requires
-macro_expand_symbols-macro_expand_symbol-r-requires t c = search filling
+macro_expand_symbols-macro_expand_symbol-r-requires t c = let z : 0 < c.args.k - c.loop.counter = omega arith in search filling

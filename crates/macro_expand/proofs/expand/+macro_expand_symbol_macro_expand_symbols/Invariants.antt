@@ -1,5 +1,5 @@
 use Rattle.macro_expand.proofs.ExpandListCode.{Filling}
-use Prim.Native.Nat.{◌+◌, ◌*◌}
+use Prim.Native.Nat.{◌+◌, ◌-◌, ◌*◌}
 use Rattle.macro_expand.proofs.expand.+macro_expand_symbol_macro_expand_symbols.Given as goal
 
 abbrev pub decreases-macro_expand_symbol : goal.decreases-macro_expand_symbol
@@ -8,8 +8,5 @@ decreases-macro_expand_symbol l = 2 * l.left
 abbrev pub decreases-macro_expand_symbols : goal.decreases-macro_expand_symbols
 decreases-macro_expand_symbols l = 2 * l.left + 1
 
-abbrev pub invariant-macro_expand_symbols-loop-i : goal.invariant-macro_expand_symbols-loop-i
-invariant-macro_expand_symbols-loop-i l = Filling l.tape l.initial.work l.g l.n l.lim l.c l.left l.k l.initial.r l.work l.r l.i
-
-abbrev pub decreases-macro_expand_symbols-loop-i : goal.decreases-macro_expand_symbols-loop-i
-decreases-macro_expand_symbols-loop-i l = l.i
+abbrev pub invariant-macro_expand_symbols-loop : goal.invariant-macro_expand_symbols-loop
+invariant-macro_expand_symbols-loop l = Filling l.tape l.initial.work l.g l.n l.lim l.c l.left l.k l.initial.r l.work l.r (l.k - l.counter)

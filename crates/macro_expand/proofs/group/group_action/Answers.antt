@@ -1,14 +1,14 @@
 use Rattle.macro_expand.proofs.GroupCode.{acting}
 use Rattle.macro_expand.proofs.group.group_action.Goals as goal
 
-pub returns-then-k-eq1 : goal.returns-then-k-eq1
-returns-then-k-eq1 c = search acting
+pub returns-in-0-eq1 : goal.returns-in-0-eq1
+returns-in-0-eq1 c = search acting
 
-pub returns-then-chosen-eq0 : goal.returns-then-chosen-eq0
-returns-then-chosen-eq0 c = search acting
+pub returns-in_default : goal.returns-in_default
+returns-in_default c = search acting
 
-pub returns-then-chosen-eq1 : goal.returns-then-chosen-eq1
-returns-then-chosen-eq1 c = search acting
+pub returns-in-1-default : goal.returns-in-1-default
+returns-in-1-default c = search acting
 
-pub returns : goal.returns
-returns c = search acting
+pub returns-in_default-2 : goal.returns-in_default-2
+returns-in_default-2 c = search acting

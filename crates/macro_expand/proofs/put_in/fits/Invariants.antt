@@ -1,8 +1,6 @@
+use Prim.Native.Nat.{◌-◌}
 use Rattle.macro_expand.proofs.PutInCode.{Fitting}
 use Rattle.macro_expand.proofs.put_in.fits.Given as goal
 
-abbrev pub invariant-loop-i : goal.invariant-loop-i
-invariant-loop-i l = Fitting l.width l.e l.work l.left l.p l.q l.i
-
-abbrev pub decreases-loop-i : goal.decreases-loop-i
-decreases-loop-i l = l.i
+abbrev pub invariant-loop : goal.invariant-loop
+invariant-loop l = Fitting l.width l.e l.work l.left l.p l.q (l.left - l.counter)

@@ -13,5 +13,5 @@ returns-then-is_expanded c = search putting_any
 pub put_plain-requires : goal.put_plain-requires
 put_plain-requires c = search putting_any
 
-pub returns : goal.returns
-returns c = search putting_any
+pub returns-else-is_expanded : goal.returns-else-is_expanded
+returns-else-is_expanded c = search putting_any

@@ -8,9 +8,9 @@ pub returns-in-39 : goal.returns-in-39
 unfolding wrapping pick
 returns-in-39 c = first_of (search wrapped, search ne_eqb)
 
-pub returns-in-40 : goal.returns-in-40
+pub returns-in_default-2 : goal.returns-in_default-2
 unfolding wrapping pick
-returns-in-40 c = first_of (search wrapped, search ne_eqb)
+returns-in_default-2 c = first_of (search wrapped, search ne_eqb)
 
 pub returns-in_default : goal.returns-in_default
 unfolding wrapping pick

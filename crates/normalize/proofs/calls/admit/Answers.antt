@@ -1,11 +1,12 @@
+use Rattle.std.proofs.lemmas.Result.{err_from_is_err_and}
 use Rattle.normalize.proofs.CallsCode.{admitting}
 use Rattle.normalize.proofs.calls.admit.Goals as goal
 
 pub hand_over-requires : goal.hand_over-requires
-hand_over-requires c = search admitting
+hand_over-requires c = search (admitting, c.in_ok-n.was)
 
-pub returns-in-No : goal.returns-in-No
-returns-in-No c = search admitting
+pub returns-in_err-n : goal.returns-in_err-n
+returns-in_err-n c = let p = err_from_is_err_and c.from_residual.result c.from_residual.ensures.1 in rw (p.1, p.2) (search (admitting, c.in_err-n.was))
 
-pub returns-in-Yes : goal.returns-in-Yes
-returns-in-Yes c = search admitting
+pub returns : goal.returns
+returns c = search (admitting, c.in_ok-n.was)

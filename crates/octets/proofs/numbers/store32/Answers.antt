@@ -1,5 +1,9 @@
-use Rattle.octets.proofs.StoreLaws.{storing}
+use Rattle.std.proofs.Common.{◌+◌, ◌-◌, ◌∙◌, arith}
+use Rattle.octets.specs.Plain.Numbers.{le}
+use Rattle.octets.proofs.NumbersLaws.{length-le, bytes-32}
+use Rattle.octets.proofs.StoreLaws.{store-copied}
 use Rattle.octets.proofs.numbers.store32.Goals as goal
 
 pub returns : goal.returns
-returns c = search storing
+returns c = store-copied c.args.out.now c.copy_from_slice.new.self (le 4 c.args.v) c.args.at (c.args.at + 4 - c.args.at)
+    (c.copy_from_slice.ensures.after ∙ c.to_le_bytes.ensures ∙ bytes-32 c.args.v) (omega arith) (omega (arith, length-le 4 c.args.v))

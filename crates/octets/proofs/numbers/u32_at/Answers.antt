@@ -1,5 +1,6 @@
-use Rattle.octets.proofs.NumbersLaws.{reading}
+use Rattle.std.proofs.Common.{arith}
+use Rattle.octets.proofs.NumbersLaws.{read_32}
 use Rattle.octets.proofs.numbers.u32_at.Goals as goal
 
 pub returns : goal.returns
-returns c = search reading
+returns c = read_32 c.args.s.now c.args.at c.from_le_bytes.result (omega (arith, c.from_le_bytes.ensures))

@@ -1,8 +1,6 @@
-use Rattle.octets.proofs.RunsSameCode.{equating}
+use Rattle.std.proofs.Common.{◌∙◌}
+use Rattle.octets.proofs.SameLaws.{pointwise-same}
 use Rattle.octets.proofs.runs.equal.Goals as goal
 
-pub returns-then-n-y : goal.returns-then-n-y
-returns-then-n-y c = search equating
-
 pub returns : goal.returns
-returns c = search equating
+returns c = c.eq.ensures ∙ pointwise-same c.args.x.now c.args.y.now

@@ -1,11 +1,8 @@
-use Rattle.octets.proofs.RunsSameCode.{comparing}
+use Rattle.std.proofs.Common.{◌+◌, ◌∙◌}
+use Rattle.octets.specs.Plain.Runs.{part}
+use Rattle.octets.proofs.SameLaws.{pointwise-same}
 use Rattle.octets.proofs.runs.same.Goals as goal
 
-pub returns-then-s-i : goal.returns-then-s-i
-returns-then-s-i c = search comparing
-
-pub loop-k-preserved : goal.loop-k-preserved
-loop-k-preserved c = search comparing
-
 pub returns : goal.returns
-returns c = search comparing
+unfolding part
+returns c = c.eq.ensures ∙ pointwise-same (part c.args.a (c.args.a + c.args.n) c.args.s.now) (part c.args.b (c.args.b + c.args.n) c.args.t.now)

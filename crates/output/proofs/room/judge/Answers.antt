@@ -7,5 +7,5 @@ returns-then-atoms-gt65536 c = search rooms
 pub returns-then-output-n : goal.returns-then-output-n
 returns-then-output-n c = search rooms
 
-pub returns : goal.returns
-returns c = search rooms
+pub returns-else-output-n : goal.returns-else-output-n
+returns-else-output-n c = search rooms

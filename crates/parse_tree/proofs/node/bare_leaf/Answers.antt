@@ -3,14 +3,14 @@ use Rattle.octets.specs.Working.Choice.{pick}
 use Rattle.parse_tree.specs.Working.Nodes.{bare_leaf}
 use Rattle.parse_tree.proofs.node.bare_leaf.Goals as goal
 
-pub returns-then-code-eq42 : goal.returns-then-code-eq42
+pub returns-in-42 : goal.returns-in-42
 unfolding bare_leaf pick
-returns-then-code-eq42 c = search tests
+returns-in-42 c = search tests
 
-pub returns-then-code-eq43 : goal.returns-then-code-eq43
+pub returns-in-43 : goal.returns-in-43
 unfolding bare_leaf pick
-returns-then-code-eq43 c = search tests
+returns-in-43 c = rw c.in-43.is
 
-pub returns : goal.returns
+pub returns-in_default : goal.returns-in_default
 unfolding bare_leaf pick
-returns c = search tests
+returns-in_default c = search tests

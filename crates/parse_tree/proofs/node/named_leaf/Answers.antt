@@ -3,22 +3,22 @@ use Rattle.octets.specs.Working.Choice.{pick}
 use Rattle.parse_tree.specs.Working.Nodes.{named_leaf}
 use Rattle.parse_tree.proofs.node.named_leaf.Goals as goal
 
-pub returns-then-code-eq32 : goal.returns-then-code-eq32
+pub returns-in-32 : goal.returns-in-32
 unfolding named_leaf pick
-returns-then-code-eq32 c = search tests
+returns-in-32 c = search tests
 
-pub returns-then-code-eq33 : goal.returns-then-code-eq33
+pub returns-in-33 : goal.returns-in-33
 unfolding named_leaf pick
-returns-then-code-eq33 c = search tests
+returns-in-33 c = rw c.in-33.is
 
-pub returns-then-code-eq34 : goal.returns-then-code-eq34
+pub returns-in-34 : goal.returns-in-34
 unfolding named_leaf pick
-returns-then-code-eq34 c = search tests
+returns-in-34 c = rw c.in-34.is
 
-pub returns-then-code-eq35 : goal.returns-then-code-eq35
+pub returns-in-35 : goal.returns-in-35
 unfolding named_leaf pick
-returns-then-code-eq35 c = search tests
+returns-in-35 c = rw c.in-35.is
 
-pub returns : goal.returns
+pub returns-in_default : goal.returns-in_default
 unfolding named_leaf pick
-returns c = search tests
+returns-in_default c = search tests

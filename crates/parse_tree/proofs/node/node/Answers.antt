@@ -36,18 +36,15 @@ pub returns-in_default : goal.returns-in_default
 unfolding node_at node_by pick
 returns-in_default c = first_of (search tests, search noding)
 
-pub returns-then-code-lt45 : goal.returns-then-code-lt45
+pub returns-in-32-to-44 : goal.returns-in-32-to-44
 unfolding node_at node_by pick
-returns-then-code-lt45 c = first_of (search tests, search noding)
+returns-in-32-to-44 c = first_of (search tests, search noding)
 
-pub returns-then-code-eq48 : goal.returns-then-code-eq48
-unfolding node_at node_by pick
-returns-then-code-eq48 c = first_of (search tests, search noding)
+pub returns-in-48 : goal.returns-in-48
+returns-in-48 c = search noding
 
-pub returns-then-code-eq49 : goal.returns-then-code-eq49
-unfolding node_at node_by pick
-returns-then-code-eq49 c = first_of (search tests, search noding)
+pub returns-in_default-2 : goal.returns-in_default-2
+returns-in_default-2 c = search noding
 
-pub returns : goal.returns
-unfolding node_at node_by pick
-returns c = first_of (search tests, search noding)
+pub returns-in_default-3 : goal.returns-in_default-3
+returns-in_default-3 c = search noding

@@ -3,30 +3,30 @@ use Rattle.octets.specs.Working.Choice.{pick}
 use Rattle.parse_tree.specs.Working.Nodes.{symbol_node_at}
 use Rattle.parse_tree.proofs.node.symbol_at.Goals as goal
 
-pub returns-then-code-lt37 : goal.returns-then-code-lt37
+pub returns-in-0-to-36 : goal.returns-in-0-to-36
 unfolding symbol_node_at pick
-returns-then-code-lt37 c = search tests
+returns-in-0-to-36 c = search tests
 
-pub returns-then-code-eq37 : goal.returns-then-code-eq37
+pub returns-in-37 : goal.returns-in-37
 unfolding symbol_node_at pick
-returns-then-code-eq37 c = search tests
+returns-in-37 c = rw c.in-37.is (search tests)
 
-pub returns-then-code-eq38 : goal.returns-then-code-eq38
+pub returns-in-38 : goal.returns-in-38
 unfolding symbol_node_at pick
-returns-then-code-eq38 c = search tests
+returns-in-38 c = rw c.in-38.is (search tests)
 
-pub returns-then-code-eq39 : goal.returns-then-code-eq39
+pub returns-in-39 : goal.returns-in-39
 unfolding symbol_node_at pick
-returns-then-code-eq39 c = search tests
+returns-in-39 c = rw c.in-39.is (search tests)
 
-pub returns-then-code-eq40 : goal.returns-then-code-eq40
+pub returns-in-40 : goal.returns-in-40
 unfolding symbol_node_at pick
-returns-then-code-eq40 c = search tests
+returns-in-40 c = rw c.in-40.is (search tests)
 
-pub returns-then-code-eq41 : goal.returns-then-code-eq41
+pub returns-in-41 : goal.returns-in-41
 unfolding symbol_node_at pick
-returns-then-code-eq41 c = search tests
+returns-in-41 c = rw c.in-41.is (search tests)
 
-pub returns : goal.returns
+pub returns-in_default : goal.returns-in_default
 unfolding symbol_node_at pick
-returns c = search tests
+returns-in_default c = search tests

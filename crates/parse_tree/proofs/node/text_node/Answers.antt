@@ -6,9 +6,9 @@ pub returns-then-room-lt3 : goal.returns-then-room-lt3
 unfolding text_node
 returns-then-room-lt3 c = search noding
 
-pub returns-then-room-from16 : goal.returns-then-room-from16
+pub returns-then-room-from : goal.returns-then-room-from
 unfolding text_node
-returns-then-room-from16 c = search noding
+returns-then-room-from c = search noding
 
 pub returns : goal.returns
 unfolding text_node

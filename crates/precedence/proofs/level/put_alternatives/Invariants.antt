@@ -1,9 +1,5 @@
-use Prim.Native.Nat.{◌-◌}
 use Rattle.precedence.proofs.LevelKeysCode.{Levelling}
 use Rattle.precedence.proofs.level.put_alternatives.Given as goal
 
 abbrev pub invariant-loop-i : goal.invariant-loop-i
 invariant-loop-i l = Levelling l.width l.ids l.places l.keys l.target l.l l.lim l.to l.initial.work l.work l.i l.q
-
-abbrev pub decreases-loop-i : goal.decreases-loop-i
-decreases-loop-i l = l.l.last - l.i

@@ -4,8 +4,8 @@ use Rattle.precedence.proofs.names.find_name.Goals as goal
 pub bucket-y-requires : goal.bucket-y-requires
 bucket-y-requires c = search tracing
 
-pub head-requires : goal.head-requires
-head-requires c = search tracing
+pub head-j-requires : goal.head-j-requires
+head-j-requires c = search tracing
 
 pub loop-j-init : goal.loop-j-init
 loop-j-init c = search tracing

@@ -1,5 +1,5 @@
 use Rattle.precedence.proofs.NamesHashCode.{matching}
 use Rattle.precedence.proofs.names.matches.Goals as goal
 
-pub returns-then-hash-h : goal.returns-then-hash-h
-returns-then-hash-h c = search matching
+pub returns-else-hash-h : goal.returns-else-hash-h
+returns-else-hash-h c = search matching

@@ -1,11 +1,6 @@
-use Prim.Native.Nat.{◌-◌}
-use mathlib.Core.List.{◌++◌}
-use Rattle.grades.specs.Grade.{level_digits}
+use Rattle.precedence.specs.Names.{spelt}
 use Rattle.precedence.proofs.NamesCode.{Alike}
 use Rattle.precedence.proofs.names.same_names.Given as goal
 
 abbrev pub invariant-loop-i : goal.invariant-loop-i
-invariant-loop-i l = Alike (l.a ++ level_digits l.u) (l.b ++ level_digits l.v) l.i
-
-abbrev pub decreases-loop-i : goal.decreases-loop-i
-decreases-loop-i l = l.n - l.i
+invariant-loop-i l = Alike (spelt l.a l.u) (spelt l.b l.v) l.i

@@ -1,8 +1,8 @@
 use Rattle.precedence.proofs.SubstituteCode.{naming}
 use Rattle.precedence.proofs.substitute.names.Goals as goal
 
-pub returns-then-c-eq36 : goal.returns-then-c-eq36
-returns-then-c-eq36 c = search naming
+pub returns-then-work-at-eq36 : goal.returns-then-work-at-eq36
+returns-then-work-at-eq36 c = search naming
 
-pub returns : goal.returns
-returns c = search naming
+pub returns-else-work-at-eq36 : goal.returns-else-work-at-eq36
+returns-else-work-at-eq36 c = search naming

@@ -1,11 +1,17 @@
 use Rattle.precedence.proofs.SubstituteCode.{siding}
 use Rattle.precedence.proofs.substitute.substitute.Goals as goal
 
-pub returns-in-Left : goal.returns-in-Left
-returns-in-Left c = search siding
+pub returns-in-Some : goal.returns-in-Some
+returns-in-Some c = search siding
 
-pub returns-in-Right : goal.returns-in-Right
-returns-in-Right c = search siding
+pub returns-in_default : goal.returns-in_default
+returns-in_default c = search siding
+
+pub returns-in-Some-replace_symbols : goal.returns-in-Some-replace_symbols
+returns-in-Some-replace_symbols c = search siding
+
+pub returns-in_default-replace_symbols : goal.returns-in_default-replace_symbols
+returns-in_default-replace_symbols c = search siding
 
 pub returns-in-NonAssoc : goal.returns-in-NonAssoc
 returns-in-NonAssoc c = search siding

@@ -1,9 +1,6 @@
+use Prim.Native.Nat.{◌+◌}
 use Rattle.precedence.proofs.WriteCode.{Moving}
-use Prim.Native.Nat.{◌-◌}
 use Rattle.precedence.proofs.write.copy_long.Given as goal
 
 abbrev pub invariant-loop-i : goal.invariant-loop-i
-invariant-loop-i l = Moving l.initial.work l.a l.e l.to l.work l.i l.q
-
-abbrev pub decreases-loop-i : goal.decreases-loop-i
-decreases-loop-i l = l.e - l.i
+invariant-loop-i l = Moving l.initial.work l.a l.e l.to l.work (l.a + l.i) (l.to + l.i)

@@ -1,11 +1,8 @@
 use Rattle.precedence.proofs.WriteWholeCode.{lessening}
 use Rattle.precedence.proofs.write.fewer.Goals as goal
 
-pub returns-then-n-i : goal.returns-then-n-i
-returns-then-n-i c = search lessening
+pub returns-then-i-n : goal.returns-then-i-n
+returns-then-i-n c = search lessening
 
-pub returns-then-m-eq0 : goal.returns-then-m-eq0
-returns-then-m-eq0 c = search lessening
-
-pub returns : goal.returns
-returns c = search lessening
+pub returns-else-i-n : goal.returns-else-i-n
+returns-else-i-n c = search lessening

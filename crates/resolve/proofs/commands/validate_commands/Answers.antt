@@ -4,11 +4,11 @@ use Rattle.resolve.proofs.commands.validate_commands.Goals as goal
 pub loop-p-init : goal.loop-p-init
 loop-p-init c = search running
 
-pub loop-p-preserved-then-q-eq0 : goal.loop-p-preserved-then-q-eq0
-loop-p-preserved-then-q-eq0 c = search running
+pub returns-in-Err : goal.returns-in-Err
+returns-in-Err c = search running
 
-pub returns-then-q-lt32 : goal.returns-then-q-lt32
-returns-then-q-lt32 c = search running
+pub loop-p-preserved-in-Ok-None : goal.loop-p-preserved-in-Ok-None
+loop-p-preserved-in-Ok-None c = search running
 
 pub loop-p-preserved : goal.loop-p-preserved
 loop-p-preserved c = search running

@@ -4,8 +4,5 @@ use Rattle.resolve.proofs.items.place.Goals as goal
 pub returns-then-t-i : goal.returns-then-t-i
 returns-then-t-i c = search placing
 
-pub returns-then-t-v : goal.returns-then-t-v
-returns-then-t-v c = search placing
-
 pub returns : goal.returns
 returns c = search placing

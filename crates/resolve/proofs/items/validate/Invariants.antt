@@ -1,9 +1,5 @@
-use Prim.Native.Nat.{◌-◌}
 use Rattle.resolve.proofs.ItemsCode.{ItemsLeft}
 use Rattle.resolve.proofs.items.validate.Given as goal
 
 abbrev pub invariant-loop-i : goal.invariant-loop-i
 invariant-loop-i l = ItemsLeft l.m l.t l.initial.work l.work l.i
-
-abbrev pub decreases-loop-i : goal.decreases-loop-i
-decreases-loop-i l = l.t.count - l.i

@@ -1,4 +1,5 @@
-use Rattle.resolve.proofs.ItemsCode.{forgetting, itemizing}
+use Rattle.std.proofs.lemmas.Result.{err_from_is_err_and}
+use Rattle.resolve.proofs.ItemsCode.{itemizing, forgetting}
 use Rattle.resolve.proofs.items.validate_item.Goals as goal
 
 pub returns-then-t-p : goal.returns-then-t-p
@@ -7,8 +8,8 @@ returns-then-t-p c = first_of (search itemizing, search forgetting)
 pub returns-then-not-validate_macro_args : goal.returns-then-not-validate_macro_args
 returns-then-not-validate_macro_args c = first_of (search itemizing, search forgetting)
 
-pub returns-in-Refused : goal.returns-in-Refused
-returns-in-Refused c = first_of (search itemizing, search forgetting)
+pub returns-in_err-validate_commands : goal.returns-in_err-validate_commands
+returns-in_err-validate_commands c = let p = err_from_is_err_and c.from_residual.result c.from_residual.ensures.1 in rw (p.1, p.2) (first_of (search itemizing, search forgetting))
 
-pub returns-in-Fine : goal.returns-in-Fine
-returns-in-Fine c = first_of (search itemizing, search forgetting)
+pub returns : goal.returns
+returns c = first_of (search (itemizing, c.in_ok-validate_commands.was), search (forgetting, c.in_ok-validate_commands.was))

@@ -4,14 +4,14 @@ use Rattle.resolve.proofs.names.rewrite_ambiguous_id.Goals as goal
 pub returns-in_default : goal.returns-in_default
 returns-in_default c = search naming
 
-pub returns-then-d-ge512 : goal.returns-then-d-ge512
-returns-then-d-ge512 c = search naming
+pub returns-in-Terminal : goal.returns-in-Terminal
+returns-in-Terminal c = search naming
 
-pub returns-then-d-eq1 : goal.returns-then-d-eq1
-returns-then-d-eq1 c = search naming
+pub returns-then-n-eq0 : goal.returns-then-n-eq0
+returns-then-n-eq0 c = search naming
 
-pub returns-then-d-eq2 : goal.returns-then-d-eq2
-returns-then-d-eq2 c = search naming
+pub returns-else-n-eq0 : goal.returns-else-n-eq0
+returns-else-n-eq0 c = search naming
 
-pub returns : goal.returns
-returns c = search naming
+pub returns-in-Argument : goal.returns-in-Argument
+returns-in-Argument c = search naming

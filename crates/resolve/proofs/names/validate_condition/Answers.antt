@@ -4,8 +4,8 @@ use Rattle.resolve.proofs.names.validate_condition.Goals as goal
 pub returns-in_default : goal.returns-in_default
 returns-in_default c = search naming
 
-pub returns-then-d-ge512 : goal.returns-then-d-ge512
-returns-then-d-ge512 c = search naming
+pub returns-in-Argument : goal.returns-in-Argument
+returns-in-Argument c = search naming
 
-pub returns : goal.returns
-returns c = search naming
+pub returns-in-Terminal : goal.returns-in-Terminal
+returns-in-Terminal c = search naming

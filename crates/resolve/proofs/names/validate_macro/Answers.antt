@@ -4,14 +4,14 @@ use Rattle.resolve.proofs.names.validate_macro.Goals as goal
 pub returns-in_default : goal.returns-in_default
 returns-in_default c = search naming
 
-pub returns-then-d-ge512 : goal.returns-then-d-ge512
-returns-then-d-ge512 c = search naming
+pub returns-in-Terminal : goal.returns-in-Terminal
+returns-in-Terminal c = search naming
 
-pub returns-then-d-le2 : goal.returns-then-d-le2
-returns-then-d-le2 c = search naming
+pub returns-then-n-eq0 : goal.returns-then-n-eq0
+returns-then-n-eq0 c = search naming
 
-pub returns-then-d-k : goal.returns-then-d-k
-returns-then-d-k c = search naming
+pub returns-then-n-k : goal.returns-then-n-k
+returns-then-n-k c = search naming
 
-pub returns : goal.returns
-returns c = search naming
+pub returns-else-n-k : goal.returns-else-n-k
+returns-else-n-k c = search naming

@@ -7,8 +7,11 @@ overflow_add-k c = search sizing
 pub returns-then-k-gt65536 : goal.returns-then-k-gt65536
 returns-then-k-gt65536 c = search sizing
 
-pub returns-then-f : goal.returns-then-f
-returns-then-f c = search sizing
+pub returns-in-None : goal.returns-in-None
+returns-in-None c = search sizing
 
 pub overflow_add-bytes : goal.overflow_add-bytes
 overflow_add-bytes c = search sizing
+
+pub returns-in-Some : goal.returns-in-Some
+returns-in-Some c = search sizing

@@ -7,5 +7,5 @@ last_pushed-requires c = search rounding
 pub returns-then-too_many : goal.returns-then-too_many
 returns-then-too_many c = search rounding
 
-pub returns : goal.returns
-returns c = search rounding
+pub returns-else-too_many : goal.returns-else-too_many
+returns-else-too_many c = search rounding

@@ -1,29 +1,5 @@
-use Rattle.settling.proofs.BuiltCode.{built_long}
+use Rattle.settling.proofs.BuiltCode.{by_number}
 use Rattle.settling.proofs.built.built_length.Goals as goal
 
-pub returns-in-0 : goal.returns-in-0
-returns-in-0 c = search built_long
-
-pub returns-in-1 : goal.returns-in-1
-returns-in-1 c = search built_long
-
-pub returns-in-2 : goal.returns-in-2
-returns-in-2 c = search built_long
-
-pub returns-in-3 : goal.returns-in-3
-returns-in-3 c = search built_long
-
-pub returns-in-4 : goal.returns-in-4
-returns-in-4 c = search built_long
-
-pub returns-in-5 : goal.returns-in-5
-returns-in-5 c = search built_long
-
-pub returns-in-6 : goal.returns-in-6
-returns-in-6 c = search built_long
-
-pub returns-in-7 : goal.returns-in-7
-returns-in-7 c = search built_long
-
-pub returns-in_default : goal.returns-in_default
-returns-in_default c = search built_long
+pub returns : goal.returns
+returns c = search by_number

@@ -16,5 +16,5 @@ returns-then-inside-eq0 c = search behinding
 pub overflow_sub-result : goal.overflow_sub-result
 overflow_sub-result c = search behinding
 
-pub returns : goal.returns
-returns c = search behinding
+pub returns-else-inside-eq0 : goal.returns-else-inside-eq0
+returns-else-inside-eq0 c = search behinding

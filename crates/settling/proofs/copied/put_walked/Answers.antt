@@ -19,5 +19,5 @@ returns-then-inside-eq0 c = search walking
 pub print_symbol-requires : goal.print_symbol-requires
 print_symbol-requires c = search walking
 
-pub returns : goal.returns
-returns c = search walking
+pub returns-else-inside-eq0 : goal.returns-else-inside-eq0
+returns-else-inside-eq0 c = search walking

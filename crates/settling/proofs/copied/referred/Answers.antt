@@ -13,5 +13,5 @@ mark-requires c = search referring
 pub slot-requires : goal.slot-requires
 slot-requires c = search referring
 
-pub returns : goal.returns
-returns c = search referring
+pub returns-else-v-eq0 : goal.returns-else-v-eq0
+returns-else-v-eq0 c = search referring

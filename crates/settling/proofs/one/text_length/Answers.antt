@@ -7,5 +7,5 @@ cell-requires c = search lengthening
 pub returns-then-v-eq0 : goal.returns-then-v-eq0
 returns-then-v-eq0 c = search lengthening
 
-pub returns : goal.returns
-returns c = search lengthening
+pub returns-else-v-eq0 : goal.returns-else-v-eq0
+returns-else-v-eq0 c = search lengthening

@@ -7,26 +7,26 @@ word_source-p-requires c = search opening
 pub returns-then-c-lt37 : goal.returns-then-c-lt37
 returns-then-c-lt37 c = search opening
 
-pub word_source-p-requires-then-c-eq37 : goal.word_source-p-requires-then-c-eq37
-word_source-p-requires-then-c-eq37 c = search opening
+pub word_source-p-requires-in-37 : goal.word_source-p-requires-in-37
+word_source-p-requires-in-37 c = search opening
 
-pub returns-then-c-eq37 : goal.returns-then-c-eq37
-returns-then-c-eq37 c = search opening
+pub returns-in-37 : goal.returns-in-37
+returns-in-37 c = search opening
 
-pub returns-then-c-eq38 : goal.returns-then-c-eq38
-returns-then-c-eq38 c = search opening
+pub returns-in-38 : goal.returns-in-38
+returns-in-38 c = search opening
 
-pub returns-then-c-eq39 : goal.returns-then-c-eq39
-returns-then-c-eq39 c = search opening
+pub returns-in-39 : goal.returns-in-39
+returns-in-39 c = search opening
 
 pub put_named-requires : goal.put_named-requires
 put_named-requires c = search opening
 
-pub returns-then-c-eq40 : goal.returns-then-c-eq40
-returns-then-c-eq40 c = search opening
+pub returns-in-40 : goal.returns-in-40
+returns-in-40 c = search opening
 
-pub returns-then-c-eq41 : goal.returns-then-c-eq41
-returns-then-c-eq41 c = search opening
+pub returns-in-41 : goal.returns-in-41
+returns-in-41 c = search opening
 
-pub returns : goal.returns
-returns c = search opening
+pub returns-in_default : goal.returns-in_default
+returns-in_default c = search opening

@@ -1,11 +1,11 @@
 use Rattle.settling.proofs.PutCode.{quoting}
 use Rattle.settling.proofs.put.put_inside.Goals as goal
 
-pub returns-then-b-eq34 : goal.returns-then-b-eq34
-returns-then-b-eq34 c = search quoting
+pub returns-in-34 : goal.returns-in-34
+returns-in-34 c = search quoting
 
-pub returns-then-b-eq92 : goal.returns-then-b-eq92
-returns-then-b-eq92 c = search quoting
+pub returns-in-92 : goal.returns-in-92
+returns-in-92 c = search quoting
 
-pub returns : goal.returns
-returns c = search quoting
+pub returns-in_default : goal.returns-in_default
+returns-in_default c = search quoting

@@ -1,6 +1,5 @@
 use Rattle.settling.proofs.CountCode.{counting}
 use Rattle.settling.proofs.settle.count_texts.Goals as goal
-use Rattle.settling.proofs.settle.count_texts.Goals.{then-l-gt65535, else-l-gt65535}
 
 pub loop-i-init : goal.loop-i-init
 loop-i-init c = search counting
@@ -14,5 +13,11 @@ overflow_add-bytes c = search counting
 pub overflow_add-bytes-in-loop-i : goal.overflow_add-bytes-in-loop-i
 overflow_add-bytes-in-loop-i c = search counting
 
+pub returns-then-l-gt65535 : goal.returns-then-l-gt65535
+returns-then-l-gt65535 c = search counting
+
 pub loop-i-preserved : goal.loop-i-preserved
-loop-i-preserved c = elim c.if-l-gt65535.branch [ then-l-gt65535 w ↦ search counting | else-l-gt65535 w ↦ search counting ]
+loop-i-preserved c = search counting
+
+pub returns : goal.returns
+returns c = search counting

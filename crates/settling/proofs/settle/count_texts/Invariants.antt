@@ -1,9 +1,5 @@
-use Prim.Native.Nat.{◌-◌}
 use Rattle.settling.proofs.CountCode.{Counting}
 use Rattle.settling.proofs.settle.count_texts.Given as goal
 
 abbrev pub invariant-loop-i : goal.invariant-loop-i
-invariant-loop-i l = Counting l.tape l.work l.g l.n l.c l.i l.bytes l.long
-
-abbrev pub decreases-loop-i : goal.decreases-loop-i
-decreases-loop-i l = l.c - l.i
+invariant-loop-i l = Counting l.tape l.work l.g l.n l.c l.i l.bytes

@@ -10,20 +10,20 @@ returns-then-x-tape c = search marking
 pub overflow_add-p : goal.overflow_add-p
 overflow_add-p c = search marking
 
-pub overflow_add-p-2 : goal.overflow_add-p-2
-overflow_add-p-2 c = search marking
+pub overflow_add-p-else-x-tape : goal.overflow_add-p-else-x-tape
+overflow_add-p-else-x-tape c = search marking
 
-pub u16_at-requires-2 : goal.u16_at-requires-2
-u16_at-requires-2 c = search marking
+pub u16_at-requires-else-x-tape : goal.u16_at-requires-else-x-tape
+u16_at-requires-else-x-tape c = search marking
 
-pub overflow_add-result-2 : goal.overflow_add-result-2
-overflow_add-result-2 c = search marking
+pub overflow_add-result-else-x-tape : goal.overflow_add-result-else-x-tape
+overflow_add-result-else-x-tape c = search marking
 
-pub overflow_add-result-3 : goal.overflow_add-result-3
-overflow_add-result-3 c = search marking
+pub overflow_add-result-else-x-tape-2 : goal.overflow_add-result-else-x-tape-2
+overflow_add-result-else-x-tape-2 c = search marking
 
-pub overflow_add-result-4 : goal.overflow_add-result-4
-overflow_add-result-4 c = search marking
+pub overflow_add-result-else-x-tape-3 : goal.overflow_add-result-else-x-tape-3
+overflow_add-result-else-x-tape-3 c = search marking
 
-pub returns : goal.returns
-returns c = search marking
+pub returns-else-x-tape : goal.returns-else-x-tape
+returns-else-x-tape c = search marking

@@ -1,8 +1,8 @@
 use Rattle.settling.proofs.WordsCode.{reading}
 use Rattle.settling.proofs.words.put_text.Goals as goal
 
-pub returns-then-p : goal.returns-then-p
-returns-then-p c = search reading
+pub returns-in-Work : goal.returns-in-Work
+returns-in-Work c = search reading
 
-pub returns : goal.returns
-returns c = search reading
+pub returns-in-Tape : goal.returns-in-Tape
+returns-in-Tape c = search reading

@@ -1,14 +1,22 @@
+use mathlib.Core.Path.{ap, ◌∙◌}
+use lib.ListN.{length}
+use Rattle.std.specs.Result.{result_ok}
+use Rattle.std.proofs.Common.{rules}
+use Rattle.std.proofs.lemmas.Result.{err_from_is_err_and}
 use Rattle.stages.proofs.LevellingCode.{levels-admitting}
+use Rattle.stages.proofs.LevellingMeanSize.{levels-sum}
 use Rattle.stages.proofs.levelling.admit_levels.Goals as goal
 
 pub judge_levels-requires : goal.judge_levels-requires
-judge_levels-requires c = search levels-admitting
+judge_levels-requires c = let f = c.ok-f.ensures.value ∙ ap result_ok c.count_bytes.ensures in
+    let z = levels-sum c.args.tape.now (length c.args.output.now) c.args.m c.args.at c.args.room c.args.v c.args.work.now c.requires c.ok-f.result f (search rules) in
+    (search levels-admitting, search levels-admitting, z)
 
 pub hand_over_levels-requires : goal.hand_over_levels-requires
-hand_over_levels-requires c = search levels-admitting
+hand_over_levels-requires c = let f = c.ok-f.ensures.value ∙ ap result_ok c.count_bytes.ensures in search (levels-admitting, f, c.in_ok-n.was)
 
-pub returns-in-No : goal.returns-in-No
-returns-in-No c = search levels-admitting
+pub returns-in_err-n : goal.returns-in_err-n
+returns-in_err-n c = let f = c.ok-f.ensures.value ∙ ap result_ok c.count_bytes.ensures in let p = err_from_is_err_and c.from_residual.result c.from_residual.ensures.1 in rw (p.1, p.2) (search (levels-admitting, f, c.in_err-n.was))
 
-pub returns-in-Yes : goal.returns-in-Yes
-returns-in-Yes c = search levels-admitting
+pub returns : goal.returns
+returns c = let f = c.ok-f.ensures.value ∙ ap result_ok c.count_bytes.ensures in search (levels-admitting, f, c.in_ok-n.was)

@@ -1,3 +1,4 @@
+use Rattle.std.proofs.lemmas.Result.{err_from_is_err_and}
 use Rattle.stages.proofs.WholeCode.{whole_settling_down}
 use Rattle.stages.proofs.whole.whole_settled.Goals as goal
 
@@ -5,10 +6,10 @@ pub resolve_again-requires : goal.resolve_again-requires
 resolve_again-requires c = search whole_settling_down
 
 pub run_rounds-requires : goal.run_rounds-requires
-run_rounds-requires c = search whole_settling_down
+run_rounds-requires c = search (whole_settling_down, c.in_ok-t.was)
 
-pub returns-in-Refused : goal.returns-in-Refused
-returns-in-Refused c = search whole_settling_down
+pub returns-in_err-t : goal.returns-in_err-t
+returns-in_err-t c = let p = err_from_is_err_and c.from_residual.result c.from_residual.ensures.1 in rw (p.1, p.2) (search (whole_settling_down, c.in_err-t.was))
 
-pub returns-in-Is : goal.returns-in-Is
-returns-in-Is c = search whole_settling_down
+pub returns : goal.returns
+returns c = search (whole_settling_down, c.in_ok-t.was)

@@ -1,9 +1,5 @@
-use Prim.Native.Nat.{◌-◌}
 use Rattle.texts.proofs.ChainCode.{Emptying}
 use Rattle.texts.proofs.chain.empty.Given as goal
 
 abbrev pub invariant-loop-y : goal.invariant-loop-y
 invariant-loop-y l = Emptying l.initial.work l.work l.base l.n l.y
-
-abbrev pub decreases-loop-y : goal.decreases-loop-y
-decreases-loop-y l = l.n - l.y

@@ -10,11 +10,11 @@ returns-then-e-a c = search judging
 pub returns-then-not-starts_name : goal.returns-then-not-starts_name
 returns-then-not-starts_name c = search judging
 
-pub returns-then-equal : goal.returns-then-equal
-returns-then-equal c = search judging
+pub returns-then-eq : goal.returns-then-eq
+returns-then-eq c = search judging
 
-pub returns-then-equal-2 : goal.returns-then-equal-2
-returns-then-equal-2 c = search judging
+pub returns-then-eq-2 : goal.returns-then-eq-2
+returns-then-eq-2 c = search judging
 
-pub returns : goal.returns
-returns c = search judging
+pub returns-else-eq-2 : goal.returns-else-eq-2
+returns-else-eq-2 c = search judging

@@ -1,5 +1,6 @@
 use Rattle.texts.proofs.TableEnterCode.{entering}
 use Rattle.texts.proofs.table.enter.Goals as goal
+use Rattle.texts.proofs.table.enter.Goals.{then-m-lt4294967295, else-m-lt4294967295}
 
 pub write-requires : goal.write-requires
 write-requires c = search entering
@@ -7,8 +8,5 @@ write-requires c = search entering
 pub link-requires : goal.link-requires
 link-requires c = search entering
 
-pub returns-then-m-lt4294967295 : goal.returns-then-m-lt4294967295
-returns-then-m-lt4294967295 c = search entering
-
 pub returns : goal.returns
-returns c = search entering
+returns c = elim c.if-m-lt4294967295.branch [ then-m-lt4294967295 w ↦ rw w.work-is (search entering) | else-m-lt4294967295 w ↦ rw w.work-is (search entering) ]

@@ -4,8 +4,8 @@ use Rattle.texts.proofs.table.find.Goals as goal
 pub bucket-y-requires : goal.bucket-y-requires
 bucket-y-requires c = search chasing
 
-pub head-requires : goal.head-requires
-head-requires c = search chasing
+pub head-j-requires : goal.head-j-requires
+head-j-requires c = search chasing
 
 pub loop-j-init : goal.loop-j-init
 loop-j-init c = search chasing

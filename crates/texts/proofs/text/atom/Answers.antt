@@ -4,8 +4,8 @@ use Rattle.texts.proofs.text.atom.Goals as goal
 pub overflow_add-at : goal.overflow_add-at
 overflow_add-at c = search atoming
 
-pub u16_at-requires : goal.u16_at-requires
-u16_at-requires c = search atoming
+pub u16_at-n-requires : goal.u16_at-n-requires
+u16_at-n-requires c = search atoming
 
 pub overflow_add-a : goal.overflow_add-a
 overflow_add-a c = search atoming

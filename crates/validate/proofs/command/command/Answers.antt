@@ -1,20 +1,18 @@
 use Rattle.validate.proofs.CommandCode.{asked_fits, commanding}
+use Rattle.validate.proofs.command.command.Goals.{then-not-is_defined-via-then-not-is_defined, then-not-is_defined-via-else-not-is_defined+then-left-lt1}
 use Rattle.validate.proofs.command.command.Goals as goal
 
 pub returns-then-not-allowed : goal.returns-then-not-allowed
-returns-then-not-allowed c = first_of (search commanding, search asked_fits)
+returns-then-not-allowed c = search commanding
 
 pub returns-then-not-is_defined : goal.returns-then-not-is_defined
-returns-then-not-is_defined c = first_of (search commanding, search asked_fits)
-
-pub returns-then-left-lt1 : goal.returns-then-left-lt1
-returns-then-left-lt1 c = first_of (search commanding, search asked_fits)
+returns-then-not-is_defined c = elim c.then-not-is_defined.branch [ then-not-is_defined-via-then-not-is_defined w ↦ search commanding | then-not-is_defined-via-else-not-is_defined+then-left-lt1 w ↦ search commanding ]
 
 pub returns-then-not-is_apt : goal.returns-then-not-is_apt
-returns-then-not-is_apt c = first_of (search commanding, search asked_fits)
+returns-then-not-is_apt c = search commanding
 
 pub overflow_add-result : goal.overflow_add-result
-overflow_add-result c = first_of (search commanding, search asked_fits)
+overflow_add-result c = search asked_fits
 
 pub returns : goal.returns
-returns c = first_of (search commanding, search asked_fits)
+returns c = search commanding

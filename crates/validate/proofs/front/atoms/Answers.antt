@@ -13,8 +13,8 @@ loop-at-smaller c = search fronting
 pub loop-at-preserved : goal.loop-at-preserved
 loop-at-preserved c = search fronting
 
-pub returns-in-Known : goal.returns-in-Known
-returns-in-Known c = search fronting
+pub returns-in_default : goal.returns-in_default
+returns-in_default c = search fronting
 
 pub returns : goal.returns
 returns c = search fronting

@@ -1,14 +1,12 @@
-use Rattle.validate.proofs.FrontCode.{behind_cut, behind_done, behinding}
+use Rattle.validate.proofs.FrontCode.{behinding}
+use Rattle.validate.proofs.front.behind.Goals.{then-tape-at-via-then-tape-at, then-tape-at-via-else-tape-at+then-tape-at-ne1}
 use Rattle.validate.proofs.front.behind.Goals as goal
 
-pub returns-then-tape-at-ne1 : goal.returns-then-tape-at-ne1
-returns-then-tape-at-ne1 c = first_of (search behinding, search behind_cut, search behind_done)
+pub returns-then-tape-at : goal.returns-then-tape-at
+returns-then-tape-at c = elim c.then-tape-at.branch [ then-tape-at-via-then-tape-at w ↦ search behinding | then-tape-at-via-else-tape-at+then-tape-at-ne1 w ↦ search behinding ]
 
 pub returns-then-room-lt3 : goal.returns-then-room-lt3
-returns-then-room-lt3 c = first_of (search behinding, search behind_cut, search behind_done)
-
-pub returns-then-room-n : goal.returns-then-room-n
-returns-then-room-n c = first_of (search behinding, search behind_cut, search behind_done)
+returns-then-room-lt3 c = search behinding
 
 pub returns : goal.returns
-returns c = first_of (search behinding, search behind_cut, search behind_done)
+returns c = search behinding

@@ -7,8 +7,8 @@ atom-t-requires c = search entering_at
 pub find-requires : goal.find-requires
 find-requires c = search entering_at
 
-pub returns-in-At : goal.returns-in-At
-returns-in-At c = search entering_at
+pub returns-then-is_some : goal.returns-then-is_some
+returns-then-is_some c = search entering_at
 
 pub class_by-requires : goal.class_by-requires
 class_by-requires c = search entering_at

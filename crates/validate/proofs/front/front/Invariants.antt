@@ -3,8 +3,8 @@ use Prim.Native.Nat.{◌-◌}
 use Rattle.validate.proofs.FrontCode.{Counting}
 use Rattle.validate.proofs.front.front.Given as goal
 
-abbrev pub invariant-loop-at : goal.invariant-loop-at
-invariant-loop-at l = Counting l.tape l.at l.count
+abbrev pub invariant-loop-e : goal.invariant-loop-e
+invariant-loop-e l = Counting l.tape l.at l.count
 
-abbrev pub decreases-loop-at : goal.decreases-loop-at
-decreases-loop-at l = length l.tape - l.at
+abbrev pub decreases-loop-e : goal.decreases-loop-e
+decreases-loop-e l = length l.tape - l.at

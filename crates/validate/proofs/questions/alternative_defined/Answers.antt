@@ -4,14 +4,11 @@ use Rattle.validate.proofs.questions.alternative_defined.Goals as goal
 pub returns-then-a-gt1 : goal.returns-then-a-gt1
 returns-then-a-gt1 c = search alternatives
 
-pub returns-then-a-gt4 : goal.returns-then-a-gt4
-returns-then-a-gt4 c = search alternatives
+pub returns-in-1 : goal.returns-in-1
+returns-in-1 c = search alternatives
 
-pub returns-then-a-eq1 : goal.returns-then-a-eq1
-returns-then-a-eq1 c = search alternatives
+pub returns-in-0 : goal.returns-in-0
+returns-in-0 c = search alternatives
 
-pub returns-then-a-eq2 : goal.returns-then-a-eq2
-returns-then-a-eq2 c = search alternatives
-
-pub returns : goal.returns
-returns c = search alternatives
+pub returns-in_default : goal.returns-in_default
+returns-in_default c = search alternatives

@@ -1,20 +1,20 @@
 use Rattle.validate.proofs.QuestionsCode.{attributes}
 use Rattle.validate.proofs.questions.attribute_defined.Goals as goal
 
-pub returns-then-atoms-from32 : goal.returns-then-atoms-from32
-returns-then-atoms-from32 c = search attributes
+pub returns-then-atoms-a : goal.returns-then-atoms-a
+returns-then-atoms-a c = search attributes
 
-pub returns-then-a-gt1 : goal.returns-then-a-gt1
-returns-then-a-gt1 c = search attributes
+pub returns-then-a-eq0 : goal.returns-then-a-eq0
+returns-then-a-eq0 c = search attributes
 
-pub returns-then-atoms-from32-2 : goal.returns-then-atoms-from32-2
-returns-then-atoms-from32-2 c = search attributes
+pub returns-else-a-eq0 : goal.returns-else-a-eq0
+returns-else-a-eq0 c = search attributes
 
-pub returns-then-a-eq1 : goal.returns-then-a-eq1
-returns-then-a-eq1 c = search attributes
+pub returns-then-a-atoms : goal.returns-then-a-atoms
+returns-then-a-atoms c = search attributes
 
-pub returns-then-key-ne0 : goal.returns-then-key-ne0
-returns-then-key-ne0 c = search attributes
+pub returns-else-a-atoms : goal.returns-else-a-atoms
+returns-else-a-atoms c = search attributes
 
-pub returns : goal.returns
-returns c = search attributes
+pub returns-in_default : goal.returns-in_default
+returns-in_default c = search attributes

@@ -1,14 +1,9 @@
+use Rattle.parse_tree.specs.Working.Questions.{defined}
 use Rattle.validate.proofs.QuestionsCode.{nodes}
 use Rattle.validate.proofs.questions.is_defined.Goals as goal
 
-pub returns-then-atoms-from32 : goal.returns-then-atoms-from32
-returns-then-atoms-from32 c = search nodes
-
 pub returns-in-Text : goal.returns-in-Text
 returns-in-Text c = search nodes
-
-pub returns-else-atoms-from32 : goal.returns-else-atoms-from32
-returns-else-atoms-from32 c = search nodes
 
 pub returns-in-Terminal : goal.returns-in-Terminal
 returns-in-Terminal c = search nodes
@@ -27,3 +22,10 @@ returns-in-Symbol c = search nodes
 
 pub returns-in-Unknown : goal.returns-in-Unknown
 returns-in-Unknown c = search nodes
+
+pub returns-then-d-atoms : goal.returns-then-d-atoms
+returns-then-d-atoms c = search nodes
+
+pub returns-else-d-atoms : goal.returns-else-d-atoms
+unfolding defined
+returns-else-d-atoms c = search nodes

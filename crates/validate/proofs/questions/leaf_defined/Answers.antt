@@ -7,20 +7,8 @@ returns-in-AmbiguousId c = search leaves
 pub returns-in-Bare : goal.returns-in-Bare
 returns-in-Bare c = search leaves
 
-pub returns-in-Quoted : goal.returns-in-Quoted
-returns-in-Quoted c = search leaves
-
-pub returns-in-Regex : goal.returns-in-Regex
-returns-in-Regex c = search leaves
-
 pub returns-in-Nonterminal : goal.returns-in-Nonterminal
 returns-in-Nonterminal c = search leaves
 
 pub returns-in-Lookahead : goal.returns-in-Lookahead
 returns-in-Lookahead c = search leaves
-
-pub returns-in-Lookbehind : goal.returns-in-Lookbehind
-returns-in-Lookbehind c = search leaves
-
-pub returns-in-Error : goal.returns-in-Error
-returns-in-Error c = search leaves

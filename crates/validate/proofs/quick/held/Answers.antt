@@ -1,17 +1,17 @@
 use Rattle.validate.proofs.QuickCode.{holding}
 use Rattle.validate.proofs.quick.held.Goals as goal
 
-pub returns-then-c-lt37 : goal.returns-then-c-lt37
-returns-then-c-lt37 c = search holding
+pub returns-in-37 : goal.returns-in-37
+returns-in-37 c = search (holding, c.in-37.is)
 
-pub returns-then-c-gt41 : goal.returns-then-c-gt41
-returns-then-c-gt41 c = search holding
+pub returns-in-38-to-40 : goal.returns-in-38-to-40
+returns-in-38-to-40 c = search holding
 
-pub returns-then-c-eq37 : goal.returns-then-c-eq37
-returns-then-c-eq37 c = search holding
+pub returns-in-41 : goal.returns-in-41
+returns-in-41 c = search (holding, c.in-41.is)
 
-pub returns-then-c-eq41 : goal.returns-then-c-eq41
-returns-then-c-eq41 c = search holding
+pub returns-in_default : goal.returns-in_default
+returns-in_default c = search holding
 
-pub returns : goal.returns
-returns c = search holding
+pub returns-in_default-2 : goal.returns-in_default-2
+returns-in_default-2 c = search holding

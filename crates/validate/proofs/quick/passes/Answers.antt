@@ -1,23 +1,20 @@
 use Rattle.validate.proofs.QuickCode.{passing}
 use Rattle.validate.proofs.quick.passes.Goals as goal
 
-pub returns-then-c-lt37 : goal.returns-then-c-lt37
-returns-then-c-lt37 c = search passing
+pub returns-in-0-to-36 : goal.returns-in-0-to-36
+returns-in-0-to-36 c = search passing
 
-pub returns-then-c-eq37 : goal.returns-then-c-eq37
-returns-then-c-eq37 c = search passing
+pub returns-else-tape-at-lt1 : goal.returns-else-tape-at-lt1
+returns-else-tape-at-lt1 c = search passing
 
-pub returns-then-c-eq38 : goal.returns-then-c-eq38
-returns-then-c-eq38 c = search passing
+pub returns-in-38 : goal.returns-in-38
+returns-in-38 c = search (passing, c.in-38.is)
 
-pub returns-then-c-eq39 : goal.returns-then-c-eq39
-returns-then-c-eq39 c = search passing
+pub returns-else-tape-at-gt1 : goal.returns-else-tape-at-gt1
+returns-else-tape-at-gt1 c = search passing
 
-pub returns-then-c-eq40 : goal.returns-then-c-eq40
-returns-then-c-eq40 c = search passing
+pub returns-in-41 : goal.returns-in-41
+returns-in-41 c = search (passing, c.in-41.is)
 
-pub returns-then-c-eq41 : goal.returns-then-c-eq41
-returns-then-c-eq41 c = search passing
-
-pub returns : goal.returns
-returns c = search passing
+pub returns-in_default : goal.returns-in_default
+returns-in_default c = search passing

@@ -1,5 +1,5 @@
 use Rattle.validate.proofs.QuickItemsCode.{quick_command}
 use Rattle.validate.proofs.quick.quick_argument.Goals as goal
 
-pub returns-then-names : goal.returns-then-names
-returns-then-names c = search quick_command
+pub returns : goal.returns
+returns c = search quick_command

@@ -1,5 +1,5 @@
-use Rattle.validate.proofs.QuickItemsCode.{quick_nonterminal}
+use Rattle.validate.proofs.QuickItemsCode.{quick_parts}
 use Rattle.validate.proofs.quick.quick_nonterminal.Goals as goal
 
 pub returns : goal.returns
-returns c = search quick_nonterminal
+returns c = search quick_parts

@@ -1,14 +1,14 @@
 use Rattle.validate.proofs.SuitsCode.{parts}
 use Rattle.validate.proofs.suits.attribute_suits.Goals as goal
 
-pub returns-then-not-is_name : goal.returns-then-not-is_name
-returns-then-not-is_name c = search parts
+pub returns-then-not-is_fit : goal.returns-then-not-is_fit
+returns-then-not-is_fit c = search parts
 
 pub returns-then-a-ne1 : goal.returns-then-a-ne1
 returns-then-a-ne1 c = search parts
 
-pub returns-then-not-is_ascii : goal.returns-then-not-is_ascii
-returns-then-not-is_ascii c = search parts
+pub returns-then-is_fit : goal.returns-then-is_fit
+returns-then-is_fit c = search parts
 
-pub returns : goal.returns
-returns c = search parts
+pub returns-else-is_fit : goal.returns-else-is_fit
+returns-else-is_fit c = search parts

@@ -15,6 +15,3 @@ returns-in-Argument c = search nodes
 
 pub returns-in-Symbol : goal.returns-in-Symbol
 returns-in-Symbol c = search nodes
-
-pub returns-in-Unknown : goal.returns-in-Unknown
-returns-in-Unknown c = search nodes

@@ -1,39 +1,42 @@
+use Rattle.std.proofs.Common.{◌≡◌, ◌-◌, ◌+◌, arith}
+use Rattle.std.proofs.lemmas.Result.{err_from_is_err_and}
 use Rattle.validate.proofs.QuickCode.{stepping}
 use Rattle.validate.proofs.SymbolsCode.{walking}
+use Rattle.validate.proofs.symbols.+symbol_symbols.Goals.{symbols-in-None+in_ok-p-in-None, symbols-in-Some+in-None-quick_inside+in_ok-p-in-None-quick_inside, symbols-in-Some+in-Some-quick_inside}
 use Rattle.validate.proofs.symbols.+symbol_symbols.Goals as goal
 
+pub symbol-returns-in_err-n : goal.symbol-returns-in_err-n
+symbol-returns-in_err-n t c = let p = err_from_is_err_and c.from_residual.result c.from_residual.ensures.1 in rw (p.1, p.2) (search walking)
+
 pub symbol-returns-then-left-eq0 : goal.symbol-returns-then-left-eq0
-symbol-returns-then-left-eq0 t c = search walking
+symbol-returns-then-left-eq0 t c = search (walking, c.in_ok-n.was)
 
 pub symbol-returns-in_default : goal.symbol-returns-in_default
-symbol-returns-in_default t c = search walking
-
-pub symbol-returns-in-Refused : goal.symbol-returns-in-Refused
-symbol-returns-in-Refused t c = search walking
+symbol-returns-in_default t c = search (walking, c.in_ok-n.was)
 
 pub symbol-returns-in-Leaf : goal.symbol-returns-in-Leaf
-symbol-returns-in-Leaf t c = search walking
+symbol-returns-in-Leaf t c = search (walking, c.in_ok-n.was)
 
 pub symbol-returns-in-Around : goal.symbol-returns-in-Around
-symbol-returns-in-Around t c = search walking
+symbol-returns-in-Around t c = search (walking, c.in_ok-n.was)
 
 pub symbol-returns-in-Over : goal.symbol-returns-in-Over
-symbol-returns-in-Over t c = search walking
+symbol-returns-in-Over t c = search (walking, c.in_ok-n.was)
 
-pub symbols-loop-k-preserved-then-d-gt0 : goal.symbols-loop-k-preserved-then-d-gt0
-symbols-loop-k-preserved-then-d-gt0 t c = search stepping
+pub symbols-returns-in_err-p-in-None-quick_inside : goal.symbols-returns-in_err-p-in-None-quick_inside
+symbols-returns-in_err-p-in-None-quick_inside t c = let p = err_from_is_err_and c.from_residual.result c.from_residual.ensures.1 in rw (p.1, p.2) (search (stepping, c.in_err-p-in-None-quick_inside.was))
 
-pub symbols-loop-k-preserved-in-Next : goal.symbols-loop-k-preserved-in-Next
-symbols-loop-k-preserved-in-Next t c = search stepping
+pub symbols-returns-in_err-p-in-None : goal.symbols-returns-in_err-p-in-None
+symbols-returns-in_err-p-in-None t c = let p = err_from_is_err_and c.from_residual-in_err-p-in-None.result c.from_residual-in_err-p-in-None.ensures.1 in rw (p.1, p.2) (search (stepping, c.in_err-p-in-None.was))
 
-pub symbols-returns-in-Refused : goal.symbols-returns-in-Refused
-symbols-returns-in-Refused t c = search stepping
-
-pub symbols-loop-k-preserved : goal.symbols-loop-k-preserved
-symbols-loop-k-preserved t c = search stepping
-
-pub symbols-returns-in-Refused-symbol : goal.symbols-returns-in-Refused-symbol
-symbols-returns-in-Refused-symbol t c = search stepping
+pub symbols-loop-preserved : goal.symbols-loop-preserved
+symbols-loop-preserved t c =
+    let e : c.args.n - c.loop.counter ≡ c.args.n - (c.loop.counter + 1) + 1 = omega arith in
+    elim c.match-quick.branch [
+      | symbols-in-None+in_ok-p-in-None w ↦ rw w.p-is (search (stepping, w.in_ok-p-in-None.was))
+      | symbols-in-Some+in-None-quick_inside+in_ok-p-in-None-quick_inside w ↦ rw w.p-is (search (stepping, w.in-Some.ensures, w.in_ok-p-in-None-quick_inside.was))
+      | symbols-in-Some+in-Some-quick_inside w ↦ rw w.p-is (search (stepping, w.in-Some.ensures, w.in-Some-quick_inside.ensures))
+    ]
 
 pub symbols-returns : goal.symbols-returns
 symbols-returns t c = search stepping

@@ -3,7 +3,7 @@ use Rattle.texts.specs.Atoms.{atoms_of}
 use Rattle.parse_tree.specs.Plain.Reading.{times}
 use Rattle.parse_tree.specs.Working.Decode.{read_sym}
 use mathlib.Core.Path.{◌≡◌}
-use Prim.Native.Nat.{◌*◌, ◌+◌}
+use Prim.Native.Nat.{◌*◌, ◌+◌, ◌-◌}
 use Rattle.validate.proofs.symbols.+symbol_symbols.Given as goal
 
 abbrev pub decreases-symbol : goal.decreases-symbol
@@ -12,8 +12,5 @@ decreases-symbol l = 2 * l.left
 abbrev pub decreases-symbols : goal.decreases-symbols
 decreases-symbols l = 2 * l.left + 1
 
-abbrev pub invariant-symbols-loop-k : goal.invariant-symbols-loop-k
-invariant-symbols-loop-k l = step_of (times (read_sym l.fn.m.four l.fn.m.width l.tape (atoms_of l.tape l.fn.m.count) l.left) l.k l.p) ≡ step_of (times (read_sym l.fn.m.four l.fn.m.width l.tape (atoms_of l.tape l.fn.m.count) l.left) l.n l.at)
-
-abbrev pub decreases-symbols-loop-k : goal.decreases-symbols-loop-k
-decreases-symbols-loop-k l = l.k
+abbrev pub invariant-symbols-loop : goal.invariant-symbols-loop
+invariant-symbols-loop l = step_of (times (read_sym l.fn.m.four l.fn.m.width l.tape (atoms_of l.tape l.fn.m.count) l.left) (l.n - l.counter) l.p) ≡ step_of (times (read_sym l.fn.m.four l.fn.m.width l.tape (atoms_of l.tape l.fn.m.count) l.left) l.n l.at)

@@ -1,5 +1,0 @@
-use Rattle.validate.proofs.SuitsCode.{texts}
-use Rattle.validate.proofs.suits.is_name.Goals as goal
-
-pub returns : goal.returns
-returns c = search texts
