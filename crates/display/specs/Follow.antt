@@ -68,7 +68,7 @@ behind_by w at c =
 unfoldable pub between_by : ℕ → ℕ → Text
 between_by c k = pick (eqb k 0) [] (pick (eqb c 37) (0x2c ∷ 0x20 ∷ []) (0x20 ∷ []))
 
--- how many bytes were met
+-- how many bytes were met, if all were the text's
 unfoldable pub index_of : Option Met → Option ℕ
 index_of (Some r) = Some r.i
 index_of None = None

@@ -25,7 +25,7 @@ pub fn clear(w: &mut [u8])
     w.fill(0);
 }
 
-// The bytes of src from a up to e, to out from `to` on. There is room, so that the loop becomes moves of many bytes.
+// The bytes of src from a up to e, to out from `to` on.
 pub fn copy(src: &[u8], a: usize, e: usize, out: &mut [u8], to: usize)
     requires { (a ≤ e) × (e ≤ length src.now) × (to + (e - a) ≤ length out.old) }
     ensures { out.new ≡ store out.old to (part a e src.now) }

@@ -30,6 +30,7 @@ pub enum Class {
     Unknown,
 }
 
+// The class of a command: the column of the table.
 pub fn class_of(n: Node) -> Class
     ensures { column result ≡ class_of n }
 {

@@ -4,7 +4,7 @@ ghost use Rattle.parse_tree.specs.Working.Refusals.{refusal_at, refusal_over};
 
 use crate::syntax::Span;
 
-// The number of the question that the tape fails, and the place.
+// The number of the question that the tape fails, and the place. A number and no enum: it is document 01's, and goes out as a word of the C answer.
 #[derive(Clone, Copy)]
 pub struct Refusal {
     pub number: usize,

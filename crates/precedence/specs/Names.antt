@@ -16,7 +16,7 @@ abbrev pub spelt : Text → Option ℕ → Text
 spelt t (Some v) = t ++ level_digits v
 spelt t None = t
 
--- such a level has 32 bits
+-- a level, if there is one, has 32 bits
 abbrev pub LevelSmall : Option ℕ → Type 0
 LevelSmall (Some v) = v < 4294967296
 LevelSmall None = Unit

@@ -50,7 +50,7 @@ module _ (d x : ℕ) (e : d ≡ x) where
     unfolding found_by pick
     def_nonterminal i j = cc (ne_eqb d 0 h, ne_eqb d 1 i, lt-leb 512 d j)
 
-    pub def_argument : 512 ≤ d → Some Definition.Argument ≡ found_by x
+    pub def_argument : 512 ≤ d → Some (Definition.Argument (d - 512)) ≡ found_by x
     unfolding found_by pick
     def_argument j = cc (ne_eqb d 0 h, le-leb 512 d j)
 

@@ -40,7 +40,7 @@ module _ (f : Option Definition) (d : Definition) (e : f ≡ Some d) where
     ambiguous_terminal = rw (e, h) refl
 
   -- of an argument
-  module _ (h : d ≡ Definition.Argument) where
+  module _ (n : ℕ) (h : d ≡ Definition.Argument n) where
     pub condition_argument : Ok tt ≡ condition_says f
     unfolding condition_says
     condition_argument = rw (e, h) refl
@@ -59,10 +59,10 @@ module _ (f : Option Definition) (d : Definition) (e : f ≡ Some d) where
   condition_global (inl h) = rw (e, h) refl
   condition_global (inr h) = rw (e, h.1) refl
 
-  pub macro_none : (d ≡ Definition.Terminal) ⊎ (d ≡ Definition.Argument) → (k : ℕ) → Err 11 ≡ macro_says f k
+  pub macro_none : (d ≡ Definition.Terminal) ⊎ ((n : ℕ) × (d ≡ Definition.Argument n)) → (k : ℕ) → Err 11 ≡ macro_says f k
   unfolding macro_says
   macro_none (inl h) k = rw (e, h) refl
-  macro_none (inr h) k = rw (e, h) refl
+  macro_none (inr h) k = rw (e, h.1) refl
 
   -- of a nonterminal or a macro
   module _ (n : ℕ) (h : d ≡ Definition.Nonterminal n) where

@@ -18,7 +18,7 @@ known_at m w k = pick (leb m.count k) 0 (cell_at w m.base k)
 
 -- as a definition
 unfoldable pub found_by : ℕ → Option Definition
-found_by d = pick (eqb d 0) None (Some (pick (leb 512 d) Definition.Argument (pick (eqb d 1) Definition.Terminal (Definition.Nonterminal (d - 2)))))
+found_by d = pick (eqb d 0) None (Some (pick (leb 512 d) (Definition.Argument (d - 512)) (pick (eqb d 1) Definition.Terminal (Definition.Nonterminal (d - 2)))))
 
 unfoldable pub define_at : Map → List ℕ → ℕ → ℕ → List ℕ
 define_at m w k d = pick (leb m.count k) w (store w (m.base + 24 * k + 20) (le 4 d))

@@ -31,6 +31,7 @@ unfoldable pub becomes : Result ℕ ℕ → Result (Option ℕ) ℕ
 becomes (Ok c) = Ok (Some c)
 becomes (Err q) = Err q
 
+-- the same where no code changes
 unfoldable pub stays : Result (Unit {0}) ℕ → Result (Option ℕ) ℕ
 stays (Ok u) = Ok None
 stays (Err q) = Err q

@@ -9,7 +9,7 @@ unfoldable pub condition_says : Option Definition → Result (Unit {0}) ℕ
 condition_says None = Err 8
 condition_says (Some Definition.Terminal) = Err 9
 condition_says (Some (Definition.Nonterminal n)) = Err 9
-condition_says (Some Definition.Argument) = Ok tt
+condition_says (Some (Definition.Argument n)) = Ok tt
 
 -- "Does 24 name a plain nonterminal or argument? 10"
 unfoldable pub nonterminal_says : Option Definition → Result (Unit {0}) ℕ
@@ -17,7 +17,7 @@ nonterminal_says None = Err 8
 nonterminal_says (Some Definition.Terminal) = Err 10
 nonterminal_says (Some (Definition.Nonterminal zero)) = Ok tt
 nonterminal_says (Some (Definition.Nonterminal (suc n))) = Err 10
-nonterminal_says (Some Definition.Argument) = Ok tt
+nonterminal_says (Some (Definition.Argument n)) = Ok tt
 
 -- "Does 25 name a macro? 11, with its count? 12"
 unfoldable pub macro_says : Option Definition → ℕ → Result (Unit {0}) ℕ
@@ -25,7 +25,7 @@ macro_says None k = Err 8
 macro_says (Some Definition.Terminal) k = Err 11
 macro_says (Some (Definition.Nonterminal zero)) k = Err 11
 macro_says (Some (Definition.Nonterminal (suc n))) k = pick (eqb (suc n) k) (Ok tt) (Err 12)
-macro_says (Some Definition.Argument) k = Err 11
+macro_says (Some (Definition.Argument n)) k = Err 11
 
 -- "Is 20 no macro? 13"
 unfoldable pub ambiguous_says : Option Definition → Result ℕ ℕ
@@ -33,4 +33,4 @@ ambiguous_says None = Err 8
 ambiguous_says (Some Definition.Terminal) = Ok 33
 ambiguous_says (Some (Definition.Nonterminal zero)) = Ok 36
 ambiguous_says (Some (Definition.Nonterminal (suc n))) = Err 13
-ambiguous_says (Some Definition.Argument) = Ok 36
+ambiguous_says (Some (Definition.Argument n)) = Ok 36

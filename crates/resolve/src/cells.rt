@@ -28,7 +28,7 @@ pub fn def(work: &[u8], m: Map, id: u32) -> Option<Definition>
         0 => None,
         1 => Some(Definition::Terminal),
         d if d < 512 => Some(Definition::Nonterminal(d - 2)),
-        _ => Some(Definition::Argument),
+        d => Some(Definition::Argument(d - 512)),
     }
 }
 

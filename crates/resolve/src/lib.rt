@@ -21,10 +21,10 @@ pub struct Grammar {
 }
 
 // What a scope says of a name that is defined: a terminal, a nonterminal or macro with so many arguments, or an argument of the item at
-// hand, which hides globals.
+// hand, which hides the global that the number says, as its cell has it.
 #[derive(Clone, Copy, PartialEq, Eq)]
 pub enum Definition {
     Terminal,
     Nonterminal(usize),
-    Argument,
+    Argument(usize),
 }

@@ -12,7 +12,7 @@ pub fn validate_condition(f: Option<Definition>) -> Result<(), usize>
         return Err(8);
     };
     match d {
-        Definition::Argument => Ok(()),
+        Definition::Argument(_) => Ok(()),
         Definition::Terminal | Definition::Nonterminal(_) => Err(9),
     }
 }
@@ -27,7 +27,7 @@ pub fn validate_nonterminal(f: Option<Definition>) -> Result<(), usize>
     match d {
         Definition::Terminal => Err(10),
         Definition::Nonterminal(n) => if n == 0 { Ok(()) } else { Err(10) },
-        Definition::Argument => Ok(()),
+        Definition::Argument(_) => Ok(()),
     }
 }
 
@@ -39,7 +39,7 @@ pub fn validate_macro(f: Option<Definition>, k: usize) -> Result<(), usize>
         return Err(8);
     };
     match d {
-        Definition::Terminal | Definition::Argument => Err(11),
+        Definition::Terminal | Definition::Argument(_) => Err(11),
         Definition::Nonterminal(n) => {
             if n == 0 {
                 Err(11)
@@ -62,6 +62,6 @@ pub fn rewrite_ambiguous_id(f: Option<Definition>) -> Result<u8, usize>
     match d {
         Definition::Terminal => Ok(33),
         Definition::Nonterminal(n) => if n == 0 { Ok(36) } else { Err(13) },
-        Definition::Argument => Ok(36),
+        Definition::Argument(_) => Ok(36),
     }
 }

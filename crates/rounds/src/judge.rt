@@ -7,7 +7,7 @@ ghost use Rattle.rounds.specs.Judge.{verdict, SomeStageSize};
 use expander::Ground;
 use settling::settle::count_texts;
 
-// The question that refuses a stage with so many atoms and bytes, where a text is too long or not, and a symbol nested too deep or not.
+// Whether a stage with so many atoms and bytes is admitted, where a text is too long or not, and a symbol nested too deep or not; the error is the question's number.
 pub fn judge(count: usize, long: bool, deep: bool, bytes: usize, cap: usize) -> Result<(), usize>
     ensures { result ≡ verdict count long deep bytes cap }
 {

@@ -17,6 +17,7 @@ abbrev pub in_work : Source → Bool
 in_work (Source.Tape a e) = false
 in_work (Source.Work a e) = true
 
+-- where it begins, and where it ends
 abbrev pub from_of : Source → ℕ
 from_of (Source.Tape a e) = a
 from_of (Source.Work a e) = a

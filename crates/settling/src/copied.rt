@@ -25,7 +25,7 @@ pub struct Print {
     pub lim: usize,
 }
 
-// The slot of the symbol at p, or of the pushed one that it refers to.
+// The slot of the symbol at p, or of the pushed one that it refers to: the number that stands in fixed memory.
 fn referred(tape: &[u8], work: &[u8], x: Print, p: usize) -> usize
     requires { Grounded tape.now work.now x.g × Said tape.now work.now x p }
     ensures { result ≡ followed work.now x.g (slot_at work.now x.g p) }

@@ -12,7 +12,7 @@ use expander::Ground;
 use octets::numbers::u64_at;
 use texts::fields::{cell, hash, mark, write};
 
-// The i-th entry of the list of new texts.
+// The i-th entry of the list of new texts: a number, as the list lies in fixed memory; twice that of a print, or twice that of a built-in text and one more.
 pub fn entry(work: &[u8], g: Ground, i: usize) -> usize
     requires { list_place g i + 8 ≤ length work.now }
     ensures { result ≡ list_at work.now g i }
@@ -72,7 +72,7 @@ fn put_new(
     }
 }
 
-// The cell of the text that an entry describes: a print counts as pushed, a built-in text doesn't.
+// The cell of the text that an entry describes: a print counts as pushed, a built-in text doesn't. A number in fixed memory.
 fn new_cell(v: usize) -> u32
     ensures { result ≡ new_cell v }
 {

@@ -1,4 +1,5 @@
-// The class of a text: 3 a name, 2 another text of bytes 20 to 7e, 1 another of bytes 00 to 7f, 0 any other.
+// The class of a text: 3 a name, 2 another text of bytes 20 to 7e, 1 another of bytes 00 to 7f, 0 any other. A number and no enum: it stands in two bits of
+// the text's record, in fixed memory, and the class of a text is the least of its bytes'.
 ghost use Rattle.std.specs.Prelude.{◌≡◌, ◌≤◌, ◌<◌, length};
 ghost use Rattle.octets.specs.Plain.Runs.{part};
 ghost use Rattle.parse_tree.specs.Plain.Texts.{starts_name, in_name};

@@ -122,7 +122,7 @@ pub fn quick_inside(
     named(tape, work, m, c, k).then_some(at + (9 + m.width))
 }
 
-// Whether an alternative passes 3 and 4. Apart from `attribute_passes`, as one function for both would have to build a node.
+// Whether an alternative passes 3 and 4. `attribute_passes` asks the same of other fields: one function for both would have to build a node.
 fn alternative_passes(tape: &[u8], work: &[u8], m: Atoms, a: Alternative) -> bool
     requires { Ready tape.now work.now m }
     ensures { result ≡ (alternative_defined m.count a && pick m.four (suits (atoms_of tape.now m.count) (Node.Alternative a)) true) }
@@ -181,7 +181,7 @@ fn attribute_passes(tape: &[u8], work: &[u8], m: Atoms, a: Attribute) -> bool
     attribute_defined(a, m.count) && (!m.four || attribute_suits(tape, work, m, a))
 }
 
-// The same for an attribute.
+// The place behind an attribute that passes 2, 3 and 4; None where that is not found out here.
 fn quick_attribute(tape: &[u8], work: &[u8], m: Atoms, at: usize) -> Option<usize>
     requires { Ready tape.now work.now m }
     ensures { IfSome result (PassedCommand tape.now m attributes_place at) }

@@ -64,6 +64,7 @@ fn symbol_suits(tape: &[u8], work: &[u8], m: Atoms, k: SymbolKind) -> bool
     }
 }
 
+// Apart from `attribute_suits`, which asks of other fields: one function for both would have to build a node.
 pub fn alternative_suits(tape: &[u8], work: &[u8], m: Atoms, a: Alternative) -> bool
     requires { Ready tape.now work.now m }
     ensures { result ≡ suits (atoms_of tape.now m.count) (Node.Alternative a) }

@@ -45,6 +45,7 @@ row Place.Attributes = attributes_place
 row Place.Conditions = conditions_place
 row Place.Symbols = symbols_place
 
+-- the number of a column
 unfoldable pub column : Class → ℕ
 column Class.Text = 0
 column Class.Nonterminal = 1

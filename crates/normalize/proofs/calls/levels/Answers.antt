@@ -1,8 +1,6 @@
-use Rattle.normalize.proofs.CallsCode.{calling_levels}
+use lib.ListN.{length}
+use Rattle.normalize.proofs.CallsCode.{levels_is}
 use Rattle.normalize.proofs.calls.levels.Goals as goal
 
-pub returns-then-enough : goal.returns-then-enough
-returns-then-enough c = search calling_levels
-
-pub returns-else-enough : goal.returns-else-enough
-returns-else-enough c = search calling_levels
+pub returns : goal.returns
+returns c = rw (← levels_is c.args.tape.now 0 (length c.args.output.now) (length c.args.work.now)) c.call.ensures

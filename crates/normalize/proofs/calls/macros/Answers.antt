@@ -1,8 +1,6 @@
-use Rattle.normalize.proofs.CallsCode.{calling_macros}
+use lib.ListN.{length}
+use Rattle.normalize.proofs.CallsCode.{macros_is}
 use Rattle.normalize.proofs.calls.macros.Goals as goal
 
-pub returns-then-enough : goal.returns-then-enough
-returns-then-enough c = search calling_macros
-
-pub returns-else-enough : goal.returns-else-enough
-returns-else-enough c = search calling_macros
+pub returns : goal.returns
+returns c = rw (← macros_is c.args.tape.now c.args.limit (length c.args.output.now) (length c.args.work.now)) c.call.ensures

@@ -1,8 +1,6 @@
-use Rattle.normalize.proofs.CallsCode.{calling_whole}
+use lib.ListN.{length}
+use Rattle.normalize.proofs.CallsCode.{whole_is}
 use Rattle.normalize.proofs.calls.whole.Goals as goal
 
-pub returns-then-enough : goal.returns-then-enough
-returns-then-enough c = search calling_whole
-
-pub returns-else-enough : goal.returns-else-enough
-returns-else-enough c = search calling_whole
+pub returns : goal.returns
+returns c = rw (← whole_is c.args.tape.now c.args.limit (length c.args.output.now) (length c.args.work.now)) c.call.ensures

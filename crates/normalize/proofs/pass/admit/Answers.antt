@@ -1,6 +1,6 @@
 use Rattle.std.proofs.lemmas.Result.{err_from_is_err_and}
 use Rattle.normalize.proofs.CallsCode.{admitting}
-use Rattle.normalize.proofs.calls.admit.Goals as goal
+use Rattle.normalize.proofs.pass.admit.Goals as goal
 
 pub hand_over-requires : goal.hand_over-requires
 hand_over-requires c = search (admitting, c.in_ok-n.was)
