@@ -60,9 +60,6 @@ module _ (w₀ : List ℕ) (wd at end list : ℕ) where
     pub list_long : length w ≡ length w₀
     list_long = g.long
 
-    pub list_wide : (2 ≤ wd) × (wd ≤ 3)
-    list_wide = (g.some.listable.narrow, g.some.listable.wide)
-
     few : list + 8 * n ≤ at
     few = omega (arith, list_fits g.some, g.many)
 
@@ -175,4 +172,4 @@ module _ (w₀ : List ℕ) (wd at end list : ℕ) where
                     others = stays;
                   })
 
-pub ruleset listing = (rules, list_start, list_long, list_wide, list_done, list_read, list_behind, list_on_fits, list_other, list_times_fits, list_place_fits, list_more_fits, list_room, list_stored, list_item)
+pub ruleset listing = (rules, list_start, list_long, list_done, list_read, list_behind, list_on_fits, list_other, list_times_fits, list_place_fits, list_more_fits, list_room, list_stored, list_item)

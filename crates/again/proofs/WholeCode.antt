@@ -81,9 +81,6 @@ module _ (s w₀ : List ℕ) (m : Map) (list at end : ℕ) where
 
   -- ---- the list is written
   module _ (n : ℕ) (w₁ : List ℕ) (i₁ : ListsItems w₀ 2 at end list n w₁) where
-    abbrev grammar : Grammar
-    grammar = record { at = at; end = end; list = list; count = n; width = 2 }
-
     listed : (L : Tree) → Stands L → ListedItems w₀ 2 list ts L n w₁
     unfolding ListsItems
     listed L h = i₁ false ts L (listable L h)
@@ -104,7 +101,10 @@ module _ (s w₀ : List ℕ) (m : Map) (list at end : ℕ) where
         record { table = x.table; above = above_stays s w₀ m w₁ m (m.base + 24 * m.count) x g.stands.cells.above }
 
     -- ---- names are forgotten
-    module _ (w₂ : List ℕ) (i₂ : Forgot s w₁ m w₂) where
+    module _ (p₂ : 2 ≤ 2) (q₂ : 2 ≤ 3) (w₂ : List ℕ) (i₂ : Forgot s w₁ m w₂) where
+      abbrev grammar : Grammar
+      grammar = record { at = at; end = end; list = list; count = n; width = record { bytes = 2; narrow = p₂; wide = q₂ } }
+
       long₂ : (L : Tree) → Stands L → length w₂ ≡ length w₀
       long₂ L h = i₂.cells.long ∙ (listed L h).long
 
@@ -237,8 +237,8 @@ module _ (s w₀ : List ℕ) (m : Map) (list at end : ℕ) where
               go (no q p) _ k = absurd (fine_not (sym e ∙ k))
 
 -- what stood at the start comes first: the rest is found from it
-pub again_standing : (s w₀ : List ℕ) (m : Map) (list at end : ℕ) → SomeAgain s w₀ m list at end → (n : ℕ) (w₁ : List ℕ) → ListsItems w₀ 2 at end list n w₁ → (w₂ : List ℕ) → Forgot s w₁ m w₂
-    → Standing m (record { at = at; end = end; list = list; count = n; width = 2 }) (length w₂)
-again_standing s w₀ m list at end g n w₁ i₁ w₂ i₂ = standing s w₀ m list at end n w₁ i₁ w₂ i₂ g
+pub again_standing : (s w₀ : List ℕ) (m : Map) (list at end : ℕ) → SomeAgain s w₀ m list at end → (n : ℕ) (w₁ : List ℕ) → ListsItems w₀ 2 at end list n w₁ → (p₂ : 2 ≤ 2) (q₂ : 2 ≤ 3) (w₂ : List ℕ) → Forgot s w₁ m w₂
+    → Standing m (record { at = at; end = end; list = list; count = n; width = record { bytes = 2; narrow = p₂; wide = q₂ } }) (length w₂)
+again_standing s w₀ m list at end g n w₁ i₁ p₂ q₂ w₂ i₂ = standing s w₀ m list at end n w₁ i₁ p₂ q₂ w₂ i₂ g
 
 pub ruleset again_ways = (rules, again_listed, again_cells, again_standing, again_refused, again_fine)

@@ -38,7 +38,7 @@ pub record AgainReady (s w : List ℕ) (m : Map) (list at end : ℕ) (R : Tree) 
   pub from : t.at ≡ at
   pub upto : t.end ≡ end
   pub listed : t.list ≡ list
-  pub width : t.width ≡ 2
+  pub width : t.width.bytes ≡ 2
   pub long : length w' ≡ length w
   pub same : texts s w' m ≡ texts s w m
   pub marks : (k : ℕ) → k < m.count → mark_at w' m.base k ≡ mark_at w m.base k

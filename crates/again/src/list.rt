@@ -2,12 +2,12 @@
 ghost use Rattle.again.specs.List.{SomeListed, ListsItems};
 
 use expander::stage::{command_long, is_item};
-use octets::numbers::store64;
+use octets::numbers::{Width, store64};
 
 // The items from `at` up to `end`: their places, counted from the first, to the list; says how many there are.
-pub fn list_items(work: &mut [u8], width: usize, at: usize, end: usize, list: usize) -> usize
-    requires { SomeListed work.old width at end list }
-    ensures { ListsItems work.old width at end list result work.new }
+pub fn list_items(work: &mut [u8], width: Width, at: usize, end: usize, list: usize) -> usize
+    requires { SomeListed work.old width.bytes at end list }
+    ensures { ListsItems work.old width.bytes at end list result work.new }
 {
     let mut p = at;
     let mut n = 0;

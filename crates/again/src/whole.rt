@@ -2,6 +2,7 @@
 ghost use Rattle.again.specs.Whole.{SomeAgain, AgainTo};
 
 use crate::list::list_items;
+use octets::numbers::Width;
 use parse_tree::refusal::Refusal;
 use resolve::Grammar;
 use resolve::whole::resolve;
@@ -20,13 +21,14 @@ pub fn resolve_again(
     requires { SomeAgain tape.now work.old m list at end }
     ensures { AgainTo tape.now work.old m list at end result work.new }
 {
-    let n = list_items(work, 2, at, end, list);
+    let width = Width { bytes: 2 };
+    let n = list_items(work, width, at, end, list);
     let t = Grammar {
         at,
         end,
         list,
         count: n,
-        width: 2,
+        width,
     };
     forget(tape, work, m);
     resolve(work, m, t)?;

@@ -8,7 +8,8 @@ mod BuiltMeans
 mod BuiltCode
 pub mod BuiltAround
 pub mod PiecesLaws
-mod SymbolsBytes
+pub mod SymbolsBytes
+mod SymbolsNamedCode
 pub mod SymbolsTrees
 pub mod SymbolsStays
 mod SymbolsPutCode

@@ -21,9 +21,9 @@ use Rattle.appending.proofs.PiecesLaws.{appends-none, appends_is}
 use Rattle.appending.proofs.SymbolsFirst.{first_long, first_inside}
 
 -- no symbols
-none_appended : (s w : List ℕ) (g : Ground) (n lim : ℕ) (ps : List ℕ) (v : Appended) → Appending s g n lim ps w v → Appends s g n lim ps w v (symbols_piece g.width nil) v w
+none_appended : (s w : List ℕ) (g : Ground) (n lim : ℕ) (ps : List ℕ) (v : Appended) → Appending s g n lim ps w v → Appends s g n lim ps w v (symbols_piece g.width.bytes nil) v w
 unfolding renamed_all syms_texts syms_bytes
-none_appended s w g n lim ps v A = appends_is s g n lim ps w v (plainly []) v w (appends-none s g n lim ps w v A) (symbols_piece g.width nil) refl refl refl
+none_appended s w g n lim ps v A = appends_is s g n lim ps w v (plainly []) v w (appends-none s g n lim ps w v A) (symbols_piece g.width.bytes nil) refl refl refl
 
 -- w₀ is work before; of k symbols from p on, x.left are to come
 module _ (s w₀ : List ℕ) (g : Ground) (n lim p k : ℕ) (v : Appended) where
@@ -33,7 +33,7 @@ module _ (s w₀ : List ℕ) (g : Ground) (n lim p k : ℕ) (v : Appended) where
     pub many : count zs ≡ x.left
     pub going : Appending s g n lim ps w x.run.out
     pub referring : Referring s w g ps four left x.run.at e zs
-    pub carry : (v' : Appended) (w' : List ℕ) → Appends s g n lim ps w x.run.out (symbols_piece g.width zs) v' w' → Appends s g n lim ps w₀ v (symbols_piece g.width ys) v' w'
+    pub carry : (v' : Appended) (w' : List ℕ) → Appends s g n lim ps w x.run.out (symbols_piece g.width.bytes zs) v' w' → Appends s g n lim ps w₀ v (symbols_piece g.width.bytes ys) v' w'
 
   pub record Copying (w : List ℕ) (x : Coming) : Type 0 where
     pub some : SomeReferring s w g n lim x.run.at x.left x.run.out
@@ -93,9 +93,9 @@ module _ (s w₀ : List ℕ) (g : Ground) (n lim p k : ℕ) (v : Appended) where
         f = c.each ps four left e ys m A R
 
         go : (zs : Syms) → count zs ≡ x.left → Referring s w g ps four left x.run.at e zs
-            → ((v' : Appended) (w' : List ℕ) → Appends s g n lim ps w x.run.out (symbols_piece g.width zs) v' w' → Appends s g n lim ps w₀ v (symbols_piece g.width ys) v' w')
-            → (x.run.at ≡ e) × Appends s g n lim ps w₀ v (symbols_piece g.width ys) x.run.out w
-        go nil m S u = (omega (arith, none_stand s w g.m g.width four left (g.from + x.run.at) (g.from + e) S.stand), u x.run.out w (none_appended s w g n lim ps x.run.out f.going))
+            → ((v' : Appended) (w' : List ℕ) → Appends s g n lim ps w x.run.out (symbols_piece g.width.bytes zs) v' w' → Appends s g n lim ps w₀ v (symbols_piece g.width.bytes ys) v' w')
+            → (x.run.at ≡ e) × Appends s g n lim ps w₀ v (symbols_piece g.width.bytes ys) x.run.out w
+        go nil m S u = (omega (arith, none_stand s w g.m g.width.bytes four left (g.from + x.run.at) (g.from + e) S.stand), u x.run.out w (none_appended s w g n lim ps x.run.out f.going))
         go (cons z zs) m S u = absurd (omega arith)
 
 pub ruleset copying = (rules, copying_start, copying_some, copying_long, copying_next, copying_less, copying_done)

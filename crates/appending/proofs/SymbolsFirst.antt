@@ -54,7 +54,7 @@ module _ (s w : List ℕ) (g : Ground) (n lim : ℕ) (ps : List ℕ) (four : Boo
   ts = texts s w g.m
 
   abbrev wd : ℕ
-  wd = g.width
+  wd = g.width.bytes
 
   abbrev here : ℕ
   here = g.from + q.at

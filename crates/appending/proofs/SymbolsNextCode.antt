@@ -61,12 +61,6 @@ module _ (s w : List ℕ) (g : Ground) (n lim : ℕ) (x : Coming) (K : SomeRefer
   pub next_far : g.from + x.run.at + 17 ≤ length w
   next_far = omega (arith, room, F.going.behind)
 
-  pub next_narrow : 2 ≤ g.width
-  next_narrow = F.going.ground.narrow
-
-  pub next_wide : g.width ≤ 3
-  next_wide = F.going.ground.wide
-
   pub next_inside : lim ≤ length w
   next_inside = F.going.inside
 
@@ -106,10 +100,10 @@ module _ (s w : List ℕ) (g : Ground) (n lim : ℕ) (x : Coming) (K : SomeRefer
 
     -- ---- copied
     module _ (f : e ≡ false) where
-      pub next_upto : g.from + x.run.at + long_of g.width c ≤ x.run.out.to
+      pub next_upto : g.from + x.run.at + long_of g.width.bytes c ≤ x.run.out.to
       next_upto = omega (arith, first_upto s w g n lim F.places F.four F.left F.end F.one F.others x F.going F.referring (own_key ∙ f) c d, F.going.items)
 
-      module _ (h : ℕ) (j : h ≡ inside_at g.width w (g.from + x.run.at)) where
+      module _ (h : ℕ) (j : h ≡ inside_at g.width.bytes w (g.from + x.run.at)) where
         pub next_fits : Fits w64 (x.left - 1 + h)
         next_fits = record {
           fits = omega (arith, first_few s w g n lim F.places F.four F.left F.end F.one F.others x F.going F.referring (own_key ∙ f) c d h j F.many, F.going.ground.short);
@@ -128,4 +122,4 @@ module _ (s w : List ℕ) (g : Ground) (n lim : ℕ) (x : Coming) (K : SomeRefer
             each ps four left end nil m A R = absurd (omega arith)
             each ps four left end (cons y ys) m A R = copied_onward s w g n lim ps four left end y ys x A R (key_is ps four left end y ys A R ∙ f) c d h j r w' P m
 
-pub ruleset coming = (rules, next_here, next_behind, next_far, next_narrow, next_wide, next_inside, next_reference, next_named, next_upto, next_fits, next_copied)
+pub ruleset coming = (rules, next_here, next_behind, next_far, next_inside, next_reference, next_named, next_upto, next_fits, next_copied)

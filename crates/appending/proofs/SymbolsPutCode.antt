@@ -11,7 +11,7 @@ use Rattle.appending.specs.declared.symbols.Copied.{Copied}
 use Rattle.appending.specs.Symbols.{PutsCommand}
 
 -- ---- put_command
-pub command_put : (w : List ℕ) (g : Ground) (lim : ℕ) (q : Copied) (c k : ℕ) → k ≡ long_of g.width c → (r : ℕ) (w1 : List ℕ) → Puts w lim q.out.to (part (g.from + q.at) (g.from + q.at + k) w) r w1
+pub command_put : (w : List ℕ) (g : Ground) (lim : ℕ) (q : Copied) (c k : ℕ) → k ≡ long_of g.width.bytes c → (r : ℕ) (w1 : List ℕ) → Puts w lim q.out.to (part (g.from + q.at) (g.from + q.at + k) w) r w1
     → PutsCommand w g lim q c (record { at = q.at + k; out = record { to = r; count = q.out.count; deep = q.out.deep } }) w1
 command_put w g lim q c k e r w1 p = record {
   at = ap (λ (i : ℕ). q.at + i) e;

@@ -53,10 +53,10 @@ module _ (s : List ℕ) (g : Ground) (n lim : ℕ) (ps : List ℕ) (w : List ℕ
   pub referring_stays : (four : Bool) (left p e : ℕ) (ys : Syms) → Referring s w g ps four left p e ys → Referring s w' g ps four left p e ys
   referring_stays four left p e ys r = record {
     stand = record {
-      within = subst (λ (ts : List Text). SymsWithin four g.width ts ys left) (sym texts-stay) r.stand.within;
-      lies = subst (λ (ts : List Text). Lies w' (g.from + p) (syms_bytes g.width ts ys) (g.from + e)) (sym texts-stay) (lies_stays (syms_bytes g.width (texts s w g.m) ys) p e r.inside r.stand.lies);
+      within = subst (λ (ts : List Text). SymsWithin four g.width.bytes ts ys left) (sym texts-stay) r.stand.within;
+      lies = subst (λ (ts : List Text). Lies w' (g.from + p) (syms_bytes g.width.bytes ts ys) (g.from + e)) (sym texts-stay) (lies_stays (syms_bytes g.width.bytes (texts s w g.m) ys) p e r.inside r.stand.lies);
     };
     inside = r.inside;
     levels = r.levels;
-    referred = subst (λ (ts : List Text). Each (λ (q : ℕ). among q ps ≡ true) (keys_of_all g.width ts ys p)) (sym texts-stay) r.referred;
+    referred = subst (λ (ts : List Text). Each (λ (q : ℕ). among q ps ≡ true) (keys_of_all g.width.bytes ts ys p)) (sym texts-stay) r.referred;
   }

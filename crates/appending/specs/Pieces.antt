@@ -1,9 +1,10 @@
 -- Pieces of items that are appended: what is written of a piece, and which texts come to the texts by number. s is the tape, w is work; wd is the width of an atom's number in bytes.
 -- Assumes nothing: these are definitions.
 use Rattle.std.specs.Prelude.{◌≡◌, Bool, true, ◌&&◌, ◌||◌, not, ◌⊎◌, List, [], ◌∷◌, ◌++◌, ℕ, ◌+◌, ◌≤◌, ◌<◌, length, get_or}
+use Rattle.octets.specs.Plain.Numbers.{le}
 use Rattle.octets.specs.Plain.Runs.{Lies}
 use Rattle.parse_tree.specs.Plain.Tree.{Text, Syms, Item}
-use Rattle.parse_tree.specs.Plain.Texts.{has, with_new}
+use Rattle.parse_tree.specs.Plain.Texts.{has, number, with_new}
 use Rattle.parse_tree.specs.Plain.References.{syms_texts, item_texts}
 use Rattle.parse_tree.specs.Working.Encode.{syms_bytes, item_bytes}
 use Rattle.parse_tree.specs.Working.Within.{Each}
@@ -41,6 +42,10 @@ then_piece x y = record { texts = x.texts ++ y.texts; bytes = λ ts. x.bytes ts 
 -- symbols, the outermost that are expanded as the names of their prints
 abbrev pub symbols_piece : ℕ → Syms → Piece
 symbols_piece wd ys = record { texts = syms_texts (renamed_all ys); bytes = λ ts. syms_bytes wd ts (renamed_all ys); fits = true }
+
+-- the name of a text, as a nonterminal without arguments whose span is a number
+abbrev pub name_piece : ℕ → ℕ → Text → Piece
+name_piece wd span t = record { texts = t ∷ []; bytes = λ ts. 36 ∷ (le 8 span ++ le wd (number ts t)); fits = true }
 
 -- an item
 abbrev pub item_piece : ℕ → Item → Piece

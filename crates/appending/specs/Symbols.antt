@@ -9,19 +9,19 @@ use Rattle.precedence.specs.Write.{Puts}
 use Rattle.replacing.specs.Slots.{among}
 use Rattle.replacing.specs.Trees.{is_key}
 use Rattle.expander.specs.declared.Ground.{Ground}
-use Rattle.expander.specs.Ground.{size_in}
+use Rattle.expander.specs.Ground.{size_in, printed_at}
 use Rattle.expander.specs.Replace.{keys_of_all, StandsAt, StandAt}
 use Rattle.appending.specs.declared.Appended.{Appended}
 use Rattle.appending.specs.declared.symbols.Copied.{Copied}
 use Rattle.appending.specs.declared.symbols.Coming.{Coming}
-use Rattle.appending.specs.Pieces.{symbols_piece, Appending, Appends}
+use Rattle.appending.specs.Pieces.{symbols_piece, name_piece, Appending, Appends}
 
 -- the symbols ys stand at p, up to e, and those that are expanded have references
 pub record Referring (s w : List ℕ) (g : Ground) (ps : List ℕ) (four : Bool) (left p e : ℕ) (ys : Syms) : Type 0 where
   pub stand : StandAt s w g four left p e ys
   pub inside : e ≤ size_in g
   pub levels : left ≤ 64
-  pub referred : Each (λ (q : ℕ). among q ps ≡ true) (keys_of_all g.width (texts s w g.m) ys p)
+  pub referred : Each (λ (q : ℕ). among q ps ≡ true) (keys_of_all g.width.bytes (texts s w g.m) ys p)
 
 -- there are k such symbols
 pub record SomeReferring (s w : List ℕ) (g : Ground) (n lim p k : ℕ) (v : Appended) : Type 0 where
@@ -37,7 +37,17 @@ pub record SomeReferring (s w : List ℕ) (g : Ground) (n lim p k : ℕ) (v : Ap
 -- every k such symbols were appended
 unfoldable pub PutsSymbols : List ℕ → List ℕ → Ground → ℕ → ℕ → ℕ → ℕ → Appended → Copied → List ℕ → Type 0
 PutsSymbols s w g n lim p k v r w' = (ps : List ℕ) (four : Bool) (left e : ℕ) (ys : Syms) → count ys ≡ k → Appending s g n lim ps w v → Referring s w g ps four left p e ys
-    → (r.at ≡ e) × Appends s g n lim ps w v (symbols_piece g.width ys) r.out w'
+    → (r.at ≡ e) × Appends s g n lim ps w v (symbols_piece g.width.bytes ys) r.out w'
+
+-- ---- the name of a symbol that has a reference: p is its place
+pub record Nameable (s w : List ℕ) (g : Ground) (n lim p : ℕ) (v : Appended) : Type 0 where
+  pub places : List ℕ
+  pub going : Appending s g n lim places w v
+  pub here : among p places ≡ true
+
+-- whatever symbols have references, the print of the one at p is named
+unfoldable pub PutsNamed : List ℕ → List ℕ → Ground → ℕ → ℕ → ℕ → ℕ → Appended → Appended → List ℕ → Type 0
+PutsNamed s w g n lim p span v r w' = (ps : List ℕ) → Appending s g n lim ps w v → among p ps ≡ true → Appends s g n lim ps w v (name_piece g.width.bytes span (printed_at s w g p)) r w'
 
 -- ---- one symbol that is expanded: y stands at q.at, up to e, and has a reference
 pub record Reference (s w : List ℕ) (g : Ground) (n lim : ℕ) (q : Copied) (ps : List ℕ) (four : Bool) (left e : ℕ) (y : Sym) : Type 0 where
@@ -60,13 +70,13 @@ pub record SomeReference (s w : List ℕ) (g : Ground) (n lim : ℕ) (q : Copied
 -- every such one was appended
 unfoldable pub PutsReference : List ℕ → List ℕ → Ground → ℕ → ℕ → Copied → Copied → List ℕ → Type 0
 PutsReference s w g n lim q r w' = (ps : List ℕ) (four : Bool) (left e : ℕ) (y : Sym) → Reference s w g n lim q ps four left e y
-    → (r.at ≡ e) × Appends s g n lim ps w q.out (symbols_piece g.width (cons y nil)) r.out w'
+    → (r.at ≡ e) × Appends s g n lim ps w q.out (symbols_piece g.width.bytes (cons y nil)) r.out w'
 
 -- ---- one command of the code c, copied
 pub record PutsCommand (w : List ℕ) (g : Ground) (lim : ℕ) (q : Copied) (c : ℕ) (r : Copied) (w' : List ℕ) : Type 0 where
-  pub at : r.at ≡ q.at + long_of g.width c
+  pub at : r.at ≡ q.at + long_of g.width.bytes c
   pub out : r.out ≡ record { to = r.out.to; count = q.out.count; deep = q.out.deep }
-  pub puts : Puts w lim q.out.to (part (g.from + q.at) (g.from + q.at + long_of g.width c) w) r.out.to w'
+  pub puts : Puts w lim q.out.to (part (g.from + q.at) (g.from + q.at + long_of g.width.bytes c) w) r.out.to w'
 
 -- ---- one symbol or command of those to come: the symbols zs are to come then
 pub record Onward (s w : List ℕ) (g : Ground) (n lim : ℕ) (ps : List ℕ) (four : Bool) (left e : ℕ) (ys : Syms) (x r : Coming) (w' : List ℕ) : Type 0 where
@@ -74,7 +84,7 @@ pub record Onward (s w : List ℕ) (g : Ground) (n lim : ℕ) (ps : List ℕ) (f
   pub many : count zs ≡ r.left
   pub going : Appending s g n lim ps w' r.run.out
   pub referring : Referring s w' g ps four left r.run.at e zs
-  pub carry : (v' : Appended) (w'' : List ℕ) → Appends s g n lim ps w' r.run.out (symbols_piece g.width zs) v' w'' → Appends s g n lim ps w x.run.out (symbols_piece g.width ys) v' w''
+  pub carry : (v' : Appended) (w'' : List ℕ) → Appends s g n lim ps w' r.run.out (symbols_piece g.width.bytes zs) v' w'' → Appends s g n lim ps w x.run.out (symbols_piece g.width.bytes ys) v' w''
 
 -- of every symbols to come
 pub record PutsNext (s w : List ℕ) (g : Ground) (n lim : ℕ) (x r : Coming) (w' : List ℕ) : Type 0 where

@@ -6,7 +6,7 @@ ghost use Rattle.octets.specs.Working.Stores.{store};
 ghost use Rattle.precedence.specs.Write.{Puts};
 ghost use Rattle.appending.specs.Commands.{item_head, alternative_head, name_head, plus_head};
 
-use octets::numbers::store16;
+use octets::numbers::{Width, store16};
 use precedence::substitute::put_atom;
 use precedence::write::put_command;
 
@@ -36,9 +36,9 @@ pub fn put<F: FnOnce(&mut [u8])>(
 }
 
 // A code, a span and the number of a text.
-fn store_named(work: &mut [u8], code: u8, span: u64, k: u32, width: usize, to: usize)
-    requires { (2 ≤ width) × (width ≤ 3) × (to + (9 + width) ≤ length work.old) }
-    ensures { work.new ≡ store work.old to (code ∷ (le 8 span ++ le width k)) }
+fn store_named(work: &mut [u8], code: u8, span: u64, k: u32, width: Width, to: usize)
+    requires { to + (9 + width.bytes) ≤ length work.old }
+    ensures { work.new ≡ store work.old to (code ∷ (le 8 span ++ le width.bytes k)) }
 {
     put_command(work, code, span, to);
     put_atom(work, to + 9, width, k);
@@ -50,16 +50,16 @@ fn store_item(
     k: u32,
     flags: u8,
     alternatives: u16,
-    width: usize,
+    width: Width,
     to: usize,
 )
-    requires { (2 ≤ width) × (width ≤ 3) × (to + (13 + width) ≤ length work.old) }
-    ensures { work.new ≡ store work.old to (item_head width span k flags alternatives) }
+    requires { to + (13 + width.bytes) ≤ length work.old }
+    ensures { work.new ≡ store work.old to (item_head width.bytes span k flags alternatives) }
 {
     store_named(work, 16, span, k, width, to);
-    work[to + 9 + width] = flags;
-    work[to + 10 + width] = 0;
-    store16(work, to + 11 + width, alternatives);
+    work[to + 9 + width.bytes] = flags;
+    work[to + 10 + width.bytes] = 0;
+    store16(work, to + 11 + width.bytes, alternatives);
 }
 
 // A nonterminal without arguments.
@@ -69,14 +69,14 @@ pub fn put_item(
     k: u32,
     flags: u8,
     alternatives: u16,
-    width: usize,
+    width: Width,
     lim: usize,
     to: usize,
 ) -> usize
-    requires { (2 ≤ width) × (width ≤ 3) × (lim ≤ length work.old) }
-    ensures { Puts work.old lim to (item_head width span k flags alternatives) result work.new }
+    requires { lim ≤ length work.old }
+    ensures { Puts work.old lim to (item_head width.bytes span k flags alternatives) result work.new }
 {
-    put(work, 13 + width, lim, to, move |w| {
+    put(work, 13 + width.bytes, lim, to, move |w| {
         store_item(w, span, k, flags, alternatives, width, to)
     })
 }
@@ -98,15 +98,15 @@ fn store_alternative(
     act: u8,
     text: u32,
     symbols: u16,
-    width: usize,
+    width: Width,
     to: usize,
 )
-    requires { (2 ≤ width) × (width ≤ 3) × (to + (14 + width) ≤ length work.old) }
-    ensures { work.new ≡ store work.old to (alternative_head width span act text symbols) }
+    requires { to + (14 + width.bytes) ≤ length work.old }
+    ensures { work.new ≡ store work.old to (alternative_head width.bytes span act text symbols) }
 {
     store_action(work, span, act, to);
     put_atom(work, to + 12, width, text);
-    store16(work, to + 12 + width, symbols);
+    store16(work, to + 12 + width.bytes, symbols);
 }
 
 // An alternative without attributes and condition.
@@ -116,21 +116,21 @@ pub fn put_alternative(
     act: u8,
     text: u32,
     symbols: u16,
-    width: usize,
+    width: Width,
     lim: usize,
     to: usize,
 ) -> usize
-    requires { (2 ≤ width) × (width ≤ 3) × (lim ≤ length work.old) }
-    ensures { Puts work.old lim to (alternative_head width span act text symbols) result work.new }
+    requires { lim ≤ length work.old }
+    ensures { Puts work.old lim to (alternative_head width.bytes span act text symbols) result work.new }
 {
-    put(work, 14 + width, lim, to, move |w| {
+    put(work, 14 + width.bytes, lim, to, move |w| {
         store_alternative(w, span, act, text, symbols, width, to)
     })
 }
 
-fn store_name(work: &mut [u8], span: u64, k: u32, width: usize, to: usize)
-    requires { (2 ≤ width) × (width ≤ 3) × (to + (10 + width) ≤ length work.old) }
-    ensures { work.new ≡ store work.old to (name_head width span k) }
+fn store_name(work: &mut [u8], span: u64, k: u32, width: Width, to: usize)
+    requires { to + (10 + width.bytes) ≤ length work.old }
+    ensures { work.new ≡ store work.old to (name_head width.bytes span k) }
 {
     put_command(work, 40, span, to);
     work[to + 9] = 0;
@@ -138,11 +138,11 @@ fn store_name(work: &mut [u8], span: u64, k: u32, width: usize, to: usize)
 }
 
 // A name around the symbol that comes next.
-pub fn put_name(work: &mut [u8], span: u64, k: u32, width: usize, lim: usize, to: usize) -> usize
-    requires { (2 ≤ width) × (width ≤ 3) × (lim ≤ length work.old) }
-    ensures { Puts work.old lim to (name_head width span k) result work.new }
+pub fn put_name(work: &mut [u8], span: u64, k: u32, width: Width, lim: usize, to: usize) -> usize
+    requires { lim ≤ length work.old }
+    ensures { Puts work.old lim to (name_head width.bytes span k) result work.new }
 {
-    put(work, 10 + width, lim, to, move |w| {
+    put(work, 10 + width.bytes, lim, to, move |w| {
         store_name(w, span, k, width, to)
     })
 }
@@ -163,14 +163,14 @@ pub fn put_nonterminal(
     work: &mut [u8],
     span: u64,
     k: u32,
-    width: usize,
+    width: Width,
     lim: usize,
     to: usize,
 ) -> usize
-    requires { (2 ≤ width) × (width ≤ 3) × (lim ≤ length work.old) }
-    ensures { Puts work.old lim to (36 ∷ (le 8 span ++ le width k)) result work.new }
+    requires { lim ≤ length work.old }
+    ensures { Puts work.old lim to (36 ∷ (le 8 span ++ le width.bytes k)) result work.new }
 {
-    put(work, 9 + width, lim, to, move |w| {
+    put(work, 9 + width.bytes, lim, to, move |w| {
         store_named(w, 36, span, k, width, to)
     })
 }

@@ -2,9 +2,19 @@
 // work the list of new texts, the slots, the last 72 bytes of the room for records, and the room for appended items.
 #![tactic(auto)]
 
+use expander::Ground;
+
 pub mod built;
 pub mod commands;
 pub mod symbols;
+
+// What stays as it is while items are appended: where the round stands in work, how many symbols were pushed, and the place before which items are written.
+#[derive(Clone, Copy)]
+pub struct Round {
+    pub g: Ground,
+    pub n: usize,
+    pub lim: usize,
+}
 
 // What is appended so far: the place to write on at, how many texts are new, and whether a symbol is nested too deep.
 #[derive(Clone, Copy)]

@@ -3,10 +3,10 @@ ghost use Rattle.std.specs.Prelude.{◌∷◌, ◌++◌, ◌+◌, ◌≤◌, ◌
 ghost use Rattle.octets.specs.Plain.Numbers.{le};
 ghost use Rattle.precedence.specs.Write.{Puts};
 ghost use Rattle.resolve.specs.Commands.{long_of};
-ghost use Rattle.appending.specs.Symbols.{SomeReference, PutsReference, PutsCommand, SomeReferring, PutsNext, PutsSymbols};
+ghost use Rattle.appending.specs.Symbols.{Nameable, PutsNamed, SomeReference, PutsReference, PutsCommand, SomeReferring, PutsNext, PutsSymbols};
 
-use crate::Appended;
 use crate::commands::put_nonterminal;
+use crate::{Appended, Round};
 use expander::Ground;
 use expander::replace::is_expanded;
 use expander::slots::number;
@@ -29,36 +29,52 @@ struct Coming {
     run: Copied,
 }
 
-// The symbol at q.at, which is expanded, as the name of its print.
-fn put_reference(tape: &[u8], work: &mut [u8], g: Ground, n: usize, lim: usize, q: Copied) -> Copied
-    requires { SomeReference tape.now work.old g n lim q }
-    ensures { PutsReference tape.now work.old g n lim q result work.new }
+// The print of the symbol at p as a name, at a span.
+pub fn put_named(
+    tape: &[u8],
+    work: &mut [u8],
+    round: Round,
+    p: usize,
+    span: u64,
+    v: Appended,
+) -> Appended
+    requires { Nameable tape.now work.old round.g round.n round.lim p v }
+    ensures { PutsNamed tape.now work.old round.g round.n round.lim p span v result work.new }
 {
-    let at = g.from + q.at;
-    let e = skip(work, at, g.end, 1, g.width);
-    let span = u64_at(work, at + 1);
-    let x = number(tape, work, g, n, q.out.count, q.at);
+    let x = number(tape, work, round.g, round.n, v.count, p);
     let to = put_nonterminal(
         work,
         span,
         (x.number % 4294967296) as u32,
-        g.width,
-        lim,
-        q.out.to,
+        round.g.width,
+        round.lim,
+        v.to,
     );
+    Appended {
+        to,
+        count: x.count,
+        ..v
+    }
+}
+
+// The symbol at q.at, which is expanded, as the name of its print.
+fn put_reference(tape: &[u8], work: &mut [u8], round: Round, q: Copied) -> Copied
+    requires { SomeReference tape.now work.old round.g round.n round.lim q }
+    ensures { PutsReference tape.now work.old round.g round.n round.lim q result work.new }
+{
+    let at = round.g.from + q.at;
+    let e = skip(work, at, round.g.end, 1, round.g.width);
+    let span = u64_at(work, at + 1);
+    let out = put_named(tape, work, round, q.at, span, q.out);
     Copied {
-        at: e - g.from,
-        out: Appended {
-            to,
-            count: x.count,
-            ..q.out
-        },
+        at: e - round.g.from,
+        out,
     }
 }
 
 // The command at q.at, of the code c, as it stands.
 fn put_command(work: &mut [u8], g: Ground, lim: usize, q: Copied, c: u8) -> Copied
-    requires { (2 ≤ g.width) × (g.width ≤ 3) × (g.from + q.at + long_of g.width c ≤ q.out.to) × (lim ≤ length work.old) × (g.from + q.at + 17 ≤ length work.old) }
+    requires { (g.from + q.at + long_of g.width.bytes c ≤ q.out.to) × (lim ≤ length work.old) × (g.from + q.at + 17 ≤ length work.old) }
     ensures { PutsCommand work.old g lim q c result work.new }
 {
     let at = g.from + q.at;
@@ -71,39 +87,37 @@ fn put_command(work: &mut [u8], g: Ground, lim: usize, q: Copied, c: u8) -> Copi
 }
 
 // One symbol that is expanded, or one command.
-fn put_next(tape: &[u8], work: &mut [u8], g: Ground, n: usize, lim: usize, x: Coming) -> Coming
-    requires { SomeReferring tape.now work.old g n lim x.run.at x.left x.run.out × (0 < x.left) }
-    ensures { PutsNext tape.now work.old g n lim x result work.new }
+fn put_next(tape: &[u8], work: &mut [u8], round: Round, x: Coming) -> Coming
+    requires { SomeReferring tape.now work.old round.g round.n round.lim x.run.at x.left x.run.out × (0 < x.left) }
+    ensures { PutsNext tape.now work.old round.g round.n round.lim x result work.new }
 {
     let q = x.run;
-    let at = g.from + q.at;
+    let at = round.g.from + q.at;
     let c = work[at];
     if is_expanded(c) {
-        let run = put_reference(tape, work, g, n, lim, q);
+        let run = put_reference(tape, work, round, q);
         Coming {
             left: x.left - 1,
             run,
         }
     } else {
-        let left = x.left - 1 + inside(work, at, g.width);
-        let run = put_command(work, g, lim, q, c);
+        let left = x.left - 1 + inside(work, at, round.g.width);
+        let run = put_command(work, round.g, round.lim, q, c);
         Coming { left, run }
     }
 }
 
-// k symbols that stand at p; n symbols were pushed, and items are written before lim.
+// k symbols that stand at p.
 pub fn put_symbols(
     tape: &[u8],
     work: &mut [u8],
-    g: Ground,
-    n: usize,
-    lim: usize,
+    round: Round,
     p: usize,
     k: usize,
     v: Appended,
 ) -> Copied
-    requires { SomeReferring tape.now work.old g n lim p k v }
-    ensures { PutsSymbols tape.now work.old g n lim p k v result work.new }
+    requires { SomeReferring tape.now work.old round.g round.n round.lim p k v }
+    ensures { PutsSymbols tape.now work.old round.g round.n round.lim p k v result work.new }
 {
     let first = Copied { at: p, out: v };
     let mut x = Coming {
@@ -112,7 +126,7 @@ pub fn put_symbols(
     };
     // How many are to come grows by what stands inside: no range says it.
     while 0 < x.left {
-        x = put_next(tape, work, g, n, lim, x);
+        x = put_next(tape, work, round, x);
     }
     x.run
 }

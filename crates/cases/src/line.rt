@@ -58,18 +58,14 @@ fn read_words(line: &[u8], from: usize, tape: &mut [u8]) -> Option<Case> {
 }
 
 fn output_length(c: Case, call: Call) -> usize {
-    match c.output {
-        Some(n) => n,
-        None => usual_output(call, c.tape),
-    }
+    c.output.unwrap_or(usual_output(call, c.tape))
 }
 
-// 8 bytes for each byte of tape and output, unless the case says another length.
-fn work_length(c: Case, output: usize) -> usize {
+// 8 bytes for each byte of tape and output, unless the case says another length; None where that is no number.
+fn work_length(c: Case, output: usize) -> Option<usize> {
     match c.work {
-        Some(n) => n,
-        None if 10000000 < c.tape || 10000000 < output => usize::MAX,
-        None => 8 * (c.tape + output),
+        Some(n) => Some(n),
+        None => c.tape.checked_add(output)?.checked_mul(8),
     }
 }
 
@@ -87,13 +83,7 @@ fn run_sized(
     buffers: &mut Buffers,
     writer: &mut impl Write,
 ) -> io::Result<()> {
-    if buffers.tape.len() < n {
-        return print_bad(writer);
-    }
-    if buffers.output.len() < o {
-        return print_bad(writer);
-    }
-    if buffers.work.len() < w {
+    if buffers.tape.len() < n || buffers.output.len() < o || buffers.work.len() < w {
         return print_bad(writer);
     }
     run_case(
@@ -120,7 +110,9 @@ fn run_named(
         return print_bad(writer);
     };
     let o = output_length(c, call);
-    let w = work_length(c, o);
+    let Some(w) = work_length(c, o) else {
+        return print_bad(writer);
+    };
     let call = within(call, c.limit);
     run_sized(&line[..end], call, c.tape, o, w, buffers, writer)
 }

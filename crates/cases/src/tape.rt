@@ -2,7 +2,7 @@
 ghost use Rattle.std.specs.Prelude.{◌<◌};
 
 use notation::bytes::put_bytes;
-use notation::words::{decimal, find};
+use notation::words::decimal;
 use octets::sink::put8;
 
 // Bytes, so many times.
@@ -52,15 +52,12 @@ fn put_atoms(count: usize, tape: &mut [u8], to: usize) -> Option<usize> {
 
 // What a word that writes to the tape stands for.
 pub fn put_word(word: &[u8], tape: &mut [u8], to: usize) -> Option<usize> {
-    if word.is_empty() {
-        return None;
+    match word {
+        [] => None,
+        [b'a', count @ ..] => put_atoms(decimal(count)?, tape, to),
+        _ => match word.iter().position(|b| *b == b'x') {
+            Some(x) => put_repeated(&word[x + 1..], decimal(&word[..x])?, tape, to),
+            None => put_bytes(word, tape, to),
+        },
     }
-    if word[0] == b'a' {
-        return put_atoms(decimal(&word[1..])?, tape, to);
-    }
-    let x = find(word, b'x', 0);
-    if x == word.len() {
-        return put_bytes(word, tape, to);
-    }
-    put_repeated(&word[x + 1..], decimal(&word[..x])?, tape, to)
 }

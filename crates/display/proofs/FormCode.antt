@@ -1,25 +1,21 @@
 -- Forms: the ways out of the code that makes a form longer. Assumes nothing.
 use mathlib.Core.Path.{◌≡◌, refl, sym, ap, ◌∙◌}
 use mathlib.Core.Bool.{Bool, true, false}
-use mathlib.Core.Logic.{◌⊎◌, inl, inr}
 use mathlib.Core.List.{List, [], ◌∷◌}
-use Prim.Native.Nat.{ℕ, suc, ◌+◌, ◌*◌, ◌-◌, ◌/◌, ◌%◌, ◌<◌, ◌≤◌, min}
+use Prim.Native.Nat.{ℕ, suc, ◌+◌, ◌*◌, ◌/◌, ◌%◌, ◌<◌, ◌≤◌, min}
 use native.Mathlib.Omega.{arith}
 use native.Mathlib.Numerals.{add-one}
 use native.Mathlib.Nat.{mul-le-mul, mod-lt}
 use borrow.Author.Rules.{rules}
-use borrow.Author.Tests.{lt-ltb, le-ltb, ltb-true, ltb-false, ne_eqb, eqb-true, eqb-false}
+use borrow.Author.Tests.{ltb-true, ltb-false, ne_eqb, eqb-true, eqb-false}
 use mir.Val.{Fits}
 use mir.Syntax.{w64}
 use lib.Dec.{eqb, ltb}
 use lib.ListN.{length, drop, get_or, drop_of_length-le}
-use lib.Seq.{take_all, drop-cons}
+use lib.Seq.{drop-cons}
 use Rattle.octets.specs.Working.Choice.{pick}
 use Rattle.octets.specs.Plain.Numbers.{le_at}
-use Rattle.octets.specs.Plain.Runs.{part}
-use Rattle.octets.proofs.PartLaws.{part_none, part-one}
 use Rattle.parse_tree.specs.Plain.Tree.{Text}
-use Rattle.parse_tree.specs.Plain.Display.{escaped}
 use Rattle.texts.specs.declared.Map.{Map}
 use Rattle.texts.specs.Hash.{hash_by, power_by, hash_step, hash_from, hash_of, power}
 use Rattle.texts.specs.Forms.{stop}
@@ -28,10 +24,9 @@ use Rattle.texts.specs.Texts.{marked_text}
 use Rattle.texts.specs.Table.{texts}
 use Rattle.texts.proofs.FormLaws.{power_small, power-times, mod_factor, mod_factor_right}
 use Rattle.display.specs.declared.form.Form.{Form}
-use Rattle.display.specs.Follow.{quoted_text, word_at, leaf_text, mark_text, label_text, name_text, before_by, op_byte, behind_by, between_by}
+use Rattle.display.specs.Follow.{word_at}
 use Rattle.display.specs.Form.{text_form, SomeForm, odd_times, whole_of, join_of, Hashed, more_of, form_from, From}
 use Rattle.display.proofs.FormLaws.{from_is, from_form, from_join, from_none, from_then, from_as, from-append, hash_fits, power-fits, len_fits}
-use Rattle.display.proofs.StandsLaws.{escaped-one}
 use Rattle.display.proofs.MeetCode.{word_beyond, word_some, word_whole, named-room, macro_room, name_room, name_read, repeat_room}
 
 -- ---- none, snoc, one
@@ -195,53 +190,6 @@ module _ (f : Form) (t : Text) (g : Form) (i : ℕ) (p : Passing f t g i) where
 
 pub ruleset following = (rules, snocs_start, snocs_next, snocs_done)
 
--- ---- escapes: g is f with what was passed more
-pub record Escaping (f : Form) (t : Text) (g : Form) (i : ℕ) : Type 0 where
-  pub rest : form_from g (escaped (part i (length t) t) []) ≡ form_from f (escaped t [])
-  pub form : SomeForm g
-  pub upto : i ≤ length t
-
-pub escapes_start : (f : Form) (t : Text) → SomeForm f → Escaping f t f 0
-unfolding part
-escapes_start f t h = record { rest = ap (λ (x : Text). form_from f (escaped x [])) (take_all (length t - 0) t (omega arith)); form = h; upto = omega arith }
-
-module _ (f : Form) (t : Text) (g : Form) (i : ℕ) (p : Escaping f t g i) where
-  pub escapes_next : (r : Form) → i < length t → From g (escaped (get_or t i 0 ∷ []) []) r → Escaping f t r (i + 1)
-  escapes_next r l a =
-      let z = part-one i (length t) t l (omega arith) in
-      record {
-        rest = ap (λ (y : Form). form_from y (escaped (part (i + 1) (length t) t) [])) a.is
-            ∙ sym (from-append g (escaped (get_or t i 0 ∷ []) []) (escaped (part (i + 1) (length t) t) []))
-            ∙ ap (form_from g) (sym (escaped-one (get_or t i 0) (part (i + 1) (length t) t)))
-            ∙ ap (λ (y : Text). form_from g (escaped y [])) (sym z)
-            ∙ p.rest;
-        form = a.form;
-        upto = omega arith;
-      }
-
-  pub escapes_done : length t ≤ i → From f (escaped t []) g
-  unfolding form_from escaped
-  escapes_done l = record { is = cc (part_none i (length t) t l, p.rest); form = p.form }
-
-pub ruleset passing = (rules, escapes_start, escapes_next, escapes_done)
-
--- ---- escape, quoted_form
-module _ (f : Form) (b : ℕ) where
-  pub escape_marked : (x r : Form) → (b ≡ 34) ⊎ ((b ≡ 34 → ⊥) × (b ≡ 92)) → From f (92 ∷ []) x → From x (b ∷ []) r → From f (escaped (b ∷ []) []) r
-  unfolding escaped
-  escape_marked x r (inl e) p q = let z = rw e at (from_then p q) in rw e z
-  escape_marked x r (inr (n, e)) p q = let z = rw e at (from_then p q) in rw e z
-
-  pub escape_plain : (r : Form) → (b ≡ 34 → ⊥) × (b ≡ 92 → ⊥) → From f (b ∷ []) r → From f (escaped (b ∷ []) []) r
-  unfolding escaped
-  escape_plain r (n, m) p = rw (ne_eqb b 34 n, ne_eqb b 92 m) p
-
-pub quoted_done : (f : Form) (t : Text) (x y r : Form) → From f (34 ∷ []) x → From x (escaped t []) y → From y (34 ∷ []) r → From f (quoted_text t) r
-unfolding quoted_text
-quoted_done f t x y r a b c = from_then a (from_then b c)
-
-pub ruleset quoting = (rules, escape_marked, escape_plain, quoted_done)
-
 -- ---- named
 module _ (s w : List ℕ) (m : Map) (k h y : ℕ) (g : Hashed s w m) (l : k < m.count) (p : y ≡ mark_at w m.base k) (q : h ≡ hash_at w m.base k) (t : Text) (e : t ≡ marked_text s w y) where
   whole_is : (n : ℕ) → n ≡ length t → whole_of h n ≡ text_form t
@@ -260,114 +208,3 @@ pub named-beyond : (s w : List ℕ) (m : Map) (wd at x k : ℕ) (f : Form) → x
 named-beyond s w m wd at x k f j u l g = from_as (word_beyond wd s w m at x k j u l) (from_none f g)
 
 pub ruleset naming = (rules, word_whole, whole_form, named_some, named-beyond)
-
--- ---- mutable, separated
-pub mutable_yes : (f r : Form) (v : ℕ) → v ≡ 1 → From f (109 ∷ 117 ∷ 116 ∷ 32 ∷ []) r → From f (label_text v) r
-unfolding label_text pick
-mutable_yes f r v e h = rw e h
-
-pub mutable_no : (f : Form) (v : ℕ) → SomeForm f → (v ≡ 1 → ⊥) → From f (label_text v) f
-unfolding label_text pick
-mutable_no f v g n = rw (ne_eqb v 1 n) (from_none f g)
-
-module _ (f : Form) (c k : ℕ) where
-  pub separated_none : SomeForm f → k ≡ 0 → From f (between_by c k) f
-  unfolding between_by pick
-  separated_none g e = rw e (from_none f g)
-
-  pub separated_comma : (r : Form) → (k ≡ 0 → ⊥) → c ≡ 37 → From f (44 ∷ 32 ∷ []) r → From f (between_by c k) r
-  unfolding between_by pick
-  separated_comma r n e a = rw (ne_eqb k 0 n, e) a
-
-  pub separated_space : (r : Form) → (k ≡ 0 → ⊥) → (c ≡ 37 → ⊥) → From f (32 ∷ []) r → From f (between_by c k) r
-  unfolding between_by pick
-  separated_space r n m a = rw (ne_eqb k 0 n, ne_eqb c 37 m) a
-
-pub ruleset separating = (rules, mutable_yes, mutable_no, separated_none, separated_comma, separated_space)
-
--- ---- behind
-module _ (w : List ℕ) (at c : ℕ) (f : Form) where
-  pub behind_macro : (r : Form) → c ≡ 37 → From f (62 ∷ []) r → From f (behind_by w at c) r
-  unfolding behind_by pick
-  behind_macro r e a = rw e a
-
-  pub behind_repeat : (r : Form) (o v : ℕ) → c ≡ 38 → v ≡ get_or w (at + 9) 0 → o ≡ op_byte v → From f (o ∷ []) r → From f (behind_by w at c) r
-  unfolding behind_by pick
-  behind_repeat r o v e j k a = rw (e, ← j, ← k) a
-
-  pub behind_choose : (r : Form) → c ≡ 39 → From f (62 ∷ []) r → From f (behind_by w at c) r
-  unfolding behind_by pick
-  behind_choose r e a = rw e a
-
-  pub behind_group : (r : Form) → c ≡ 41 → From f (41 ∷ []) r → From f (behind_by w at c) r
-  unfolding behind_by pick
-  behind_group r e a = rw e a
-
-  pub behind_none : (c ≡ 37 → ⊥) → (c ≡ 38 → ⊥) → (c ≡ 39 → ⊥) → (c ≡ 41 → ⊥) → SomeForm f → From f (behind_by w at c) f
-  unfolding behind_by pick
-  behind_none a b d e g = rw (ne_eqb c 37 a, ne_eqb c 38 b, ne_eqb c 39 d, ne_eqb c 41 e) (from_none f g)
-
-pub ruleset closing = (rules, repeat_room, behind_macro, behind_repeat, behind_choose, behind_group, behind_none)
-
--- ---- leaf, marked
-module _ (f : Form) (c : ℕ) where
-  module _ (t x : Text) (j : t ≡ x) where
-    pub leaf_quoted : (r : Form) → c ≡ 34 → From f (quoted_text t) r → From f (leaf_text c x) r
-    unfolding leaf_text pick
-    leaf_quoted r e a = rw (e, ← j) a
-
-    pub leaf_regex : (z u r : Form) → c ≡ 35 → From f (114 ∷ 35 ∷ []) z → From z (quoted_text t) u → From u (35 ∷ []) r → From f (leaf_text c x) r
-    unfolding leaf_text pick
-    leaf_regex z u r e a d g = rw (e, ← j) (from_then a (from_then d g))
-
-  pub leaf_name : (x : Text) (r : Form) → (c ≡ 34 → ⊥) → (c ≡ 35 → ⊥) → From f x r → From f (leaf_text c x) r
-  unfolding leaf_text pick
-  leaf_name x r n34 n35 a = rw (ne_eqb c 34 n34, ne_eqb c 35 n35) a
-
-  pub marked_left : (r : Form) → c ≡ 42 → From f (64 ∷ 76 ∷ []) r → From f (mark_text c) r
-  unfolding mark_text pick
-  marked_left r e a = rw e a
-
-  pub marked_right : (r : Form) → c ≡ 43 → From f (64 ∷ 82 ∷ []) r → From f (mark_text c) r
-  unfolding mark_text pick
-  marked_right r e a = rw e a
-
-  pub marked_error : (r : Form) → (c ≡ 42 → ⊥) → (c ≡ 43 → ⊥) → From f (101 ∷ 114 ∷ 114 ∷ 111 ∷ 114 ∷ []) r → From f (mark_text c) r
-  unfolding mark_text pick
-  marked_error r n m a = rw (ne_eqb c 42 n, ne_eqb c 43 m) a
-
-pub ruleset leafing = (rules, leaf_quoted, leaf_regex, leaf_name)
-
-pub ruleset marking = (rules, marked_left, marked_right, marked_error)
-
--- ---- before
-module _ (wd : ℕ) (ts : List Text) (w : List ℕ) (at c : ℕ) (f : Form) where
-  pub before-leaf : (r : Form) → c < 37 → From f (leaf_text c (word_at wd ts w (at + 9))) r → From f (before_by wd ts w at c) r
-  unfolding before_by pick
-  before-leaf r l a = rw (lt-ltb c 37 l) a
-
-  pub before-macro : (x r : Form) → c ≡ 37 → From f (word_at wd ts w (at + 9)) x → From x (60 ∷ []) r → From f (before_by wd ts w at c) r
-  unfolding before_by pick
-  before-macro x r e a b = rw e (from_then a b)
-
-  pub before-repeat : SomeForm f → c ≡ 38 → From f (before_by wd ts w at c) f
-  unfolding before_by pick
-  before-repeat g e = rw e (from_none f g)
-
-  pub before-choose : (r : Form) → c ≡ 39 → From f (60 ∷ []) r → From f (before_by wd ts w at c) r
-  unfolding before_by pick
-  before-choose r e a = rw e a
-
-  pub before-name : (x y r : Form) (v : ℕ) → c ≡ 40 → v ≡ get_or w (at + 9) 0 → From f (label_text v) x → From x (word_at wd ts w (at + 10)) y → From y (58 ∷ []) r → From f (before_by wd ts w at c) r
-  unfolding before_by name_text pick
-  before-name x y r v e j a b d = rw (e, ← j) (from_then a (from_then b d))
-
-  pub before-group : (r : Form) → c ≡ 41 → From f (40 ∷ []) r → From f (before_by wd ts w at c) r
-  unfolding before_by pick
-  before-group r e a = rw e a
-
-  pub before-mark : (r : Form) → 37 ≤ c → (c ≡ 37 → ⊥) → (c ≡ 38 → ⊥) → (c ≡ 39 → ⊥) → (c ≡ 40 → ⊥) → (c ≡ 41 → ⊥) → From f (mark_text c) r → From f (before_by wd ts w at c) r
-  unfolding before_by pick
-  before-mark r l n37 n38 n39 n40 n41 a = rw (le-ltb c 37 l, ne_eqb c 37 n37, ne_eqb c 38 n38, ne_eqb c 39 n39, ne_eqb c 40 n40, ne_eqb c 41 n41) a
-
-pub ruleset opening = (rules, named-room, macro_room, name_room, name_read, before-leaf, before-macro, before-repeat, before-choose, before-name, before-group, before-mark)

@@ -5,11 +5,13 @@ mod MeetCode
 pub mod FollowCode
 pub mod FormLaws
 mod FormCode
-mod FormListCode
+mod ListCode
 pub mod SinkLaws
+pub mod TakenLaws
+mod SinkCode
+pub mod SinksLaws
 pub mod WindowLaws
 mod WindowCode
-mod WindowShow
 mod WindowSeen
 mod WindowBound
 mod WindowSame

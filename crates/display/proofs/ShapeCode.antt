@@ -23,7 +23,8 @@ use Rattle.texts.specs.Table.{texts}
 use Rattle.resolve.specs.Commands.{long_of}
 use Rattle.grades.specs.Skip.{inside_by}
 use Rattle.grades.proofs.SkipMean.{count-few}
-use Rattle.display.specs.Standing.{Readable, SymStands, SomeSym}
+use Rattle.grades.specs.Grading.{Worded}
+use Rattle.display.specs.Standing.{SymStands, SomeSym}
 use Rattle.display.specs.Follow.{before_by, behind_by, between_by}
 use Rattle.display.specs.Shape.{OperandsAlike, SomeTwo, PrintsAlike}
 use Rattle.display.specs.Window.{SamePrints}
@@ -241,8 +242,8 @@ pub ruleset running = (rules, running_start, running_no, running_done, running_w
 
 -- ---- the quick look of `same_print`
 module _ (s w : List ℕ) (m : Map) (wd left a b : ℕ) where
-  pub looking_two : Readable s w m wd → SomeSym s w m wd left a → SomeSym s w m wd left b → SomeTwo w wd a b
-  looking_two r f g = record { tape = s; map = m; left = left; readable = r; first = f; second = g }
+  pub looking_two : Worded s w m → 2 ≤ wd → wd ≤ 3 → SomeSym s w m wd left a → SomeSym s w m wd left b → SomeTwo w wd a b
+  looking_two r u v f g = record { tape = s; map = m; left = left; readable = record { worded = r; narrow = u; wide = v }; first = f; second = g }
 
   pub looking_done : (r : Bool) → PrintsAlike w wd a b r → r ≡ true → SamePrints s w m wd left a b true
   looking_done r h t = record { says = λ four four' e e' x y i j. sym (eq_same_as (print x) (print y) (h.says t s m left four four' e e' x y i j)) }

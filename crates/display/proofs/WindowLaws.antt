@@ -16,19 +16,18 @@ drop_append (suc n) [] ys = let z : suc n - 0 ≡ suc n = omega arith in rw z
 drop_append zero (x ∷ xs) ys = let z : 0 - length (x ∷ xs) ≡ 0 = omega arith in rw z
 drop_append (suc n) (x ∷ xs) ys = let z : suc n - length (x ∷ xs) ≡ n - length xs = omega arith in rw z (drop_append n xs ys)
 
-pub emitted_kept : (xs : List ℕ) (e : ℕ) (o : List ℕ) (p r : Spot) (o1 : List ℕ) → Emitted xs e o p r o1 → length o1 ≡ length o
-emitted_kept xs e o p r o1 c = ap length c.bytes ∙ length_lay o (length o) p.to (drop p.skip xs)
+pub emitted_kept : (xs o : List ℕ) (p r : Spot) (o1 : List ℕ) → Emitted xs o p r o1 → length o1 ≡ length o
+emitted_kept xs o p r o1 c = ap length c.bytes ∙ length_lay o (length o) p.to (drop p.skip xs)
 
 -- theorem: what is emitted one behind another
-pub emitted_append : (xs ys : List ℕ) (e1 e : ℕ) (o o1 o2 : List ℕ) (p q r : Spot) → Emitted xs e1 o p q o1 → Emitted ys e o1 q r o2 → Emitted (xs ++ ys) e o p r o2
-emitted_append xs ys e1 e o o1 o2 p q r c d =
+pub then : {xs ys o o1 o2 : List ℕ} {p q r : Spot} → Emitted xs o p q o1 → Emitted ys o1 q r o2 → Emitted (xs ++ ys) o p r o2
+then {xs} {ys} {o} {o1} {o2} {p} {q} {r} c d =
     let n = p.skip in
     let to = p.to in
-    let k = emitted_kept xs e1 o p q o1 c in
+    let k = emitted_kept xs o p q o1 c in
     let l = length-append xs ys in
     let m = length-drop n xs in
     record {
-      place = d.place;
       skip = d.skip ∙ omega (arith, c.skip, l);
       bytes = cc (d.bytes, c.bytes, c.after, c.skip, k, m, lay-append o (length o) to (drop n xs) (drop (n - length xs) ys), drop_append n xs ys);
       after =
@@ -36,25 +35,21 @@ emitted_append xs ys e1 e o o1 o2 p q r c d =
           cc (d.after, c.after, c.skip, k, adv-append (length o) to (length xs - n) (length ys - (n - length xs)));
     }
 
--- the same, of two calls
-pub then : {xs ys o o1 o2 : List ℕ} {e : ℕ} {p q r : Spot} → Emitted xs e o p q o1 → Emitted ys q.at o1 q r o2 → Emitted (xs ++ ys) e o p r o2
-then {xs} {ys} {o} {o1} {o2} {e} {p} {q} {r} c d = emitted_append xs ys e e o o1 o2 p q r c (record { place = d.place ∙ c.place; skip = d.skip; bytes = d.bytes; after = d.after })
+pub emitted_as : {xs ys o o1 : List ℕ} {p r : Spot} → xs ≡ ys → Emitted xs o p r o1 → Emitted ys o p r o1
+emitted_as {xs} {ys} {o} {o1} {p} {r} i c = rw i at c
 
-pub emitted_as : {xs ys o o1 : List ℕ} {e : ℕ} {p r : Spot} → xs ≡ ys → Emitted xs e o p r o1 → Emitted ys e o p r o1
-emitted_as {xs} {ys} {o} {o1} {e} {p} {r} i c = rw i at c
-
-pub emitted_none : (o : List ℕ) (p : Spot) → Emitted [] p.at o p p o
+pub emitted_none : (o : List ℕ) (p : Spot) → Emitted [] o p p o
 unfolding lay adv
 emitted_none o p =
     let z : ◌≡◌ {A = List ℕ} (drop p.skip []) [] = drop-nil p.skip in
     let y : 0 - p.skip ≡ 0 = omega arith in
-    record { place = refl; skip = omega arith; bytes = rw z; after = rw y }
+    record { skip = omega arith; bytes = rw z; after = rw y }
 
 -- all of xs is skipped
-pub skipped : (xs : List ℕ) (o : List ℕ) (p r : Spot) → r.at ≡ p.at → r.to ≡ p.to → length xs ≤ p.skip → r.skip ≡ p.skip - length xs → Emitted xs p.at o p r o
+pub skipped : (xs : List ℕ) (o : List ℕ) (p r : Spot) → r.to ≡ p.to → length xs ≤ p.skip → r.skip ≡ p.skip - length xs → Emitted xs o p r o
 unfolding lay adv
-skipped xs o p r i j h k =
+skipped xs o p r j h k =
     let n = p.skip in
     let z : drop n xs ≡ [] = drop_of_length-le xs {i = n} h in
     let y : length xs - n ≡ 0 = omega arith in
-    record { place = i; skip = k; bytes = rw z; after = rw y j }
+    record { skip = k; bytes = rw z; after = rw y j }

@@ -159,10 +159,10 @@ window_seen x x1 y y1 xs ys i j r l c d e = subst (λ (v : Verdict). Seen v (len
     z : (m m' : ℕ) → m ≡ m' → same_as (part 0 (0 + m) x1) (part 0 (0 + m) y1) ≡ same_as (part 0 (0 + m') (lay x (length x) 0 xs)) (part 0 (0 + m') (lay y (length y) 0 ys))
     z m m' q = cc (c.bytes, d.bytes)
 
-pub look_done : (s w : List ℕ) (m : Map) (wd left a b n : ℕ) (x x1 y y1 : List ℕ) (i j : ℕ) (r : Verdict) → length x ≡ length y → Fills s w m wd left a n x i x1 → Fills s w m wd left b n y j y1
-    → r ≡ judged x1 y1 i j → Looks s w m wd left a b n (length x) r
-look_done s w m wd left a b n x x1 y y1 i j r l f g e = record {
-  looks = λ four four' d d' u v h k. window_seen x x1 y y1 (drop n (print u)) (drop n (print v)) i j r l (f.fills four d u h) (g.fills four' d' v k) e;
+pub look_done : (s w : List ℕ) (m : Map) (wd left a b n : ℕ) (x x1 y y1 : List ℕ) (i j l : ℕ) (r : Verdict) → length x ≡ l → length y ≡ l → Fills s w m wd left a n x i x1 → Fills s w m wd left b n y j y1
+    → r ≡ judged x1 y1 i j → Looks s w m wd left a b n l r
+look_done s w m wd left a b n x x1 y y1 i j l r o q f g e = record {
+  looks = λ four four' d d' u v h k. rw (← o) (window_seen x x1 y y1 (drop n (print u)) (drop n (print v)) i j r (o ∙ sym q) (f.fills four d u h) (g.fills four' d' v k) e);
 }
 
 pub ruleset seeing = (rules, look_done)

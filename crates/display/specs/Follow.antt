@@ -7,6 +7,7 @@ use Rattle.parse_tree.specs.Plain.Tree.{Text, Sym}
 use Rattle.parse_tree.specs.Plain.Display.{escaped, print}
 use Rattle.texts.specs.declared.Map.{Map}
 use Rattle.display.specs.declared.Met.{Met}
+use Rattle.display.specs.declared.follow.Held.{Held}
 use Rattle.display.specs.Standing.{SymStands}
 
 -- the place in t behind the byte b, if it stands at i; none after a difference
@@ -78,3 +79,7 @@ module _ (s w : List ℕ) (m : Map) (wd left : ℕ) where
   pub record Follows (t : Text) (p : Met) (r : Option Met) : Type 0 where
     pub place : (q : Met) → r ≡ Some q → (four : Bool) (e : ℕ) (x : Sym) → SymStands s w m wd four left p.at e x → q.at ≡ e
     pub met : (four : Bool) (e : ℕ) (x : Sym) → SymStands s w m wd four left p.at e x → index_of r ≡ met_by t (Some p.i) (print x)
+
+-- with a byte more
+unfoldable pub held_more : Held → ℕ → Held
+held_more x b = record { text = x.text; at = met_one x.text.now x.at b }

@@ -4,3 +4,4 @@ pub mod Follow
 pub mod Form
 pub mod Window
 pub mod Shape
+pub mod Sink

@@ -6,6 +6,7 @@ pub mod emit;
 pub mod follow;
 pub mod form;
 pub mod shape;
+pub mod sink;
 pub mod window;
 
 // Where to read on, and how many bytes of a text were met.

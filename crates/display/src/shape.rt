@@ -3,6 +3,7 @@ ghost use Rattle.std.specs.Prelude.{◌+◌, ◌≤◌, length};
 ghost use Rattle.display.specs.Shape.{OperandsAlike, SomeTwo, PrintsAlike};
 
 use crate::follow::inside;
+use octets::numbers::Width;
 use octets::runs::same;
 use resolve::commands::long;
 
@@ -15,9 +16,9 @@ fn same_operands(work: &[u8], p: usize, q: usize, n: usize) -> bool
 }
 
 // A flat run over the commands of both: k symbols are to come.
-pub fn same_shape(work: &[u8], width: usize, a: usize, b: usize) -> bool
-    requires { SomeTwo work.now width a b }
-    ensures { PrintsAlike work.now width a b result }
+pub fn same_shape(work: &[u8], width: Width, a: usize, b: usize) -> bool
+    requires { SomeTwo work.now width.bytes a b }
+    ensures { PrintsAlike work.now width.bytes a b result }
 {
     let mut p = a;
     let mut q = b;

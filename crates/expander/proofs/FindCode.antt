@@ -12,11 +12,12 @@ use lib.ListN.{length, get_or}
 use Rattle.octets.specs.Plain.Runs.{same_as}
 use Rattle.octets.proofs.SameLaws.{same_as-eq, same_as-sym}
 use Rattle.parse_tree.specs.Plain.Tree.{Text}
-use Rattle.texts.specs.Hash.{hash_of}
+use Rattle.texts.specs.Hash.{hash_of, bucket_of}
 use Rattle.texts.specs.Fields.{mark_at, hash_at, cell_at}
 use Rattle.texts.specs.Forms.{stop}
-use Rattle.texts.specs.Table.{texts}
-use Rattle.texts.proofs.TableFindCode.{is_not, chasing}
+use Rattle.texts.specs.Search.{Searched}
+use Rattle.texts.specs.Table.{texts, Finds}
+use Rattle.texts.proofs.TableFindCode.{is_not, finding, find_is}
 use Rattle.display.specs.declared.form.Form.{Form}
 use Rattle.display.specs.Form.{text_form}
 use Rattle.display.specs.Standing.{SomeSym}
@@ -49,7 +50,7 @@ unlike x t n = go (same_as x t) refl
 
 -- ---- a symbol that is expanded
 module _ (s w : List ℕ) (g : Ground) (G : Grounded s w g) (b : (j : ℕ) → Bound.Fits w8 (get_or w j 0)) (p : ℕ) (k : KeyAt s w g p) where
-  pub place_some : SomeSym s w g.m g.width 64 (g.from + p)
+  pub place_some : SomeSym s w g.m g.width.bytes 64 (g.from + p)
   place_some = key_some s w g (λ j. (b j).fits) G p k
 
   pub place_fits : Bound.Fits w64 (g.from + p)
@@ -67,13 +68,13 @@ module _ (s w : List ℕ) (g : Ground) (n i : ℕ) (G : Grounded s w g) (R : Rec
     unfolding key_at
     record_key = rw e (R.keys i l)
 
-    pub record_some : SomeSym s w g.m g.width 64 (g.from + q)
+    pub record_some : SomeSym s w g.m g.width.bytes 64 (g.from + q)
     record_some = place_some s w g G b q record_key
 
     pub record_fits : Bound.Fits w64 (g.from + q)
     record_fits = place_fits s w g G b q record_key
 
-    pub record_same : (p : ℕ) (r : Bool) → KeyAt s w g p → SamePrints s w g.m g.width 64 (g.from + q) (g.from + p) r → r ≡ same_as (printed_at s w g (key_at w g i)) (printed_at s w g p)
+    pub record_same : (p : ℕ) (r : Bool) → KeyAt s w g p → SamePrints s w g.m g.width.bytes 64 (g.from + q) (g.from + p) r → r ≡ same_as (printed_at s w g (key_at w g i)) (printed_at s w g p)
     unfolding key_at print_at
     record_same p r k z =
         z.says false false _ _ _ _ (key_stands s w g (λ j. (b j).fits) G q record_key) (key_stands s w g (λ j. (b j).fits) G p k)
@@ -107,7 +108,7 @@ module _ (s w : List ℕ) (g : Ground) (G : Grounded s w g) (b : (j : ℕ) → B
     noted = N;
   }
 
-  module _ (k : ℕ) (t : Text) (q : Option Met) (e : t ≡ get_or (texts s w g.m) k []) (f : Follows s w g.m g.width 64 t (record { at = g.from + p; i = 0 }) q) where
+  module _ (k : ℕ) (t : Text) (q : Option Met) (e : t ≡ get_or (texts s w g.m) k []) (f : Follows s w g.m g.width.bytes 64 t (record { at = g.from + p; i = 0 }) q) where
     key_met : whole_met t (index_of q) ≡ same_as (get_or (texts s w g.m) k []) (printed_at s w g p)
     unfolding print_at
     key_met =
@@ -125,7 +126,12 @@ module _ (s w : List ℕ) (g : Ground) (G : Grounded s w g) (b : (j : ℕ) → B
 pub ruleset texting = (rules, place_fits, form_hash, is_not, key_inner, key_same, key_differs)
 
 -- ---- `written`: the table is gone through as by `find`
-pub ruleset seeking = (chasing, form_hash)
+pub ruleset seeking = (finding, form_hash)
+
+module _ (s w : List ℕ) (g : Ground) (p : ℕ) (f : Form) (G : Grounded s w g) (e : f ≡ text_form (printed_at s w g p)) where
+  pub written_is : (A : ℕ → Bool → Type 0) (y : ℕ) (r : Option ℕ) → y ≡ bucket_of f.hash g.m.buckets → Searched A w g.m.base g.m.buckets y g.m.count r
+      → ((i : ℕ) (a : Bool) → A i a → a ≡ same_as (get_or (texts s w g.m) i []) (printed_at s w g p)) → Finds (texts s w g.m) (printed_at s w g p) r
+  written_is = find_is s w g.m (printed_at s w g p) f.hash G.table (form_hash (printed_at s w g p) f e)
 
 -- ---- `is_pushed`
 pub pushed-is : (w : List ℕ) (g : Ground) (k v : ℕ) → v ≡ cell_at w g.m.base k → leb 2147483648 v ≡ pushed_text w g k

@@ -117,13 +117,13 @@ module _ (s w w' : List ℕ) (g : Ground) (h : Grounded s w g) (a : Around g w w
   said_around P x = subst (λ (ts : List Text). P (stage_in w' g) ts) (sym texts-around) (subst (λ (st : List ℕ). P st (texts s w g.m)) (sym stage_around) x)
 
   pub symbol_around : (p : ℕ) → symbol_in s w' g p ≡ symbol_in s w g p
-  symbol_around p = said_around (λ st ts. sym_at false g.width st ts p ≡ symbol_in s w g p) refl
+  symbol_around p = said_around (λ st ts. sym_at false g.width.bytes st ts p ≡ symbol_in s w g p) refl
 
   pub printed_around : (p : ℕ) → printed_at s w' g p ≡ printed_at s w g p
-  printed_around p = said_around (λ st ts. print_at false g.width st ts p ≡ printed_at s w g p) refl
+  printed_around p = said_around (λ st ts. print_at false g.width.bytes st ts p ≡ printed_at s w g p) refl
 
   pub key_around : (p : ℕ) → KeyAt s w g p → KeyAt s w' g p
-  key_around p k = said_around (λ st ts. Firm false g.width st ts p) k
+  key_around p k = said_around (λ st ts. Firm false g.width.bytes st ts p) k
 
   pub sound_around : (x : Slots) (σ : Expander) → Sound (symbol_in s w g) (KeyAt s w g) (texts s w g.m) x σ → Sound (symbol_in s w' g) (KeyAt s w' g) (texts s w' g.m) x σ
-  sound_around x σ k = said_around (λ st ts. Sound (λ p. sym_at false g.width st ts p) (λ p. Firm false g.width st ts p) ts x σ) k
+  sound_around x σ k = said_around (λ st ts. Sound (λ p. sym_at false g.width.bytes st ts p) (λ p. Firm false g.width.bytes st ts p) ts x σ) k

@@ -220,5 +220,5 @@ module _ (s w w' : List ℕ) (g : Ground) (a e lim : ℕ) (G : Grounded s w g) (
     inside = h.inside;
     apart = h.apart;
     expander = h.expander;
-    sound = said_wrote s w w' g a e lim G top items low above wrote (λ st ts. Sound (λ p. sym_at false g.width st ts p) (λ p. Firm false g.width st ts p) ts x h.expander) h.sound;
+    sound = said_wrote s w w' g a e lim G top items low above wrote (λ st ts. Sound (λ p. sym_at false g.width.bytes st ts p) (λ p. Firm false g.width.bytes st ts p) ts x h.expander) h.sound;
   }

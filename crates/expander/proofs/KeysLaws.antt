@@ -227,34 +227,34 @@ module _ (wd : ℕ) (ts : List Text) where
 
 -- ---- a symbol that stands in the stage is read there
 module _ (s w : List ℕ) (g : Ground) (G : Grounded s w g) (four : Bool) (left p e : ℕ) (y : Sym) (h : StandsAt s w g four left p e y) (inside : e ≤ size_in g) where
-  lies_stage : Lies (stage_in w g) p (sym_bytes g.width (texts s w g.m) y) e
+  lies_stage : Lies (stage_in w g) p (sym_bytes g.width.bytes (texts s w g.m) y) e
   unfolding stage_in size_in
   lies_stage =
       let o = G.ordered in
-      lies_part_in w g.from g.end G.ordered G.inside p (sym_bytes g.width (texts s w g.m) y) e (omega arith) h.lies
+      lies_part_in w g.from g.end G.ordered G.inside p (sym_bytes g.width.bytes (texts s w g.m) y) e (omega arith) h.lies
 
   -- theorem: by as many levels as are left
-  pub stands_read : read_sym false g.width (stage_in w g) (texts s w g.m) left p ≡ got y e
-  stands_read = sym_reads false g.width (stage_in w g) (texts s w g.m) y left (sym_any four g.width (texts s w g.m) y left h.within) p e lies_stage
+  pub stands_read : read_sym false g.width.bytes (stage_in w g) (texts s w g.m) left p ≡ got y e
+  stands_read = sym_reads false g.width.bytes (stage_in w g) (texts s w g.m) y left (sym_any four g.width.bytes (texts s w g.m) y left h.within) p e lies_stage
 
   -- its code
   pub stands_code : expanded_code (get_or w (g.from + p) 0) ≡ is_key y
   stands_code =
-      let z = sym_bytes_lem g.width (texts s w g.m) y in
-      let k = lies_split w (g.from + p) (g.from + e) (node_bytes g.width (sym_node (texts s w g.m) y)) (syms_bytes g.width (texts s w g.m) (children y)) (rw z at h.lies) in
-      code_key g.width (texts s w g.m) w (g.from + p) _ y k.0
+      let z = sym_bytes_lem g.width.bytes (texts s w g.m) y in
+      let k = lies_split w (g.from + p) (g.from + e) (node_bytes g.width.bytes (sym_node (texts s w g.m) y)) (syms_bytes g.width.bytes (texts s w g.m) (children y)) (rw z at h.lies) in
+      code_key g.width.bytes (texts s w g.m) w (g.from + p) _ y k.0
 
-  stands_node : node_at g.width (stage_in w g) p ≡ sym_node (texts s w g.m) y
+  stands_node : node_at g.width.bytes (stage_in w g) p ≡ sym_node (texts s w g.m) y
   stands_node =
-      let z = sym_bytes_lem g.width (texts s w g.m) y in
+      let z = sym_bytes_lem g.width.bytes (texts s w g.m) y in
       let l = lies_stage in
-      let k = lies_split (stage_in w g) p e (node_bytes g.width (sym_node (texts s w g.m) y)) (syms_bytes g.width (texts s w g.m) (children y)) (rw z at l) in
-      sym_here g.width (texts s w g.m) (stage_in w g) p _ y (sym_fits_lem g.width (texts s w g.m) four y left h.within) k.0
+      let k = lies_split (stage_in w g) p e (node_bytes g.width.bytes (sym_node (texts s w g.m) y)) (syms_bytes g.width.bytes (texts s w g.m) (children y)) (rw z at l) in
+      sym_here g.width.bytes (texts s w g.m) (stage_in w g) p _ y (sym_fits_lem g.width.bytes (texts s w g.m) four y left h.within) k.0
 
   module _ (levels : left ≤ 64) where
     -- by all levels
-    pub stands_whole : read_sym false g.width (stage_in w g) (texts s w g.m) 64 p ≡ got y e
-    stands_whole = read_more false g.width (stage_in w g) (texts s w g.m) left 64 p y e levels stands_read
+    pub stands_whole : read_sym false g.width.bytes (stage_in w g) (texts s w g.m) 64 p ≡ got y e
+    stands_whole = read_more false g.width.bytes (stage_in w g) (texts s w g.m) left 64 p y e levels stands_read
 
     pub stands_symbol : symbol_in s w g p ≡ y
     unfolding sym_at sym_of
@@ -269,7 +269,7 @@ module _ (s w : List ℕ) (g : Ground) (G : Grounded s w g) (four : Bool) (left 
     stands_key k = record {
       end = e;
       read = stands_whole ∙ ap (λ (x : Sym). got x e) (sym stands_symbol);
-      key = ap plain stands_node ∙ node_plain g.width (texts s w g.m) y ∙ ap not k;
+      key = ap plain stands_node ∙ node_plain g.width.bytes (texts s w g.m) y ∙ ap not k;
     }
 
 -- ---- noting: what has references then

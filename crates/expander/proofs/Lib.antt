@@ -21,6 +21,7 @@ mod NoteCode
 -- NodeCodes: a command by its code. KeysPlaces: the places of what is expanded. WalksMean: items that were read are turns of the run.
 pub mod NodeCodes
 pub mod KeysPlaces
+mod WalksParts
 pub mod WalksMean
 pub mod KeysLaws
 mod MeetLaws

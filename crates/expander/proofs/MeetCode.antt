@@ -169,8 +169,8 @@ pub known_slot : (s w : List ℕ) (g : Ground) (left at : ℕ) → Grounded s w 
 unfolding size_in
 known_slot s w g left at G K =
     let z : at - g.from ≡ K.place = omega (arith, K.is) in
-    let n = sym_length g.width (texts s w g.m) K.symbol in
-    let m = node_size g.width (texts s w g.m) K.symbol in
+    let n = sym_length g.width.bytes (texts s w g.m) K.symbol in
+    let m = node_size g.width.bytes (texts s w g.m) K.symbol in
     let l : K.place + 9 ≤ K.end = omega (arith, n, m, K.stands.lies.end) in
     record {
       from = omega (arith, K.is);
@@ -181,10 +181,10 @@ known_slot s w g left at G K =
 pub ruleset known_meeting = (rules, grounded_readable, known_below, known_slot, known_lies, known_inner, known_lost, known_follows)
 
 -- ---- `meet_symbol`
-inner-stands : (s w : List ℕ) (g : Ground) (left at : ℕ) (S : SomeInner s w g left at) → SymStands s w g.m g.width S.four left at (g.from + S.end) S.symbol
+inner-stands : (s w : List ℕ) (g : Ground) (left at : ℕ) (S : SomeInner s w g left at) → SymStands s w g.m g.width.bytes S.four left at (g.from + S.end) S.symbol
 inner-stands s w g left at S = rw S.is S.stands
 
-pub inner-some : (s w : List ℕ) (g : Ground) (left at : ℕ) → SomeInner s w g left at → SomeSym s w g.m g.width left at
+pub inner-some : (s w : List ℕ) (g : Ground) (left at : ℕ) → SomeInner s w g left at → SomeSym s w g.m g.width.bytes left at
 inner-some s w g left at S = record { four = S.four; end = g.from + S.end; symbol = S.symbol; stands = inner-stands s w g left at S }
 
 module _ (s w : List ℕ) (g : Ground) (left : ℕ) (t : Text) (p : Met) where
@@ -194,7 +194,7 @@ module _ (s w : List ℕ) (g : Ground) (left : ℕ) (t : Text) (p : Met) where
   -- the symbols that are left, and what is noted of them
   pub record Meeting (c n : ℕ) (q : Met) (k : ℕ) : Type 0 where
     pub ground : Grounded s w g
-    pub going : Going s w g.m g.width left t p c n q k
+    pub going : Going s w g.m g.width.bytes left t p c n q k
     pub levels : left ≤ 64
     pub four : Bool
     pub place : ℕ
@@ -204,26 +204,26 @@ module _ (s w : List ℕ) (g : Ground) (left : ℕ) (t : Text) (p : Met) where
     pub inside : end ≤ size_in g
     pub many : k + count rest ≡ n
     pub stand : StandAt s w g four (left - 1) place end rest
-    pub noted : NotedAt s w g (keys_of_all g.width (texts s w g.m) rest place)
+    pub noted : NotedAt s w g (keys_of_all g.width.bytes (texts s w g.m) rest place)
 
-  pub meeting_start : (c n l b : ℕ) (u : Option ℕ) → Grounded s w g → SomeInner s w g left at → c ≡ get_or w at 0 → n ≡ inside_by g.width w at c → l ≡ long_of g.width c
-      → u ≡ met_by t (Some p.i) (before_by g.width (texts s w g.m) w at c) → u ≡ Some b → Meeting c n (record { at = at + l; i = b }) 0
+  pub meeting_start : (c n l b : ℕ) (u : Option ℕ) → Grounded s w g → SomeInner s w g left at → c ≡ get_or w at 0 → n ≡ inside_by g.width.bytes w at c → l ≡ long_of g.width.bytes c
+      → u ≡ met_by t (Some p.i) (before_by g.width.bytes (texts s w g.m) w at c) → u ≡ Some b → Meeting c n (record { at = at + l; i = b }) 0
   meeting_start c n l b u G S d e f v z' =
       let h = inner-some s w g left at S in
-      let o = standing s w g.m g.width S.four left at (g.from + S.end) S.symbol (inner-stands s w g left at S) in
-      let y : l ≡ size_of g.width (sym_node (texts s w g.m) S.symbol) = f ∙ ap (long_of g.width) d ∙ o.reads.long in
-      let z : at + long_of g.width (get_or w at 0) ≡ g.from + (S.place + size_of g.width (sym_node (texts s w g.m) S.symbol)) = omega (arith, S.is, o.reads.long) in
+      let o = standing s w g.m g.width.bytes S.four left at (g.from + S.end) S.symbol (inner-stands s w g left at S) in
+      let y : l ≡ size_of g.width.bytes (sym_node (texts s w g.m) S.symbol) = f ∙ ap (long_of g.width.bytes) d ∙ o.reads.long in
+      let z : at + long_of g.width.bytes (get_or w at 0) ≡ g.from + (S.place + size_of g.width.bytes (sym_node (texts s w g.m) S.symbol)) = omega (arith, S.is, o.reads.long) in
       record {
         ground = G;
-        going = going_start s w g.m g.width left t p c d u v n l b (grounded_readable s w g G) h e f z';
+        going = going_start s w g.m g.width.bytes left t p c d u v n l b (grounded_readable s w g G) h e f z';
         levels = S.levels;
         four = S.four;
-        place = S.place + size_of g.width (sym_node (texts s w g.m) S.symbol);
+        place = S.place + size_of g.width.bytes (sym_node (texts s w g.m) S.symbol);
         end = S.end;
         rest = children S.symbol;
         is = omega (arith, y, S.is);
         inside = S.inside;
-        many = omega (arith, e ∙ ap (inside_by g.width w at) d ∙ o.reads.held);
+        many = omega (arith, e ∙ ap (inside_by g.width.bytes w at) d ∙ o.reads.held);
         stand = rw z at o.inside;
         noted = S.noted;
       }
@@ -233,61 +233,61 @@ module _ (s w : List ℕ) (g : Ground) (left : ℕ) (t : Text) (p : Met) where
     unfolding count keys_of_all syms_bytes
     meeting_known l = go M.rest M.many M.stand M.noted
       where
-        go : (xs : Syms) → k + count xs ≡ n → StandAt s w g M.four (left - 1) M.place M.end xs → NotedAt s w g (keys_of_all g.width (texts s w g.m) xs M.place) → SomeKnown s w g (left - 1) q.at
+        go : (xs : Syms) → k + count xs ≡ n → StandAt s w g M.four (left - 1) M.place M.end xs → NotedAt s w g (keys_of_all g.width.bytes (texts s w g.m) xs M.place) → SomeKnown s w g (left - 1) q.at
         go nil j st N = absurd (omega arith)
         go (cons y ys) j st N =
-            let fs = first_stands s w g.m g.width M.four (left - 1) (g.from + M.place) (g.from + M.end) y ys st in
-            let z : g.from + M.place + length (sym_bytes g.width (texts s w g.m) y) ≡ g.from + (M.place + length (sym_bytes g.width (texts s w g.m) y)) = omega arith in
+            let fs = first_stands s w g.m g.width.bytes M.four (left - 1) (g.from + M.place) (g.from + M.end) y ys st in
+            let z : g.from + M.place + length (sym_bytes g.width.bytes (texts s w g.m) y) ≡ g.from + (M.place + length (sym_bytes g.width.bytes (texts s w g.m) y)) = omega arith in
             record {
               four = M.four;
               place = M.place;
-              end = M.place + length (sym_bytes g.width (texts s w g.m) y);
+              end = M.place + length (sym_bytes g.width.bytes (texts s w g.m) y);
               symbol = y;
               is = M.is;
               levels = omega (arith, M.levels);
               stands = rw z at fs.0;
               inside = omega (arith, M.inside, fs.1.lies.end);
-              noted = (noted_parts s w g (keys_of g.width (texts s w g.m) y M.place) _ N).0;
+              noted = (noted_parts s w g (keys_of g.width.bytes (texts s w g.m) y M.place) _ N).0;
             }
 
-    pub meeting_next : (o : Option ℕ) (i : ℕ) (u : Option Met) (r : Met) → k < n → o ≡ met_by t (Some q.i) (between_by c k) → o ≡ Some i → Follows s w g.m g.width (left - 1) t (record { at = q.at; i = i }) u → u ≡ Some r
+    pub meeting_next : (o : Option ℕ) (i : ℕ) (u : Option Met) (r : Met) → k < n → o ≡ met_by t (Some q.i) (between_by c k) → o ≡ Some i → Follows s w g.m g.width.bytes (left - 1) t (record { at = q.at; i = i }) u → u ≡ Some r
         → Meeting c n r (k + 1)
     unfolding count keys_of_all
     meeting_next o i u r l d v f e = go M.rest M.many M.stand M.noted
       where
-        go : (xs : Syms) → k + count xs ≡ n → StandAt s w g M.four (left - 1) M.place M.end xs → NotedAt s w g (keys_of_all g.width (texts s w g.m) xs M.place) → Meeting c n r (k + 1)
+        go : (xs : Syms) → k + count xs ≡ n → StandAt s w g M.four (left - 1) M.place M.end xs → NotedAt s w g (keys_of_all g.width.bytes (texts s w g.m) xs M.place) → Meeting c n r (k + 1)
         go nil j st N = absurd (omega arith)
         go (cons y ys) j st N =
-            let fs = first_stands s w g.m g.width M.four (left - 1) (g.from + M.place) (g.from + M.end) y ys st in
-            let z : g.from + M.place + length (sym_bytes g.width (texts s w g.m) y) ≡ g.from + (M.place + length (sym_bytes g.width (texts s w g.m) y)) = omega arith in
-            let h = subst (λ (a : ℕ). SymStands s w g.m g.width M.four (left - 1) a (g.from + M.place + length (sym_bytes g.width (texts s w g.m) y)) y) (sym M.is) fs.0 in
+            let fs = first_stands s w g.m g.width.bytes M.four (left - 1) (g.from + M.place) (g.from + M.end) y ys st in
+            let z : g.from + M.place + length (sym_bytes g.width.bytes (texts s w g.m) y) ≡ g.from + (M.place + length (sym_bytes g.width.bytes (texts s w g.m) y)) = omega arith in
+            let h = subst (λ (a : ℕ). SymStands s w g.m g.width.bytes M.four (left - 1) a (g.from + M.place + length (sym_bytes g.width.bytes (texts s w g.m) y)) y) (sym M.is) fs.0 in
             record {
               ground = M.ground;
-              going = going_next s w g.m g.width left t p c n q k M.going o l d i v u f r e;
+              going = going_next s w g.m g.width.bytes left t p c n q k M.going o l d i v u f r e;
               levels = M.levels;
               four = M.four;
-              place = M.place + length (sym_bytes g.width (texts s w g.m) y);
+              place = M.place + length (sym_bytes g.width.bytes (texts s w g.m) y);
               end = M.end;
               rest = ys;
-              is = f.place r e M.four (g.from + M.place + length (sym_bytes g.width (texts s w g.m) y)) y h ∙ z;
+              is = f.place r e M.four (g.from + M.place + length (sym_bytes g.width.bytes (texts s w g.m) y)) y h ∙ z;
               inside = M.inside;
               many = omega arith;
               stand = rw z at fs.1;
-              noted = (noted_parts s w g (keys_of g.width (texts s w g.m) y M.place) _ N).1;
+              noted = (noted_parts s w g (keys_of g.width.bytes (texts s w g.m) y M.place) _ N).1;
             }
 
-    pub meeting_between : (o : Option ℕ) → k < n → o ≡ met_by t (Some q.i) (between_by c k) → o ≡ None → Follows s w g.m g.width left t p None
-    meeting_between o l d v = between_lost s w g.m g.width left t p c n q k M.going o l d v
+    pub meeting_between : (o : Option ℕ) → k < n → o ≡ met_by t (Some q.i) (between_by c k) → o ≡ None → Follows s w g.m g.width.bytes left t p None
+    meeting_between o l d v = between_lost s w g.m g.width.bytes left t p c n q k M.going o l d v
 
-    pub meeting_inside : (o : Option ℕ) (i : ℕ) (u : Option Met) → k < n → o ≡ met_by t (Some q.i) (between_by c k) → o ≡ Some i → Follows s w g.m g.width (left - 1) t (record { at = q.at; i = i }) u → u ≡ None
-        → Follows s w g.m g.width left t p None
-    meeting_inside o i u l d v f e = inside_lost s w g.m g.width left t p c n q k M.going o l d i v u f e
+    pub meeting_inside : (o : Option ℕ) (i : ℕ) (u : Option Met) → k < n → o ≡ met_by t (Some q.i) (between_by c k) → o ≡ Some i → Follows s w g.m g.width.bytes (left - 1) t (record { at = q.at; i = i }) u → u ≡ None
+        → Follows s w g.m g.width.bytes left t p None
+    meeting_inside o i u l d v f e = inside_lost s w g.m g.width.bytes left t p c n q k M.going o l d i v u f e
 
     module _ (o : Option ℕ) (l : n ≤ k) (d : o ≡ met_by t (Some q.i) (behind_by w at c)) where
-      pub meeting_behind : o ≡ None → Follows s w g.m g.width left t p None
-      meeting_behind v = behind_lost s w g.m g.width left t p c n q k M.going l o d v
+      pub meeting_behind : o ≡ None → Follows s w g.m g.width.bytes left t p None
+      meeting_behind v = behind_lost s w g.m g.width.bytes left t p c n q k M.going l o d v
 
-      pub meeting_done : (i : ℕ) → o ≡ Some i → Follows s w g.m g.width left t p (Some (record { at = q.at; i = i }))
-      meeting_done i v = going_done s w g.m g.width left t p c n q k M.going l o d i v
+      pub meeting_done : (i : ℕ) → o ≡ Some i → Follows s w g.m g.width.bytes left t p (Some (record { at = q.at; i = i }))
+      meeting_done i v = going_done s w g.m g.width.bytes left t p c n q k M.going l o d i v
 
 pub ruleset symbol_meeting = (rules, grounded_readable, inner-some, some_room, some_within, some_high, some_fits, start_lost, meeting_start, meeting_known, meeting_behind, meeting_done)

@@ -88,19 +88,19 @@ module _ (s w : List ℕ) (g : Ground) (G : Grounded s w g) where
       (ref_good (symbol_in s w g) (KeyAt s w g) (texts s w g.m) G.distinct-texts x.firsts p x.refs h.sound.refs i)).1
 
   module _ (left at : ℕ) (K : SomeKnown s w g left at) where
-    here : SymStands s w g.m g.width K.four left at (g.from + K.end) K.symbol
+    here : SymStands s w g.m g.width.bytes K.four left at (g.from + K.end) K.symbol
     here = rw K.is K.stands
 
     -- its own place has a reference if it is expanded
     parts : NotedAt s w g (inner_keys s w g K.symbol K.place) × NotedAt s w g (own_keys (is_key K.symbol) K.place)
-    parts = noted_parts s w g (inner_keys s w g K.symbol K.place) (own_keys (is_key K.symbol) K.place) (subst (NotedAt s w g) (keys_parts g.width (texts s w g.m) K.symbol K.place) K.noted)
+    parts = noted_parts s w g (inner_keys s w g K.symbol K.place) (own_keys (is_key K.symbol) K.place) (subst (NotedAt s w g) (keys_parts g.width.bytes (texts s w g.m) K.symbol K.place) K.noted)
 
     -- theorem: what is inside it was noted
     pub known_inner : SomeInner s w g left at
     known_inner = record { four = K.four; place = K.place; end = K.end; symbol = K.symbol; is = K.is; levels = K.levels; stands = K.stands; inside = K.inside; noted = parts.0 }
 
     -- and it lies there
-    pub known_lies : SomeEnd w g.width at
+    pub known_lies : SomeEnd w g.width.bytes at
     known_lies = record { end = g.from + K.end; lies = record { texts = texts s w g.m; four = K.four; left = left; symbol = K.symbol; within = here.within; lies = here.lies } }
 
     module _ (k : ℕ) (e : Some k ≡ text_known_at w g at) where
@@ -125,16 +125,16 @@ module _ (s w : List ℕ) (g : Ground) (G : Grounded s w g) where
 -- theorem: the text was held against t in its place
 module _ (s w : List ℕ) (g : Ground) (left : ℕ) (t : Text) (p : Met) (k : ℕ) (x : Text) (G : Grounded s w g) (K : SomeKnown s w g left p.at) (y : Option ℕ) (e : y ≡ text_known_at w g p.at) (l : y ≡ Some k)
     (f : x ≡ get_or (texts s w g.m) k []) (o : Option ℕ) (j : o ≡ met_by t (Some p.i) x) where
-  one : (four : Bool) (c : ℕ) (y : Sym) → SymStands s w g.m g.width four left p.at c y → (g.from + K.end ≡ c) × (K.symbol ≡ y)
-  one four c y i = one_symbol s w g.m g.width left p.at K.four (g.from + K.end) K.symbol four c y (here s w g G left p.at K) i
+  one : (four : Bool) (c : ℕ) (y : Sym) → SymStands s w g.m g.width.bytes four left p.at c y → (g.from + K.end ≡ c) × (K.symbol ≡ y)
+  one four c y i = one_symbol s w g.m g.width.bytes left p.at K.four (g.from + K.end) K.symbol four c y (here s w g G left p.at K) i
 
-  text_met : (four : Bool) (c : ℕ) (y : Sym) → SymStands s w g.m g.width four left p.at c y → o ≡ met_by t (Some p.i) (print y)
+  text_met : (four : Bool) (c : ℕ) (y : Sym) → SymStands s w g.m g.width.bytes four left p.at c y → o ≡ met_by t (Some p.i) (print y)
   text_met four c y i = j ∙ ap (met_by t (Some p.i)) (f ∙ known_print s w g G left p.at K k (sym l ∙ e) ∙ ap print (one four c y i).1)
 
-  pub known_lost : o ≡ None → Follows s w g.m g.width left t p None
-  known_lost z = lost s w g.m g.width left t p (λ four c y i. sym z ∙ text_met four c y i)
+  pub known_lost : o ≡ None → Follows s w g.m g.width.bytes left t p None
+  known_lost z = lost s w g.m g.width.bytes left t p (λ four c y i. sym z ∙ text_met four c y i)
 
-  pub known_follows : (a i : ℕ) → EndsAt w g.width p.at a → o ≡ Some i → Follows s w g.m g.width left t p (Some (record { at = a; i = i }))
+  pub known_follows : (a i : ℕ) → EndsAt w g.width.bytes p.at a → o ≡ Some i → Follows s w g.m g.width.bytes left t p (Some (record { at = a; i = i }))
   unfolding EndsAt index_of
   known_follows a i d z = record {
     place = λ q u four c y h. let v : q ≡ record { at = a; i = i } = cc in rw v (d c (record { texts = texts s w g.m; four = four; left = left; symbol = y; within = h.within; lies = h.lies }));

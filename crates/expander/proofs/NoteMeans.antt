@@ -46,7 +46,7 @@ module _ (s w : List ℕ) (g : Ground) (bytes : Bytes w) (d : Grounded s w g) wh
 
   key_print : (p : ℕ) → KeyAt s w g p → Key (pr p)
   unfolding stage_in
-  key_print p k = firm_key false g.width (stage_in w g) (texts s w g.m) (bytes_part w g.from g.end bytes d.inside) p k
+  key_print p k = firm_key false g.width.bytes (stage_in w g) (texts s w g.m) (bytes_part w g.from g.end bytes d.inside) p k
 
   many : length (texts s w g.m) ≡ g.m.count
   unfolding texts

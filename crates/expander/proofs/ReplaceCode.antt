@@ -87,8 +87,8 @@ module _ (s w : List ℕ) (g : Ground) (G : Grounded s w g) where
   ground_hashed = table-hashed s w g.m G.table
 
 module _ (s w : List ℕ) (g : Ground) (left p n : ℕ) (G : Grounded s w g) (S : SomeSymbol s w g left p n) where
-  abbrev here : Standing s w g.m g.width S.four left (g.from + p) (g.from + S.end) S.symbol
-  here = standing s w g.m g.width S.four left (g.from + p) (g.from + S.end) S.symbol S.stands
+  abbrev here : Standing s w g.m g.width.bytes S.four left (g.from + p) (g.from + S.end) S.symbol
+  here = standing s w g.m g.width.bytes S.four left (g.from + p) (g.from + S.end) S.symbol S.stands
 
   pub symbol_within : g.from + p < length w
   symbol_within = here.within
@@ -96,7 +96,7 @@ module _ (s w : List ℕ) (g : Ground) (left p n : ℕ) (G : Grounded s w g) (S 
   pub symbol_high : 32 ≤ get_or w (g.from + p) 0
   symbol_high = here.reads.high
 
-  pub symbol_room : g.from + p + long_of g.width (get_or w (g.from + p) 0) ≤ length w
+  pub symbol_room : g.from + p + long_of g.width.bytes (get_or w (g.from + p) 0) ≤ length w
   symbol_room = here.room
 
   pub symbol_deep : 0 < left
@@ -112,35 +112,35 @@ module _ (s w : List ℕ) (g : Ground) (left p n : ℕ) (G : Grounded s w g) (S 
   pub symbol_falls : (t : ℕ) → 2 * left ≡ t → 2 * (left - 1) + 1 < t
   symbol_falls t e = omega (arith, symbol_deep)
 
-  module _ (c l k : ℕ) (read : c ≡ get_or w (g.from + p) 0) (long : l ≡ long_of g.width c) (held : k ≡ inside_by g.width w (g.from + p) c) where
+  module _ (c l k : ℕ) (read : c ≡ get_or w (g.from + p) 0) (long : l ≡ long_of g.width.bytes c) (held : k ≡ inside_by g.width.bytes w (g.from + p) c) where
     module _ (four : Bool) (e : ℕ) (y : Sym) (h : StandsAt s w g four left p e y) where
-      abbrev it : Standing s w g.m g.width four left (g.from + p) (g.from + e) y
-      it = standing s w g.m g.width four left (g.from + p) (g.from + e) y h
+      abbrev it : Standing s w g.m g.width.bytes four left (g.from + p) (g.from + e) y
+      it = standing s w g.m g.width.bytes four left (g.from + p) (g.from + e) y h
 
-      place : g.from + (p + l) ≡ g.from + p + long_of g.width (get_or w (g.from + p) 0)
-      place = let z : l ≡ long_of g.width (get_or w (g.from + p) 0) = long ∙ ap (long_of g.width) read in omega arith
+      place : g.from + (p + l) ≡ g.from + p + long_of g.width.bytes (get_or w (g.from + p) 0)
+      place = let z : l ≡ long_of g.width.bytes (get_or w (g.from + p) 0) = long ∙ ap (long_of g.width.bytes) read in omega arith
 
       inner-stand : StandAt s w g four (left - 1) (p + l) e (children y)
       inner-stand = let z = place in rw z it.inside
 
       inner-count : count (children y) ≡ k
-      inner-count = sym (held ∙ ap (inside_by g.width w (g.from + p)) read ∙ it.reads.held)
+      inner-count = sym (held ∙ ap (inside_by g.width.bytes w (g.from + p)) read ∙ it.reads.held)
 
       -- its command
-      size_is : size_of g.width (sym_node (texts s w g.m) y) ≡ l
-      size_is = sym (long ∙ ap (long_of g.width) read ∙ it.reads.long)
+      size_is : size_of g.width.bytes (sym_node (texts s w g.m) y) ≡ l
+      size_is = sym (long ∙ ap (long_of g.width.bytes) read ∙ it.reads.long)
 
       size_least : 9 ≤ l
-      size_least = omega (arith, size_is, node_size g.width (texts s w g.m) y)
+      size_least = omega (arith, size_is, node_size g.width.bytes (texts s w g.m) y)
 
-      end_is : p + l + length (syms_bytes g.width (texts s w g.m) (children y)) ≡ e
-      end_is = omega (arith, size_is, sym_length g.width (texts s w g.m) y, h.lies.end)
+      end_is : p + l + length (syms_bytes g.width.bytes (texts s w g.m) (children y)) ≡ e
+      end_is = omega (arith, size_is, sym_length g.width.bytes (texts s w g.m) y, h.lies.end)
 
-      inner_spread : Spread (p + l) e (keys_of_all g.width (texts s w g.m) (children y) (p + l))
-      inner_spread = keys_spread_all g.width (texts s w g.m) (children y) (p + l) e (omega (arith, end_is))
+      inner_spread : Spread (p + l) e (keys_of_all g.width.bytes (texts s w g.m) (children y) (p + l))
+      inner_spread = keys_spread_all g.width.bytes (texts s w g.m) (children y) (p + l) e (omega (arith, end_is))
 
-      keys_are : keys_of g.width (texts s w g.m) y p ≡ keys_of_all g.width (texts s w g.m) (children y) (p + l) ++ own_keys (is_key y) p
-      keys_are = let z = size_is in rw (← z) (keys_parts g.width (texts s w g.m) y p)
+      keys_are : keys_of g.width.bytes (texts s w g.m) y p ≡ keys_of_all g.width.bytes (texts s w g.m) (children y) (p + l) ++ own_keys (is_key y) p
+      keys_are = let z = size_is in rw (← z) (keys_parts g.width.bytes (texts s w g.m) y p)
 
       code_is : e ≤ size_in g → expanded_code c ≡ is_key y
       code_is i = ap expanded_code read ∙ stands_code s w g G four left p e y h i
@@ -160,14 +160,14 @@ module _ (s w : List ℕ) (g : Ground) (left p n : ℕ) (G : Grounded s w g) (S 
           held = held-inside s w g G p (p + l) n (omega arith) S.held;
         }
 
-    module _ (z b : Form) (empty : z ≡ text_form []) (before-b : From z (before_by g.width (texts s w g.m) w (g.from + p) c) b)
+    module _ (z b : Form) (empty : z ≡ text_form []) (before-b : From z (before_by g.width.bytes (texts s w g.m) w (g.from + p) c) b)
         (q : Keyed) (v : List ℕ) (inner : ReplacesAll s w g k (left - 1) (p + l) c b n q v) where
       met : (four : Bool) (e : ℕ) (y : Sym) (h : StandsAt s w g four left p e y) → e ≤ size_in g
-          → NotedAll s w g (p + l) n e (keys_of_all g.width (texts s w g.m) (children y) (p + l)) q v × (q.form ≡ form_from b (shown_all (children y) (between_by c 1) []))
+          → NotedAll s w g (p + l) n e (keys_of_all g.width.bytes (texts s w g.m) (children y) (p + l)) q v × (q.form ≡ form_from b (shown_all (children y) (between_by c 1) []))
       unfolding ReplacesAll
       met four e y h i = inner four e (children y) (inner-count four e y h) (inner-stand four e y h) i
 
-      inner-noted : NotedAll s w g (p + l) n S.end (keys_of_all g.width (texts s w g.m) (children S.symbol) (p + l)) q v
+      inner-noted : NotedAll s w g (p + l) n S.end (keys_of_all g.width.bytes (texts s w g.m) (children S.symbol) (p + l)) q v
       inner-noted = (met S.four S.end S.symbol S.stands S.inside).0
 
       inner-kept : KeptAround g w v
@@ -179,9 +179,9 @@ module _ (s w : List ℕ) (g : Ground) (left p n : ℕ) (G : Grounded s w g) (S 
       symbol_ground : Grounded s v g
       symbol_ground = kept-grounded s w v g G inner-kept
 
-      pub symbol_behind_room : g.from + p + long_of g.width c ≤ length v
+      pub symbol_behind_room : g.from + p + long_of g.width.bytes c ≤ length v
       symbol_behind_room =
-          let a : long_of g.width c ≡ long_of g.width (get_or w (g.from + p) 0) = ap (long_of g.width) read in
+          let a : long_of g.width.bytes c ≡ long_of g.width.bytes (get_or w (g.from + p) 0) = ap (long_of g.width.bytes) read in
           omega (arith, symbol_length, symbol_room)
 
       module _ (some : SomeForm q.form) (f : Form) (behind-f : From q.form (behind_by v (g.from + p) c) f) where
@@ -193,15 +193,15 @@ module _ (s w : List ℕ) (g : Ground) (left p n : ℕ) (G : Grounded s w g) (S 
         -- theorem: the form of the printed form
         form_is : (four : Bool) (e : ℕ) (y : Sym) (h : StandsAt s w g four left p e y) → e ≤ size_in g → f ≡ text_form (print y)
         form_is four e y h i =
-            let o = (standing s w g.m g.width four left (g.from + p) (g.from + e) y h).reads in
+            let o = (standing s w g.m g.width.bytes four left (g.from + p) (g.from + e) y h).reads in
             let there = kept-stands s w v g G inner-kept four left p e y i h in
-            let o' = (standing s v g.m g.width four left (g.from + p) (g.from + e) y there).reads in
+            let o' = (standing s v g.m g.width.bytes four left (g.from + p) (g.from + e) y there).reads in
             let x0 = end_is four e y h in
             let x1 = size_least four e y h in
             let code = code_there e (omega arith) i in
             let between_is : between_by c 1 ≡ between_text y = ap (λ (u : ℕ). between_by u 1) read ∙ o.between 0 in
             let mid : From b (shown_all (children y) (between_text y) []) q.form = record { is = (met four e y h i).1 ∙ ap (λ (u : Text). form_from b (shown_all (children y) u [])) between_is; form = some } in
-            let front : From z (before_text y) b = from_as (ap (before_by g.width (texts s w g.m) w (g.from + p)) read ∙ o.before) before-b in
+            let front : From z (before_text y) b = from_as (ap (before_by g.width.bytes (texts s w g.m) w (g.from + p)) read ∙ o.before) before-b in
             let rear : From q.form (behind_text y) f = from_as (ap (behind_by v (g.from + p)) (sym code) ∙ o'.behind) behind-f in
             let all = from_then front (from_then mid rear) in
             all.is ∙ ap (λ (u : Form). form_from u (before_text y ++ (shown_all (children y) (between_text y) [] ++ behind_text y))) empty
@@ -213,9 +213,9 @@ module _ (s w : List ℕ) (g : Ground) (left p n : ℕ) (G : Grounded s w g) (S 
         symbol_plain t a d four e y h i =
             let x = keys_are four e y h in
             let u : is_key y ≡ false = sym (code_is four e y h i) ∙ sym a ∙ d in
-            let ks = keys_of_all g.width (texts s w g.m) (children y) (p + l) in
-            let r : keys_of g.width (texts s w g.m) y p ≡ keys_of_all g.width (texts s w g.m) (children y) (p + l) =
-            x ∙ ap (λ (j : Bool). keys_of_all g.width (texts s w g.m) (children y) (p + l) ++ own_keys j p) u ∙ append-nil _ in (
+            let ks = keys_of_all g.width.bytes (texts s w g.m) (children y) (p + l) in
+            let r : keys_of g.width.bytes (texts s w g.m) y p ≡ keys_of_all g.width.bytes (texts s w g.m) (children y) (p + l) =
+            x ∙ ap (λ (j : Bool). keys_of_all g.width.bytes (texts s w g.m) (children y) (p + l) ++ own_keys j p) u ∙ append-nil _ in (
               subst (λ (js : List ℕ). NotedAll s w g p n e js (record { at = q.at; form = f; pile = q.pile }) v) (sym r)
                   (noted_plain s w g G v p (p + l) n e ks q (record { at = q.at; form = f; pile = q.pile }) (omega arith) refl refl (met four e y h i).0),
               form_is four e y h i,
@@ -229,14 +229,14 @@ module _ (s w : List ℕ) (g : Ground) (left p n : ℕ) (G : Grounded s w g) (S 
           there_now = kept-stands s w v g G inner-kept S.four left p S.end S.symbol S.inside S.stands
 
           abbrev inner-slots : Slots
-          inner-slots = note_all (same_at s w g) (text_in s w g) (keys_of_all g.width (texts s w g.m) (children S.symbol) (p + l)) S.held.slots
+          inner-slots = note_all (same_at s w g) (text_in s w g) (keys_of_all g.width.bytes (texts s w g.m) (children S.symbol) (p + l)) S.held.slots
 
           -- the places inside it are still those
-          inner-are : inner_keys s v g (symbol_in s v g p) p ≡ keys_of_all g.width (texts s w g.m) (children S.symbol) (p + l)
+          inner-are : inner_keys s v g (symbol_in s v g p) p ≡ keys_of_all g.width.bytes (texts s w g.m) (children S.symbol) (p + l)
           inner-are =
               ap (λ (y : Sym). inner_keys s v g y p) (stands_symbol s v g symbol_ground S.four left p S.end S.symbol there_now S.inside S.levels)
-              ∙ ap (λ (ts : List Text). keys_of_all g.width ts (children S.symbol) (p + size_of g.width (sym_node ts S.symbol))) (kept-texts s w v g G inner-kept)
-              ∙ ap (λ (m : ℕ). keys_of_all g.width (texts s w g.m) (children S.symbol) (p + m)) (size_is S.four S.end S.symbol S.stands)
+              ∙ ap (λ (ts : List Text). keys_of_all g.width.bytes ts (children S.symbol) (p + size_of g.width.bytes (sym_node ts S.symbol))) (kept-texts s w v g G inner-kept)
+              ∙ ap (λ (m : ℕ). keys_of_all g.width.bytes (texts s w g.m) (children S.symbol) (p + m)) (size_is S.four S.end S.symbol S.stands)
 
           -- theorem: one that is can be noted
           symbol_notable : Notable s v g q.pile p
@@ -254,8 +254,8 @@ module _ (s w : List ℕ) (g : Ground) (left p n : ℕ) (G : Grounded s w g) (S 
                 count = b'.new;
                 slots = inner-slots;
                 held = inner-noted.held b'.new b'.slots b'.held (λ o m. omega (arith, b'.before o m));
-                inner = subst (Each (λ o. HasRef o inner-slots)) (sym inner-are) (notes_have (same_at s w g) (text_in s w g) (keys_of_all g.width (texts s w g.m) (children S.symbol) (p + l)) b'.slots);
-                off = notes_off (same_at s w g) (text_in s w g) p (p + l) S.end (keys_of_all g.width (texts s w g.m) (children S.symbol) (p + l)) b'.slots (omega arith) (inner_spread S.four S.end S.symbol S.stands) b'.before;
+                inner = subst (Each (λ o. HasRef o inner-slots)) (sym inner-are) (notes_have (same_at s w g) (text_in s w g) (keys_of_all g.width.bytes (texts s w g.m) (children S.symbol) (p + l)) b'.slots);
+                off = notes_off (same_at s w g) (text_in s w g) p (p + l) S.end (keys_of_all g.width.bytes (texts s w g.m) (children S.symbol) (p + l)) b'.slots (omega arith) (inner_spread S.four S.end S.symbol S.stands) b'.before;
               }
 
           symbol_form : f ≡ text_form (printed_at s v g p)
@@ -271,9 +271,9 @@ module _ (s w : List ℕ) (g : Ground) (left p n : ℕ) (G : Grounded s w g) (S 
           symbol_noted m u o four e y h i =
               let x = keys_are four e y h in
               let x1 = size_least four e y h in
-              let ks = keys_of_all g.width (texts s w g.m) (children y) (p + l) in
-              let r : keys_of g.width (texts s w g.m) y p ≡ keys_of_all g.width (texts s w g.m) (children y) (p + l) ++ (p ∷ []) =
-              x ∙ ap (λ (j : Bool). keys_of_all g.width (texts s w g.m) (children y) (p + l) ++ own_keys j p) (own_key four e y h i) in (
+              let ks = keys_of_all g.width.bytes (texts s w g.m) (children y) (p + l) in
+              let r : keys_of g.width.bytes (texts s w g.m) y p ≡ keys_of_all g.width.bytes (texts s w g.m) (children y) (p + l) ++ (p ∷ []) =
+              x ∙ ap (λ (j : Bool). keys_of_all g.width.bytes (texts s w g.m) (children y) (p + l) ++ own_keys j p) (own_key four e y h i) in (
                 subst (λ (js : List ℕ). NotedAll s w g p n e js (record { at = q.at; form = f; pile = m }) u) (sym r)
                     (noted_own s w g G v u p (p + l) n e m ks q (record { at = q.at; form = f; pile = m }) (omega arith) (inner_spread four e y h) refl refl S.held (met four e y h i).0 o),
                 form_is four e y h i,

@@ -66,14 +66,14 @@ module _ (s w v : List ℕ) (g : Ground) (G : Grounded s w g) (k : KeptAround g 
   -- theorem: what stands in the items stays
   pub kept-stands : (four : Bool) (left p e : ℕ) (y : Sym) → e ≤ size_in g → StandsAt s w g four left p e y → StandsAt s v g four left p e y
   kept-stands four left p e y i h = record {
-    within = subst (λ (ts : List Text). SymWithin four g.width ts y left) (sym kept-texts) h.within;
-    lies = subst (λ (ts : List Text). Lies v (g.from + p) (sym_bytes g.width ts y) (g.from + e)) (sym kept-texts) (kept-lies (sym_bytes g.width (texts s w g.m) y) p e i h.lies);
+    within = subst (λ (ts : List Text). SymWithin four g.width.bytes ts y left) (sym kept-texts) h.within;
+    lies = subst (λ (ts : List Text). Lies v (g.from + p) (sym_bytes g.width.bytes ts y) (g.from + e)) (sym kept-texts) (kept-lies (sym_bytes g.width.bytes (texts s w g.m) y) p e i h.lies);
   }
 
   pub kept-stand : (four : Bool) (left p e : ℕ) (ys : Syms) → e ≤ size_in g → StandAt s w g four left p e ys → StandAt s v g four left p e ys
   kept-stand four left p e ys i h = record {
-    within = subst (λ (ts : List Text). SymsWithin four g.width ts ys left) (sym kept-texts) h.within;
-    lies = subst (λ (ts : List Text). Lies v (g.from + p) (syms_bytes g.width ts ys) (g.from + e)) (sym kept-texts) (kept-lies (syms_bytes g.width (texts s w g.m) ys) p e i h.lies);
+    within = subst (λ (ts : List Text). SymsWithin four g.width.bytes ts ys left) (sym kept-texts) h.within;
+    lies = subst (λ (ts : List Text). Lies v (g.from + p) (syms_bytes g.width.bytes ts ys) (g.from + e)) (sym kept-texts) (kept-lies (syms_bytes g.width.bytes (texts s w g.m) ys) p e i h.lies);
   }
 
   -- what is said of the items and the texts there was so before
@@ -82,7 +82,7 @@ module _ (s w v : List ℕ) (g : Ground) (G : Grounded s w g) (k : KeptAround g 
 
   -- symbols print alike as before
   notes_back : (z : List ℕ) (n c : ℕ) (ps : List ℕ) (x : Slots) → Held s z g n c (note_all (same_at s v g) (text_in s v g) ps x) → Held s z g n c (note_all (same_at s w g) (text_in s w g) ps x)
-  notes_back z n c ps x h = said_back (λ st ts. Held s z g n c (note_all (λ p q. same_print false g.width st ts p q) (λ p. text_is false g.width st ts p) ps x)) h
+  notes_back z n c ps x h = said_back (λ st ts. Held s z g n c (note_all (λ p q. same_print false g.width.bytes st ts p q) (λ p. text_is false g.width.bytes st ts p) ps x)) h
 
 -- ---- one behind another
 module _ (s w : List ℕ) (g : Ground) where

@@ -38,16 +38,16 @@ join_more c d x xs f h j a g e =
 -- ---- the first of symbols that stand in the items, and the others
 record Firsts (s w : List ℕ) (g : Ground) (four : Bool) (left p e : ℕ) (y : Sym) (ys : Syms) : Type 0 where
   pub end : ℕ
-  pub is : end ≡ p + length (sym_bytes g.width (texts s w g.m) y)
+  pub is : end ≡ p + length (sym_bytes g.width.bytes (texts s w g.m) y)
   pub stands : StandsAt s w g four left p end y
   pub others : StandAt s w g four left end e ys
   pub before : end ≤ e
 
 firsts : (s w : List ℕ) (g : Ground) (four : Bool) (left p e : ℕ) (y : Sym) (ys : Syms) → StandAt s w g four left p e (cons y ys) → Firsts s w g four left p e y ys
 firsts s w g four left p e y ys h =
-    let a = first_stands s w g.m g.width four left (g.from + p) (g.from + e) y ys h in
-    let n = length (sym_bytes g.width (texts s w g.m) y) in
-    let z : g.from + (p + length (sym_bytes g.width (texts s w g.m) y)) ≡ g.from + p + length (sym_bytes g.width (texts s w g.m) y) = omega arith in
+    let a = first_stands s w g.m g.width.bytes four left (g.from + p) (g.from + e) y ys h in
+    let n = length (sym_bytes g.width.bytes (texts s w g.m) y) in
+    let z : g.from + (p + length (sym_bytes g.width.bytes (texts s w g.m) y)) ≡ g.from + p + length (sym_bytes g.width.bytes (texts s w g.m) y) = omega arith in
     record { end = p + n; is = refl; stands = rw z a.0; others = rw z a.1; before = omega (arith, a.1.lies.end) }
 
 -- ---- w₀ is work before; of k symbols from p on, i are to come from q.at on; d of them were met
@@ -58,7 +58,7 @@ module _ (s w₀ : List ℕ) (g : Ground) (left p k c n : ℕ) (f : Form) where
     pub many : count ys ≡ i
     pub stand : StandAt s w g four left q.at e ys
     pub same : form_from f (shown_all xs (between_by c 1) []) ≡ form_from q.form (shown_from d ys (between_by c 1) [])
-    pub carry : (r : Keyed) (w' : List ℕ) → NotedAll s w g q.at q.pile e (keys_of_all g.width (texts s w g.m) ys q.at) r w' → NotedAll s w₀ g p n e (keys_of_all g.width (texts s w₀ g.m) xs p) r w'
+    pub carry : (r : Keyed) (w' : List ℕ) → NotedAll s w g q.at q.pile e (keys_of_all g.width.bytes (texts s w g.m) ys q.at) r w' → NotedAll s w₀ g p n e (keys_of_all g.width.bytes (texts s w₀ g.m) xs p) r w'
 
   pub record Replacing (w : List ℕ) (q : Keyed) (d i : ℕ) : Type 0 where
     pub ground : Grounded s w g
@@ -88,15 +88,15 @@ module _ (s w₀ : List ℕ) (g : Ground) (left p k c n : ℕ) (f : Form) where
     replacing_done z four e xs m h l = go (inv.each four e xs m h l)
       where
         last : (ys : Syms) → count ys ≡ i → StandAt s w g four left q.at e ys → form_from f (shown_all xs (between_by c 1) []) ≡ form_from q.form (shown_from d ys (between_by c 1) [])
-            → ((r : Keyed) (w' : List ℕ) → NotedAll s w g q.at q.pile e (keys_of_all g.width (texts s w g.m) ys q.at) r w' → NotedAll s w₀ g p n e (keys_of_all g.width (texts s w₀ g.m) xs p) r w')
-            → NotedAll s w₀ g p n e (keys_of_all g.width (texts s w₀ g.m) xs p) q w × (q.form ≡ form_from f (shown_all xs (between_by c 1) []))
+            → ((r : Keyed) (w' : List ℕ) → NotedAll s w g q.at q.pile e (keys_of_all g.width.bytes (texts s w g.m) ys q.at) r w' → NotedAll s w₀ g p n e (keys_of_all g.width.bytes (texts s w₀ g.m) xs p) r w')
+            → NotedAll s w₀ g p n e (keys_of_all g.width.bytes (texts s w₀ g.m) xs p) q w × (q.form ≡ form_from f (shown_all xs (between_by c 1) []))
         last nil j st t u =
-            let v = none_stand s w g.m g.width four left (g.from + q.at) (g.from + e) st in
+            let v = none_stand s w g.m g.width.bytes four left (g.from + q.at) (g.from + e) st in
             let v0 : q.at ≡ e = omega arith in
             (u q w (noted_none s w g q.at q.pile e q v0 refl v0), sym (t ∙ ap (form_from q.form) (shown_none d (between_by c 1) [])))
         last (cons y ys) j st t u = absurd (omega arith)
 
-        go : Onward w q d i four e xs → NotedAll s w₀ g p n e (keys_of_all g.width (texts s w₀ g.m) xs p) q w × (q.form ≡ form_from f (shown_all xs (between_by c 1) []))
+        go : Onward w q d i four e xs → NotedAll s w₀ g p n e (keys_of_all g.width.bytes (texts s w₀ g.m) xs p) q w × (q.form ≡ form_from f (shown_all xs (between_by c 1) []))
         go o = last o.ys o.many o.stand o.same o.carry
 
     module _ (positive : d < k) where
@@ -117,7 +117,7 @@ module _ (s w₀ : List ℕ) (g : Ground) (left p k c n : ℕ) (f : Form) where
 
       module _ (x : Keyed) (v : List ℕ) (one : ReplacesOne s w g left q.at q.pile x v) where
         -- what was met
-        met : (four : Bool) (e : ℕ) (y : Sym) → StandsAt s w g four left q.at e y → e ≤ size_in g → NotedAll s w g q.at q.pile e (keys_of g.width (texts s w g.m) y q.at) x v × (x.form ≡ text_form (print y))
+        met : (four : Bool) (e : ℕ) (y : Sym) → StandsAt s w g four left q.at e y → e ≤ size_in g → NotedAll s w g q.at q.pile e (keys_of g.width.bytes (texts s w g.m) y q.at) x v × (x.form ≡ text_form (print y))
         unfolding ReplacesOne
         met four e y st l = one four e y st l
 
@@ -138,7 +138,7 @@ module _ (s w₀ : List ℕ) (g : Ground) (left p k c n : ℕ) (f : Form) where
                 let l : a.end ≤ size_in g = omega (arith, a.before, inv.some.inside) in
                 let m = (met inv.some.four a.end y a.stands l).0 in
                 let z : a.end ≡ x.at = sym m.end in
-                let sp = keys_spread g.width (texts s w g.m) y q.at a.end (omega (arith, a.is)) in
+                let sp = keys_spread g.width.bytes (texts s w g.m) y q.at a.end (omega (arith, a.is)) in
                 record {
                   four = inv.some.four;
                   end = inv.some.end;
@@ -147,7 +147,7 @@ module _ (s w₀ : List ℕ) (g : Ground) (left p k c n : ℕ) (f : Form) where
                   many = omega arith;
                   stand = subst (λ (o : ℕ). StandAt s v g inv.some.four left o inv.some.end ys) z (kept-stand s w v g inv.ground first-kept inv.some.four left a.end inv.some.end ys inv.some.inside a.others);
                   inside = inv.some.inside;
-                  held = subst (λ (o : ℕ). HeldBefore s v g o x.pile) z (held-behind s w g inv.ground v q.at a.end q.pile (keys_of g.width (texts s w g.m) y q.at) x (omega (arith, a.is)) sp inv.some.held m);
+                  held = subst (λ (o : ℕ). HeldBefore s v g o x.pile) z (held-behind s w g inv.ground v q.at a.end q.pile (keys_of g.width.bytes (texts s w g.m) y q.at) x (omega (arith, a.is)) sp inv.some.held m);
                 }
 
         module _ (h j : Form) (between : From q.form (between_by c d) h) (joined : j ≡ join_of h x.form) where
@@ -162,7 +162,7 @@ module _ (s w₀ : List ℕ) (g : Ground) (left p k c n : ℕ) (f : Form) where
           next_each four e xs l o = go o.ys o.many o.stand o.same o.carry
             where
               go : (ys : Syms) → count ys ≡ i → StandAt s w g four left q.at e ys → form_from f (shown_all xs (between_by c 1) []) ≡ form_from q.form (shown_from d ys (between_by c 1) [])
-                  → ((r : Keyed) (w' : List ℕ) → NotedAll s w g q.at q.pile e (keys_of_all g.width (texts s w g.m) ys q.at) r w' → NotedAll s w₀ g p n e (keys_of_all g.width (texts s w₀ g.m) xs p) r w')
+                  → ((r : Keyed) (w' : List ℕ) → NotedAll s w g q.at q.pile e (keys_of_all g.width.bytes (texts s w g.m) ys q.at) r w' → NotedAll s w₀ g p n e (keys_of_all g.width.bytes (texts s w₀ g.m) xs p) r w')
                   → Onward v (record { at = x.at; form = j; pile = x.pile }) (d + 1) (k - (d + 1)) four e xs
               go nil t st u y = absurd (omega arith)
               go (cons y ys) t st u rest =
@@ -170,17 +170,17 @@ module _ (s w₀ : List ℕ) (g : Ground) (left p k c n : ℕ) (f : Form) where
                   let b : a.end ≤ size_in g = omega (arith, a.before) in
                   let m = met four a.end y a.stands b in
                   let z : a.end ≡ x.at = sym m.0.end in
-                  let sp = keys_spread g.width (texts s w g.m) y q.at a.end (omega (arith, a.is)) in
+                  let sp = keys_spread g.width.bytes (texts s w g.m) y q.at a.end (omega (arith, a.is)) in
                   record {
                     ys = ys;
                     many = omega arith;
                     stand = subst (λ (o : ℕ). StandAt s v g four left o e ys) z (kept-stand s w v g inv.ground first-kept four left a.end e ys l a.others);
                     same = u ∙ join_more c d y ys q.form h j between between.form (joined ∙ ap (join_of h) m.1);
                     carry = λ r w' N. rest r w'
-                        (subst (λ (o : ℕ). NotedAll s w g q.at q.pile e (keys_of g.width (texts s w g.m) y q.at ++ keys_of_all g.width (texts s w g.m) ys o) r w') a.is
-                        (noted_then s w g inv.ground v w' q.at q.pile a.end e (keys_of g.width (texts s w g.m) y q.at) (keys_of_all g.width (texts s w g.m) ys a.end) x r (omega (arith, a.is)) sp m.0
-                        (subst (λ (o : ℕ). NotedAll s v g o x.pile e (keys_of_all g.width (texts s w g.m) ys o) r w') (sym z)
-                        (subst (λ (ts : List Text). NotedAll s v g x.at x.pile e (keys_of_all g.width ts ys x.at) r w') (kept-texts s w v g inv.ground first-kept) N))));
+                        (subst (λ (o : ℕ). NotedAll s w g q.at q.pile e (keys_of g.width.bytes (texts s w g.m) y q.at ++ keys_of_all g.width.bytes (texts s w g.m) ys o) r w') a.is
+                        (noted_then s w g inv.ground v w' q.at q.pile a.end e (keys_of g.width.bytes (texts s w g.m) y q.at) (keys_of_all g.width.bytes (texts s w g.m) ys a.end) x r (omega (arith, a.is)) sp m.0
+                        (subst (λ (o : ℕ). NotedAll s v g o x.pile e (keys_of_all g.width.bytes (texts s w g.m) ys o) r w') (sym z)
+                        (subst (λ (ts : List Text). NotedAll s v g x.at x.pile e (keys_of_all g.width.bytes ts ys x.at) r w') (kept-texts s w v g inv.ground first-kept) N))));
                   }
 
           -- theorem: one turn

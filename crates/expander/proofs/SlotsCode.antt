@@ -1,4 +1,4 @@
--- Laws of `slot`, `put_slot`, `put_new` and `reference`. Assumes nothing.
+-- Laws of `tells`, `put_slot`, `put_new` and `reference`. Assumes nothing.
 use mathlib.Core.Path.{◌≡◌, refl, sym, ap, ◌∙◌, subst}
 use mathlib.Core.Bool.{Bool, true, false}
 use mathlib.Core.List.{List}
@@ -20,11 +20,14 @@ use Rattle.replacing.specs.Sound.{HasRef}
 use Rattle.expander.specs.declared.Ground.{Ground}
 use Rattle.expander.specs.declared.slots.Noted.{Noted}
 use Rattle.expander.specs.Ground.{size_in, top_of, slot_code, slot_place, slot_at, list_place, key_at, new_at, Grounded}
-use Rattle.expander.specs.Held.{followed, ref_by, Refers, Held}
+use Rattle.expander.specs.Held.{followed, Followable, ref_by, Refers, Held}
 use Rattle.expander.specs.Names.{Names, SomeNamed}
 use Rattle.expander.proofs.HeldLists.{each-down}
 
--- ---- `slot` and `put_slot`
+pub odd_one : (v : ℕ) → (v % 2 ≡ 0 → ⊥) → v % 2 ≡ 1
+odd_one v e = omega arith
+
+-- ---- `tells` and `put_slot`
 module _ (w : List ℕ) (g : Ground) (p : ℕ) where
   pub slot_fits : slot_place g p + 8 ≤ length w → length w < 2 ^ 64 → Fits w64 (g.slots + 8 * (p / 9))
   unfolding slot_place
@@ -34,15 +37,22 @@ module _ (w : List ℕ) (g : Ground) (p : ℕ) where
   unfolding slot_place
   slot_room h = h
 
-  pub slot_done : (x : ℕ) → x ≡ le_at 8 w (g.slots + 8 * (p / 9)) → x ≡ slot_at w g p
-  unfolding slot_at slot_place
-  slot_done x e = e
+  module _ (x : ℕ) (e : x ≡ le_at 8 w (g.slots + 8 * (p / 9))) where
+    slot_is : x ≡ slot_at w g p
+    unfolding slot_at slot_place
+    slot_is = e
+
+    pub tells_text : x % 2 ≡ 0 → 2 * (x / 2) ≡ slot_at w g p
+    tells_text z = omega (arith, slot_is)
+
+    pub tells_pushed : (x % 2 ≡ 0 → ⊥) → 2 * (x / 2) + 1 ≡ slot_at w g p
+    tells_pushed z = omega (arith, slot_is, odd_one x z)
 
   pub slot_stored : (v : ℕ) (w' : List ℕ) → w' ≡ store w (g.slots + 8 * (p / 9)) (le 8 v) → w' ≡ store w (slot_place g p) (le 8 v)
   unfolding slot_place
   slot_stored v w' e = e
 
-pub ruleset slotting = (rules, slot_fits, slot_room, slot_done, slot_stored)
+pub ruleset slotting = (rules, slot_fits, slot_room, tells_text, tells_pushed, slot_stored)
 
 -- ---- `put_new`
 module _ (w : List ℕ) (g : Ground) (c : ℕ) (h : list_place g c + 8 ≤ length w) where
@@ -97,9 +107,6 @@ module _ (w : List ℕ) (g : Ground) (v : ℕ) where
   pub ref_like : (v % 2 ≡ 0 → ⊥) → ref_by w g v ≡ like (key_at w g (v / 2))
   unfolding ref_by pick
   ref_like e = cc (ne_eqb (v % 2) 0 e)
-
-pub odd_one : (v : ℕ) → (v % 2 ≡ 0 → ⊥) → v % 2 ≡ 1
-odd_one v e = omega arith
 
 -- a followed reference v that is odd is that of a record which refers to itself
 module _ (w : List ℕ) (g : Ground) (n m p : ℕ) (f : Refers n m (slot_at w g p)) (own : (j : ℕ) → j < n → slot_at w g (key_at w g j) % 2 ≡ 1 → slot_at w g (key_at w g j) ≡ 2 * j + 1)
@@ -169,57 +176,47 @@ module _ (s w : List ℕ) (g : Ground) (n c : ℕ) (ps : List ℕ) (r : Grounded
   pub named-record : (j : ℕ) → j < n → g.keys + 24 * j + 24 ≤ length w
   named-record j i = record_there s w g r n j h.records.few i
 
--- ---- `reference`
-module _ (s w : List ℕ) (g : Ground) (n c p : ℕ) (r : Grounded s w g) (k : SomeNamed s w g n c p) where
+-- ---- `reference`: x is what the slot tells
+module _ (w : List ℕ) (g : Ground) (p : ℕ) (h : Followable w g p) where
   pub own_room : slot_place g p + 8 ≤ length w
-  own_room = named-slot s w g n c k.places r k.names p k.here
+  own_room = h.own
 
-  module _ (v : ℕ) (e : v ≡ slot_at w g p) where
-    pub even_done : v % 2 ≡ 0 → v ≡ followed w g (slot_at w g p)
-    even_done z = e ∙ sym (followed-even w g (slot_at w g p) (rw (← e) z))
-
-    module _ (o : v % 2 ≡ 0 → ⊥) where
-      below : v / 2 < n
-      below = rw e ((k.names.refers p k.here).odd (rw (← e) (odd_one v o)))
-
-      pub key_room : g.keys + 24 * (v / 2) + 24 ≤ length w
-      key_room = named-record s w g n c k.places r k.names (v / 2) below
-
-      module _ (q : ℕ) (m : q ≡ mark_at w g.keys (v / 2)) where
-        pub key_slot_room : slot_place g q + 8 ≤ length w
-        unfolding key_at
-        key_slot_room = rw m (named-slot s w g n c k.places r k.names (key_at w g (v / 2)) (k.names.pushed (v / 2) below))
-
-        pub odd_done : (u : ℕ) → u ≡ slot_at w g q → u ≡ followed w g (slot_at w g p)
-        unfolding key_at
-        odd_done u f = f ∙ ap (slot_at w g) m ∙ sym (followed-odd w g v o) ∙ ap (followed w g) e
-
-  -- by what the slot tells
   module _ (x : Noted) (e : slot_code x ≡ slot_at w g p) where
     pub text_done : (k : ℕ) → x ≡ Noted.Text k → 2 * k ≡ followed w g (slot_at w g p)
-    text_done k i = even_done (2 * k) (sym (ap slot_code i) ∙ e) (omega arith)
+    text_done k i = let t : 2 * k ≡ slot_at w g p = sym (ap slot_code i) ∙ e in t ∙ sym (followed-even w g (slot_at w g p) (omega (arith, t)))
 
     module _ (j : ℕ) (i : x ≡ Noted.Pushed j) where
       told : 2 * j + 1 ≡ slot_at w g p
       told = sym (ap slot_code i) ∙ e
 
-      half : (2 * j + 1) / 2 ≡ j
-      half = omega arith
+      half : slot_at w g p / 2 ≡ j
+      half = omega (arith, told)
 
-      odd : (2 * j + 1) % 2 ≡ 0 → ⊥
-      odd z = omega arith
+      odd : slot_at w g p % 2 ≡ 1
+      odd = omega (arith, told)
 
       pub pushed_room : g.keys + 24 * j + 24 ≤ length w
-      pushed_room = subst (λ (k : ℕ). g.keys + 24 * k + 24 ≤ length w) half (key_room (2 * j + 1) told odd)
+      pushed_room = omega (arith, h.pushed odd, half)
 
       module _ (q : ℕ) (m : q ≡ mark_at w g.keys j) where
-        place_told : q ≡ mark_at w g.keys ((2 * j + 1) / 2)
-        place_told = m ∙ ap (mark_at w g.keys) (sym half)
+        key_is : key_at w g (slot_at w g p / 2) ≡ q
+        unfolding key_at
+        key_is = ap (mark_at w g.keys) half ∙ sym m
 
         pub pushed_slot_room : slot_place g q + 8 ≤ length w
-        pushed_slot_room = key_slot_room (2 * j + 1) told odd q place_told
+        pushed_slot_room = subst (λ (k : ℕ). slot_place g k + 8 ≤ length w) key_is (h.place odd)
 
         pub pushed_done : (u : ℕ) → u ≡ slot_at w g q → u ≡ followed w g (slot_at w g p)
-        pushed_done = odd_done (2 * j + 1) told odd q place_told
+        pushed_done u f = f ∙ ap (slot_at w g) (sym key_is) ∙ sym (followed-odd w g (slot_at w g p) (λ z. omega (arith, odd, z)))
 
 pub ruleset referring = (rules, own_room, text_done, pushed_room, pushed_slot_room, pushed_done)
+
+-- a symbol with a name can be followed
+pub named_followable : (s w : List ℕ) (g : Ground) (n c p : ℕ) → Grounded s w g → SomeNamed s w g n c p → Followable w g p
+named_followable s w g n c p r k =
+    let refers = k.names.refers p k.here in
+    record {
+      own = named-slot s w g n c k.places r k.names p k.here;
+      pushed = λ o. named-record s w g n c k.places r k.names (slot_at w g p / 2) (refers.odd o);
+      place = λ o. named-slot s w g n c k.places r k.names (key_at w g (slot_at w g p / 2)) (k.names.pushed (slot_at w g p / 2) (refers.odd o));
+    }

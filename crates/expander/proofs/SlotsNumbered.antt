@@ -24,7 +24,7 @@ use Rattle.expander.specs.Held.{followed, ref_by, ref_in, Refers, Held, Numbered
 use Rattle.expander.specs.Names.{SomeNamed, NameRoom, NamesOne}
 use Rattle.expander.proofs.GroundLaws.{keys_slots, slots_top}
 use Rattle.expander.proofs.HeldLists.{length_upto, among_none, among-upto, place_upto}
-use Rattle.expander.proofs.SlotsCode.{ref_text, ref_new, ref_like, odd_one, followed-refers, named-slot, named-record, number_fits}
+use Rattle.expander.proofs.SlotsCode.{named_followable, ref_text, ref_new, ref_like, odd_one, followed-refers, named-slot, named-record, number_fits}
 use Rattle.expander.proofs.NamesLaws.{held-names}
 use Rattle.expander.proofs.SlotsNextCode.{Next, new_listed}
 use Rattle.expander.proofs.SlotsNamesCode.{listed-none, even_named, half_less, next, odd_named}
@@ -217,4 +217,4 @@ module _ (s w : List ℕ) (g : Ground) (n c p : ℕ) (x : Noted) (e : slot_code 
       pub pushed_mark_slot : (q : ℕ) → q ≡ mark_at w g.keys j → slot_place g q + 8 ≤ length w
       pushed_mark_slot q m = mark_slot_room s w g n c p (2 * j + 1) odd_told r odd k q (m ∙ ap (mark_at w g.keys) (sym odd_half))
 
-pub ruleset numbering = (rules, text_done, text_named, pushed_numbers, pushed_names, pushed_mark, pushed_half, pushed_mark_slot, pushed_list, pushed_sum, pushed_next)
+pub ruleset numbering = (rules, named_followable, text_done, text_named, pushed_numbers, pushed_names, pushed_mark, pushed_half, pushed_mark_slot, pushed_list, pushed_sum, pushed_next)

@@ -151,11 +151,11 @@ module _ (wd : ℕ) (t : List ℕ) where
 -- ---- `next_item`: some hops were done, so many are left
 pub record Hunting (w : List ℕ) (g : Ground) (p q : ℕ) : Type 0 where
   pub many : ℕ
-  pub hopping : Hopping g.width (stage_in w g) many q
+  pub hopping : Hopping g.width.bytes (stage_in w g) many q
   pub upto : q ≤ size_in g
   pub done : ℕ
   pub few : done + p ≤ q
-  pub is : hops g.width (stage_in w g) (length (stage_in w g) - done) q ≡ hops g.width (stage_in w g) (length (stage_in w g)) p
+  pub is : hops g.width.bytes (stage_in w g) (length (stage_in w g) - done) q ≡ hops g.width.bytes (stage_in w g) (length (stage_in w g)) p
 
 pub hunt_start : (w : List ℕ) (g : Ground) (p : ℕ) → SomeHops w g p → Hunting w g p p
 hunt_start w g p h = record {
@@ -164,14 +164,14 @@ hunt_start w g p h = record {
   upto = h.inside;
   done = 0;
   few = omega arith;
-  is = ap (λ (k : ℕ). hops g.width (stage_in w g) k p) (let z : length (stage_in w g) - 0 ≡ length (stage_in w g) = omega arith in z);
+  is = ap (λ (k : ℕ). hops g.width.bytes (stage_in w g) k p) (let z : length (stage_in w g) - 0 ≡ length (stage_in w g) = omega arith in z);
 }
 
 module _ (s w : List ℕ) (g : Ground) (p q : ℕ) (G : Grounded s w g) (h : Hunting w g p q) where
   pub hunt_end : g.end - g.from ≤ q → Skips w g p q
   unfolding size_in
   hunt_end l = record {
-    is = sym (hops-stay g.width (stage_in w g) (length (stage_in w g) - h.done) q (stay_end g.width (stage_in w g) q (omega (arith, stage_length s w g G)))) ∙ h.is;
+    is = sym (hops-stay g.width.bytes (stage_in w g) (length (stage_in w g) - h.done) q (stay_end g.width.bytes (stage_in w g) q (omega (arith, stage_length s w g G)))) ∙ h.is;
     from = omega (arith, h.few);
     upto = h.upto;
   }
@@ -188,19 +188,19 @@ module _ (s w : List ℕ) (g : Ground) (p q : ℕ) (G : Grounded s w g) (h : Hun
     hunt_fits k = record { fits = omega (arith, hunt_room) }
 
     module _ (c : ℕ) (d : c ≡ get_or w (g.from + q) 0) (b : Bool) (e : b ≡ item_code c) where
-      turn : Turning g.width (stage_in w g) q b
-      turn = turning g.width (stage_in w g) h.many q b h.hopping (stage_in_lem s w g G q below) (e ∙ ap item_code (d ∙ sym (stage_byte s w g G q below)))
+      turn : Turning g.width.bytes (stage_in w g) q b
+      turn = turning g.width.bytes (stage_in w g) h.many q b h.hopping (stage_in_lem s w g G q below) (e ∙ ap item_code (d ∙ sym (stage_byte s w g G q below)))
 
       pub hunt_item : b ≡ true → Skips w g p q
       hunt_item f = record {
-        is = sym (hops-stay g.width (stage_in w g) (length (stage_in w g) - h.done) q (stay_item g.width (stage_in w g) q (stage_in_lem s w g G q below) (turn.item f))) ∙ h.is;
+        is = sym (hops-stay g.width.bytes (stage_in w g) (length (stage_in w g) - h.done) q (stay_item g.width.bytes (stage_in w g) q (stage_in_lem s w g G q below) (turn.item f))) ∙ h.is;
         from = omega (arith, h.few);
         upto = h.upto;
       }
 
-      module _ (f : b ≡ false) (n : ℕ) (k : n ≡ command_long g.width c) where
-        size_is : n ≡ size_of g.width (node_at g.width (stage_in w g) q)
-        size_is = k ∙ ap (command_long g.width) (d ∙ sym (stage_byte s w g G q below)) ∙ sym (whole_long g.width (stage_in w g) q (turn.whole f))
+      module _ (f : b ≡ false) (n : ℕ) (k : n ≡ command_long g.width.bytes c) where
+        size_is : n ≡ size_of g.width.bytes (node_at g.width.bytes (stage_in w g) q)
+        size_is = k ∙ ap (command_long g.width.bytes) (d ∙ sym (stage_byte s w g G q below)) ∙ sym (whole_long g.width.bytes (stage_in w g) q (turn.whole f))
 
         inside : q + n ≤ size_in g
         inside = omega (arith, (turn.whole f).inside, size_is, stage_length s w g G)
@@ -217,8 +217,8 @@ module _ (s w : List ℕ) (g : Ground) (p q : ℕ) (G : Grounded s w g) (h : Hun
           done = h.done + 1;
           few = omega (arith, h.few, (turn.whole f).some);
           is =
-              ap (hops g.width (stage_in w g) (length (stage_in w g) - (h.done + 1))) (sym (hop-on g.width (stage_in w g) q (stage_in_lem s w g G q below) (turn.on f)))
-              ∙ sym (hops-next g.width (stage_in w g) (length (stage_in w g) - h.done) (length (stage_in w g) - (h.done + 1)) q (omega (arith, h.few, stage_in_lem s w g G q below)))
+              ap (hops g.width.bytes (stage_in w g) (length (stage_in w g) - (h.done + 1))) (sym (hop-on g.width.bytes (stage_in w g) q (stage_in_lem s w g G q below) (turn.on f)))
+              ∙ sym (hops-next g.width.bytes (stage_in w g) (length (stage_in w g) - h.done) (length (stage_in w g) - (h.done + 1)) q (omega (arith, h.few, stage_in_lem s w g G q below)))
               ∙ h.is;
         })
 

@@ -114,18 +114,18 @@ module _ (s w : List ℕ) (g : Ground) (r : Replaced) (k : Keyed) (G : Grounded 
   unfolding size_in
   key_span_room w1 e = omega (arith, K.inside, G.inside)
 
-  upto : r.to + 9 + g.width ≤ K.writable.lim
+  upto : r.to + 9 + g.width.bytes ≤ K.writable.lim
   upto = omega (arith, K.writable.room)
 
   pub key_to_fits : Bound.Fits w64 (r.to + 9)
   key_to_fits = record { fits = omega (arith, upto, K.writable.inside, G.short) }
 
-  pub key_end_fits : Bound.Fits w64 (r.to + 9 + g.width)
+  pub key_end_fits : Bound.Fits w64 (r.to + 9 + g.width.bytes)
   key_end_fits = record { fits = omega (arith, upto, K.writable.inside, G.short) }
 
   -- ---- the text has a number, and the nonterminal is written
   module _ (b : (j : ℕ) → Bound.Fits w8 (get_or w j 0)) (w1 w2 : List ℕ) (n : Numbered) (N : Numbers s w g k.pile r.count r.at n w1) (v : ℕ) (e : v ≡ le_at 8 w1 (g.from + r.at + 1)) (m : ℕ)
-      (q : m ≡ n.number % 4294967296) (o : w2 ≡ store w1 r.to (36 ∷ (le 8 v ++ le g.width m))) where
+      (q : m ≡ n.number % 4294967296) (o : w2 ≡ store w1 r.to (36 ∷ (le 8 v ++ le g.width.bytes m))) where
     by : (x : Slots) → Held s w g k.pile r.count x → HasRef r.at x → NumberedBy s w g k.pile r.count r.at x n w1
     unfolding Numbers
     by x h i = N x h i
@@ -152,26 +152,26 @@ module _ (s w : List ℕ) (g : Ground) (r : Replaced) (k : Keyed) (G : Grounded 
     unfolding stage_in
     stage_bytes_lem = bytes_part w g.from g.end (λ j. (b j).fits) G.inside
 
-    bytes_are : 36 ∷ (le 8 v ++ le g.width m) ≡ key_bytes g.width (node_at g.width (stage_in w g) r.at) n.number
+    bytes_are : 36 ∷ (le 8 v ++ le g.width.bytes m) ≡ key_bytes g.width.bytes (node_at g.width.bytes (stage_in w g) r.at) n.number
     bytes_are =
-        ap (λ (l : List ℕ). 36 ∷ (le 8 v ++ l)) (ap (le g.width) q ∙ low_bytes g.width n.number G.narrow G.wide)
-        ∙ ap (λ (u : ℕ). 36 ∷ (le 8 u ++ le g.width n.number)) span_is
-        ∙ sym (key_bytes_lem g.width (stage_in w g) r.at stage_bytes_lem n.number K.key.key)
+        ap (λ (l : List ℕ). 36 ∷ (le 8 v ++ l)) (ap (le g.width.bytes) q ∙ low_bytes g.width.bytes n.number G.narrow G.wide)
+        ∙ ap (λ (u : ℕ). 36 ∷ (le 8 u ++ le g.width.bytes n.number)) span_is
+        ∙ sym (key_bytes_lem g.width.bytes (stage_in w g) r.at stage_bytes_lem n.number K.key.key)
 
     abbrev end : ℕ
-    end = r.to + 9 + g.width
+    end = r.to + 9 + g.width.bytes
 
-    end_is : r.to + (9 + g.width) ≡ end
+    end_is : r.to + (9 + g.width.bytes) ≡ end
     end_is = omega arith
 
     between : Between r.to end w1 w2
-    between = subst (λ (u : ℕ). Between r.to u w1 w2) end_is (stored_between w1 w2 r.to (9 + g.width) (36 ∷ (le 8 v ++ le g.width m)) o (long_key g.width v m))
+    between = subst (λ (u : ℕ). Between r.to u w1 w2) end_is (stored_between w1 w2 r.to (9 + g.width.bytes) (36 ∷ (le 8 v ++ le g.width.bytes m)) o (long_key g.width.bytes v m))
 
-    lies : Lies w2 r.to (36 ∷ (le 8 v ++ le g.width m)) end
-    lies = lies_to end_is (stored_lies w1 w2 r.to (9 + g.width) (36 ∷ (le 8 v ++ le g.width m)) o (long_key g.width v m) (omega (arith, upto, K.writable.inside, around.long)))
+    lies : Lies w2 r.to (36 ∷ (le 8 v ++ le g.width.bytes m)) end
+    lies = lies_to end_is (stored_lies w1 w2 r.to (9 + g.width.bytes) (36 ∷ (le 8 v ++ le g.width.bytes m)) o (long_key g.width.bytes v m) (omega (arith, upto, K.writable.inside, around.long)))
 
     abbrev after : Replaced
-    after = record { at = k.at; to = r.to + 9 + g.width; pile = k.pile; count = n.count }
+    after = record { at = k.at; to = r.to + 9 + g.width.bytes; pile = k.pile; count = n.count }
 
     wrote : WroteOnly g r.to end w w2
     wrote =
@@ -184,11 +184,11 @@ module _ (s w : List ℕ) (g : Ground) (r : Replaced) (k : Keyed) (G : Grounded 
         record {
           lies =
               subst (λ (l : List ℕ). Lies w2 r.to l end)
-              (bytes_are ∙ ap (key_bytes g.width (node_at g.width (stage_in w g) r.at)) d.number) lies;
+              (bytes_are ∙ ap (key_bytes g.width.bytes (node_at g.width.bytes (stage_in w g) r.at)) d.number) lies;
           held = held_stays s w1 w2 g r.to end K.writable.lim ground K.writable.top K.writable.items upto above between k.pile n.count (numbered g.m.count r.at x).1 d.held;
         }
 
-    pub key_put : PutsKeyed s w g r k (record { at = k.at; to = r.to + 9 + g.width; pile = k.pile; count = n.count }) w2
+    pub key_put : PutsKeyed s w g r k (record { at = k.at; to = r.to + 9 + g.width.bytes; pile = k.pile; count = n.count }) w2
     key_put = record { at = refl; pile = refl; to = refl; most = first.most; wrote = wrote; each = each }
 
 pub ruleset putting = (rules, key_named, key_room, key_span_room, key_to_fits, key_end_fits, key_put)

@@ -163,12 +163,12 @@ module _ (s w₀ : List ℕ) (g : Ground) (to : ℕ) (w : List ℕ) (r : Replace
     above = above_back s w w' g r.to q.to lim T.wrote T.next.writable.above
 
     low : q.to ≤ lim
-    low = room_upto q.to ((9 + g.width) * (size_in g - q.at)) lim T.next.writable.room
+    low = room_upto q.to ((9 + g.width.bytes) * (size_in g - q.at)) lim T.next.writable.room
 
     -- the turn is that of the stage as it was
     turn_is : (x : Slots) → turned s w g T.steps r.at x ≡ turned s w₀ g T.steps r.at x
     turn_is x =
-        let by : List ℕ → List Text → Run = λ t ts. steps (same_print false g.width t ts) (text_is false g.width t ts) g.width g.m.count t T.steps (run r.at [] x) in
+        let by : List ℕ → List Text → Run = λ t ts. steps (same_print false g.width.bytes t ts) (text_is false g.width.bytes t ts) g.width.bytes g.m.count t T.steps (run r.at [] x) in
         ap (λ (t : List ℕ). by t (texts s w g.m)) c.stage ∙ ap (λ (ts : List Text). by (stage_in w₀ g) ts) c.names
 
     more : (ms : List ℕ) → Sofar s w₀ g to ms w r → Sofar s w₀ g to ms w' q
@@ -181,9 +181,9 @@ module _ (s w₀ : List ℕ) (g : Ground) (to : ℕ) (w : List ℕ) (r : Replace
           out = f.out ++ z.out;
           slots = z.slots;
           is =
-              steps_append (same_at s w₀ g) (text_in s w₀ g) g.width g.m.count (stage_in w₀ g) f.turns T.steps (run 0 [] (started ms))
-              ∙ ap (steps (same_at s w₀ g) (text_in s w₀ g) g.width g.m.count (stage_in w₀ g) T.steps) f.is
-              ∙ steps_behind (same_at s w₀ g) (text_in s w₀ g) g.width g.m.count (stage_in w₀ g) T.steps r.at f.out f.slots
+              steps_append (same_at s w₀ g) (text_in s w₀ g) g.width.bytes g.m.count (stage_in w₀ g) f.turns T.steps (run 0 [] (started ms))
+              ∙ ap (steps (same_at s w₀ g) (text_in s w₀ g) g.width.bytes g.m.count (stage_in w₀ g) T.steps) f.is
+              ∙ steps_behind (same_at s w₀ g) (text_in s w₀ g) g.width.bytes g.m.count (stage_in w₀ g) T.steps r.at f.out f.slots
               ∙ ap (λ (v : Run). run v.at (f.out ++ v.out) v.slots) (sym (turn_is f.slots))
               ∙ ap (λ (i : ℕ). run i (f.out ++ z.out) z.slots) (sym t.at);
           lies =
@@ -216,18 +216,18 @@ module _ (s w₀ : List ℕ) (g : Ground) (to : ℕ) (w : List ℕ) (r : Replace
     end_is = omega (arith, c.turn.upto)
 
     -- more turns than it takes change nothing
-    replaced_is : (ms : List ℕ) (f : Sofar s w₀ g to ms w r) → replaced false g.width (stage_in w₀ g) (texts s w₀ g.m) ms ≡ run r.at f.out f.slots
+    replaced_is : (ms : List ℕ) (f : Sofar s w₀ g to ms w r) → replaced false g.width.bytes (stage_in w₀ g) (texts s w₀ g.m) ms ≡ run r.at f.out f.slots
     unfolding replaced
     replaced_is ms f =
         let t = stage_in w₀ g in
-        let go : ℕ → ℕ → Run → Run = λ b n. steps (same_at s w₀ g) (text_in s w₀ g) g.width b t n in
+        let go : ℕ → ℕ → Run → Run = λ b n. steps (same_at s w₀ g) (text_in s w₀ g) g.width.bytes b t n in
         let e = stage_length s w₀ g G in
         let k : length t ≡ f.turns + (length t - f.turns) = omega (arith, f.few, end_is) in
         ap (λ (b : ℕ). go b (length t) (run 0 [] (started ms))) (texts-many s w₀ g)
         ∙ ap (λ (n : ℕ). go g.m.count n (run 0 [] (started ms))) k
-        ∙ steps_append (same_at s w₀ g) (text_in s w₀ g) g.width g.m.count t f.turns (length t - f.turns) (run 0 [] (started ms))
+        ∙ steps_append (same_at s w₀ g) (text_in s w₀ g) g.width.bytes g.m.count t f.turns (length t - f.turns) (run 0 [] (started ms))
         ∙ ap (go g.m.count (length t - f.turns)) f.is
-        ∙ steps_end (same_at s w₀ g) (text_in s w₀ g) g.width g.m.count t (length t - f.turns) (run r.at f.out f.slots) (omega (arith, end_is))
+        ∙ steps_end (same_at s w₀ g) (text_in s w₀ g) g.width.bytes g.m.count t (length t - f.turns) (run r.at f.out f.slots) (omega (arith, end_is))
 
     staged : (ms : List ℕ) → Sofar s w₀ g to ms w r → StagedBy s w₀ g to ms r w
     staged ms f = record {

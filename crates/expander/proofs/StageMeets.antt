@@ -70,16 +70,16 @@ pub room_upto : (to n lim : ℕ) → 9 * to + n ≤ 9 * lim → to ≤ lim
 room_upto to n lim h = omega arith
 
 -- ---- whether the definition of a macro begins there
-pub macro_stage : (s w : List ℕ) (g : Ground) → Grounded s w g → (p c : ℕ) → p + command_long g.width c ≤ size_in g → macro_at g.width w (g.from + p) c ≡ macro_at g.width (stage_in w g) p c
+pub macro_stage : (s w : List ℕ) (g : Ground) → Grounded s w g → (p c : ℕ) → p + command_long g.width.bytes c ≤ size_in g → macro_at g.width.bytes w (g.from + p) c ≡ macro_at g.width.bytes (stage_in w g) p c
 unfolding macro_at pick
 macro_stage s w g G p c l = go (eqb c 16) refl
   where
-    go : (b : Bool) → eqb c 16 ≡ b → pick b (ltb 0 (get_or w (g.from + p + 10 + g.width) 0)) false ≡ pick b (ltb 0 (get_or (stage_in w g) (p + 10 + g.width) 0)) false
+    go : (b : Bool) → eqb c 16 ≡ b → pick b (ltb 0 (get_or w (g.from + p + 10 + g.width.bytes) 0)) false ≡ pick b (ltb 0 (get_or (stage_in w g) (p + 10 + g.width.bytes) 0)) false
     go false e = refl
     go true e =
-        let z = long_16 g.width c (eqb-true c 16 e) in
-        let i : g.from + (p + 10 + g.width) ≡ g.from + p + 10 + g.width = omega arith in
-        ap (λ (v : ℕ). pick true (ltb 0 v) false) (ap (λ (k : ℕ). get_or w k 0) (sym i) ∙ sym (stage_byte s w g G (p + 10 + g.width) (omega arith)))
+        let z = long_16 g.width.bytes c (eqb-true c 16 e) in
+        let i : g.from + (p + 10 + g.width.bytes) ≡ g.from + p + 10 + g.width.bytes = omega arith in
+        ap (λ (v : ℕ). pick true (ltb 0 v) false) (ap (λ (k : ℕ). get_or w k 0) (sym i) ∙ sym (stage_byte s w g G (p + 10 + g.width.bytes) (omega arith)))
 
 -- ---- the turns
 macro_plain : (n : Node) → is_macro n ≡ true → plain n ≡ true

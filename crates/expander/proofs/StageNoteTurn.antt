@@ -81,7 +81,7 @@ module _ (s w : List ℕ) (g : Ground) (r : Replaced) (G : Grounded s w g) (T : 
   t = stage_in w g
 
   abbrev wd : ℕ
-  wd = g.width
+  wd = g.width.bytes
 
   abbrev ts : List Text
   ts = texts s w g.m

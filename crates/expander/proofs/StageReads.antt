@@ -61,7 +61,7 @@ lies_whole w a e h k p (x ∷ xs) q l =
 -- ---- the ground
 module _ (s w : List ℕ) (g : Ground) where
   -- the texts can be read
-  pub grounded_readable : Grounded s w g → Readable s w g.m g.width
+  pub grounded_readable : Grounded s w g → Readable s w g.m g.width.bytes
   grounded_readable G = record { worded = table-worded s w g.m G.table; narrow = G.narrow; wide = G.wide }
 
   pub stage_length : Grounded s w g → length (stage_in w g) ≡ size_in g
@@ -75,31 +75,31 @@ symbol_long wd ts x = omega (arith, node_size wd ts x, ap length (sym_bytes_lem 
 
 module _ (s w : List ℕ) (g : Ground) (b : Bytes w) (G : Grounded s w g) where
   -- theorem: a symbol that was read in the stage stands in work
-  pub read_stands : (left p : ℕ) (y : Sym) (e : ℕ) → read_sym false g.width (stage_in w g) (texts s w g.m) left p ≡ got y e
-      → SymStands s w g.m g.width false left (g.from + p) (g.from + e) y
+  pub read_stands : (left p : ℕ) (y : Sym) (e : ℕ) → read_sym false g.width.bytes (stage_in w g) (texts s w g.m) left p ≡ got y e
+      → SymStands s w g.m g.width.bytes false left (g.from + p) (g.from + e) y
   unfolding stage_in
   read_stands left p y e r =
-      let f = sym_finds false g.width (stage_in w g) (texts s w g.m) (bytes_part w g.from g.end b G.inside) G.distinct-texts left p y e r in
+      let f = sym_finds false g.width.bytes (stage_in w g) (texts s w g.m) (bytes_part w g.from g.end b G.inside) G.distinct-texts left p y e r in
       record {
         within = f.within;
-        lies = lies_whole w g.from g.end G.ordered G.inside p (sym_bytes g.width (texts s w g.m) y) e f.lies;
+        lies = lies_whole w g.from g.end G.ordered G.inside p (sym_bytes g.width.bytes (texts s w g.m) y) e f.lies;
       }
 
   -- and has nine bytes of the stage
-  pub read_room : (left p : ℕ) (y : Sym) (e : ℕ) → read_sym false g.width (stage_in w g) (texts s w g.m) left p ≡ got y e → (p + 9 ≤ e) × (e ≤ size_in g)
+  pub read_room : (left p : ℕ) (y : Sym) (e : ℕ) → read_sym false g.width.bytes (stage_in w g) (texts s w g.m) left p ≡ got y e → (p + 9 ≤ e) × (e ≤ size_in g)
   unfolding stage_in
   read_room left p y e r =
-      let f = sym_finds false g.width (stage_in w g) (texts s w g.m) (bytes_part w g.from g.end b G.inside) G.distinct-texts left p y e r in
-      let n = symbol_long g.width (texts s w g.m) y in
-      let i = lies_inside (stage_in w g) p e (sym_bytes g.width (texts s w g.m) y) (omega arith) f.lies in
+      let f = sym_finds false g.width.bytes (stage_in w g) (texts s w g.m) (bytes_part w g.from g.end b G.inside) G.distinct-texts left p y e r in
+      let n = symbol_long g.width.bytes (texts s w g.m) y in
+      let i = lies_inside (stage_in w g) p e (sym_bytes g.width.bytes (texts s w g.m) y) (omega arith) f.lies in
       (omega (arith, f.lies.end), omega (arith, stage_length s w g G))
 
   module _ (p : ℕ) (k : KeyAt s w g p) where
     -- theorem: and so one that is expanded
-    pub key_stands : SymStands s w g.m g.width false 64 (g.from + p) (g.from + k.end) (symbol_in s w g p)
+    pub key_stands : SymStands s w g.m g.width.bytes false 64 (g.from + p) (g.from + k.end) (symbol_in s w g p)
     key_stands = read_stands 64 p (symbol_in s w g p) k.end k.read
 
-    pub key_some : SomeSym s w g.m g.width 64 (g.from + p)
+    pub key_some : SomeSym s w g.m g.width.bytes 64 (g.from + p)
     key_some = record { four = false; end = g.from + k.end; symbol = symbol_in s w g p; stands = key_stands }
 
     pub key_room : p + 9 ≤ size_in g

@@ -111,7 +111,7 @@ module _ (s w : List ℕ) (g : Ground) (G : Grounded s w g) where
   ts = texts s w g.m
 
   abbrev wd : ℕ
-  wd = g.width
+  wd = g.width.bytes
 
   copies_none : (p : ℕ) → p ≤ size_in g → Copies s w g p p
   unfolding steps
@@ -168,7 +168,7 @@ module _ (s w : List ℕ) (g : Ground) (p q : ℕ) (G : Grounded s w g) (S : Som
   pub run_fits : length w < 2 ^ 64 → Fits w64 (g.from + q)
   run_fits k = record { fits = omega (arith, run_room) }
 
-  here : (m : ℕ) × Walks g.width (stage_in w g) (texts s w g.m) m S.left q
+  here : (m : ℕ) × Walks g.width.bytes (stage_in w g) (texts s w g.m) m S.left q
   here = C.walks S.turns S.left S.walks
 
   module _ (c : ℕ) (d : c ≡ get_or w (g.from + q) 0) where
@@ -179,25 +179,25 @@ module _ (s w : List ℕ) (g : Ground) (p q : ℕ) (G : Grounded s w g) (S : Som
       unexpanded : expanded_code (get_or (stage_in w g) q 0) ≡ false
       unexpanded = ap expanded_code code_is ∙ e
 
-      long_is : command_long g.width c ≡ size_of g.width (node_at g.width (stage_in w g) q)
+      long_is : command_long g.width.bytes c ≡ size_of g.width.bytes (node_at g.width.bytes (stage_in w g) q)
       long_is =
-          ap (command_long g.width) (sym code_is)
-          ∙ sym (whole_long g.width (stage_in w g) q (meets_whole g.width (stage_in w g) (texts s w g.m) here.0 S.left q here.1 (stage_in_lem s w g G q below) unexpanded))
+          ap (command_long g.width.bytes) (sym code_is)
+          ∙ sym (whole_long g.width.bytes (stage_in w g) q (meets_whole g.width.bytes (stage_in w g) (texts s w g.m) here.0 S.left q here.1 (stage_in_lem s w g G q below) unexpanded))
 
-      inside : q + command_long g.width c ≤ size_in g
+      inside : q + command_long g.width.bytes c ≤ size_in g
       inside =
-          let z = meets_whole g.width (stage_in w g) (texts s w g.m) here.0 S.left q here.1 (stage_in_lem s w g G q below) unexpanded in
+          let z = meets_whole g.width.bytes (stage_in w g) (texts s w g.m) here.0 S.left q here.1 (stage_in_lem s w g G q below) unexpanded in
           omega (arith, z.inside, long_is, stage_length s w g G)
 
       -- a command that is copied
-      module _ (m : macro_at g.width w (g.from + q) c ≡ false) where
-        next : Copies s w g p (q + command_long g.width c)
+      module _ (m : macro_at g.width.bytes w (g.from + q) c ≡ false) where
+        next : Copies s w g p (q + command_long g.width.bytes c)
         next =
-            let z = ap (macro_at g.width (stage_in w g) q) code_is ∙ sym (macro_stage s w g G q c inside) ∙ m in
-            copies_then s w g G p q (q + command_long g.width c) C
+            let z = ap (macro_at g.width.bytes (stage_in w g) q) code_is ∙ sym (macro_stage s w g G q c inside) ∙ m in
+            copies_then s w g G p q (q + command_long g.width.bytes c) C
             (subst (λ (j : ℕ). Copies s w g q (q + j)) (sym long_is) (copies_one s w g G q below unexpanded z here.0 S.left here.1))
 
-        fits : length w < 2 ^ 64 → Fits w64 (q + command_long g.width c)
+        fits : length w < 2 ^ 64 → Fits w64 (q + command_long g.width.bytes c)
         unfolding size_in
         fits k = record { fits = omega (arith, inside, G.inside) }
 
@@ -206,23 +206,23 @@ module _ (s w : List ℕ) (g : Ground) (p q : ℕ) (G : Grounded s w g) (S : Som
       named : name_code c ≡ true
       named = sym e ∙ f
 
-      long : command_long g.width c ≡ 9 + g.width
-      long = name_long g.width c named
+      long : command_long g.width.bytes c ≡ 9 + g.width.bytes
+      long = name_long g.width.bytes c named
 
-      pub run_name_fits : length w < 2 ^ 64 → Fits w64 (q + (9 + g.width))
-      run_name_fits k = subst (λ (j : ℕ). Fits w64 (q + j)) long (fits (name_plain c named) (name_no_macro g.width w (g.from + q) c named) k)
+      pub run_name_fits : length w < 2 ^ 64 → Fits w64 (q + (9 + g.width.bytes))
+      run_name_fits k = subst (λ (j : ℕ). Fits w64 (q + j)) long (fits (name_plain c named) (name_no_macro g.width.bytes w (g.from + q) c named) k)
 
-      pub run_name : Copies s w g p (q + (9 + g.width))
-      run_name = subst (λ (j : ℕ). Copies s w g p (q + j)) long (next (name_plain c named) (name_no_macro g.width w (g.from + q) c named))
+      pub run_name : Copies s w g p (q + (9 + g.width.bytes))
+      run_name = subst (λ (j : ℕ). Copies s w g p (q + j)) long (next (name_plain c named) (name_no_macro g.width.bytes w (g.from + q) c named))
 
     -- any other
-    pub run_left_room : RoomFor g.width w (g.from + q) c
+    pub run_left_room : RoomFor g.width.bytes w (g.from + q) c
     unfolding size_in
     run_left_room = record { room = λ e. omega (arith, inside e, G.inside, G.ordered) }
 
-    module _ (b : Bool) (e : b ≡ left_at g.width w (g.from + q) c) (f : b ≡ false) (n : ℕ) (k : n ≡ command_long g.width c) where
-      copied : (expanded_code c ≡ false) × (macro_at g.width w (g.from + q) c ≡ false)
-      copied = left_not g.width w (g.from + q) c (sym e ∙ f)
+    module _ (b : Bool) (e : b ≡ left_at g.width.bytes w (g.from + q) c) (f : b ≡ false) (n : ℕ) (k : n ≡ command_long g.width.bytes c) where
+      copied : (expanded_code c ≡ false) × (macro_at g.width.bytes w (g.from + q) c ≡ false)
+      copied = left_not g.width.bytes w (g.from + q) c (sym e ∙ f)
 
       pub run_next_fits : length w < 2 ^ 64 → Fits w64 (q + n)
       run_next_fits i = subst (λ (j : ℕ). Fits w64 (q + j)) (sym k) (fits copied.0 copied.1 i)

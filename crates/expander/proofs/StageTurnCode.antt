@@ -45,7 +45,7 @@ turned_by s w g n r x q w' R e a l h b = record {
 }
 
 -- room for the next turn
-pub writable_next : (s w w' : List ℕ) (g : Ground) (to n to' n' : ℕ) (W : Writable s w g to n) → length w' ≡ length w → Above s w' g.m W.lim → to ≤ to' → 9 * to' + (9 + g.width) * n' ≤ 9 * W.lim
+pub writable_next : (s w w' : List ℕ) (g : Ground) (to n to' n' : ℕ) (W : Writable s w g to n) → length w' ≡ length w → Above s w' g.m W.lim → to ≤ to' → 9 * to' + (9 + g.width.bytes) * n' ≤ 9 * W.lim
     → Writable s w' g to' n'
 writable_next s w w' g to n to' n' W e a l h = record { lim = W.lim; top = omega (arith, W.top); items = omega (arith, W.items); room = h; inside = rw e W.inside; above = a }
 
@@ -60,7 +60,7 @@ module _ (s w : List ℕ) (g : Ground) (r : Replaced) (G : Grounded s w g) (T : 
   t = stage_in w g
 
   abbrev wd : ℕ
-  wd = g.width
+  wd = g.width.bytes
 
   -- the code that was read
   module _ (c : ℕ) (d : c ≡ get_or w (g.from + r.at) 0) (e : Bool) (y : e ≡ expanded_code c) (f : e ≡ false) where
@@ -160,11 +160,11 @@ module _ (s w : List ℕ) (g : Ground) (r : Replaced) (n : ℕ) (G : Grounded s 
     W : Writable s w g r.to (size_in g - r.at)
     W = T.writable
 
-    room : 9 * (r.to + (stop - r.at)) + (9 + g.width) * (size_in g - stop) ≤ 9 * W.lim
-    room = room_copy r.to (size_in g - r.at) (size_in g - stop) W.lim g.width (stop - r.at) G.narrow G.wide W.room (omega (arith, forth, K.upto))
+    room : 9 * (r.to + (stop - r.at)) + (9 + g.width.bytes) * (size_in g - stop) ≤ 9 * W.lim
+    room = room_copy r.to (size_in g - r.at) (size_in g - stop) W.lim g.width.bytes (stop - r.at) G.narrow G.wide W.room (omega (arith, forth, K.upto))
 
     low : r.to + (stop - r.at) ≤ W.lim
-    low = room_upto (r.to + (stop - r.at)) ((9 + g.width) * (size_in g - stop)) W.lim room
+    low = room_upto (r.to + (stop - r.at)) ((9 + g.width.bytes) * (size_in g - stop)) W.lim room
 
     pub copy_before : g.from + stop ≤ r.to
     unfolding size_in
@@ -204,7 +204,7 @@ module _ (s w : List ℕ) (g : Ground) (r : Replaced) (n : ℕ) (G : Grounded s 
       further : (x : Slots) → AllBefore r.at x → AllBefore stop x
       further x i p j = omega (arith, i p j, forth)
 
-      onward : (m : ℕ) × Walks g.width (stage_in w g) (texts s w g.m) m T.left stop
+      onward : (m : ℕ) × Walks g.width.bytes (stage_in w g) (texts s w g.m) m T.left stop
       onward = A.walks T.turns T.left T.walks
 
       pub turn_copy : Turns s w g r (record { at = stop; to = r.to + (stop - r.at); pile = r.pile; count = r.count }) w2
@@ -219,7 +219,7 @@ module _ (s w : List ℕ) (g : Ground) (r : Replaced) (n : ℕ) (G : Grounded s 
           turns = onward.0;
           left = T.left;
           walks =
-              said_wrote s w w2 g r.to (r.to + (stop - r.at)) W.lim G W.top W.items low W.above wrote (λ st ts. Walks g.width st ts onward.0 T.left stop)
+              said_wrote s w w2 g r.to (r.to + (stop - r.at)) W.lim G W.top W.items low W.above wrote (λ st ts. Walks g.width.bytes st ts onward.0 T.left stop)
               onward.1;
           upto = A.upto;
           list = T.list;

@@ -1,9 +1,7 @@
 -- A printed form among those of the pushed symbols and among the texts, told by numbers. s is the tape, w is work. Assumes nothing: these are definitions.
 use Rattle.std.specs.Prelude.{◌≡◌, false, List, ℕ, ◌<◌}
 use Rattle.octets.specs.Plain.Runs.{same_as}
-use Rattle.parse_tree.specs.Plain.Texts.{has}
 use Rattle.std.specs.Prelude.{Option, Some, None}
-use Rattle.texts.specs.Texts.{texts_of}
 use Rattle.expander.specs.declared.Ground.{Ground}
 use Rattle.expander.specs.Ground.{printed_at, key_at}
 
@@ -16,7 +14,3 @@ module _ (s w : List ℕ) (g : Ground) where
   unfoldable pub FindsKey : ℕ → ℕ → Option ℕ → Type 0
   FindsKey n p (Some i) = (i < n) × (printed_at s w g (key_at w g i) ≡ printed_at s w g p)
   FindsKey n p None = NoneBefore n p
-
-  -- none of the first n texts is the print of the symbol at p
-  abbrev pub HasNot : ℕ → ℕ → Type 0
-  HasNot n p = has (printed_at s w g p) (texts_of s w g.m.base n) ≡ false

@@ -62,28 +62,28 @@ pushed_text w g k = leb 2147483648 (cell_at w g.m.base k)
 -- ---- symbols by their places
 module _ (s w : List ℕ) (g : Ground) where
   abbrev pub symbol_in : ℕ → Sym
-  symbol_in p = sym_at false g.width (stage_in w g) (texts s w g.m) p
+  symbol_in p = sym_at false g.width.bytes (stage_in w g) (texts s w g.m) p
 
   abbrev pub printed_at : ℕ → Text
-  printed_at p = print_at false g.width (stage_in w g) (texts s w g.m) p
+  printed_at p = print_at false g.width.bytes (stage_in w g) (texts s w g.m) p
 
   -- a symbol that is expanded stands there
   abbrev pub KeyAt : ℕ → Type 0
-  KeyAt p = Firm false g.width (stage_in w g) (texts s w g.m) p
+  KeyAt p = Firm false g.width.bytes (stage_in w g) (texts s w g.m) p
 
   abbrev pub same_at : ℕ → ℕ → Bool
-  same_at p q = same_print false g.width (stage_in w g) (texts s w g.m) p q
+  same_at p q = same_print false g.width.bytes (stage_in w g) (texts s w g.m) p q
 
   abbrev pub text_in : ℕ → Option ℕ
-  text_in p = text_is false g.width (stage_in w g) (texts s w g.m) p
+  text_in p = text_is false g.width.bytes (stage_in w g) (texts s w g.m) p
 
   -- ---- the regions are apart, and the texts can be read and found
   pub record Grounded : Type 0 where
     pub table : Table s w g.m
     pub some : 0 < g.m.buckets
     pub distinct-texts : distinct (texts s w g.m) ≡ true
-    pub narrow : 2 ≤ g.width
-    pub wide : g.width ≤ 3
+    pub narrow : 2 ≤ g.width.bytes
+    pub wide : g.width.bytes ≤ 3
     pub ordered : g.from ≤ g.end
     pub inside : g.end ≤ length w
     pub records : g.m.base + 24 * g.m.count ≤ g.keys

@@ -7,7 +7,7 @@ use Rattle.replacing.specs.Slots.{Ref, text, like, Slots, ref_at, among, note, n
 use Rattle.replacing.specs.Sound.{HasRef, Sound}
 use Rattle.expander.specs.declared.Ground.{Ground}
 use Rattle.expander.specs.declared.slots.Numbered.{Numbered}
-use Rattle.expander.specs.Ground.{size_in, top_of, slot_at, key_at, list_place, list_at, new_at, pushed_text, symbol_in, KeyAt, same_at, text_in, Records, KeptAround}
+use Rattle.expander.specs.Ground.{size_in, top_of, slot_place, slot_at, key_at, list_place, list_at, new_at, pushed_text, symbol_in, KeyAt, same_at, text_in, Records, KeptAround}
 
 -- ---- lists by index
 -- the last first
@@ -33,6 +33,12 @@ any_of f (q ∷ qs) = f q || any_of f qs
 -- an odd one is followed to the slot of the record's symbol
 unfoldable pub followed : List ℕ → Ground → ℕ → ℕ
 followed w g v = pick (eqb (v % 2) 0) v (slot_at w g (key_at w g (v / 2)))
+
+-- it can be followed from the slot of the symbol at p
+pub record Followable (w : List ℕ) (g : Ground) (p : ℕ) : Type 0 where
+  pub own : slot_place g p + 8 ≤ length w
+  pub pushed : slot_at w g p % 2 ≡ 1 → g.keys + 24 * (slot_at w g p / 2) + 24 ≤ length w
+  pub place : slot_at w g p % 2 ≡ 1 → slot_place g (key_at w g (slot_at w g p / 2)) + 8 ≤ length w
 
 unfoldable pub ref_by : List ℕ → Ground → ℕ → Ref
 ref_by w g v =

@@ -51,7 +51,7 @@ text_known_at w g at =
 module _ (s w : List ℕ) (g : Ground) where
   -- the places of the symbols that are expanded inside y, which stands at p
   abbrev pub inner_keys : Sym → ℕ → List ℕ
-  inner_keys y p = keys_of_all g.width (texts s w g.m) (children y) (p + size_of g.width (sym_node (texts s w g.m) y))
+  inner_keys y p = keys_of_all g.width.bytes (texts s w g.m) (children y) (p + size_of g.width.bytes (sym_node (texts s w g.m) y))
 
   -- all these places have references in what is held
   pub record NotedAt (ps : List ℕ) : Type 0 where
@@ -71,7 +71,7 @@ module _ (s w : List ℕ) (g : Ground) where
     pub levels : left ≤ 64
     pub stands : StandsAt s w g four left place end symbol
     pub inside : end ≤ size_in g
-    pub noted : NotedAt (keys_of g.width (texts s w g.m) symbol place)
+    pub noted : NotedAt (keys_of g.width.bytes (texts s w g.m) symbol place)
 
   -- and all inside it, whether or not itself was
   pub record SomeInner (left at : ℕ) : Type 0 where

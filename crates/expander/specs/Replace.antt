@@ -59,10 +59,10 @@ module _ (wd : ℕ) (ts : List Text) where
 module _ (s w : List ℕ) (g : Ground) where
   -- y stands at the place p of the stage, up to e
   abbrev pub StandsAt : Bool → ℕ → ℕ → ℕ → Sym → Type 0
-  StandsAt four left p e y = SymStands s w g.m g.width four left (g.from + p) (g.from + e) y
+  StandsAt four left p e y = SymStands s w g.m g.width.bytes four left (g.from + p) (g.from + e) y
 
   abbrev pub StandAt : Bool → ℕ → ℕ → ℕ → Syms → Type 0
-  StandAt four left p e ys = SymsStand s w g.m g.width four left (g.from + p) (g.from + e) ys
+  StandAt four left p e ys = SymsStand s w g.m g.width.bytes four left (g.from + p) (g.from + e) ys
 
   -- something is held where n symbols are pushed, all before p
   pub record HeldBefore (p n : ℕ) : Type 0 where
@@ -102,8 +102,8 @@ module _ (s w : List ℕ) (g : Ground) where
   -- of every symbol that stands at p
   unfoldable pub ReplacesOne : ℕ → ℕ → ℕ → Keyed → List ℕ → Type 0
   ReplacesOne left p n r w' = (four : Bool) (e : ℕ) (y : Sym) → StandsAt four left p e y → e ≤ size_in g
-      → NotedAll p n e (keys_of g.width (texts s w g.m) y p) r w' × (r.form ≡ text_form (print y))
+      → NotedAll p n e (keys_of g.width.bytes (texts s w g.m) y p) r w' × (r.form ≡ text_form (print y))
 
   unfoldable pub ReplacesAll : ℕ → ℕ → ℕ → ℕ → Form → ℕ → Keyed → List ℕ → Type 0
   ReplacesAll k left p c f n r w' = (four : Bool) (e : ℕ) (ys : Syms) → count ys ≡ k → StandAt four left p e ys → e ≤ size_in g
-      → NotedAll p n e (keys_of_all g.width (texts s w g.m) ys p) r w' × (r.form ≡ form_from f (shown_all ys (between_by c 1) []))
+      → NotedAll p n e (keys_of_all g.width.bytes (texts s w g.m) ys p) r w' × (r.form ≡ form_from f (shown_all ys (between_by c 1) []))

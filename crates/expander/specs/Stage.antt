@@ -66,11 +66,11 @@ module _ (wd : ℕ) (t : List ℕ) where
 -- ---- the next item
 pub record SomeHops (w : List ℕ) (g : Ground) (p : ℕ) : Type 0 where
   pub many : ℕ
-  pub hopping : Hopping g.width (stage_in w g) many p
+  pub hopping : Hopping g.width.bytes (stage_in w g) many p
   pub inside : p ≤ size_in g
 
 pub record Skips (w : List ℕ) (g : Ground) (p r : ℕ) : Type 0 where
-  pub is : r ≡ hops g.width (stage_in w g) (length (stage_in w g)) p
+  pub is : r ≡ hops g.width.bytes (stage_in w g) (length (stage_in w g)) p
   pub from : p ≤ r
   pub upto : r ≤ size_in g
 
@@ -80,7 +80,7 @@ pub record Writable (s w : List ℕ) (g : Ground) (to n : ℕ) : Type 0 where
   pub top : top_of g ≤ to
   pub items : g.end ≤ to
   -- n bytes of items are left: each nine may become 9 + wd
-  pub room : 9 * to + (9 + g.width) * n ≤ 9 * lim
+  pub room : 9 * to + (9 + g.width.bytes) * n ≤ 9 * lim
   pub inside : lim ≤ length w
   pub above : Above s w g.m lim
 
@@ -101,13 +101,13 @@ module _ (s w : List ℕ) (g : Ground) where
     pub noted : HasRef r.at slots
 
   pub record PutBy (r : Replaced) (x : Slots) (q : Replaced) (w' : List ℕ) : Type 0 where
-    pub lies : Lies w' r.to (key_bytes g.width (node_at g.width (stage_in w g) r.at) (numbered g.m.count r.at x).0) q.to
+    pub lies : Lies w' r.to (key_bytes g.width.bytes (node_at g.width.bytes (stage_in w g) r.at) (numbered g.m.count r.at x).0) q.to
     pub held : Held s w' g q.pile q.count (numbered g.m.count r.at x).1
 
   pub record PutsKeyed (r : Replaced) (k : Keyed) (q : Replaced) (w' : List ℕ) : Type 0 where
     pub at : q.at ≡ k.at
     pub pile : q.pile ≡ k.pile
-    pub to : q.to ≡ r.to + 9 + g.width
+    pub to : q.to ≡ r.to + 9 + g.width.bytes
     pub most : q.count ≤ r.count + 1
     pub wrote : WroteOnly g r.to q.to w w'
     pub each : (x : Slots) → Held s w g k.pile r.count x → HasRef r.at x → PutBy r x q w'
@@ -116,7 +116,7 @@ module _ (s w : List ℕ) (g : Ground) where
   pub record SomeTurn (r : Replaced) : Type 0 where
     pub turns : ℕ
     pub left : ℕ
-    pub walks : Walks g.width (stage_in w g) (texts s w g.m) turns left r.at
+    pub walks : Walks g.width.bytes (stage_in w g) (texts s w g.m) turns left r.at
     pub upto : r.at ≤ size_in g
     pub list : list_place g (r.count + left) ≤ g.keys
     pub writable : Writable s w g r.to (size_in g - r.at)
@@ -127,7 +127,7 @@ module _ (s w : List ℕ) (g : Ground) where
 
   -- n steps of the definition
   abbrev pub stepped : ℕ → Run → Run
-  stepped n = steps (same_at s w g) (text_in s w g) g.width g.m.count (stage_in w g) n
+  stepped n = steps (same_at s w g) (text_in s w g) g.width.bytes g.m.count (stage_in w g) n
 
   abbrev pub turned : ℕ → ℕ → Slots → Run
   turned n p x = stepped n (record { at = p; out = []; slots = x })
@@ -142,7 +142,7 @@ module _ (s w : List ℕ) (g : Ground) where
   pub record SomeWalk (p : ℕ) : Type 0 where
     pub turns : ℕ
     pub left : ℕ
-    pub walks : Walks g.width (stage_in w g) (texts s w g.m) turns left p
+    pub walks : Walks g.width.bytes (stage_in w g) (texts s w g.m) turns left p
     pub upto : p ≤ size_in g
 
   -- steps of the definition from p to q copy what stands there; and what could follow still can
@@ -151,7 +151,7 @@ module _ (s w : List ℕ) (g : Ground) where
     pub few : turns + p ≤ q
     pub upto : q ≤ size_in g
     pub is : (o : List ℕ) (x : Slots) → stepped turns (record { at = p; out = o; slots = x }) ≡ record { at = q; out = o ++ part p q (stage_in w g); slots = x }
-    pub walks : (n k : ℕ) → Walks g.width (stage_in w g) (texts s w g.m) n k p → (m : ℕ) × Walks g.width (stage_in w g) (texts s w g.m) m k q
+    pub walks : (n k : ℕ) → Walks g.width.bytes (stage_in w g) (texts s w g.m) n k p → (m : ℕ) × Walks g.width.bytes (stage_in w g) (texts s w g.m) m k q
 
 -- the turn is so many steps for every x that is held; and another turn can follow
 pub record Turns (s w : List ℕ) (g : Ground) (r q : Replaced) (w' : List ℕ) : Type 0 where
@@ -169,7 +169,7 @@ pub record Turns (s w : List ℕ) (g : Ground) (r q : Replaced) (w' : List ℕ) 
 pub record SomeStage (s w : List ℕ) (g : Ground) (to : ℕ) : Type 0 where
   pub turns : ℕ
   pub left : ℕ
-  pub walks : Walks g.width (stage_in w g) (texts s w g.m) turns left 0
+  pub walks : Walks g.width.bytes (stage_in w g) (texts s w g.m) turns left 0
   pub list : list_place g left ≤ g.keys
   pub writable : Writable s w g to (size_in g)
   pub empty : Chained w g.keys g.buckets 0
@@ -180,8 +180,8 @@ pub record MarksAre (w : List ℕ) (g : Ground) (ms : List ℕ) : Type 0 where
   pub below : Each (λ (k : ℕ). k < g.m.count) ms
 
 pub record StagedBy (s w : List ℕ) (g : Ground) (to : ℕ) (ms : List ℕ) (r : Replaced) (w' : List ℕ) : Type 0 where
-  pub lies : Lies w' to (replaced false g.width (stage_in w g) (texts s w g.m) ms).out r.to
-  pub held : Held s w' g r.pile r.count (replaced false g.width (stage_in w g) (texts s w g.m) ms).slots
+  pub lies : Lies w' to (replaced false g.width.bytes (stage_in w g) (texts s w g.m) ms).out r.to
+  pub held : Held s w' g r.pile r.count (replaced false g.width.bytes (stage_in w g) (texts s w g.m) ms).slots
 
 -- what is written and held then is what `replaced` says
 pub record Stages (s w : List ℕ) (g : Ground) (to : ℕ) (r : Replaced) (w' : List ℕ) : Type 0 where

@@ -1,24 +1,27 @@
 // A printed form found: among the symbols that were pushed this round, and among the texts. Hash and length say where to look; what is found is compared.
 ghost use Rattle.std.specs.Prelude.{◌≡◌, [], ◌≤◌, ◌<◌, get_or};
 ghost use Rattle.octets.specs.Plain.Runs.{same_as};
-ghost use Rattle.texts.specs.Table.{texts, linked, Finds};
+ghost use Rattle.texts.specs.Table.{texts, Finds};
 ghost use Rattle.texts.specs.Fields.{cell_at};
 ghost use Rattle.display.specs.Form.{text_form};
 ghost use Rattle.expander.specs.Ground.{printed_at, key_at, KeyAt, pushed_text, Grounded, Records};
 ghost use Rattle.expander.specs.Meet.{InnerNoted};
-ghost use Rattle.expander.specs.Find.{NoneBefore, FindsKey, HasNot};
+ghost use Rattle.expander.specs.Find.{FindsKey};
 
 use crate::Ground;
 use crate::meet::meet_symbol;
 use display::Met;
 use display::form::Form;
 use display::window::same_print;
-use texts::Map;
-use texts::fields::{cell, hash, head, link, mark};
+use grades::words::Words;
+use texts::chain::search;
+use texts::fields::{cell, hash, mark};
 use texts::hash::bucket;
 use texts::text::text;
 
 // Whether the i-th pushed symbol prints as the one at p, whose form is f.
+// Not inlined: else the closure in `pending` is too long to be, and what it captures is stored at each search.
+#[inline(never)]
 fn is_key<'a>(
     tape: &'a [u8],
     work: &'a [u8],
@@ -35,20 +38,13 @@ fn is_key<'a>(
         return false;
     }
     let q = mark(work, g.keys, i);
-    same_print(tape, work, g.m, g.width, 64, g.from + q, g.from + p)
-}
-
-// Among those that are in no chain.
-fn rest<'a>(tape: &'a [u8], work: &'a [u8], g: Ground, n: usize, p: usize, f: Form) -> Option<usize>
-    requires { Grounded tape.now work.now g × Records tape.now work.now g n × KeyAt tape.now work.now g p × (f ≡ text_form (printed_at tape.now work.now g p)) × NoneBefore tape.now work.now g (linked n) p }
-    ensures { FindsKey tape.now work.now g n p result }
-{
-    for i in 4294967295..n {
-        if is_key(tape, work, g, n, i, p, f) {
-            return Some(i);
-        }
-    }
-    None
+    let words = Words {
+        tape,
+        work,
+        m: g.m,
+        width: g.width,
+    };
+    same_print(words, 64, g.from + q, g.from + p)
 }
 
 // The number of the symbol pushed this round that prints as the one at p.
@@ -64,15 +60,9 @@ pub fn pending<'a>(
     ensures { FindsKey tape.now work.now g n p result }
 {
     let y = bucket(f.hash, g.buckets);
-    let mut j = head(work, g.keys, y) as usize;
-    while 0 < j {
-        let i = j - 1;
-        if is_key(tape, work, g, n, i, p, f) {
-            return Some(i);
-        }
-        j = link(work, g.keys, i);
-    }
-    rest(tape, work, g, n, p, f)
+    search(work, g.keys, g.buckets, y, n, |i| {
+        is_key(tape, work, g, n, i, p, f)
+    })
 }
 
 // Whether the k-th text is the printed form of the symbol at p.
@@ -94,34 +84,15 @@ fn is_text<'a>(tape: &'a [u8], work: &'a [u8], g: Ground, k: usize, p: usize, f:
     }
 }
 
-// Among the texts that are in no chain.
-fn rest_text<'a>(tape: &'a [u8], work: &'a [u8], g: Ground, p: usize, f: Form) -> Option<usize>
-    requires { Grounded tape.now work.now g × KeyAt tape.now work.now g p × InnerNoted tape.now work.now g p × (f ≡ text_form (printed_at tape.now work.now g p)) × HasNot tape.now work.now g (linked g.m.count) p }
-    ensures { Finds (texts tape.now work.now g.m) (printed_at tape.now work.now g p) result }
-{
-    for i in 4294967295..g.m.count {
-        if is_text(tape, work, g, i, p, f) {
-            return Some(i);
-        }
-    }
-    None
-}
-
 // The number of the text that is the printed form of the symbol at p.
 pub fn written<'a>(tape: &'a [u8], work: &'a [u8], g: Ground, p: usize, f: Form) -> Option<usize>
     requires { Grounded tape.now work.now g × KeyAt tape.now work.now g p × InnerNoted tape.now work.now g p × (f ≡ text_form (printed_at tape.now work.now g p)) }
     ensures { Finds (texts tape.now work.now g.m) (printed_at tape.now work.now g p) result }
 {
     let y = bucket(f.hash, g.m.buckets);
-    let mut j = head(work, g.m.base, y) as usize;
-    while 0 < j {
-        let i = j - 1;
-        if is_text(tape, work, g, i, p, f) {
-            return Some(i);
-        }
-        j = link(work, g.m.base, i);
-    }
-    rest_text(tape, work, g, p, f)
+    search(work, g.m.base, g.m.buckets, y, g.m.count, |k| {
+        is_text(tape, work, g, k, p, f)
+    })
 }
 
 // Whether a symbol that prints as text k was pushed in an earlier round.

@@ -3,6 +3,7 @@
 // new texts behind the table's records, and the room for replaced items.
 #![tactic(auto)]
 
+use octets::numbers::Width;
 use texts::Map;
 
 pub mod find;
@@ -14,11 +15,11 @@ pub mod stage;
 
 // A round's ground: the texts that it finds, the width of an atom's number in bytes, the unreplaced items from `from` up to `end`, the records of pushed symbols (those
 // of the table of texts: the symbol's place, the hash and the length of its printed form), how many buckets they have, and the slots, eight bytes for each nine of the
-// items. Places are counted from the first item.
+// items. Places are counted from the first item. Tape and work go beside it, as beside a table of texts: most functions write work.
 #[derive(Clone, Copy)]
 pub struct Ground {
     pub m: Map,
-    pub width: usize,
+    pub width: Width,
     pub from: usize,
     pub end: usize,
     pub keys: usize,

@@ -8,14 +8,17 @@ use crate::Ground;
 use crate::replace::is_expanded;
 use crate::slots::{Noted, tells};
 use display::Met;
-use display::follow::{before, behind, between, inside, meet};
+use display::follow::{Held, inside, meet};
+use display::sink::{before, behind, between};
+use grades::words::Words;
+use octets::numbers::Width;
 use resolve::commands::long;
 use texts::text::text;
 
 // The place behind the symbol at a place: a flat run, k symbols are to come. (`grades::skip` asks for bytes behind the items, which need not be there.)
-pub fn symbol_end(work: &[u8], width: usize, at: usize) -> usize
-    requires { (2 ≤ width) × (width ≤ 3) × SomeEnd work.now width at }
-    ensures { EndsAt work.now width at result }
+pub fn symbol_end(work: &[u8], width: Width, at: usize) -> usize
+    requires { SomeEnd work.now width.bytes at }
+    ensures { EndsAt work.now width.bytes at result }
 {
     let mut p = at;
     let mut k = 1;
@@ -52,7 +55,7 @@ fn meet_known<'a>(
     p: Met,
 ) -> Option<Met>
     requires { Grounded tape.now work.now g × SomeKnown tape.now work.now g left p.at }
-    ensures { Follows tape.now work.now g.m g.width left t.now p result }
+    ensures { Follows tape.now work.now g.m g.width.bytes left t.now p result }
 {
     match known(work, g, p.at) {
         Some(k) => {
@@ -75,20 +78,33 @@ pub fn meet_symbol<'a>(
     p: Met,
 ) -> Option<Met>
     requires { Grounded tape.now work.now g × SomeInner tape.now work.now g left p.at }
-    ensures { Follows tape.now work.now g.m g.width left t.now p result }
+    ensures { Follows tape.now work.now g.m g.width.bytes left t.now p result }
 {
     let at = p.at;
     let c = work[at];
-    let n = inside(work, g.width, at, c);
-    let b = before(tape, work, g.m, g.width, at, c, t, p.i)?;
+    let words = Words {
+        tape,
+        work,
+        m: g.m,
+        width: g.width,
+    };
+    let n = inside(work, words.width, at, c);
+    let mut held = Held {
+        text: t,
+        at: Some(p.i),
+    };
+    before(&mut held, words, at, c);
     let mut q = Met {
         at: at + long(c, g.width),
-        i: b,
+        i: held.at?,
     };
     for k in 0..n {
-        let i = between(t, q.i, c, k)?;
+        between(&mut held, c, k);
+        let i = held.at?;
         q = meet_known(tape, work, g, left - 1, t, Met { at: q.at, i })?;
+        held.at = Some(q.i);
     }
-    let e = behind(work, g.width, at, c, t, q.i)?;
+    behind(&mut held, work, g.width.bytes, at, c);
+    let e = held.at?;
     Some(Met { at: q.at, i: e })
 }

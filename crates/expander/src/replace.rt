@@ -7,7 +7,9 @@ ghost use Rattle.expander.specs.Replace.{expanded_code, SomeSymbol, SomeSymbols,
 use crate::Ground;
 use crate::note::note;
 use display::follow::inside;
-use display::form::{Form, before, behind, join, none, separated};
+use display::form::{Form, join, none};
+use display::sink::{before, behind, between};
+use grades::words::Words;
 use resolve::commands::long;
 
 // The place behind symbols, a form with theirs behind, and how many symbols are pushed.
@@ -40,11 +42,19 @@ pub fn replace_symbol(
 {
     let at = g.from + p;
     let c = work[at];
-    let b = before(tape, work, g.m, g.width, at, c, none());
+    let words = Words {
+        tape,
+        work,
+        m: g.m,
+        width: g.width,
+    };
+    let mut b = none();
+    before(&mut b, words, at, c);
     let e = p + long(c, g.width);
-    let k = inside(work, g.width, at, c);
+    let k = inside(work, words.width, at, c);
     let q = replace_symbols(tape, work, g, left - 1, e, k, c, b, n);
-    let f = behind(work, g.width, at, c, q.form);
+    let mut f = q.form;
+    behind(&mut f, work, g.width.bytes, at, c);
     if is_expanded(c) {
         return Keyed {
             at: q.at,
@@ -82,9 +92,11 @@ pub fn replace_symbols(
     };
     for i in 0..k {
         let x = replace_symbol(tape, work, g, left, q.at, q.pile);
+        let mut f = q.form;
+        between(&mut f, c, i);
         q = Keyed {
             at: x.at,
-            form: join(separated(q.form, c, i), x.form),
+            form: join(f, x.form),
             pile: x.pile,
         };
     }

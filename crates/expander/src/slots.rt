@@ -3,7 +3,7 @@ ghost use Rattle.std.specs.Prelude.{◌≡◌, ◌+◌, ◌*◌, ◌^◌, ◌≤
 ghost use Rattle.octets.specs.Plain.Numbers.{le};
 ghost use Rattle.octets.specs.Working.Stores.{store};
 ghost use Rattle.expander.specs.Ground.{slot_code, slot_place, slot_at, list_place, Grounded};
-ghost use Rattle.expander.specs.Held.{followed, Numbers};
+ghost use Rattle.expander.specs.Held.{followed, Followable, Numbers};
 ghost use Rattle.expander.specs.Names.{SomeNamed, NameRoom, NamesOne};
 
 use crate::Ground;
@@ -35,19 +35,12 @@ fn code(x: Noted) -> usize
     }
 }
 
-pub fn slot(work: &[u8], g: Ground, p: usize) -> usize
-    requires { slot_place g p + 8 ≤ length work.now }
-    ensures { result ≡ slot_at work.now g p }
-{
-    u64_at(work, g.slots + 8 * (p / 9)) as usize
-}
-
 // What the slot of the symbol at a place tells.
 pub fn tells(work: &[u8], g: Ground, p: usize) -> Noted
     requires { slot_place g p + 8 ≤ length work.now }
     ensures { slot_code result ≡ slot_at work.now g p }
 {
-    let v = slot(work, g, p);
+    let v = u64_at(work, g.slots + 8 * (p / 9)) as usize;
     if v % 2 == 0 {
         Noted::Text(v / 2)
     } else {
@@ -63,15 +56,8 @@ pub fn put_slot(work: &mut [u8], g: Ground, p: usize, x: Noted)
 }
 
 // What the slot of the symbol at a place tells, or that of the pushed one that it refers to.
-pub fn reference<'a>(
-    tape: &'a [u8],
-    work: &'a [u8],
-    g: Ground,
-    n: usize,
-    c: usize,
-    p: usize,
-) -> Noted
-    requires { Grounded tape.now work.now g × SomeNamed tape.now work.now g n c p }
+pub fn reference(work: &[u8], g: Ground, p: usize) -> Noted
+    requires { Followable work.now g p }
     ensures { slot_code result ≡ followed work.now g (slot_at work.now g p) }
 {
     match tells(work, g, p) {
@@ -94,7 +80,7 @@ pub fn number(tape: &[u8], work: &mut [u8], g: Ground, n: usize, c: usize, p: us
     requires { Grounded tape.now work.old g × SomeNamed tape.now work.old g n c p × NameRoom work.old g c p }
     ensures { Numbers tape.now work.old g n c p result work.new × NamesOne tape.now work.old g n c p result work.new }
 {
-    match reference(tape, work, g, n, c, p) {
+    match reference(work, g, p) {
         Noted::Text(k) => Numbered {
             number: k,
             count: c,

@@ -7,7 +7,7 @@ ghost use Rattle.expander.specs.Stage.{command_long, item_code, macro_at, name_c
 use crate::Ground;
 use crate::replace::{Keyed, is_expanded, replace_symbol};
 use crate::slots::number;
-use octets::numbers::u64_at;
+use octets::numbers::{Width, u64_at};
 use precedence::write::{copy_within, put_nonterminal};
 use resolve::commands::long;
 
@@ -21,15 +21,14 @@ pub struct Replaced {
 }
 
 // How long a command is, by its code.
-pub fn command_long(c: u8, width: usize) -> usize
-    requires { (2 ≤ width) × (width ≤ 3) }
-    ensures { (result ≡ command_long width c) × (0 < result) × (result ≤ 17) }
+pub fn command_long(c: u8, width: Width) -> usize
+    ensures { (result ≡ command_long width.bytes c) × (0 < result) × (result ≤ 17) }
 {
     match c {
-        16 => 13 + width,
-        17 => 1 + width,
-        48 => 9 + width,
-        49 => 9 + width,
+        16 => 13 + width.bytes,
+        17 => 1 + width.bytes,
+        48 => 9 + width.bytes,
+        49 => 9 + width.bytes,
         _ => long(c, width),
     }
 }
@@ -42,11 +41,11 @@ pub fn is_item(c: u8) -> bool
 }
 
 // Whether the definition of a macro begins at a place of work, where a command of the code c stands.
-fn is_macro(work: &[u8], width: usize, at: usize, c: u8) -> bool
-    requires { (2 ≤ width) × (width ≤ 3) × (at + command_long width c ≤ length work.now) }
-    ensures { result ≡ macro_at width work.now at c }
+fn is_macro(work: &[u8], width: Width, at: usize, c: u8) -> bool
+    requires { at + command_long width.bytes c ≤ length work.now }
+    ensures { result ≡ macro_at width.bytes work.now at c }
 {
-    c == 16 && 0 < work[at + 10 + width]
+    c == 16 && 0 < work[at + 10 + width.bytes]
 }
 
 // The place of the next item from p on, or the end.
@@ -74,9 +73,9 @@ fn is_name(c: u8) -> bool
 }
 
 // Whether what begins at a place of work with the code c is not copied as it stands.
-fn is_left(work: &[u8], width: usize, at: usize, c: u8) -> bool
-    requires { (2 ≤ width) × (width ≤ 3) × RoomFor width work.now at c }
-    ensures { result ≡ left_at width work.now at c }
+fn is_left(work: &[u8], width: Width, at: usize, c: u8) -> bool
+    requires { RoomFor width.bytes work.now at c }
+    ensures { result ≡ left_at width.bytes work.now at c }
 {
     is_expanded(c) || is_macro(work, width, at, c)
 }
@@ -91,7 +90,7 @@ fn run_end<'a>(tape: &'a [u8], work: &'a [u8], g: Ground, p: usize) -> usize
     while q < end {
         let c = work[g.from + q];
         if is_name(c) {
-            q += 9 + g.width;
+            q += 9 + g.width.bytes;
         } else {
             if is_left(work, g.width, g.from + q, c) {
                 return q;
@@ -112,7 +111,7 @@ fn put_key(tape: &[u8], work: &mut [u8], g: Ground, r: Replaced, k: Keyed) -> Re
     put_nonterminal(work, span, (x.number % 4294967296) as u32, g.width, r.to);
     Replaced {
         at: k.at,
-        to: r.to + 9 + g.width,
+        to: r.to + 9 + g.width.bytes,
         pile: k.pile,
         count: x.count,
     }

@@ -25,11 +25,12 @@ use Rattle.resolve.specs.Whole.{Apart}
 use Rattle.grades.specs.declared.Assoc.{Assoc}
 use Rattle.grades.specs.contracts.Assoc.{the_type as assoc_type}
 use Rattle.grades.specs.declared.Graded.{Graded}
+use Rattle.grades.specs.declared.Ungraded.{Ungraded}
 use Rattle.grades.specs.declared.Ids.{Ids}
 use Rattle.grades.specs.Annotations.{attributes_long, attributes_end, conditions_from, symbols_from, alternative_end}
 use Rattle.grades.specs.Grading.{Worded, graded_at, ReadsGrade}
 use Rattle.grades.specs.Sort.{level_at}
-use Rattle.grades.specs.Alternatives.{ungraded_as, side_number, grade_key, next_grade, stored_grade, OffTable, Gradable, grade_then, grade_from, Grades, still_ascends, place_of_key, lowest_from}
+use Rattle.grades.specs.Alternatives.{side_number, grade_key, graded_there, next_grade, stored_grade, OffTable, Gradable, grade_then, grade_from, Grades, still_ascends, place_of_key, lowest_from}
 use Rattle.grades.proofs.WordedLaws.{worded_stays}
 
 -- ---- a side in a key: the number of its variant
@@ -48,21 +49,27 @@ tag_small Assoc.FullyAssoc = omega arith
 
 -- ---- next_grade
 module _ (wd : ℕ) (ids : Ids) (ts : List Text) (w : List ℕ) (at e level : ℕ) (side : Assoc) where
-  pub next-none : e ≤ at → ReadsGrade (next_grade wd ids ts w at e level side) (Err 0)
+  pub next-none : e ≤ at → ReadsGrade (next_grade wd ids ts w at e level side) (Err None)
   unfolding next_grade pick
   next-none h = record { answered = cc (le-leb e at h); small = tt }
 
   module _ (h : at < e) (x : ℕ) (q : x ≡ symbols_from wd w at) where
-    pub next_short : e < x → ReadsGrade (next_grade wd ids ts w at e level side) (Err 0)
+    pub next_short : e < x → ReadsGrade (next_grade wd ids ts w at e level side) (Err None)
     unfolding next_grade pick
     next_short l = record { answered = cc (lt-leb e at h, lt-ltb e x l); small = tt }
 
-    there : x ≤ e → next_grade wd ids ts w at e level side ≡ graded_at wd ids ts w at level side
+    there : x ≤ e → next_grade wd ids ts w at e level side ≡ graded_there at (graded_at wd ids ts w at level side)
     unfolding next_grade pick
     there l = cc (lt-leb e at h, le-ltb e x l)
 
-    pub next_there : x ≤ e → (r : Result Graded ℕ) → ReadsGrade (graded_at wd ids ts w at level side) r → ReadsGrade (next_grade wd ids ts w at e level side) r
-    next_there l r g = rw (there l) g
+    module _ (l : x ≤ e) (r : Result Graded ℕ) (g : ReadsGrade (graded_at wd ids ts w at level side) r) where
+      pub next_there : (k : Graded) → r ≡ Ok k → ReadsGrade (next_grade wd ids ts w at e level side) (Ok k)
+      unfolding graded_there
+      next_there k z = record { answered = sym (there l ∙ cc (g.answered, z)); small = rw z at g.small }
+
+      pub next_fails : (q : ℕ) → r ≡ Err q → ReadsGrade (next_grade wd ids ts w at e level side) (Err (Some (record { question = q; at = at })))
+      unfolding graded_there
+      next_fails q z = record { answered = sym (there l ∙ cc (g.answered, z)); small = tt }
 
 before-ends : (wd : ℕ) (w : List ℕ) (at : ℕ) → attributes_end wd w at ≤ symbols_from wd w at
 unfolding symbols_from conditions_from attributes_long
@@ -71,7 +78,7 @@ before-ends wd w at = omega (arith, mul_comm (get_or w (at + 9) 0) (2 + 3 * wd))
 pub next_fits : (wd : ℕ) (w : List ℕ) (at e x : ℕ) → x ≡ symbols_from wd w at → x ≤ e → e + 16 ≤ length w → attributes_end wd w at ≤ length w
 next_fits wd w at e x q l k = omega (arith, before-ends wd w at)
 
-pub ruleset nexting = (rules, next-none, next_short, next_there, next_fits)
+pub ruleset nexting = (rules, next-none, next_short, next_there, next_fails, next_fits)
 
 -- ---- put_grade
 pub put_is : (w w1 w2 : List ℕ) (places keys i at level : ℕ) (side : Assoc) → w1 ≡ store w (places + 8 * i) (le 8 at) → w2 ≡ store w1 (keys + 8 * i) (le 8 ((level * 65536 + i) * 4 + tag_of assoc_type side))
@@ -158,22 +165,22 @@ pub walk_start : (s w : List ℕ) (m : Map) (wd : ℕ) (ids : Ids) (places keys 
     → Walking s w m wd ids places keys n at e w at 0 0 Assoc.FullyAssoc true
 walk_start s w m wd ids places keys n at e h k g = record { narrow = h; wide = k; gradable = g; small = omega arith; left = n; many = omega arith; same = refl; carry = refl }
 
-pub read_small : (x r : Result Graded ℕ) → ReadsGrade x r → (k : Graded) → r ≡ Ok k → k.level < 4294967296
+pub read_small : (x r : Result Graded (Option Ungraded)) → ReadsGrade x r → (k : Graded) → r ≡ Ok k → k.level < 4294967296
 read_small x r f k q = let z = f.small in rw q at z
 
 -- what was read stands before e
-abbrev IsBefore : ℕ → ℕ → Result Graded ℕ → Type 0
+abbrev IsBefore : ℕ → ℕ → Result Graded (Option Ungraded) → Type 0
 IsBefore p e (Ok k) = p < e
 IsBefore p e (Err q) = Unit {0}
 
-any_before : (p e : ℕ) (r : Result Graded ℕ) → p < e → IsBefore p e r
+any_before : (p e : ℕ) (r : Result Graded (Option Ungraded)) → p < e → IsBefore p e r
 any_before p e (Ok k) h = h
 any_before p e (Err q) h = tt
 
-module _ (wd : ℕ) (ids : Ids) (ts : List Text) (w : List ℕ) (p e level : ℕ) (side : Assoc) (r : Result Graded ℕ) (f : ReadsGrade (next_grade wd ids ts w p e level side) r) (k : Graded) (q : r ≡ Ok k) where
+module _ (wd : ℕ) (ids : Ids) (ts : List Text) (w : List ℕ) (p e level : ℕ) (side : Assoc) (r : Result Graded (Option Ungraded)) (f : ReadsGrade (next_grade wd ids ts w p e level side) r) (k : Graded) (q : r ≡ Ok k) where
   next_before : IsBefore p e (next_grade wd ids ts w p e level side)
   unfolding next_grade
-  next_before = by_pick (IsBefore p e) (leb e p) (λ h. tt) (λ h. any_before p e (pick (ltb e (symbols_from wd w p)) (Err 0) (graded_at wd ids ts w p level side)) (leb-false e p h))
+  next_before = by_pick (IsBefore p e) (leb e p) (λ h. tt) (λ h. any_before p e (pick (ltb e (symbols_from wd w p)) (Err None) (graded_there p (graded_at wd ids ts w p level side))) (leb-false e p h))
 
   pub read_before : p < e
   read_before = let z : IsBefore p e r = rw f.answered next_before in rw q at z
@@ -206,10 +213,10 @@ module _ (s w₀ : List ℕ) (m : Map) (wd : ℕ) (ids : Ids) (places keys n at 
     one : g.left ≡ suc (g.left - 1)
     one = omega (arith, g.many)
 
-    module _ (r : Result Graded ℕ) (f : ReadsGrade (next_grade wd ids (texts s w m) w p e level side) r) where
-      pub walk_refused : (q : ℕ) → r ≡ Err q → Grades (grade_from wd ids s m e places keys n 0 at 0 Assoc.FullyAssoc true w₀) (ungraded_as q p) w
+    module _ (r : Result Graded (Option Ungraded)) (f : ReadsGrade (next_grade wd ids (texts s w m) w p e level side) r) where
+      pub walk_refused : (u : Option Ungraded) → r ≡ Err u → Grades (grade_from wd ids s m e places keys n 0 at 0 Assoc.FullyAssoc true w₀) (Err u) w
       unfolding grade_from grade_then
-      walk_refused q z = record { is = sym g.carry ∙ cc (one, f.answered, z) }
+      walk_refused u z = record { is = sym g.carry ∙ cc (one, f.answered, z) }
 
       module _ (k : Graded) (z : r ≡ Ok k) (end : ℕ) (a : end ≡ alternative_end wd w p e) (w1 : List ℕ) (o : w1 ≡ stored_grade w places keys i p k.level k.side) where
         pub walk_same : length w1 ≡ length w₀

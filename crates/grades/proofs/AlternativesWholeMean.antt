@@ -7,7 +7,7 @@ use Prim.Native.Nat.{ℕ, suc, ◌+◌, ◌*◌, ◌^◌, ◌≤◌, ◌<◌}
 use native.Mathlib.Omega.{arith}
 use borrow.Author.Tests.{lt-leb, le-ltb}
 use lib.ListN.{length, get_or}
-use Rattle.std.specs.Prelude.{Result, Ok, Err}
+use Rattle.std.specs.Prelude.{Option, Some, Result, Ok, Err}
 use Rattle.octets.specs.Plain.Numbers.{le_at, le}
 use Rattle.octets.specs.Plain.Runs.{Lies}
 use Rattle.octets.specs.Working.Choice.{pick}
@@ -38,7 +38,7 @@ use Rattle.grades.specs.Grade.{assoc_of}
 use Rattle.grades.specs.Ids.{ids_in}
 use Rattle.grades.specs.Sort.{keys_at}
 use Rattle.grades.specs.Grading.{graded_as}
-use Rattle.grades.specs.Alternatives.{ungraded_as, grade_key, next_grade, stored_grade, Gradable, GradesOut, grades_out, grade_then, grade_from, Grades, still_ascends}
+use Rattle.grades.specs.Alternatives.{ungraded_as, grade_key, graded_there, next_grade, stored_grade, Gradable, GradesOut, grades_out, grade_then, grade_from, Grades, still_ascends}
 use Rattle.grades.proofs.AlternativesMean.{AlternativeAt, alternative_read, end_means}
 use Rattle.grades.proofs.GradingMean.{grade_says, graded-means}
 use Rattle.grades.proofs.AlternativesCode.{stored_long, texts-kept, gradable_stays}
@@ -65,7 +65,7 @@ module _ (four : Bool) (wd : ℕ) (ts : List Text) (s : List ℕ) (m : Map) (pla
   places_from p [] = p ∷ []
   places_from p (a ∷ rest) = p ∷ places_from (p + length (alternative_bytes wd ts a)) rest
 
-  abbrev pub answer_of : GradesOut → Result Bool Ungraded
+  abbrev pub answer_of : GradesOut → Result Bool (Option Ungraded)
   answer_of (grades_out r w) = r
 
   abbrev pub work_of : GradesOut → List ℕ
@@ -148,12 +148,12 @@ module _ (four : Bool) (wd : ℕ) (ts : List Text) (s : List ℕ) (m : Map) (pla
     before : p + 14 ≤ e
     before = omega (arith, symbols_past, place.place.end, split.1.end)
 
-    read_is : next_grade wd (ids_in ts) (texts s w m) w p e level (assoc_of side) ≡ grade_says level side a
+    read_is : next_grade wd (ids_in ts) (texts s w m) w p e level (assoc_of side) ≡ graded_there p (grade_says level side a)
     unfolding next_grade pick
     read_is =
         let x = lt-leb e p (omega (arith, before)) in
         let y = le-ltb e (symbols_from wd w p) (omega (arith, place.place.end, split.1.end)) in
-        rw (r.same, x, y) (graded-means four wd ts r.width w p e a more r.within.0 lies_all level side)
+        rw (r.same, x, y) (ap (graded_there p) (graded-means four wd ts r.width w p e a more r.within.0 lies_all level side))
 
     end_is : alternative_end wd w p e ≡ next
     end_is = end_means four wd ts w p e e a more r.within.0 lies_all (omega (arith, split.1.end))
@@ -162,13 +162,13 @@ module _ (four : Bool) (wd : ℕ) (ts : List Text) (s : List ℕ) (m : Map) (pla
     unfolding alternative_bytes alternative_node node_bytes span_bytes le
     span_is = let c = byte_read w _ p (p + 1) refl lies_all in (span_read w _ (p + 1) (p + 9) {sp = a.span} (omega arith) r.within.0.span c.1).0
 
-    stepped : next_grade wd (ids_in ts) (texts s w m) w p e level (assoc_of side) ≡ graded_as v (assoc_of t)
+    stepped : next_grade wd (ids_in ts) (texts s w m) w p e level (assoc_of side) ≡ Ok (record { level = v; side = assoc_of t })
         → grade_from wd (ids_in ts) s m e places keys (suc (length rest)) i p level (assoc_of side) b w
         ≡ grade_from wd (ids_in ts) s m e places keys (length rest) (i + 1) next v (assoc_of t) (still_ascends b level v) w1
     unfolding grade_from grade_then
     stepped z = cc (z, end_is)
 
-    refused_is : (q : ℕ) → next_grade wd (ids_in ts) (texts s w m) w p e level (assoc_of side) ≡ Err q
+    refused_is : (q : ℕ) → next_grade wd (ids_in ts) (texts s w m) w p e level (assoc_of side) ≡ Err (Some (record { question = q; at = p }))
         → grade_from wd (ids_in ts) s m e places keys (suc (length rest)) i p level (assoc_of side) b w ≡ grades_out (ungraded_as q p) w
     unfolding grade_from grade_then
     refused_is q z = cc z
@@ -282,9 +282,10 @@ module _ (four : Bool) (wd : ℕ) (ts : List Text) (s : List ℕ) (m : Map) (pla
 
     -- the two questions, and then the rest
     asked : (c d : Bool) (o : Outcome (Unit {0}))
-        → next_grade wd (ids_in ts) (texts s w m) w p e level (assoc_of side) ≡ elim (cond c (cond d (yes (tt {0})) (no 15 a.span)) (no 14 a.span)) [ yes u ↦ graded_as v (assoc_of t) | no q z ↦ Err q ]
+        → next_grade wd (ids_in ts) (texts s w m) w p e level (assoc_of side) ≡ graded_there p (elim (cond c (cond d (yes (tt {0})) (no 15 a.span)) (no 14 a.span)) [ yes u ↦ graded_as v (assoc_of t) | no q z ↦ Err q ])
         → GradesMean w1 (i + 1) next v t (still_ascends b level v) rest (grade_from wd (ids_in ts) s m e places keys (length rest) (i + 1) next v (assoc_of t) (still_ascends b level v) w1) o
         → GradesMean w i p level side b (a ∷ rest) (grade_from wd (ids_in ts) s m e places keys (suc (length rest)) i p level (assoc_of side) b w) (cond c (cond d o (no 15 a.span)) (no 14 a.span))
+    unfolding graded_there
     asked true true o z f = mean_same w i p level side b (a ∷ rest) o _ _ (stepped z) (mean_next _ o f)
     asked true false o z f = refused 15 _ (refused_is 15 z)
     asked false d o z f = refused 14 _ (refused_is 14 z)
@@ -300,18 +301,18 @@ module _ (four : Bool) (wd : ℕ) (ts : List Text) (s : List ℕ) (m : Map) (pla
       (still_ascends b level (v w i p level side b a rest r)) (ready w i p level side b a rest r))
 
   -- the same, of all alternatives: what `grade` answers and leaves
-  pub record Keyed (w : List ℕ) (at : ℕ) (cs : List Alternative) (r : Result Bool Ungraded) (w' : List ℕ) : Type 0 where
+  pub record Keyed (w : List ℕ) (at : ℕ) (cs : List Alternative) (r : Result Bool (Option Ungraded)) (w' : List ℕ) : Type 0 where
     pub answer : r ≡ Ok (ascends_from true 0 (with_levels 0 cs))
     pub keys_are : keys_at w' keys n ≡ keys_from code_of 0 (with_sides all (with_levels 0 cs))
     pub places-are : keys_at w' places (n + 1) ≡ places_from at cs
     pub long : length w' ≡ length w
     pub others : Others w 0 w'
 
-  abbrev pub GradeMeans : List ℕ → ℕ → List Alternative → Result Bool Ungraded → List ℕ → Outcome (Unit {0}) → Type 0
+  abbrev pub GradeMeans : List ℕ → ℕ → List Alternative → Result Bool (Option Ungraded) → List ℕ → Outcome (Unit {0}) → Type 0
   GradeMeans w at cs r w' (yes u) = Keyed w at cs r w'
   GradeMeans w at cs r w' (no q sp) = OneRefused w 0 q sp (grades_out r w')
 
-  keyed : (cs : List Alternative) (w : List ℕ) (at : ℕ) → length cs ≡ n → (r : Result Bool Ungraded) (w' : List ℕ) (o : Outcome (Unit {0})) → GradesMean w 0 at 0 all true cs (grades_out r w') o → GradeMeans w at cs r w' o
+  keyed : (cs : List Alternative) (w : List ℕ) (at : ℕ) → length cs ≡ n → (r : Result Bool (Option Ungraded)) (w' : List ℕ) (o : Outcome (Unit {0})) → GradesMean w 0 at 0 all true cs (grades_out r w') o → GradeMeans w at cs r w' o
   keyed cs w at h r w' (yes u) f = record {
     answer = f.answer;
     keys_are = let y : keys + 8 * 0 ≡ keys = omega arith in let z : n ≡ length cs = sym h in ap (keys_at w' keys) z ∙ (rw y at f.keys_are);
@@ -322,7 +323,7 @@ module _ (four : Bool) (wd : ℕ) (ts : List Text) (s : List ℕ) (m : Map) (pla
   keyed cs w at h r w' (no q sp) f = f
 
   -- theorem: `grade`, whose contract is Grades, refuses as check_attributes does, else the keys and the places are stored
-  pub grade_means : (cs : List Alternative) (w : List ℕ) (at : ℕ) → Ready w 0 at 0 cs → (r : Result Bool Ungraded) (w' : List ℕ) → Grades (grade_from wd (ids_in ts) s m e places keys n 0 at 0 Assoc.FullyAssoc true w) r w'
+  pub grade_means : (cs : List Alternative) (w : List ℕ) (at : ℕ) → Ready w 0 at 0 cs → (r : Result Bool (Option Ungraded)) (w' : List ℕ) → Grades (grade_from wd (ids_in ts) s m e places keys n 0 at 0 Assoc.FullyAssoc true w) r w'
       → GradeMeans w at cs r w' (check_attributes cs)
   grade_means cs w at h r w' g =
       let k : length cs ≡ n = omega (arith, h.many) in

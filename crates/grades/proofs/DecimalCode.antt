@@ -1,4 +1,4 @@
--- A level in decimal: the loops of decimal_size and put_decimal. Assumes nothing.
+-- Numbers in decimal: the loops of number_size and put_digits. Assumes nothing.
 use mathlib.Core.Path.{◌≡◌, refl, sym, ap, ◌∙◌}
 use mathlib.Core.List.{List, [], ◌∷◌}
 use Prim.Native.Nat.{ℕ, zero, suc, ◌+◌, ◌-◌, ◌/◌, ◌%◌, ◌^◌, ◌≤◌, ◌<◌}
@@ -8,34 +8,34 @@ use lib.ListN.{length, set}
 use lib.Seq.{sets, set_comm}
 use Rattle.octets.specs.Working.Stores.{store}
 use Rattle.octets.proofs.StoreLaws.{store-none, length_store}
-use Rattle.grades.specs.Grade.{level_digits, PutsDecimal}
-use Rattle.grades.proofs.DecimalLaws.{last, size_by, front, digits-front, size_is, size_one, size_more}
+use Rattle.grades.specs.Grade.{number_digits}
+use Rattle.grades.proofs.DecimalLaws.{last, size_by, front, number-front, number_long, size_one, size_more}
 
--- ---- decimal_size: n digits are counted but for those that q has, which are at most one more than `left`
+-- ---- number_size: n digits are counted but for those that q has, which are at most one more than `left`
 pub record Sizing (v n q : ℕ) : Type 0 where
   pub left : ℕ
   pub some : 1 ≤ n
-  pub sum : n + left ≡ 10
+  pub sum : n + left ≡ 20
   pub below : q < 10 ^ suc left
-  pub rest : n + size_by (suc left) q ≡ suc (length (level_digits v))
+  pub rest : n + size_by (suc left) q ≡ suc (length (number_digits v))
 
-pub size_start : (v : ℕ) → v < 4294967296 → Sizing v 1 v
-size_start v h = record { left = 9; some = omega arith; sum = refl; below = omega arith; rest = omega (arith, size_is v) }
+pub size_start : (v : ℕ) → v < 2 ^ 64 → Sizing v 1 v
+size_start v h = record { left = 19; some = omega arith; sum = refl; below = omega arith; rest = omega (arith, number_long v) }
 
 module _ (v n q : ℕ) (c : Sizing v n q) where
   pub size_next : 9 < q → Sizing v (n + 1) (q / 10)
   size_next h = go c.left c.sum c.below c.rest
     where
-      go : (l : ℕ) → n + l ≡ 10 → q < 10 ^ suc l → n + size_by (suc l) q ≡ suc (length (level_digits v)) → Sizing v (n + 1) (q / 10)
+      go : (l : ℕ) → n + l ≡ 20 → q < 10 ^ suc l → n + size_by (suc l) q ≡ suc (length (number_digits v)) → Sizing v (n + 1) (q / 10)
       go zero s b r = absurd (omega arith)
       go (suc l) s b r = record { left = l; some = omega arith; sum = omega arith; below = omega arith; rest = omega (arith, r, size_more (suc l) q h) }
 
-  pub size_done : q ≤ 9 → n ≡ length (level_digits v)
+  pub size_done : q ≤ 9 → n ≡ length (number_digits v)
   size_done h = omega (arith, c.rest, size_one c.left q h)
 
 pub ruleset sizing = (rules, size_start, size_next, size_done)
 
--- ---- put_decimal
+-- ---- put_digits
 sets_set : (b w : List ℕ) (i a d : ℕ) → a < i → set (sets w i b) a d ≡ sets (set w a d) i b
 sets_set [] w i a d h = refl
 sets_set (x ∷ b) w i a d h =
@@ -51,26 +51,27 @@ pub record Putting (w : List ℕ) (to v : ℕ) (out : List ℕ) (at q : ℕ) : T
   pub behind : List ℕ
   pub left : ℕ
   pub place : at ≡ to + left
-  pub rest : front left q behind ≡ level_digits v
+  pub rest : front left q behind ≡ number_digits v
   pub bytes : out ≡ store w at behind
   pub room : at ≤ length w
 
-module _ (w : List ℕ) (to v s : ℕ) (e : s ≡ length (level_digits v)) where
-  pub put_start : to + length (level_digits v) ≤ length w → Putting w to v w (to + s) v
+module _ (w : List ℕ) (to v s : ℕ) (e : s ≡ length (number_digits v)) where
+  pub put_start : to + length (number_digits v) ≤ length w → Putting w to v w (to + s) v
   put_start k = record {
     behind = [];
     left = s;
     place = refl;
-    rest = ap (λ (n : ℕ). front n v []) (e ∙ size_is v) ∙ sym (digits-front v);
+    rest = ap (λ (n : ℕ). front n v []) (e ∙ number_long v) ∙ sym (number-front v);
     bytes = sym (store-none w (to + s));
     room = omega (arith, e);
   }
 
-  pub put_done : (out : List ℕ) (at q : ℕ) → Putting w to v out at q → at ≤ to → PutsDecimal w to v (to + s) out
+module _ (w : List ℕ) (to v : ℕ) where
+  pub put_done : (out : List ℕ) (at q : ℕ) → Putting w to v out at q → at ≤ to → out ≡ store w to (number_digits v)
   unfolding front
-  put_done out at q c h = record { bytes = go c.left c.place c.rest; after = ap (λ (n : ℕ). to + n) e }
+  put_done out at q c h = go c.left c.place c.rest
     where
-      go : (l : ℕ) → at ≡ to + l → front l q c.behind ≡ level_digits v → out ≡ store w to (level_digits v)
+      go : (l : ℕ) → at ≡ to + l → front l q c.behind ≡ number_digits v → out ≡ store w to (number_digits v)
       go zero p r = c.bytes ∙ ap (λ (a : ℕ). store w a c.behind) (omega (arith, p)) ∙ ap (store w to) r
       go (suc l) p r = absurd (omega arith)
 
@@ -85,7 +86,7 @@ module _ (w : List ℕ) (to v : ℕ) (out : List ℕ) (at q : ℕ) (c : Putting 
   unfolding front
   put_next h d e = go c.left c.place c.rest
     where
-      go : (l : ℕ) → at ≡ to + l → front l q c.behind ≡ level_digits v → Putting w to v (set out (at - 1) d) (at - 1) (q / 10)
+      go : (l : ℕ) → at ≡ to + l → front l q c.behind ≡ number_digits v → Putting w to v (set out (at - 1) d) (at - 1) (q / 10)
       go zero p r = absurd (omega arith)
       go (suc l) p r = record {
         behind = last q ∷ c.behind;

@@ -1,16 +1,16 @@
--- A level's digits: how many, that each is a digit, and that they tell the level. Assumes nothing.
+-- The digits of a number or a level: how many, that each is a digit, and that they tell the level. Assumes nothing.
 use mathlib.Core.Path.{◌≡◌, refl, sym, ap, ◌∙◌}
 use mathlib.Core.Bool.{Bool, true, false, cond, ◌&&◌}
 use mathlib.Core.List.{List, [], ◌∷◌}
 use Prim.Native.Nat.{ℕ, zero, suc, ◌+◌, ◌*◌, ◌-◌, ◌/◌, ◌%◌, ◌^◌, ◌≤◌, ◌<◌}
 use native.Mathlib.Omega.{arith}
-use borrow.Author.Tests.{le-leb, lt-ltb, le-ltb, ltb-true}
+use borrow.Author.Tests.{le-leb, lt-ltb, le-ltb, ltb-true, ltb-false}
 use lib.Dec.{ltb, leb}
 use lib.ListN.{length}
 use Rattle.parse_tree.specs.Plain.Texts.{every}
 use Rattle.passes.specs.Grades.{is_digit}
 use Rattle.passes.specs.Levels.{decimal_from}
-use Rattle.grades.specs.Grade.{level_digits}
+use Rattle.grades.specs.Grade.{level_digits, number_digits}
 
 -- the last digit of q
 abbrev pub last : ℕ → ℕ
@@ -40,6 +40,10 @@ pub digits-front : (v : ℕ) → level_digits v ≡ front (size_by 10 v) v []
 unfolding level_digits
 digits-front v = from_front 10 v []
 
+pub number-front : (v : ℕ) → number_digits v ≡ front (size_by 20 v) v []
+unfolding number_digits
+number-front v = from_front 20 v []
+
 length_front : (n q : ℕ) (r : List ℕ) → length (front n q r) ≡ n + length r
 unfolding front
 length_front zero q r = omega arith
@@ -48,6 +52,9 @@ length_front (suc n) q r = let z = length_front n (q / 10) (last q ∷ r) in ome
 pub size_is : (v : ℕ) → length (level_digits v) ≡ size_by 10 v
 size_is v = let z = length_front (size_by 10 v) v [] in ap length (digits-front v) ∙ omega (arith, z)
 
+pub number_long : (v : ℕ) → length (number_digits v) ≡ size_by 20 v
+number_long v = let z = length_front (size_by 20 v) v [] in ap length (number-front v) ∙ omega (arith, z)
+
 pub size_one : (k q : ℕ) → q ≤ 9 → size_by (suc k) q ≡ 1
 unfolding size_by
 size_one k q h = ap (λ (b : Bool). suc (cond b 0 (size_by k (q / 10)))) (lt-ltb q 10 (omega arith))
@@ -55,6 +62,19 @@ size_one k q h = ap (λ (b : Bool). suc (cond b 0 (size_by k (q / 10)))) (lt-ltb
 pub size_more : (k q : ℕ) → 9 < q → size_by (suc k) q ≡ suc (size_by k (q / 10))
 unfolding size_by
 size_more k q h = ap (λ (b : Bool). suc (cond b 0 (size_by k (q / 10)))) (le-ltb q 10 (omega arith))
+
+-- ---- where they are the same
+size_same : (k j q : ℕ) → k ≤ j → q < 10 ^ suc k → size_by (suc k) q ≡ size_by (suc j) q
+size_same zero j q l h = size_one 0 q (omega arith) ∙ sym (size_one j q (omega arith))
+size_same (suc k) zero q l h = absurd (omega arith)
+size_same (suc k) (suc j) q l h = go (ltb q 10) refl (size_same k j (q / 10) (omega arith))
+  where
+    go : (b : Bool) → ltb q 10 ≡ b → (q / 10 < 10 ^ suc k → size_by (suc k) (q / 10) ≡ size_by (suc j) (q / 10)) → size_by (suc (suc k)) q ≡ size_by (suc (suc j)) q
+    go true e i = let n = ltb-true q 10 e in size_one (suc k) q (omega arith) ∙ sym (size_one (suc j) q (omega arith))
+    go false e i = let n = ltb-false q 10 e in size_more (suc k) q n ∙ ap suc (i (omega arith)) ∙ sym (size_more (suc j) q n)
+
+pub level_number : (v : ℕ) → v < 4294967296 → level_digits v ≡ number_digits v
+level_number v h = digits-front v ∙ ap (λ (n : ℕ). front n v []) (size_same 9 19 v (omega arith) (omega arith)) ∙ sym (number-front v)
 
 -- ---- 1 to 10 digits
 size_most : (k q : ℕ) → size_by k q ≤ k

@@ -12,7 +12,8 @@ use lib.Dec.{leb, eqb}
 use lib.ListN.{length, get_or, take, drop, drop_of_length-le}
 use lib.Seq.{drop-cons, take-length}
 use Rattle.std.specs.Prelude.{Option, Some, None}
-use Rattle.octets.specs.Plain.Runs.{same_as}
+use lib.Pointwise.{pointwise}
+use Rattle.octets.proofs.SameLaws.{said-same}
 use Rattle.passes.specs.Grades.{is_digit, digits, unsigned}
 use Rattle.grades.specs.declared.Assoc.{Assoc}
 use Rattle.grades.specs.Grade.{level_answer, level_said, digits_said, ReadsLevel, assoc_said}
@@ -122,28 +123,28 @@ level_plain (b ∷ t) r k h g e c = record {
 pub ruleset levelling = (rules, level_none, level_plus, level_plain)
 
 -- ---- read_assoc
-module _ (t : List ℕ) (a : Bool) (p : a ≡ same_as t (97 ∷ 108 ∷ 108 ∷ [])) where
+module _ (t : List ℕ) (a : Bool) (p : a ≡ pointwise eqb t (97 ∷ 108 ∷ 108 ∷ [])) where
   pub assoc-all : a ≡ true → Some Assoc.FullyAssoc ≡ assoc_said t
   unfolding assoc_said
-  assoc-all h = cc
+  assoc-all h = cc (said-same t _ a p)
 
-  module _ (h : a ≡ false) (b : Bool) (q : b ≡ same_as t (110 ∷ 111 ∷ 110 ∷ 101 ∷ [])) where
+  module _ (h : a ≡ false) (b : Bool) (q : b ≡ pointwise eqb t (110 ∷ 111 ∷ 110 ∷ 101 ∷ [])) where
     pub assoc-non : b ≡ true → Some Assoc.NonAssoc ≡ assoc_said t
     unfolding assoc_said
-    assoc-non i = cc
+    assoc-non i = cc (said-same t _ a p, said-same t _ b q)
 
-    module _ (i : b ≡ false) (c : Bool) (r : c ≡ same_as t (108 ∷ 101 ∷ 102 ∷ 116 ∷ [])) where
+    module _ (i : b ≡ false) (c : Bool) (r : c ≡ pointwise eqb t (108 ∷ 101 ∷ 102 ∷ 116 ∷ [])) where
       pub assoc-left : c ≡ true → Some Assoc.Left ≡ assoc_said t
       unfolding assoc_said
-      assoc-left j = cc
+      assoc-left j = cc (said-same t _ a p, said-same t _ b q, said-same t _ c r)
 
-      module _ (j : c ≡ false) (d : Bool) (s : d ≡ same_as t (114 ∷ 105 ∷ 103 ∷ 104 ∷ 116 ∷ [])) where
+      module _ (j : c ≡ false) (d : Bool) (s : d ≡ pointwise eqb t (114 ∷ 105 ∷ 103 ∷ 104 ∷ 116 ∷ [])) where
         pub assoc-right : d ≡ true → Some Assoc.Right ≡ assoc_said t
         unfolding assoc_said
-        assoc-right k = cc
+        assoc-right k = cc (said-same t _ a p, said-same t _ b q, said-same t _ c r, said-same t _ d s)
 
         pub assoc-nothing : d ≡ false → None ≡ assoc_said t
         unfolding assoc_said
-        assoc-nothing k = cc
+        assoc-nothing k = cc (said-same t _ a p, said-same t _ b q, said-same t _ c r, said-same t _ d s)
 
 pub ruleset siding = (rules, assoc-all, assoc-non, assoc-left, assoc-right, assoc-nothing)

@@ -48,11 +48,11 @@ graded_at wd ids ts w at level side =
     graded_by wd ts w a n (first_with wd ids.precedence w a n) (first_with wd ids.assoc w a n) level side
 
 -- a level that was read or handed on is a `u32`
-abbrev pub IsSmallGrade : Result Graded ℕ → Type 0
+abbrev pub IsSmallGrade : {E : Type 0} → Result Graded E → Type 0
 IsSmallGrade (Ok g) = g.level < 4294967296
 IsSmallGrade (Err q) = Unit {0}
 
 -- r is the answer x, and small
-pub record ReadsGrade (x r : Result Graded ℕ) : Type 0 where
+pub record ReadsGrade {E : Type 0} (x r : Result Graded E) : Type 0 where
   pub answered : r ≡ x
   pub small : IsSmallGrade r

@@ -4,34 +4,33 @@ ghost use Rattle.grades.specs.declared.Assoc.{Assoc};
 ghost use Rattle.octets.specs.Plain.Numbers.{le};
 ghost use Rattle.octets.specs.Working.Stores.{store};
 ghost use Rattle.texts.specs.Table.{texts};
-ghost use Rattle.grades.specs.Grading.{Worded, ReadsGrade};
+ghost use Rattle.grades.specs.Grading.{ReadsGrade};
 ghost use Rattle.grades.specs.Alternatives.{next_grade, stored_grade, Gradable, grade_from, Grades, still_ascends, place_of_key, lowest_from};
 
 use crate::annotations::{alternative_end, symbols};
 use crate::grading::graded;
 use crate::sort::same_level;
+use crate::words::Words;
 use crate::{Assoc, Graded, Ids, Ungraded};
-use octets::numbers::{store64, u64_at};
+use octets::numbers::{Width, store64, u64_at};
 use texts::Map;
 
-// Level and side of the alternative at a place, behind one of those before; the error is the question, 0 where none stands there before e.
+// Level and side of the alternative at a place, behind one of those before; the error is None where none stands there before e.
 fn next_grade<'a>(
-    tape: &'a [u8],
-    work: &'a [u8],
-    m: Map,
+    t: Words<'a>,
     at: usize,
     e: usize,
-    width: usize,
     ids: Ids,
     before: Graded,
-) -> Result<Graded, usize>
-    requires { Worded tape.now work.now m × (2 ≤ width) × (width ≤ 3) × (before.level < 4294967296) × (e + 16 ≤ length work.now) }
-    ensures { ReadsGrade (next_grade width ids (texts tape.now work.now m) work.now at e before.level before.side) result }
+) -> Result<Graded, Option<Ungraded>>
+    requires { (before.level < 4294967296) × (e + 16 ≤ length t.work.now) }
+    ensures { ReadsGrade (next_grade t.entry.width.bytes ids (texts t.entry.tape.now t.entry.work.now t.entry.m) t.entry.work.now at e before.level before.side) result }
 {
-    if e <= at || e < symbols(work, at, width) {
-        return Err(0);
+    if e <= at || e < symbols(t.work, at, t.width) {
+        return Err(None);
     }
-    graded(tape, work, m, at, width, ids, before)
+    let read = graded(t, at, ids, before);
+    read.map_err(|question| Some(Ungraded { question, at }))
 }
 
 // Place and key of the i-th alternative.
@@ -51,21 +50,21 @@ fn ascends(before: bool, level: usize, next: usize) -> bool
     before && level <= next
 }
 
-// n alternatives from a place on, before e: whether their levels ascend. An alternative that does not stand there is question 0.
+// n alternatives from a place on, before e: whether their levels ascend. The error is None where one does not stand there.
 pub fn grade(
     tape: &[u8],
     work: &mut [u8],
     m: Map,
-    width: usize,
+    width: Width,
     ids: Ids,
     places: usize,
     keys: usize,
     n: usize,
     at: usize,
     e: usize,
-) -> Result<bool, Ungraded>
-    requires { (2 ≤ width) × (width ≤ 3) × Gradable tape.now work.old m places keys n e }
-    ensures { Grades (grade_from width ids tape.now m e places keys n 0 at 0 Assoc.FullyAssoc true work.old) result work.new }
+) -> Result<bool, Option<Ungraded>>
+    requires { Gradable tape.now work.old m places keys n e }
+    ensures { Grades (grade_from width.bytes ids tape.now m e places keys n 0 at 0 Assoc.FullyAssoc true work.old) result work.new }
 {
     let mut p = at;
     let mut before = Graded {
@@ -74,16 +73,18 @@ pub fn grade(
     };
     let mut ascending = true;
     for i in 0..n {
-        match next_grade(tape, work, m, p, e, width, ids, before) {
-            Err(question) => return Err(Ungraded { question, at: p }),
-            Ok(grade) => {
-                let end = alternative_end(work, p, e, width);
-                put_grade(work, places, keys, i, p, grade);
-                ascending = ascends(ascending, before.level, grade.level);
-                p = end;
-                before = grade;
-            }
-        }
+        let t = Words {
+            tape,
+            work,
+            m,
+            width,
+        };
+        let grade = next_grade(t, p, e, ids, before)?;
+        let end = alternative_end(work, p, e, width);
+        put_grade(work, places, keys, i, p, grade);
+        ascending = ascends(ascending, before.level, grade.level);
+        p = end;
+        before = grade;
     }
     store64(work, places + 8 * n, p as u64);
     Ok(ascending)

@@ -4,14 +4,14 @@ ghost use Rattle.grades.specs.Annotations.{attributes_long, Finding, Annotates, 
 
 use crate::Ids;
 use crate::skip::skip;
-use octets::numbers::{atom_at, u16_at};
+use octets::numbers::{Width, atom_at, u16_at};
 
 // The index of the first attribute of an id among the n that stand from a place on; n, no Option, where there is none: loops over attributes compare with it.
-fn position(work: &[u8], at: usize, n: usize, width: usize, id: usize) -> usize
-    requires { (2 ≤ width) × (width ≤ 3) × (at + attributes_long width n ≤ length work.now) }
-    ensures { Finding width id work.now at n result }
+fn position(work: &[u8], at: usize, n: usize, width: Width, id: usize) -> usize
+    requires { at + attributes_long width.bytes n ≤ length work.now }
+    ensures { Finding width.bytes id work.now at n result }
 {
-    let size = 2 + 3 * width;
+    let size = 2 + 3 * width.bytes;
     let mut p = at;
     for i in 0..n {
         if id == atom_at(work, p + 1, width) as usize {
@@ -23,9 +23,9 @@ fn position(work: &[u8], at: usize, n: usize, width: usize, id: usize) -> usize
 }
 
 // Of both ids.
-pub fn annotations(work: &[u8], at: usize, n: usize, width: usize, ids: Ids) -> Ids
-    requires { (2 ≤ width) × (width ≤ 3) × (at + attributes_long width n ≤ length work.now) }
-    ensures { Annotates width ids work.now at n result }
+pub fn annotations(work: &[u8], at: usize, n: usize, width: Width, ids: Ids) -> Ids
+    requires { at + attributes_long width.bytes n ≤ length work.now }
+    ensures { Annotates width.bytes ids work.now at n result }
 {
     Ids {
         precedence: position(work, at, n, width, ids.precedence),
@@ -34,55 +34,55 @@ pub fn annotations(work: &[u8], at: usize, n: usize, width: usize, ids: Ids) -> 
 }
 
 // Whether the alternative at a place has one of the two.
-fn annotated(work: &[u8], at: usize, width: usize, ids: Ids) -> bool
-    requires { (2 ≤ width) × (width ≤ 3) × (attributes_end width work.now at ≤ length work.now) }
-    ensures { result ≡ annotated_at width ids work.now at }
+fn annotated(work: &[u8], at: usize, width: Width, ids: Ids) -> bool
+    requires { attributes_end width.bytes work.now at ≤ length work.now }
+    ensures { result ≡ annotated_at width.bytes ids work.now at }
 {
     let n = usize::from(work[at + 9]);
-    let f = annotations(work, at + 14 + width, n, width, ids);
+    let f = annotations(work, at + 14 + width.bytes, n, width, ids);
     f.precedence < n || f.assoc < n
 }
 
 // Where the first alternative of the nonterminal at a place stands.
-pub fn first_alternative(work: &[u8], at: usize, width: usize) -> usize
-    requires { (2 ≤ width) × (width ≤ 3) × (at + 16 ≤ length work.now) }
-    ensures { result ≡ first_alternative width work.now at }
+pub fn first_alternative(work: &[u8], at: usize, width: Width) -> usize
+    requires { at + 16 ≤ length work.now }
+    ensures { result ≡ first_alternative width.bytes work.now at }
 {
-    let args = usize::from(work[at + 10 + width]);
-    at + 13 + width + (1 + width) * args
+    let args = usize::from(work[at + 10 + width.bytes]);
+    at + 13 + width.bytes + (1 + width.bytes) * args
 }
 
 // Whether the item at a place is a nonterminal whose first alternative has one of the two.
-pub fn has_prec_attr(work: &[u8], at: usize, width: usize, ids: Ids) -> bool
-    requires { (2 ≤ width) × (width ≤ 3) × HeadInside width work.now at }
-    ensures { result ≡ has_prec_attr width ids work.now at }
+pub fn has_prec_attr(work: &[u8], at: usize, width: Width, ids: Ids) -> bool
+    requires { HeadInside width.bytes work.now at }
+    ensures { result ≡ has_prec_attr width.bytes ids work.now at }
 {
     work[at] == 16
-        && u16_at(work, at + 11 + width) != 0
+        && u16_at(work, at + 11 + width.bytes) != 0
         && annotated(work, first_alternative(work, at, width), width, ids)
 }
 
 // Where the symbols of the alternative at p begin.
-pub fn symbols(work: &[u8], p: usize, width: usize) -> usize
-    requires { (2 ≤ width) × (width ≤ 3) × (p + 11 ≤ length work.now) }
-    ensures { result ≡ symbols_from width work.now p }
+pub fn symbols(work: &[u8], p: usize, width: Width) -> usize
+    requires { p + 11 ≤ length work.now }
+    ensures { result ≡ symbols_from width.bytes work.now p }
 {
     let n = usize::from(work[p + 9]);
     let c = usize::from(work[p + 10]);
-    p + (14 + width) + n * (2 + 3 * width) + c * (10 + 2 * width)
+    p + (14 + width.bytes) + n * (2 + 3 * width.bytes) + c * (10 + 2 * width.bytes)
 }
 
 // The place behind the alternative at a place, which ends before e.
-pub fn alternative_end(work: &[u8], at: usize, e: usize, width: usize) -> usize
-    requires { (2 ≤ width) × (width ≤ 3) × (at < e) × (e + 16 ≤ length work.now) }
-    ensures { result ≡ alternative_end width work.now at e }
+pub fn alternative_end(work: &[u8], at: usize, e: usize, width: Width) -> usize
+    requires { (at < e) × (e + 16 ≤ length work.now) }
+    ensures { result ≡ alternative_end width.bytes work.now at e }
 {
     let s = symbols(work, at, width);
     skip(
         work,
         s,
         e,
-        usize::from(u16_at(work, at + 12 + width)),
+        usize::from(u16_at(work, at + 12 + width.bytes)),
         width,
     )
 }

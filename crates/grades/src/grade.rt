@@ -3,7 +3,8 @@ ghost use Rattle.std.specs.Prelude.{◌≡◌, ◌+◌, ◌≤◌, ◌<◌, leng
 ghost use Rattle.grades.specs.Grade.{ReadsLevel, level_said, digits_said, assoc_said, level_digits, PutsDecimal};
 
 use crate::Assoc;
-use octets::runs::equal;
+pub use crate::decimal::digit;
+use crate::decimal::{number_size, put_digits};
 
 // A `u32` as Rust parses it: perhaps a plus, then one digit or more.
 pub fn read_level(t: &[u8]) -> Option<usize>
@@ -41,13 +42,13 @@ fn read_digits(t: &[u8]) -> Option<usize>
 pub fn read_assoc(t: &[u8]) -> Option<Assoc>
     ensures { result ≡ assoc_said t.now }
 {
-    if equal(t, b"all") {
+    if t == b"all".as_slice() {
         Some(Assoc::FullyAssoc)
-    } else if equal(t, b"none") {
+    } else if t == b"none".as_slice() {
         Some(Assoc::NonAssoc)
-    } else if equal(t, b"left") {
+    } else if t == b"left".as_slice() {
         Some(Assoc::Left)
-    } else if equal(t, b"right") {
+    } else if t == b"right".as_slice() {
         Some(Assoc::Right)
     } else {
         None
@@ -59,32 +60,13 @@ pub fn decimal_size(v: usize) -> usize
     requires { v < 4294967296 }
     ensures { (result ≡ length (level_digits v)) × (1 ≤ result) × (result ≤ 10) }
 {
-    let mut n = 1;
-    let mut q = v;
-    while 9 < q {
-        q /= 10;
-        n += 1;
-    }
-    n
+    number_size(v)
 }
 
-pub fn digit(x: usize) -> u8
-    requires { x < 10 }
-    ensures { result ≡ 48 + x }
-{
-    (48 + x) as u8
-}
-
-// A level in plain decimal, from the last digit to the first; says the place behind.
+// A level in plain decimal; says the place behind.
 pub fn put_decimal(out: &mut [u8], to: usize, v: usize) -> usize
     requires { (v < 4294967296) × (to + length (level_digits v) ≤ length out.old) }
     ensures { PutsDecimal out.old to v result out.new }
 {
-    let end = to + decimal_size(v);
-    let mut q = v;
-    for at in (to..end).rev() {
-        out[at] = digit(q % 10);
-        q /= 10;
-    }
-    end
+    put_digits(out, to, v)
 }

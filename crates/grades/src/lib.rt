@@ -3,11 +3,13 @@
 
 pub mod alternatives;
 pub mod annotations;
+pub mod decimal;
 pub mod grade;
 mod grading;
 pub mod identify;
 pub mod skip;
 pub mod sort;
+pub mod words;
 
 // Which occurrences of the nonterminal itself keep an alternative's level: the first, the last, none, all. A key has them as the numbers 0 to 3.
 #[derive(Clone, Copy, PartialEq, Eq)]

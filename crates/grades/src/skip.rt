@@ -2,16 +2,16 @@
 ghost use Rattle.std.specs.Prelude.{◌≡◌, ◌+◌, ◌≤◌, ◌<◌, length};
 ghost use Rattle.grades.specs.Skip.{inside_at, skip_out};
 
-use octets::numbers::u16_at;
+use octets::numbers::{Width, u16_at};
 use resolve::commands::long;
 
 // How many symbols stand straight inside the symbol at a place.
-pub fn inside(work: &[u8], at: usize, width: usize) -> usize
-    requires { (2 ≤ width) × (width ≤ 3) × (at + 16 ≤ length work.now) }
-    ensures { (result ≡ inside_at width work.now at) × (result < 65536) }
+pub fn inside(work: &[u8], at: usize, width: Width) -> usize
+    requires { at + 16 ≤ length work.now }
+    ensures { (result ≡ inside_at width.bytes work.now at) × (result < 65536) }
 {
     match work[at] {
-        37 => usize::from(work[at + 9 + width]),
+        37 => usize::from(work[at + 9 + width.bytes]),
         41 => usize::from(u16_at(work, at + 9)),
         38..=40 => 1,
         _ => 0,
@@ -19,9 +19,9 @@ pub fn inside(work: &[u8], at: usize, width: usize) -> usize
 }
 
 // The place behind n symbols, before e. There are never more to come than bytes.
-pub fn skip(work: &[u8], at: usize, e: usize, n: usize, width: usize) -> usize
-    requires { (2 ≤ width) × (width ≤ 3) × (e + 16 ≤ length work.now) }
-    ensures { result ≡ skip_out width e work.now at e n }
+pub fn skip(work: &[u8], at: usize, e: usize, n: usize, width: Width) -> usize
+    requires { e + 16 ≤ length work.now }
+    ensures { result ≡ skip_out width.bytes e work.now at e n }
 {
     let mut p = at;
     let mut k = n;

@@ -6,7 +6,7 @@ use mathlib.Core.List.{List}
 use Prim.Native.Nat.{ℕ, ◌+◌, ◌*◌, ◌≤◌}
 use native.Mathlib.Omega.{arith}
 use lib.ListN.{length}
-use Rattle.std.specs.Prelude.{Result, Ok, Err}
+use Rattle.std.specs.Prelude.{Option, Some, None, Result, Ok, Err}
 use Rattle.octets.specs.Plain.Numbers.{le_at}
 use Rattle.parse_tree.specs.Plain.Tree.{Nonterminal}
 use Rattle.parse_tree.specs.declared.refusal.Refusal.{Refusal}
@@ -30,16 +30,18 @@ use Rattle.levels.specs.declared.Room.{Room}
 use Rattle.levels.specs.declared.Written.{Written}
 use Rattle.levels.specs.Expand.{Expandable, ExpandedBy, alternatives_at}
 
--- an answer is not a refusal
 -- what a refusal says
-abbrev question_said : Result Bool Ungraded → ℕ
+abbrev question_said : Result Bool (Option Ungraded) → ℕ
 question_said (Ok b) = 0
-question_said (Err u) = u.question
+question_said (Err (Some u)) = u.question
+question_said (Err None) = 0
 
-abbrev place_said : Result Bool Ungraded → ℕ
+abbrev place_said : Result Bool (Option Ungraded) → ℕ
 place_said (Ok b) = 0
-place_said (Err u) = u.at
+place_said (Err (Some u)) = u.at
+place_said (Err None) = 0
 
+-- an answer is not a refusal
 pub is_not : {b : Bool} {q a : ℕ} → Ok b ≡ ungraded_as q a → ⊥
 is_not {b} {q} {a} e = let z : ◌≡◌ {A = ℕ} 0 1 = cc in omega arith
 
@@ -109,7 +111,7 @@ module _ (s : List ℕ) (m : Map) (room : Room) (wd : ℕ) (ids : Ids) (p e : �
         stands_at = first ∙ first_means four wd (texts s w m) w p e d stands_headed
 
         -- theorem: `grade` says what check_attributes says, and leaves the keys and the places
-        pub stands_graded : (g : Result Bool Ungraded) (w1 : List ℕ) → Grades (grade_from wd ids s m e room.arrays (keys_place room n) n 0 at 0 Assoc.FullyAssoc true w) g w1
+        pub stands_graded : (g : Result Bool (Option Ungraded)) (w1 : List ℕ) → Grades (grade_from wd ids s m e room.arrays (keys_place room n) n 0 at 0 Assoc.FullyAssoc true w) g w1
             → GradeMeans four wd (texts s w m) s m room.arrays (keys_place room n) n e w (alternatives_at wd (texts s w m) p d) d.alternatives g w1 (check_attributes d.alternatives)
         stands_graded g w1 x =
             let i = S.names.ids_table in

@@ -7,6 +7,7 @@ use mathlib.Core.Option.{none}
 use Prim.Native.Nat.{ℕ, ◌+◌, ◌*◌, ◌≤◌}
 use native.Mathlib.Omega.{arith}
 use borrow.Author.Rules.{rules}
+use Rattle.std.specs.Prelude.{None}
 use lib.ListN.{length}
 use Rattle.std.specs.Prelude.{Option as Maybe, Some, None, Result, Ok, Err}
 use Rattle.octets.specs.Plain.Numbers.{le_at}
@@ -66,18 +67,16 @@ module _ (s : List ℕ) (m : Map) (room : Room) (wd : ℕ) (ids : Ids) (p e : �
       go (no q sp) k = absurd (is_not k.answer)
 
 -- ---- the code: there is such a nonterminal, and so it is of each
-module _ {s : List ℕ} {m : Map} {room : Room} {wd : ℕ} {ids : Ids} {p e : ℕ} {v : Written} {w : List ℕ} (pre : (2 ≤ wd) × (wd ≤ 3) × SomeExpandable s m room wd ids p e v w) where
-  wide : wd ≤ 3
-  wide = pre.1
-
+module _ {s : List ℕ} {m : Map} {room : Room} {wd : ℕ} {ids : Ids} {p e : ℕ} {v : Written} {w : List ℕ} (narrow : 2 ≤ wd) (wide : wd ≤ 3)
+    (pre : SomeExpandable s m room wd ids p e v w) where
   abbrev four : Bool
-  four = pre.2.four
+  four = pre.four
 
   abbrev d : Nonterminal
-  d = pre.2.nonterminal
+  d = pre.nonterminal
 
   abbrev S : Expandable s m room wd ids p e v w four d
-  S = pre.2.standing
+  S = pre.standing
 
   -- theorem: what is read of its head lies in work
   pub expand_head : p + 16 ≤ length w
@@ -92,10 +91,10 @@ module _ {s : List ℕ} {m : Map} {room : Room} {wd : ℕ} {ids : Ids} {p e : �
     pub expand_gradable : Gradable s w m room.arrays (room.arrays + 8 * n + 8) n e
     expand_gradable = stands_gradable s m room wd ids p e v w four d S n many
 
-    module _ {at : ℕ} (first : at ≡ first_alternative wd w p) {g : Result Bool Ungraded} {w1 : List ℕ}
+    module _ {at : ℕ} (first : at ≡ first_alternative wd w p) {g : Result Bool (Maybe Ungraded)} {w1 : List ℕ}
         (x : Grades (grade_from wd ids s m e room.arrays (room.arrays + 8 * n + 8) n 0 at 0 Assoc.FullyAssoc true w) g w1) where
       -- ---- `grade` refuses
-      module _ {u : Ungraded} (z : g ≡ Err u) where
+      module _ {u : Ungraded} (z : g ≡ Err (Some u)) where
         abbrev q : ℕ
         q = u.question
 
@@ -115,6 +114,14 @@ module _ {s : List ℕ} {m : Map} {room : Room} {wd : ℕ} {ids : Ids} {p e : �
         unfolding ExpandsOne
         expand_refused {why} y four' d' S' =
             refused_means s m room wd ids p e v w four' d' S' n _ w1 q a (check_attributes d'.alternatives) (λ u. check_lowest (grouped d'.name (graded d'))) (says four' d' S') why y
+
+      -- theorem: and never because an alternative doesn't stand there
+      pub expand_none_missing : g ≡ Err None → ⊥
+      expand_none_missing z = go (check_attributes d.alternatives) (stands_graded s m room wd ids p e v w four d S n many wide at first (Err None) w1 (rw z at x))
+        where
+          go : (o : Outcome (Unit {0})) → GradeMeans four wd (texts s w m) s m room.arrays (keys_place room n) n e w (alternatives_at wd (texts s w m) p d) d.alternatives (Err None) w1 o → ⊥
+          go (yes u) f = let i = f.answer in cc
+          go (no q sp) f = let i = f.answer in cc
 
       -- ---- or answers
       module _ {b : Bool} (z : g ≡ Ok b) where
@@ -153,7 +160,7 @@ module _ {s : List ℕ} {m : Map} {room : Room} {wd : ℕ} {ids : Ids} {p e : �
               pub expand_low_inside : a + 9 ≤ length w2
               expand_low_inside =
                   let c = stands_many s m room wd ids p e v w four d S n many in
-                  low_inside s m room wd ids p e v w four d S n c k w2 mine pre.0 a (lowest_says s m room wd ids p e v w four d S n c k w2 mine (Some a) found)
+                  low_inside s m room wd ids p e v w four d S n c k w2 mine narrow a (lowest_says s m room wd ids p e v w four d S n c k w2 mine (Some a) found)
 
               -- theorem: each nonterminal that stands there is refused so
               pub expand_low : {why : Refusal} → why ≡ refusal_over 16 (span_in w2 (a + 1)) → ExpandsOne s m room wd ids p e v w (Err why) w2
@@ -162,7 +169,7 @@ module _ {s : List ℕ} {m : Map} {room : Room} {wd : ℕ} {ids : Ids} {p e : �
                   let c = stands_many s m room wd ids p e v w four' d' S' n many in
                   let o = ordered four' d' S' in
                   after-attributes s m room wd ids p e v w four' d' S' n many wide at first b w1 answered (Err why) w2
-                  (low_means s m room wd ids p e v w four' d' S' n c k w2 o pre.0 a (lowest_says s m room wd ids p e v w four' d' S' n c k w2 o (Some a) found) why u)
+                  (low_means s m room wd ids p e v w four' d' S' n c k w2 o narrow a (lowest_says s m room wd ids p e v w four' d' S' n c k w2 o (Some a) found) why u)
 
             -- ---- or none
             module _ (t : r ≡ None) where
@@ -170,7 +177,7 @@ module _ {s : List ℕ} {m : Map} {room : Room} {wd : ℕ} {ids : Ids} {p e : �
               none_found = sym t ∙ l
 
               -- theorem: what `write_levels` asks holds
-              pub expand_left : SomeLeft s m room wd ids p e room.arrays k n 0 0 v w2
+              pub expand_left : SomeLeft s m room wd ids p e room.arrays k n 0 None v w2
               expand_left = record {
                 four = four;
                 nonterminal = d;
@@ -180,7 +187,7 @@ module _ {s : List ℕ} {m : Map} {room : Room} {wd : ℕ} {ids : Ids} {p e : �
               }
 
               -- theorem: the levels of each nonterminal that stands there are written
-              pub expand_written : (u : Written) (w3 : List ℕ) → Finishes s m room wd ids p e room.arrays k n 0 0 v w2 u w3 → ExpandsOne s m room wd ids p e v w (Ok u) w3
+              pub expand_written : (u : Written) (w3 : List ℕ) → Finishes s m room wd ids p e room.arrays k n 0 None v w2 u w3 → ExpandsOne s m room wd ids p e v w (Ok u) w3
               unfolding ExpandsOne ExpandedBy
               expand_written u w3 f four' d' S' =
                   let c = stands_many s m room wd ids p e v w four' d' S' n many in

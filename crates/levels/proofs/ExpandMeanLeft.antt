@@ -6,6 +6,7 @@ use mathlib.Core.List.{List, [], ◌∷◌}
 use mathlib.Core.Option.{none}
 use Prim.Native.Nat.{ℕ, suc, ◌+◌, ◌-◌, ◌*◌, ◌≤◌, ◌<◌}
 use native.Mathlib.Omega.{arith}
+use Rattle.std.specs.Prelude.{None}
 use lib.ListN.{length}
 use Rattle.parse_tree.specs.Plain.Tree.{Text, Alternative, Nonterminal, Item, item}
 use Rattle.parse_tree.specs.Plain.Texts.{with_new}
@@ -113,7 +114,7 @@ module _ (s : List ℕ) (m : Map) (room : Room) (wd : ℕ) (ids : Ids) (p e : �
   keyed = let y : k + 8 * 0 ≡ k = omega arith in let z : n - 0 ≡ n = omega arith in rw (y, z) O.keyed
 
   -- theorem: all levels are left
-  pub all_left : Left s m room wd ids p e room.arrays k n 0 0 v w2 four d none (levels_of (graded d))
+  pub all_left : Left s m room wd ids p e room.arrays k n 0 None v w2 four d none (levels_of (graded d))
   all_left = record {
     laid = laid;
     stood = stood;
@@ -155,6 +156,6 @@ module _ (s : List ℕ) (m : Map) (room : Room) (wd : ℕ) (ids : Ids) (p e : �
     }
 
     -- theorem: what `write_levels` writes are the nonterminal's levels
-    pub all_written : Finishes s m room wd ids p e room.arrays k n 0 0 v w2 r w3 → Wrote s m room wd ids w v (length d.alternatives) (level_items d) r w3
+    pub all_written : Finishes s m room wd ids p e room.arrays k n 0 None v w2 r w3 → Wrote s m room wd ids w v (length d.alternatives) (level_items d) r w3
     unfolding Finishes items_left level_items
     all_written f = written (level_items d) (f four d none (levels_of (graded d)) all_left)

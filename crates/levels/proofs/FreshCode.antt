@@ -172,32 +172,14 @@ module _ (s w : List ℕ) (m : Map) (n k bytes : ℕ) (long : Bool) (c : Countin
 
 pub ruleset counting = (rules, count-start, count_fits, count_long, count-short, count_long_done, count_done)
 
--- ---- put_level: a byte, the length, the text and the digits, each behind the one before
-pub put_kept : (o a b r : List ℕ) (to v : ℕ) → length a ≡ length (set o to v) → length b ≡ length a → length r ≡ length b → length r ≡ length o
-put_kept o a b r to v p q u = omega (arith, p, q, u, length-set o to v)
-
-pub put_head : (o : List ℕ) (to n : ℕ) → to + 3 + n ≤ length o → to + 1 + 2 ≤ length (set o to 1)
-put_head o to n h = omega (arith, length-set o to 1)
-
-store-one : (o : List ℕ) (at v : ℕ) → set o at v ≡ store o at (v ∷ [])
-unfolding store
-store-one o at v = refl
-
--- an atom's command of length n, then t
-command_text : (o a b : List ℕ) (to n : ℕ) (t : Text) → a ≡ store (set o to 1) (to + 1) (le 2 n) → b ≡ store a (to + 3) (part 0 (length t) t)
-    → b ≡ store o to ((1 ∷ le 2 n) ++ t)
-unfolding part
-command_text o a b to n t f g =
-    let i : a ≡ store o to (1 ∷ le 2 n) = f ∙ ap (λ (l : List ℕ). store l (to + 1) (le 2 n)) (store-one o to 1) ∙ store-append o to (to + 1) (1 ∷ []) (le 2 n) refl in
-    g ∙ ap (store a (to + 3)) (take_all (length t - 0) t (omega arith)) ∙ ap (λ (l : List ℕ). store l (to + 3) t) i ∙ store-append o to (to + 3) (1 ∷ le 2 n) t (omega (arith, length-le 2 n))
-
+-- ---- put_level: the command, the text and the digits, each behind the one before
 module _ (t : Text) (v : ℕ) where
-  module _ (o : List ℕ) (to : ℕ) (h : to + 3 + (length t + length (level_digits v)) ≤ length o) (a : List ℕ) (p : length a ≡ length (set o to 1)) where
-    pub put_base : to + 3 + (length t - 0) ≤ length a
-    put_base = omega (arith, p, length-set o to 1)
+  module _ (o : List ℕ) (to : ℕ) (h : to + 3 + (length t + length (level_digits v)) ≤ length o) where
+    pub put_base : to + 3 + length t ≤ length o
+    put_base = omega arith
 
-    pub put_digits : (b : List ℕ) → length b ≡ length a → to + 3 + length t + length (level_digits v) ≤ length b
-    put_digits b q = omega (arith, p, q, length-set o to 1)
+    pub put_digits : (b : List ℕ) → length b ≡ length o → to + 3 + length t + length (level_digits v) ≤ length b
+    put_digits b q = omega (arith, q)
 
   module _ (z : ℕ) (p : z ≡ length (level_digits v)) where
     -- the atom: its command, the text, the digits
@@ -208,12 +190,10 @@ module _ (t : Text) (v : ℕ) where
         let n : length (t ++ d) ≡ length t + z = omega (arith, length-append t d) in
         ap (λ (i : ℕ). (1 ∷ le 2 i) ++ (t ++ d)) n ∙ sym (append_assoc (1 ∷ le 2 (length t + z)) t d)
 
-    pub put_level_done : (o a b r : List ℕ) (to q : ℕ) → a ≡ store (set o to 1) (to + 1) (le 2 (length t + z)) → b ≡ store a (to + 3) (part 0 (length t) t)
-        → PutsDecimal b (to + 3 + length t) v q r → PutsNames o to (atom_bytes 2 (t ++ level_digits v)) q r
-    put_level_done o a b r to q f g u =
+    pub put_level_done : (o b r : List ℕ) (to q : ℕ) → b ≡ store o to ((1 ∷ le 2 (length t + z)) ++ t) → PutsDecimal b (to + 3 + length t) v q r → PutsNames o to (atom_bytes 2 (t ++ level_digits v)) q r
+    put_level_done o b r to q i u =
         let d = level_digits v in
         let y : List ℕ = 1 ∷ le 2 (length t + z) in
-        let i : b ≡ store o to (y ++ t) = command_text o a b to (length t + z) t f g in
         let x : to + 3 + length t ≡ to + length (y ++ t) = omega (arith, length-append y t, length-le 2 (length t + z)) in
         let j : r ≡ store o to ((y ++ t) ++ d) = u.bytes ∙ ap (λ (l : List ℕ). store l (to + 3 + length t) d) i ∙ store-append o to (to + 3 + length t) (y ++ t) d x in
         record {
@@ -221,7 +201,7 @@ module _ (t : Text) (v : ℕ) where
           after = omega (arith, u.after, atom_size 2 (t ++ d), length-append t d);
         }
 
-pub ruleset level_putting = (rules, put_kept, put_head, put_base, put_digits, put_level_done)
+pub ruleset level_putting = (rules, put_base, put_digits, put_level_done)
 
 -- ---- put_name
 module _ (s w : List ℕ) (m : Map) (k : ℕ) (l : m.count ≤ k) (x : ℕ) (e : x ≡ mark_at w m.base k) (t : Text) (c : BaseText s w m (x / 4294967296) t) where

@@ -6,6 +6,7 @@ use mathlib.Core.Option.{Option, some}
 use Prim.Native.Nat.{ℕ, ◌+◌, ◌-◌, ◌*◌, ◌≤◌, ◌<◌}
 use native.Mathlib.Omega.{arith}
 use borrow.Author.Rules.{rules}
+use Rattle.std.specs.Prelude.{Option as Maybe, Some}
 use lib.ListN.{length, length-append}
 use Rattle.parse_tree.specs.Plain.Tree.{Nonterminal, Item}
 use Rattle.texts.specs.declared.Map.{Map}
@@ -42,7 +43,7 @@ no_levels gs (v ∷ vs) h e =
 
 module _ (s : List ℕ) (m : Map) (room : Room) (wd : ℕ) (ids : Ids) (p e places keys n : ℕ) where
   -- from w₀ to w the first levels of vs were written, and the others are left
-  pub record Going (v₀ : Written) (w₀ : List ℕ) (i below : ℕ) (v : Written) (w : List ℕ) (four : Bool) (d : Nonterminal) (o : Option (List ℕ)) (vs : List ℕ) : Type 0 where
+  pub record Going (v₀ : Written) (w₀ : List ℕ) (i : ℕ) (below : Maybe ℕ) (v : Written) (w : List ℕ) (four : Bool) (d : Nonterminal) (o : Option (List ℕ)) (vs : List ℕ) : Type 0 where
     pub lower : Option (List ℕ)
     pub levels : List ℕ
     pub done : List Item
@@ -53,12 +54,12 @@ module _ (s : List ℕ) (m : Map) (room : Room) (wd : ℕ) (ids : Ids) (p e plac
     pub few : news + length levels ≤ length vs
 
   -- so of every nonterminal that stood there, and of one at least
-  pub record Looped (i₀ below₀ : ℕ) (v₀ : Written) (w₀ : List ℕ) (i below : ℕ) (v : Written) (w : List ℕ) : Type 0 where
+  pub record Looped (i₀ : ℕ) (below₀ : Maybe ℕ) (v₀ : Written) (w₀ : List ℕ) (i : ℕ) (below : Maybe ℕ) (v : Written) (w : List ℕ) : Type 0 where
     pub safe : SomeLeft s m room wd ids p e places keys n i below v w
     pub long : length w ≡ length w₀
     pub goes : (four : Bool) (d : Nonterminal) (o : Option (List ℕ)) (vs : List ℕ) → Left s m room wd ids p e places keys n i₀ below₀ v₀ w₀ four d o vs → Going v₀ w₀ i below v w four d o vs
 
-  pub levels-start : (i below : ℕ) (v : Written) (w : List ℕ) → SomeLeft s m room wd ids p e places keys n i below v w → Looped i below v w i below v w
+  pub levels-start : (i : ℕ) (below : Maybe ℕ) (v : Written) (w : List ℕ) → SomeLeft s m room wd ids p e places keys n i below v w → Looped i below v w i below v w
   levels-start i below v w g = record {
     safe = g;
     long = refl;
@@ -74,7 +75,7 @@ module _ (s : List ℕ) (m : Map) (room : Room) (wd : ℕ) (ids : Ids) (p e plac
     };
   }
 
-  module _ (i₀ below₀ : ℕ) (v₀ : Written) (w₀ : List ℕ) (i below : ℕ) (now : Written) (w : List ℕ) (g : Looped i₀ below₀ v₀ w₀ i below now w) where
+  module _ (i₀ : ℕ) (below₀ : Maybe ℕ) (v₀ : Written) (w₀ : List ℕ) (i : ℕ) (below : Maybe ℕ) (now : Written) (w : List ℕ) (g : Looped i₀ below₀ v₀ w₀ i below now w) where
     module _ (r : Next) (w1 : List ℕ) (f : Steps s m room wd ids p e places keys n i below now w r w1) where
       abbrev then : Written
       then = record { to = r.to; count = r.count }
@@ -91,7 +92,7 @@ module _ (s : List ℕ) (m : Map) (room : Room) (wd : ℕ) (ids : Ids) (p e plac
       levels-less h = omega (arith, stepped.on, stepped.left.below-n)
 
       module _ (four : Bool) (d : Nonterminal) (o : Option (List ℕ)) (vs : List ℕ) (l : Left s m room wd ids p e places keys n i₀ below₀ v₀ w₀ four d o vs) where
-        next_of : (x : Going v₀ w₀ i below now w four d o vs) → Stepped s m room wd ids p e places keys n i below now w four d x.lower x.levels r w1 → Going v₀ w₀ r.last r.name then w1 four d o vs
+        next_of : (x : Going v₀ w₀ i below now w four d o vs) → Stepped s m room wd ids p e places keys n i below now w four d x.lower x.levels r w1 → Going v₀ w₀ r.last (Some r.name) then w1 four d o vs
         next_of x y =
             let one = level_item d x.lower y.level y.above in
             let rest = items_left d (some (level_name d.name y.level y.above)) y.above in
@@ -109,7 +110,7 @@ module _ (s : List ℕ) (m : Map) (room : Room) (wd : ℕ) (ids : Ids) (p e plac
               few = omega (arith, x.few, z);
             }
 
-      pub levels-next : Looped i₀ below₀ v₀ w₀ r.last r.name (record { to = r.to; count = r.count }) w1
+      pub levels-next : Looped i₀ below₀ v₀ w₀ r.last (Some r.name) (record { to = r.to; count = r.count }) w1
       levels-next = record {
         safe = record { four = g.safe.four; nonterminal = g.safe.nonterminal; lower = some (level_name g.safe.nonterminal.name stepped.level stepped.above); levels = stepped.above; left = stepped.left };
         long = stepped.wrote.long ∙ g.long;

@@ -1,16 +1,9 @@
--- The ways out of name_level, level_of, sorted and refused. Assumes nothing.
+-- The ways out of name_level, sorted and refused. Assumes nothing.
 use mathlib.Core.Path.{◌≡◌, refl, ap, ◌∙◌}
 use mathlib.Core.Bool.{Bool, true, false}
-use mathlib.Core.Logic.{◌⊎◌, inl, inr}
 use mathlib.Core.List.{List}
-use Prim.Native.Nat.{ℕ, ◌+◌, ◌<◌}
-use native.Mathlib.Omega.{arith}
+use Prim.Native.Nat.{ℕ, ◌+◌}
 use borrow.Author.Rules.{rules}
-use borrow.Author.Tests.{ne_eqb}
-use lib.Dec.{eqb}
-use mir.Syntax.{w32}
-use mir.Val as Bound
-use Rattle.octets.specs.Working.Choice.{pick}
 use Rattle.parse_tree.specs.declared.syntax.Span.{Span}
 use Rattle.parse_tree.specs.declared.refusal.Refusal.{Refusal}
 use Rattle.parse_tree.specs.Working.Nodes.{span_in}
@@ -19,7 +12,7 @@ use Rattle.texts.specs.declared.Map.{Map}
 use Rattle.grades.specs.Sort.{Sorted}
 use Rattle.precedence.specs.declared.names.LevelName.{LevelName}
 use Rattle.precedence.specs.Names.{Describing, LevelNamed}
-use Rattle.levels.specs.Expand.{NamesLevel, level_from, SortsKeys}
+use Rattle.levels.specs.Expand.{NamesLevel, SortsKeys}
 
 -- ---- name_level
 module _ (s w : List ℕ) (m : Map) (n base level : ℕ) (highest : Bool) where
@@ -35,23 +28,6 @@ module _ (s w : List ℕ) (m : Map) (n base level : ℕ) (highest : Bool) where
   name_described z r w' h = rw z h
 
 pub ruleset naming-level = (rules, name_same, name_asked, name_described)
-
--- ---- level_of
-module _ (i j name below : ℕ) where
-  module _ (lower : ℕ) where
-    pub level_first : i ≡ 0 → lower ≡ name → record { first = i; last = j; name = name; below = lower; lowest = eqb i 0 } ≡ level_from i j name below
-    unfolding level_from pick
-    level_first z x = rw (x, z) refl
-
-    pub level_other : (i ≡ 0 → ⊥) → lower ≡ below → record { first = i; last = j; name = name; below = lower; lowest = eqb i 0 } ≡ level_from i j name below
-    unfolding level_from pick
-    level_other z x = rw (x, ne_eqb i 0 z) refl
-
-  pub below-fits : (i ≡ 0) ⊎ (below < 4294967296) → (i ≡ 0 → ⊥) → Bound.Fits w32 below
-  below-fits (inl x) z = absurd (z x)
-  below-fits (inr x) z = record { fits = omega arith }
-
-pub ruleset making_level = (rules, level_first, level_other, below-fits)
 
 -- ---- sorted
 module _ (w : List ℕ) (keys other n : ℕ) (ascending : Bool) where

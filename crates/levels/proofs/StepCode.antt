@@ -1,13 +1,13 @@
 -- The ways out of `next_level`: what it asks of the functions that it calls, and what it leaves. Assumes nothing.
 use mathlib.Core.Path.{◌≡◌, refl}
 use mathlib.Core.Bool.{Bool, false}
-use mathlib.Core.Logic.{◌⊎◌, inl, inr}
 use mathlib.Core.List.{List, [], ◌∷◌}
-use mathlib.Core.Option.{Option, none, some}
+use mathlib.Core.Option.{Option}
 use Prim.Native.Nat.{ℕ, ◌+◌, ◌*◌, ◌/◌, ◌≤◌, ◌<◌}
 use borrow.Author.Rules.{rules}
 use lib.Dec.{eqb}
 use lib.ListN.{length, get_or}
+use Rattle.std.specs.Prelude.{Option as Maybe}
 use mir.Syntax.{w8}
 use mir.Val as Bound
 use Rattle.octets.specs.Plain.Numbers.{le_at}
@@ -22,27 +22,19 @@ use Rattle.precedence.specs.Names.{Describing}
 use Rattle.precedence.specs.Level.{LevelInside, PutsLevel}
 use Rattle.levels.specs.declared.Room.{Room}
 use Rattle.levels.specs.declared.Written.{Written}
-use Rattle.levels.specs.Expand.{NamesLevel, level_from, LowerIs, Left, SomeLeft, Stepped, Steps}
+use Rattle.levels.specs.Expand.{NamesLevel, Left, SomeLeft, Stepped, Steps}
 use Rattle.levels.proofs.StepMeanNames.{name_small}
 use Rattle.levels.proofs.StepMean.{some_level, step-describing, step-known, step-inside, step-puts}
 use Rattle.levels.proofs.StepMeanWrote.{level_steps}
 
-module _ (s : List ℕ) (m : Map) (room : Room) (wd : ℕ) (ids : Ids) (p e places keys n i below : ℕ) (v : Written) (w : List ℕ) where
+module _ (s : List ℕ) (m : Map) (room : Room) (wd : ℕ) (ids : Ids) (p e places keys n i : ℕ) (below : Maybe ℕ) (v : Written) (w : List ℕ) where
   -- a level is left where a key is
   with_level : (four : Bool) (d : Nonterminal) (o : Option Text) (vs : List ℕ) (T : Type 0) → i < n → Left s m room wd ids p e places keys n i below v w four d o vs
       → ((v0 : ℕ) (above : List ℕ) → vs ≡ v0 ∷ above → Left s m room wd ids p e places keys n i below v w four d o (v0 ∷ above) → T) → T
   with_level four d o [] T h L f = absurd (some_level w keys n i _ h L.keyed)
   with_level four d o (v0 ∷ above) T h L f = f v0 above refl L
 
-  below-small : (us : List Text) (o : Option Text) → LowerIs us i below o → (i ≡ 0) ⊎ (below < 4294967296)
-  below-small us none h = inl h
-  below-small us (some t) h = inr h.3
-
   module _ (S : SomeLeft s m room wd ids p e places keys n i below v w) (h : i < n) where
-    -- theorem: the number of the next lower level, if there is one, is a `u32`
-    pub next_below : (i ≡ 0) ⊎ (below < 4294967296)
-    next_below = below-small _ S.lower S.left.lower
-
     module _ (j : ℕ) (g : GroupEnd w keys n i j) (a base u : ℕ) (r : a ≡ le_at wd w (p + 9)) (b : base ≡ a) (l : u ≡ le_at 8 w (keys + 8 * i)) where
       -- theorem: the name of the next level can be described
       pub next_describing : eqb j n ≡ false → Describing s w m v.count base (u / 262144)
@@ -59,17 +51,20 @@ module _ (s : List ℕ) (m : Map) (room : Room) (wd : ℕ) (ids : Ids) (p e plac
             name_small s m room ids w v.count (level_name S.nonterminal.name v0 above) x w1
             (step-known s m room wd ids p e places keys n i below v w S.four S.nonterminal S.lower v0 above L j g x w1 (rw (b, r, l) at f)))
 
-        module _ (long : length w1 ≡ length w) (bytes : (k : ℕ) → Bound.Fits w8 (get_or w1 k 0)) (y : Level) (q : y ≡ level_from i j x.name below) where
+        module _ (long : length w1 ≡ length w) (bytes : (k : ℕ) → Bound.Fits w8 (get_or w1 k 0)) where
+          abbrev level : Level
+          level = record { first = i; last = j; name = x.name; below = below }
+
           -- theorem: it can be written
-          pub next_inside : LevelInside wd w1 p places keys y room.lim v.to
+          pub next_inside : LevelInside wd w1 p places keys level room.lim v.to
           next_inside =
-              with_level S.four S.nonterminal S.lower S.levels (LevelInside wd w1 p places keys y room.lim v.to) h S.left
+              with_level S.four S.nonterminal S.lower S.levels (LevelInside wd w1 p places keys level room.lim v.to) h S.left
               (λ v0 above z L.
               let k = step-known s m room wd ids p e places keys n i below v w S.four S.nonterminal S.lower v0 above L j g x w1 (rw (b, r, l) at f) in
-              rw q (step-inside s m room wd ids p e places keys n i below v w S.four S.nonterminal S.lower v0 above L j g x w1 long k bytes))
+              step-inside s m room wd ids p e places keys n i below v w S.four S.nonterminal S.lower v0 above L j g x w1 long k bytes)
 
           -- theorem: and is written
-          pub next_steps : wd ≤ 3 → (to : ℕ) (w2 : List ℕ) → PutsLevel wd ids p places keys y room.lim w1 v.to to w2
+          pub next_steps : wd ≤ 3 → (to : ℕ) (w2 : List ℕ) → PutsLevel wd ids p places keys level room.lim w1 v.to to w2
               → Steps s m room wd ids p e places keys n i below v w (record { last = j; name = x.name; count = x.count; to = to }) w2
           unfolding Steps
           next_steps narrow to w2 t four d o vs L₀ =
@@ -77,11 +72,9 @@ module _ (s : List ℕ) (m : Map) (room : Room) (wd : ℕ) (ids : Ids) (p e plac
               with_level four d o vs T h L₀
               (λ v0 above z L.
               let k = step-known s m room wd ids p e places keys n i below v w four d o v0 above L j g x w1 (rw (b, r, l) at f) in
-              let put = step-puts s m room wd ids p e places keys n i below v w four d o v0 above L j g x w1 long k bytes narrow to w2 (rw q at t) in
+              let put = step-puts s m room wd ids p e places keys n i below v w four d o v0 above L j g x w1 long k bytes narrow to w2 t in
               rw z (level_steps s m room wd ids p e places keys n i below v w four d o v0 above L j g x w1 long k to w2 put))
 
 pub ruleset describing_next = (rules, next_describing)
 
 pub ruleset naming-next = (rules, next_name)
-
-pub ruleset Below_next = (rules, next_below)

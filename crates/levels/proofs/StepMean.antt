@@ -6,12 +6,12 @@ use mathlib.Core.List.{List, [], ◌∷◌}
 use mathlib.Core.Option.{Option, none, some}
 use Prim.Native.Nat.{ℕ, zero, suc, ◌+◌, ◌-◌, ◌*◌, ◌/◌, ◌≤◌, ◌<◌}
 use native.Mathlib.Omega.{arith}
-use borrow.Author.Tests.{eqb-true, eqb-false, eq-eqb, ne_eqb}
+use borrow.Author.Tests.{eqb-true, eqb-false}
 use lib.Dec.{eqb}
 use lib.ListN.{length, get_or}
+use Rattle.std.specs.Prelude.{Option as Maybe, Some}
 use mir.Syntax.{w8}
 use mir.Val as Bound
-use Rattle.octets.specs.Working.Choice.{pick}
 use Rattle.octets.specs.Plain.Numbers.{le_at}
 use Rattle.octets.specs.Plain.Runs.{Lies}
 use Rattle.parse_tree.specs.Plain.Tree.{Text, Alternative, Nonterminal, item}
@@ -40,10 +40,10 @@ use Rattle.precedence.specs.Level.{LevelInside, PutsLevel}
 use Rattle.precedence.proofs.GroupMean.{GroupSplit, group_split}
 use Rattle.precedence.proofs.LeadMean.{graded-many, keys_lead, keys_noted}
 use Rattle.precedence.proofs.LevelKeysMean.{KeysMean}
-use Rattle.precedence.proofs.LevelWholeMean.{LevelOf, ArraysOf, is_lowest, level_inside, level_means}
+use Rattle.precedence.proofs.LevelWholeMean.{LevelOf, ArraysOf, lower_number, level_inside, level_means}
 use Rattle.levels.specs.declared.Room.{Room}
 use Rattle.levels.specs.declared.Written.{Written}
-use Rattle.levels.specs.Expand.{NamesLevel, level_from, places_of, alternatives_at, LowerIs, level_item, Left}
+use Rattle.levels.specs.Expand.{NamesLevel, places_of, alternatives_at, LowerIs, level_item, Left}
 use Rattle.levels.proofs.Extend.{bytes_each, bytes_extend, nonterminal_within_extend, alternative_extend, argument-extend}
 use Rattle.levels.proofs.StepMeanNames.{named-extends, number-in_table, LevelKnown, level_known}
 
@@ -79,7 +79,7 @@ places-extend four wd ts us x s m places keys n e p (c ∷ cs) h =
     (places-extend four wd ts us x s m places keys n e (p + length (alternative_bytes wd ts c)) cs h.1 ∙ ap (λ (b : List ℕ). places_from four wd us s m places keys n e (p + length b) cs) (sym z))
 
 -- ---- a level
-module _ (s : List ℕ) (m : Map) (room : Room) (wd : ℕ) (ids : Ids) (p e places keys n i below : ℕ) (v : Written) (w : List ℕ) (four : Bool) (d : Nonterminal) (o : Option Text) (v0 : ℕ) (above : List ℕ)
+module _ (s : List ℕ) (m : Map) (room : Room) (wd : ℕ) (ids : Ids) (p e places keys n i : ℕ) (below : Maybe ℕ) (v : Written) (w : List ℕ) (four : Bool) (d : Nonterminal) (o : Option Text) (v0 : ℕ) (above : List ℕ)
     (L : Left s m room wd ids p e places keys n i below v w four d o (v0 ∷ above)) where
   -- theorem: the name that is read is the nonterminal's
   pub base_is : le_at wd w (p + 9) ≡ number (texts s w m) d.name
@@ -179,23 +179,16 @@ module _ (s : List ℕ) (m : Map) (room : Room) (wd : ℕ) (ids : Ids) (p e plac
       group = record { name = level_name d.name v0 above; lower = o; alternatives = of_level v0 (graded d) }
 
       abbrev level : Level
-      level = level_from i j x.name below
+      level = record { first = i; last = j; name = x.name; below = below }
 
-      below-is : (q : Option Text) → LowerIs (named_texts s w m v.count) i below q → pick (eqb i 0) x.name below ≡ number us (elim q [ none ↦ level_name d.name v0 above | some t ↦ t ])
-      unfolding pick
-      below-is none h = let z = eq-eqb i 0 h in rw z k.name
-      below-is (some t) h = let z = ne_eqb i 0 (λ c. absurd (omega (arith, h.0))) in rw z (h.2 ∙ sym (extends_number (named_texts s w m v.count) us t step-later h.1))
-
-      lowest_is : (q : Option Text) → LowerIs (named_texts s w m v.count) i below q → eqb i 0 ≡ is_lowest q
-      lowest_is none h = eq-eqb i 0 h
-      lowest_is (some t) h = ne_eqb i 0 (λ c. absurd (omega (arith, h.0)))
+      below-is : (q : Option Text) → LowerIs (named_texts s w m v.count) below q → below ≡ lower_number us q
+      below-is none h = h
+      below-is (some t) h = h.1 ∙ ap Some (sym (extends_number (named_texts s w m v.count) us t step-later h.0))
 
       level_of_lem : LevelOf us group level
-      unfolding level_from
-      level_of_lem = record { name = k.name; below = below-is o L.lower; lowest = lowest_is o L.lower; many = group_is.end }
+      level_of_lem = record { name = k.name; below = below-is o L.lower; many = group_is.end }
 
       arrays : ArraysOf w1 places keys n level room.lim v.to
-      unfolding level_from
       arrays =
           let b = before-arrays in
           let c : keys + 8 * j ≤ room.at = omega (arith, g.upto, L.keys_in.1) in
@@ -212,7 +205,6 @@ module _ (s : List ℕ) (m : Map) (room : Room) (wd : ℕ) (ids : Ids) (p e plac
       module _ (bytes : (h : ℕ) → Bound.Fits w8 (get_or w1 h 0)) where
         -- theorem: the level can be written
         pub step-inside : LevelInside wd w1 p places keys level room.lim v.to
-        unfolding level_from
         step-inside =
             let b = before-arrays in
             level_inside four wd us w1 p e d (λ h. (bytes h).fits) head places keys n group level room.lim v.to level_of_lem means arrays
@@ -220,7 +212,7 @@ module _ (s : List ℕ) (m : Map) (room : Room) (wd : ℕ) (ids : Ids) (p e plac
 
         -- theorem: what is put is its item
         pub step-puts : wd ≤ 3 → (r : ℕ) (w2 : List ℕ) → PutsLevel wd ids p places keys level room.lim w1 v.to r w2 → Puts w1 room.lim v.to (item_bytes wd us (level_item d o v0 above)) r w2
-        unfolding level_item level_from
+        unfolding level_item
         step-puts narrow r w2 q =
             let z = k.names.ids_are in
             level_means four wd us w1 p e d (λ h. (bytes h).fits) head narrow places keys group level room.lim v.to within.name.0 level_of_lem step-inside means r w2 (rw z at q)

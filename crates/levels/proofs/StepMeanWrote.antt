@@ -6,6 +6,7 @@ use mathlib.Core.List.{List, [], ◌∷◌, append-nil}
 use mathlib.Core.Option.{Option, none, some}
 use Prim.Native.Nat.{ℕ, suc, ◌+◌, ◌-◌, ◌*◌, ◌≤◌, ◌<◌}
 use native.Mathlib.Omega.{arith}
+use Rattle.std.specs.Prelude.{Option as Maybe, Some}
 use lib.ListN.{length, get_or}
 use Rattle.octets.specs.Plain.Runs.{Lies}
 use Rattle.octets.proofs.LiesLaws.{lies_to}
@@ -38,7 +39,7 @@ use Rattle.levels.specs.Expand.{NamesAt, Kept, Wrote, Stood, places_of, alternat
 use Rattle.levels.proofs.Graded.{GradedWithin, graded-within, of_level_each}
 use Rattle.levels.proofs.There.{LowerIn}
 use Rattle.levels.proofs.Texts.{level_texts}
-use Rattle.levels.proofs.StepMeanNames.{named-extends, LevelKnown, name_has, name_small}
+use Rattle.levels.proofs.StepMeanNames.{named-extends, LevelKnown, name_has}
 use Rattle.levels.proofs.WroteLaws.{marks_stay}
 use Rattle.levels.proofs.StepMean.{keys_agree, before-arrays, group_is}
 
@@ -95,12 +96,12 @@ stood_stays s w m wd p e four d w1 f same long inside kept = record {
   before = f.before;
 }
 
-lower_in : (us : List Text) (i b : ℕ) (o : Option Text) → LowerIs us i b o → LowerIn us o
-lower_in us i b none h = tt
-lower_in us i b (some t) h = h.1
+lower_in : (us : List Text) (b : Maybe ℕ) (o : Option Text) → LowerIs us b o → LowerIn us o
+lower_in us b none h = tt
+lower_in us b (some t) h = h.0
 
 -- ---- a level
-module _ (s : List ℕ) (m : Map) (room : Room) (wd : ℕ) (ids : Ids) (p e places keys n i below : ℕ) (v : Written) (w : List ℕ) (four : Bool) (d : Nonterminal) (o : Option Text) (v0 : ℕ) (above : List ℕ)
+module _ (s : List ℕ) (m : Map) (room : Room) (wd : ℕ) (ids : Ids) (p e places keys n i : ℕ) (below : Maybe ℕ) (v : Written) (w : List ℕ) (four : Bool) (d : Nonterminal) (o : Option Text) (v0 : ℕ) (above : List ℕ)
     (L : Left s m room wd ids p e places keys n i below v w four d o (v0 ∷ above)) (j : ℕ) (g : GroupEnd w keys n i j) (x : LevelName) (w1 : List ℕ) (long : length w1 ≡ length w)
     (k : LevelKnown s m room ids w v.count (level_name d.name v0 above) x w1) (r : ℕ) (w2 : List ℕ)
     (q : Puts w1 room.lim v.to (item_bytes wd (named_texts s w1 m x.count) (level_item d o v0 above)) r w2) where
@@ -158,7 +159,7 @@ module _ (s : List ℕ) (m : Map) (room : Room) (wd : ℕ) (ids : Ids) (p e plac
       let group : Group Graded = record { name = level_name d.name v0 above; lower = o; alternatives = of_level v0 (graded d) } in
       let h = L.stood.within in
       ap (with_new us) (append-nil (item_texts (level_item d o v0 above)))
-      ∙ level_texts four wd ts us d group (named-extends s w m v.count L.names.naming.upto) h (of_level_each (GradedWithin four wd ts) v0 (graded d) (graded-within four wd ts d h)) (lower_in us i below o L.lower)
+      ∙ level_texts four wd ts us d group (named-extends s w m v.count L.names.naming.upto) h (of_level_each (GradedWithin four wd ts) v0 (graded d) (graded-within four wd ts d h)) (lower_in us below o L.lower)
 
   one_bytes : bytes_of_each (item_bytes wd (named_texts s w2 m x.count)) (level_item d o v0 above ∷ []) ≡ Bytes1
   unfolding bytes_of_each
@@ -189,7 +190,7 @@ module _ (s : List ℕ) (m : Map) (room : Room) (wd : ℕ) (ids : Ids) (p e plac
   keyed : keys_at w2 (keys + 8 * j) (n - j) ≡ keys_at w (keys + 8 * j) (n - j)
   keyed = keys_agree w w2 (keys + 8 * j) (n - j) (λ h a b. array_kept h (omega (arith, L.keys_in.0)) (omega (arith, L.keys_in.1, g.upto)))
 
-  step_left : Left s m room wd ids p e places keys n j x.name after w2 four d (some (level_name d.name v0 above)) above
+  step_left : Left s m room wd ids p e places keys n j (Some x.name) after w2 four d (some (level_name d.name v0 above)) above
   step_left =
       let a = L.laid in
       let z = same_names in
@@ -217,12 +218,7 @@ module _ (s : List ℕ) (m : Map) (room : Room) (wd : ℕ) (ids : Ids) (p e plac
         ascends = L.ascends.1;
         some = L.some.1;
         small = L.small.1;
-        lower = (
-          omega (arith, g.behind),
-          rw z (name_has s m room ids w v.count (level_name d.name v0 above) x w1 k),
-          rw z k.name,
-          name_small s m room ids w v.count (level_name d.name v0 above) x w1 k,
-        );
+        lower = (rw z (name_has s m room ids w v.count (level_name d.name v0 above) x w1 k), rw z (ap Some k.name));
       }
 
   -- theorem: a level whose item is put is written, and those above it are left

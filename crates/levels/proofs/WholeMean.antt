@@ -69,34 +69,34 @@ laid_fewer m room most n long most' n' h k l = record {
 module _ (s : List ℕ) (m : Map) (t : Grammar) (room : Room) (ids : Ids) (i : ℕ) (v : Written) (w : List ℕ) (four : Bool) (x : Item) (rest : List Item)
     (L : ItemsLeft s m t room ids i v w four (x ∷ rest)) where
   -- theorem: the next one stands behind it
-  pub next_place : item_place_in t w (i + 1) ≡ item_place_in t w i + length (item_bytes t.width (texts s w m) x)
-  next_place = row_place t (texts s w m) w (i + 1) (item_place_in t w i + length (item_bytes t.width (texts s w m) x)) rest L.row.2
+  pub next_place : item_place_in t w (i + 1) ≡ item_place_in t w i + length (item_bytes t.width.bytes (texts s w m) x)
+  next_place = row_place t (texts s w m) w (i + 1) (item_place_in t w i + length (item_bytes t.width.bytes (texts s w m) x)) rest L.row.2
 
   -- theorem: its bytes stand between the two places
-  pub first_lies : Lies w (item_place_in t w i) (item_bytes t.width (texts s w m) x) (item_place_in t w (i + 1))
+  pub first_lies : Lies w (item_place_in t w i) (item_bytes t.width.bytes (texts s w m) x) (item_place_in t w (i + 1))
   first_lies = lies_to (sym next_place) L.row.1
 
   -- theorem: it ends before the records
   pub end_before : item_place_in t w (i + 1) ≤ m.base
-  end_before = omega (arith, row_below t (texts s w m) w (i + 1) (item_place_in t w i + length (item_bytes t.width (texts s w m) x)) rest L.row.2, next_place, L.before.items)
+  end_before = omega (arith, row_below t (texts s w m) w (i + 1) (item_place_in t w i + length (item_bytes t.width.bytes (texts s w m) x)) rest L.row.2, next_place, L.before.items)
 
   -- theorem: the records stand before the items that are written
   pub base_before : m.base ≤ room.at
   base_before = omega (arith, L.laid.heads, L.laid.arrays)
 
   -- theorem: what the code looks at of it lies in work
-  pub first_head : HeadInside t.width w (item_place_in t w i)
-  first_head = item_head_lem four t.width (texts s w m) w (item_place_in t w i) (item_place_in t w (i + 1)) x L.within.0 first_lies (omega (arith, end_before, next_place, base_before, L.laid.ordered, L.laid.inside))
+  pub first_head : HeadInside t.width.bytes w (item_place_in t w i)
+  first_head = item_head_lem four t.width.bytes (texts s w m) w (item_place_in t w i) (item_place_in t w (i + 1)) x L.within.0 first_lies (omega (arith, end_before, next_place, base_before, L.laid.ordered, L.laid.inside))
 
   -- theorem: by the ids that were found it is annotated just where the tree says so
-  pub first_annotated : t.width ≤ 3 → has_prec_attr t.width ids w (item_place_in t w i) ≡ has_levels x
+  pub first_annotated : t.width.bytes ≤ 3 → has_prec_attr t.width.bytes ids w (item_place_in t w i) ≡ has_levels x
   first_annotated n =
-      ap (λ (a : Ids). has_prec_attr t.width a w (item_place_in t w i)) L.names.ids_table
-      ∙ item_annotated four t.width (texts s w m) w (item_place_in t w i) (item_place_in t w (i + 1)) n x L.within.0 first_lies
+      ap (λ (a : Ids). has_prec_attr t.width.bytes a w (item_place_in t w i)) L.names.ids_table
+      ∙ item_annotated four t.width.bytes (texts s w m) w (item_place_in t w i) (item_place_in t w (i + 1)) n x L.within.0 first_lies
 
 -- theorem: a nonterminal that stands first among the items stands as `expand_nonterm` asks
 pub first_stands : (s : List ℕ) (m : Map) (t : Grammar) (room : Room) (ids : Ids) (i : ℕ) (v : Written) (w : List ℕ) (four : Bool) (d : Nonterminal) (rest : List Item)
-    → ItemsLeft s m t room ids i v w four (item d ∷ rest) → Expandable s m room t.width ids (item_place_in t w i) (item_place_in t w (i + 1)) v w four d
+    → ItemsLeft s m t room ids i v w four (item d ∷ rest) → Expandable s m room t.width.bytes ids (item_place_in t w i) (item_place_in t w (i + 1)) v w four d
 unfolding alternatives_in
 first_stands s m t room ids i v w four d rest L = record {
   laid = laid_fewer m room (v.count + alternatives_in (item d ∷ rest)) (alternatives_in (item d ∷ rest)) (length w) (v.count + length d.alternatives) (length d.alternatives) (omega arith) (omega arith) L.laid;
@@ -128,7 +128,7 @@ module _ (s : List ℕ) (m : Map) (t : Grammar) (room : Room) (ids : Ids) (i : �
 
   module _ (p : ℕ) (pp : p ≡ item_place_in t w i) where
     -- theorem: of `has_prec_attr`
-    pub items_head : HeadInside t.width w p
+    pub items_head : HeadInside t.width.bytes w p
     items_head = rw pp (first_head s m t room ids i v w first.four first.item first.rest first.left)
 
     module _ (e : ℕ) (pe : e ≡ item_place_in t w (i + 1)) where
@@ -148,12 +148,12 @@ module _ (s : List ℕ) (m : Map) (t : Grammar) (room : Room) (ids : Ids) (i : �
 
 -- theorem: of `expand_nonterm`. b is what `has_prec_attr` answered; it stands first, so that a search can be given it
 pub items_standing : (b : Bool) (s : List ℕ) (m : Map) (t : Grammar) (room : Room) (ids : Ids) (i : ℕ) (v : Written) (w : List ℕ) → SomeItems s m t room ids i v w → i < t.count → (p : ℕ) → p ≡ item_place_in t w i
-    → (e : ℕ) → e ≡ item_place_in t w (i + 1) → t.width ≤ 3 → b ≡ has_prec_attr t.width ids w p → b ≡ true → SomeExpandable s m room t.width ids p e v w
+    → (e : ℕ) → e ≡ item_place_in t w (i + 1) → t.width.bytes ≤ 3 → b ≡ has_prec_attr t.width.bytes ids w p → b ≡ true → SomeExpandable s m room t.width.bytes ids p e v w
 items_standing b s m t room ids i v w g h p pp e pe n z y =
     let f = first_of s m t room ids i v w g.four g.items h g.left in
-    let a : has_levels f.item ≡ true = sym (first_annotated s m t room ids i v w f.four f.item f.rest f.left n) ∙ ap (has_prec_attr t.width ids w) (sym pp) ∙ sym z ∙ y in
+    let a : has_levels f.item ≡ true = sym (first_annotated s m t room ids i v w f.four f.item f.rest f.left n) ∙ ap (has_prec_attr t.width.bytes ids w) (sym pp) ∙ sym z ∙ y in
     rw (pp, pe) (go f.four f.item f.rest f.left a)
   where
-    go : (four : Bool) (x : Item) (rest : List Item) → ItemsLeft s m t room ids i v w four (x ∷ rest) → has_levels x ≡ true → SomeExpandable s m room t.width ids (item_place_in t w i) (item_place_in t w (i + 1)) v w
+    go : (four : Bool) (x : Item) (rest : List Item) → ItemsLeft s m t room ids i v w four (x ∷ rest) → has_levels x ≡ true → SomeExpandable s m room t.width.bytes ids (item_place_in t w i) (item_place_in t w (i + 1)) v w
     go four (item d) rest L a = record { four = four; nonterminal = d; standing = first_stands s m t room ids i v w four d rest L }
     go four (Item.terminal sp o x) rest L a = absurd (false≢true a)

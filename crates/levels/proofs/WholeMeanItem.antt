@@ -123,7 +123,7 @@ module _ (s : List ℕ) (m : Map) (t : Grammar) (room : Room) (ids : Ids) (i : �
   extends : Extends ts us
   extends = named-extends s w m v.count L.names.naming
 
-  module _ (v' : Written) (w' : List ℕ) (js : List Item) (x' : Wrote s m room t.width ids w v (alternatives_in (x ∷ [])) js v' w') where
+  module _ (v' : Written) (w' : List ℕ) (js : List Item) (x' : Wrote s m room t.width.bytes ids w v (alternatives_in (x ∷ [])) js v' w') where
     before-kept : (j : ℕ) → j < m.base → get_or w' j 0 ≡ get_or w j 0
     before-kept j h = x'.kept j (inl h)
 
@@ -145,24 +145,24 @@ module _ (s : List ℕ) (m : Map) (t : Grammar) (room : Room) (ids : Ids) (i : �
           row = rw (x'.same, row_place t ts w' (i + 1) (item_place_in t w (i + 1)) rest row_later) row_later;
           within = rw x'.same L.within.1;
           names = x'.names;
-          from = omega (arith, L.from, wrote_on s m room t.width ids w v (alternatives_in (x ∷ [])) js v' w' x' L.upto);
-          upto = wrote_upto s m room t.width ids w v (alternatives_in (x ∷ [])) js v' w' x';
+          from = omega (arith, L.from, wrote_on s m room t.width.bytes ids w v (alternatives_in (x ∷ [])) js v' w' x' L.upto);
+          upto = wrote_upto s m room t.width.bytes ids w v (alternatives_in (x ∷ [])) js v' w' x';
           many = omega (arith, L.many);
         }
 
   -- ---- as it stands
   module _ (p e r : ℕ) (w1 : List ℕ) (pp : p ≡ item_place_in t w i) (pe : e ≡ item_place_in t w (i + 1)) (put : Puts w room.lim v.to (part p e w) r w1) where
-    item_part : bytes_of_each (item_bytes t.width us) (x ∷ []) ≡ part p e w
+    item_part : bytes_of_each (item_bytes t.width.bytes us) (x ∷ []) ≡ part p e w
     unfolding bytes_of_each
     item_part =
-        append-nil (item_bytes t.width us x) ∙ bytes_extend four t.width ts us extends x L.within.0
-        ∙ sym (lies_part w p e (item_bytes t.width ts x) (rw (pp, pe) (first_lies s m t room ids i v w four x rest L)))
+        append-nil (item_bytes t.width.bytes us x) ∙ bytes_extend four t.width.bytes ts us extends x L.within.0
+        ∙ sym (lies_part w p e (item_bytes t.width.bytes ts x) (rw (pp, pe) (first_lies s m t room ids i v w four x rest L)))
 
     -- theorem: its bytes, copied, are its item written
-    pub wrote_copy : Wrote s m room t.width ids w v (alternatives_in (x ∷ [])) (x ∷ []) (record { to = r; count = v.count }) w1
+    pub wrote_copy : Wrote s m room t.width.bytes ids w v (alternatives_in (x ∷ [])) (x ∷ []) (record { to = r; count = v.count }) w1
     wrote_copy =
-        wrote_put s m room t.width ids w v (v.count + alternatives_in (x ∷ rest)) (alternatives_in (x ∷ rest)) L.laid (omega arith) L.names L.from (part p e w) r w1 put (alternatives_in (x ∷ [])) (x ∷ [])
-        (plain-texts four t.width ts us x extends L.within.0) item_part
+        wrote_put s m room t.width.bytes ids w v (v.count + alternatives_in (x ∷ rest)) (alternatives_in (x ∷ rest)) L.laid (omega arith) L.names L.from (part p e w) r w1 put (alternatives_in (x ∷ [])) (x ∷ [])
+        (plain-texts four t.width.bytes ts us x extends L.within.0) item_part
 
 -- ---- what the tree says of one item
 plain-check : (x : Item) → has_levels x ≡ false → check_levels (x ∷ []) ≡ yes tt
@@ -193,16 +193,16 @@ module _ (s : List ℕ) (m : Map) (t : Grammar) (room : Room) (ids : Ids) (i : �
       rw (plain-check x h) (record { to = r; count = v.count }, refl, rw (plain-levelled x h) c, rest_left s m t room ids i v w four x rest L (record { to = r; count = v.count }) w1 (x ∷ []) c)
 
   stepped_levels : (four : Bool) (d : Nonterminal) (rest : List Item) → ItemsLeft s m t room ids i v w four (item d ∷ rest) → annotated d ≡ true → (p e : ℕ) (o : Outcome (Unit {0})) (r : Result Written Refusal) (w1 : List ℕ)
-      → ExpandedBy s m room t.width ids p e o d v w r w1 → SteppedBy s m t room ids (after o (λ u. yes tt)) i v w four (item d) rest r w1
+      → ExpandedBy s m room t.width.bytes ids p e o d v w r w1 → SteppedBy s m t room ids (after o (λ u. yes tt)) i v w four (item d) rest r w1
   unfolding SteppedBy ExpandedBy alternatives_in
   stepped_levels four d rest L h p e (yes u) r w1 g =
-      let c = wrote_more s m room t.width ids w v (length d.alternatives) (level_items d) g.0 w1 (alternatives_in (item d ∷ [])) (omega arith) g.2 in
+      let c = wrote_more s m room t.width.bytes ids w v (length d.alternatives) (level_items d) g.0 w1 (alternatives_in (item d ∷ [])) (omega arith) g.2 in
       (g.0, g.1, rw (annotated-levelled d h) c, rest_left s m t room ids i v w four (item d) rest L g.0 w1 (level_items d) c)
   stepped_levels four d rest L h p e (no q sp) r w1 g = g
 
-  module _ (narrow : t.width ≤ 3) (p e : ℕ) (pp : p ≡ item_place_in t w i) (pe : e ≡ item_place_in t w (i + 1)) (b : Bool) (z : b ≡ has_prec_attr t.width ids w p) where
+  module _ (narrow : t.width.bytes ≤ 3) (p e : ℕ) (pp : p ≡ item_place_in t w i) (pe : e ≡ item_place_in t w (i + 1)) (b : Bool) (z : b ≡ has_prec_attr t.width.bytes ids w p) where
     tells : (four : Bool) (x : Item) (rest : List Item) → ItemsLeft s m t room ids i v w four (x ∷ rest) → has_levels x ≡ b
-    tells four x rest L = sym (first_annotated s m t room ids i v w four x rest L narrow) ∙ ap (has_prec_attr t.width ids w) (sym pp) ∙ sym z
+    tells four x rest L = sym (first_annotated s m t room ids i v w four x rest L narrow) ∙ ap (has_prec_attr t.width.bytes ids w) (sym pp) ∙ sym z
 
     -- theorem: an item that isn't annotated is copied
     pub item_copied : b ≡ false → (r : ℕ) (w1 : List ℕ) → Puts w room.lim v.to (part p e w) r w1 → ItemSteps s m t room ids i v w (Ok (record { to = r; count = v.count })) w1
@@ -210,7 +210,7 @@ module _ (s : List ℕ) (m : Map) (t : Grammar) (room : Room) (ids : Ids) (i : �
     item_copied y r w1 put four x rest L = stepped_copy four x rest L p e r w1 pp pe put (tells four x rest L ∙ y)
 
     -- theorem: an annotated one is written level by level
-    pub item_levelled : b ≡ true → (r : Result Written Refusal) (w1 : List ℕ) → ExpandsOne s m room t.width ids p e v w r w1 → ItemSteps s m t room ids i v w r w1
+    pub item_levelled : b ≡ true → (r : Result Written Refusal) (w1 : List ℕ) → ExpandsOne s m room t.width.bytes ids p e v w r w1 → ItemSteps s m t room ids i v w r w1
     unfolding ItemSteps ExpandsOne
     item_levelled y r w1 g four (item d) rest L =
         let a : annotated d ≡ true = tells four (item d) rest L ∙ y in

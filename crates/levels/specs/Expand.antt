@@ -1,9 +1,8 @@
 -- One annotated nonterminal written level by level: what stands before it, what a step and the whole leave. s is the tape, w work; wd is the width of an atom's
 -- number in bytes. A contract speaks of every tree that stands so in work; that there is one makes the code safe. Assumes nothing: these are definitions.
-use Rattle.std.specs.Prelude.{◌≡◌, Bool, true, false, ◌⊎◌, List, [], ◌∷◌, map, ℕ, suc, ◌+◌, ◌-◌, ◌*◌, ◌^◌, ◌≤◌, ◌<◌, eqb, length, get_or, Result, Ok, Err}
+use Rattle.std.specs.Prelude.{◌≡◌, Bool, true, false, ◌⊎◌, List, [], ◌∷◌, map, ℕ, suc, ◌+◌, ◌-◌, ◌*◌, ◌^◌, ◌≤◌, ◌<◌, length, get_or, Option as Maybe, Some, None, Result, Ok, Err}
 use Rattle.std.proofs.Math.Option.{Option, none, some}
 use Rattle.octets.specs.Plain.Runs.{Lies}
-use Rattle.octets.specs.Working.Choice.{pick}
 use Rattle.parse_tree.specs.Plain.Tree.{Text, Alternative, Nonterminal, Item, item}
 use Rattle.parse_tree.specs.Plain.Texts.{has, number, distinct, with_new}
 use Rattle.parse_tree.specs.Plain.References.{texts_of_each, item_texts}
@@ -23,7 +22,6 @@ use Rattle.grades.specs.declared.Ids.{Ids}
 use Rattle.grades.specs.Ids.{ids_in}
 use Rattle.grades.specs.Sort.{keys_at, Sorted}
 use Rattle.grades.proofs.AscendsMean.{code_of}
-use Rattle.precedence.specs.declared.level.Level.{Level}
 use Rattle.precedence.specs.declared.names.LevelName.{LevelName}
 use Rattle.precedence.specs.Names.{Naming, LevelNamed, named_texts}
 use Rattle.levels.specs.declared.Room.{Room}
@@ -36,10 +34,6 @@ use Rattle.levels.specs.declared.expand.Next.{Next}
 unfoldable pub NamesLevel : List ℕ → List ℕ → Map → ℕ → ℕ → ℕ → Bool → LevelName → List ℕ → Type 0
 NamesLevel s w m n base level true r w' = (r ≡ record { name = base; count = n }) × (w' ≡ w)
 NamesLevel s w m n base level false r w' = LevelNamed s w m n base level r w'
-
--- the level of the keys from i up to j; the lowest has its own name below it
-unfoldable pub level_from : ℕ → ℕ → ℕ → ℕ → Level
-level_from i j name below = record { first = i; last = j; name = name; below = pick (eqb i 0) name below; lowest = eqb i 0 }
 
 -- keys that ascend stay where they are
 unfoldable pub SortsKeys : List ℕ → ℕ → ℕ → ℕ → Bool → ℕ → List ℕ → Type 0
@@ -101,10 +95,10 @@ places_of wd ts p (a ∷ rest) = p ∷ places_of wd ts (p + length (alternative_
 abbrev pub alternatives_at : ℕ → List Text → ℕ → Nonterminal → ℕ
 alternatives_at wd ts p d = p + 13 + wd + length (bytes_of_each (argument_bytes wd ts) d.args)
 
--- the next lower level is named o, which has the number b; none where nothing is written
-abbrev pub LowerIs : List Text → ℕ → ℕ → Option Text → Type 0
-LowerIs us i b none = i ≡ 0
-LowerIs us i b (some t) = (0 < i) × (has t us ≡ true) × (b ≡ number us t) × (b < 4294967296)
+-- the next lower level, if there is one, is named o, and b is its number
+abbrev pub LowerIs : List Text → Maybe ℕ → Option Text → Type 0
+LowerIs us b none = b ≡ None
+LowerIs us b (some t) = (has t us ≡ true) × (b ≡ Some (number us t))
 
 -- the items of the levels vs of d, the lowest above one named o
 unfoldable pub items_left : Nonterminal → Option Text → List ℕ → List Item
@@ -117,7 +111,7 @@ level_item d o v vs = with_fall_through d (substituted d.name (record { name = l
 module _ (s : List ℕ) (m : Map) (room : Room) (wd : ℕ) (ids : Ids) (p e : ℕ) where
   module _ (places keys n : ℕ) where
     -- d stands there, its n keys are sorted, and the levels vs are left: their keys begin at the i-th
-    pub record Left (i below : ℕ) (v : Written) (w : List ℕ) (four : Bool) (d : Nonterminal) (o : Option Text) (vs : List ℕ) : Type 0 where
+    pub record Left (i : ℕ) (below : Maybe ℕ) (v : Written) (w : List ℕ) (four : Bool) (d : Nonterminal) (o : Option Text) (vs : List ℕ) : Type 0 where
       pub laid : LevelsFit m room (v.count + length vs) n (length w)
       pub stood : Stood s w m wd p e four d
       pub names : NamesAt s w m room ids v.count
@@ -132,10 +126,10 @@ module _ (s : List ℕ) (m : Map) (room : Room) (wd : ℕ) (ids : Ids) (p e : �
       pub ascends : Ascends vs
       pub some : Each (λ (u : ℕ). 1 ≤ length (of_level u (graded d))) vs
       pub small : Each (λ (u : ℕ). u < 4294967296) vs
-      pub lower : LowerIs (named_texts s w m v.count) i below o
+      pub lower : LowerIs (named_texts s w m v.count) below o
 
     -- there is such a nonterminal
-    pub record SomeLeft (i below : ℕ) (v : Written) (w : List ℕ) : Type 0 where
+    pub record SomeLeft (i : ℕ) (below : Maybe ℕ) (v : Written) (w : List ℕ) : Type 0 where
       pub four : Bool
       pub nonterminal : Nonterminal
       pub lower : Option Text
@@ -143,19 +137,19 @@ module _ (s : List ℕ) (m : Map) (room : Room) (wd : ℕ) (ids : Ids) (p e : �
       pub left : Left i below v w four nonterminal lower levels
 
     -- one level was written, and one less is left
-    pub record Stepped (i below : ℕ) (v : Written) (w : List ℕ) (four : Bool) (d : Nonterminal) (o : Option Text) (vs : List ℕ) (r : Next) (w' : List ℕ) : Type 0 where
+    pub record Stepped (i : ℕ) (below : Maybe ℕ) (v : Written) (w : List ℕ) (four : Bool) (d : Nonterminal) (o : Option Text) (vs : List ℕ) (r : Next) (w' : List ℕ) : Type 0 where
       pub level : ℕ
       pub above : List ℕ
       pub first : vs ≡ level ∷ above
       pub on : i < r.last
-      pub left : Left r.last r.name (record { to = r.to; count = r.count }) w' four d (some (level_name d.name level above)) above
+      pub left : Left r.last (Some r.name) (record { to = r.to; count = r.count }) w' four d (some (level_name d.name level above)) above
       pub wrote : Wrote s m room wd ids w v 1 (level_item d o level above ∷ []) (record { to = r.to; count = r.count }) w'
 
-    unfoldable pub Steps : ℕ → ℕ → Written → List ℕ → Next → List ℕ → Type 0
+    unfoldable pub Steps : ℕ → Maybe ℕ → Written → List ℕ → Next → List ℕ → Type 0
     Steps i below v w r w' = (four : Bool) (d : Nonterminal) (o : Option Text) (vs : List ℕ) → Left i below v w four d o vs → Stepped i below v w four d o vs r w'
 
     -- all levels were written
-    unfoldable pub Finishes : ℕ → ℕ → Written → List ℕ → Written → List ℕ → Type 0
+    unfoldable pub Finishes : ℕ → Maybe ℕ → Written → List ℕ → Written → List ℕ → Type 0
     Finishes i below v w r w' = (four : Bool) (d : Nonterminal) (o : Option Text) (vs : List ℕ) → Left i below v w four d o vs → Wrote s m room wd ids w v (length vs) (items_left d o vs) r w'
 
   -- d stands there, and there is room for its names and arrays

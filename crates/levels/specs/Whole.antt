@@ -37,7 +37,7 @@ module _ (s : List ℕ) (m : Map) (t : Grammar) (room : Room) where
       pub laid : LevelsFit m room (v.count + alternatives_in is) (alternatives_in is) (length w)
       pub before : Before m t
       pub row : Row t (texts s w m) w i (item_place_in t w i) is
-      pub within : Each (ItemWithin four t.width (texts s w m)) is
+      pub within : Each (ItemWithin four t.width.bytes (texts s w m)) is
       pub names : NamesAt s w m room ids v.count
       pub from : room.at ≤ v.to
       pub upto : v.to ≤ room.lim + 1
@@ -51,7 +51,7 @@ module _ (s : List ℕ) (m : Map) (t : Grammar) (room : Room) where
     -- one item was written, or refused
     unfoldable pub SteppedBy : Outcome (Unit {0}) → ℕ → Written → List ℕ → Bool → Item → List Item → Result Written Refusal → List ℕ → Type 0
     SteppedBy (yes u) i v w four x rest r w' =
-        (v' : Written) × (r ≡ Ok v') × Wrote s m room t.width ids w v (alternatives_in (x ∷ [])) (levelled (x ∷ [])) v' w' × ItemsLeft (i + 1) v' w' four rest
+        (v' : Written) × (r ≡ Ok v') × Wrote s m room t.width.bytes ids w v (alternatives_in (x ∷ [])) (levelled (x ∷ [])) v' w' × ItemsLeft (i + 1) v' w' four rest
     SteppedBy (no q sp) i v w four x rest r w' = r ≡ Err (refusal_over q sp)
 
     unfoldable pub ItemSteps : ℕ → Written → List ℕ → Result Written Refusal → List ℕ → Type 0
@@ -67,7 +67,7 @@ module _ (s : List ℕ) (m : Map) (t : Grammar) (room : Room) where
     pub few : m.count ≤ 4294967295
     pub apart : distinct (texts s w m) ≡ true
     pub row : Row t (texts s w m) w 0 t.at R
-    pub within : Each (ItemWithin four t.width (texts s w m)) R
+    pub within : Each (ItemWithin four t.width.bytes (texts s w m)) R
     pub many : t.count ≡ length R
 
   pub record SomeGrammar (w : List ℕ) : Type 0 where
@@ -81,7 +81,7 @@ module _ (s : List ℕ) (m : Map) (t : Grammar) (room : Room) where
 
   -- a yes leaves the levels, a no gives the question's number and the span
   unfoldable pub LevelledBy : Outcome (Unit {0}) → List ℕ → List Item → Result Written Refusal → List ℕ → Type 0
-  LevelledBy (yes u) w R r w' = (v' : Written) × (r ≡ Ok v') × Wrote s m room t.width (ids_in (texts s w m)) w at_first (alternatives_in R) (levelled R) v' w'
+  LevelledBy (yes u) w R r w' = (v' : Written) × (r ≡ Ok v') × Wrote s m room t.width.bytes (ids_in (texts s w m)) w at_first (alternatives_in R) (levelled R) v' w'
   LevelledBy (no q sp) w R r w' = r ≡ Err (refusal_over q sp)
 
   -- "14, 15, 16" of every tree that stands so, and its levels

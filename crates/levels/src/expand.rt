@@ -1,17 +1,17 @@
 // One annotated nonterminal: its alternatives graded and sorted, and an item written for each level.
-ghost use Rattle.std.specs.Prelude.{◌≡◌, true, false, ◌⊎◌, ◌+◌, ◌*◌, ◌≤◌, ◌<◌, length, eqb};
+ghost use Rattle.std.specs.Prelude.{◌≡◌, false, None, ◌+◌, ◌*◌, ◌≤◌, ◌<◌, length};
 ghost use Rattle.parse_tree.specs.Working.Nodes.{span_in};
 ghost use Rattle.parse_tree.specs.Working.Refusals.{refusal_over};
 ghost use Rattle.grades.specs.Sort.{Arrays};
 ghost use Rattle.precedence.specs.Names.{Describing};
-ghost use Rattle.levels.specs.Expand.{NamesLevel, level_from, SortsKeys, SomeLeft, Steps, Finishes, SomeExpandable, ExpandsOne};
+ghost use Rattle.levels.specs.Expand.{NamesLevel, SortsKeys, SomeLeft, Steps, Finishes, SomeExpandable, ExpandsOne};
 
 use crate::{Room, Written};
 use grades::Ids;
 use grades::alternatives::{grade, lowest};
 use grades::annotations::first_alternative;
 use grades::sort::{group_end, sort};
-use octets::numbers::{atom_at, u16_at, u64_at};
+use octets::numbers::{Width, atom_at, u16_at, u64_at};
 use parse_tree::node::span_at;
 use parse_tree::refusal;
 use parse_tree::refusal::Refusal;
@@ -23,7 +23,7 @@ use texts::Map;
 #[derive(Clone, Copy)]
 pub struct Next {
     pub last: usize,
-    pub name: usize,
+    pub name: u32,
     pub count: usize,
     pub to: usize,
 }
@@ -51,28 +51,13 @@ fn name_level(
     }
 }
 
-// The level of the keys from i up to j. Below the lowest there is none: it has its own name there.
-fn level_of(i: usize, j: usize, name: usize, below: usize) -> Level
-    requires { (name < 4294967296) × ((i ≡ 0) ⊎ (below < 4294967296)) }
-    ensures { result ≡ level_from i j name below }
-{
-    let lower = if i == 0 { name } else { below };
-    Level {
-        first: i,
-        last: j,
-        name: name as u32,
-        below: lower as u32,
-        lowest: i == 0,
-    }
-}
-
-// The level whose keys begin at the i-th of n, behind a level named `below`.
+// The level whose keys begin at the i-th of n, above the one named `below`, if there is one.
 fn next_level(
     tape: &[u8],
     work: &mut [u8],
     m: Map,
     room: Room,
-    width: usize,
+    width: Width,
     ids: Ids,
     p: usize,
     e: usize,
@@ -80,21 +65,27 @@ fn next_level(
     keys: usize,
     n: usize,
     i: usize,
-    below: usize,
+    below: Option<u32>,
     v: Written,
 ) -> Next
-    requires { (2 ≤ width) × (width ≤ 3) × (i < n) × SomeLeft tape.now m room width ids p e places keys n i below v work.old }
-    ensures { Steps tape.now m room width ids p e places keys n i below v work.old result work.new }
+    requires { (i < n) × SomeLeft tape.now m room width.bytes ids p e places keys n i below v work.old }
+    ensures { Steps tape.now m room width.bytes ids p e places keys n i below v work.old result work.new }
 {
     let j = group_end(work, keys, n, i);
     let base = atom_at(work, p + 9, width) as usize;
     let level = (u64_at(work, keys + 8 * i) / 262144) as usize;
     let x = name_level(tape, work, m, v.count, base, level, j == n);
-    let l = level_of(i, j, x.name, below);
+    let name = x.name as u32;
+    let l = Level {
+        first: i,
+        last: j,
+        name,
+        below,
+    };
     let to = write_level(work, p, width, ids, places, keys, l, room.lim, v.to);
     Next {
         last: j,
-        name: x.name,
+        name,
         count: x.count,
         to,
     }
@@ -106,7 +97,7 @@ fn write_levels(
     work: &mut [u8],
     m: Map,
     room: Room,
-    width: usize,
+    width: Width,
     ids: Ids,
     p: usize,
     e: usize,
@@ -115,17 +106,17 @@ fn write_levels(
     n: usize,
     mut v: Written,
 ) -> Written
-    requires { (2 ≤ width) × (width ≤ 3) × SomeLeft tape.now m room width ids p e places keys n 0 0 v work.old }
-    ensures { Finishes tape.now m room width ids p e places keys n 0 0 v work.old result work.new }
+    requires { SomeLeft tape.now m room width.bytes ids p e places keys n 0 None v work.old }
+    ensures { Finishes tape.now m room width.bytes ids p e places keys n 0 None v work.old result work.new }
 {
     let mut i = 0;
-    let mut below = 0;
+    let mut below = None;
     while i < n {
         let x = next_level(
             tape, work, m, room, width, ids, p, e, places, keys, n, i, below, v,
         );
         i = x.last;
-        below = x.name;
+        below = Some(x.name);
         v = Written {
             to: x.to,
             count: x.count,
@@ -160,21 +151,22 @@ pub fn expand_nonterm(
     work: &mut [u8],
     m: Map,
     room: Room,
-    width: usize,
+    width: Width,
     ids: Ids,
     p: usize,
     e: usize,
     v: Written,
 ) -> Result<Written, Refusal>
-    requires { (2 ≤ width) × (width ≤ 3) × SomeExpandable tape.now m room width ids p e v work.old }
-    ensures { ExpandsOne tape.now m room width ids p e v work.old result work.new }
+    requires { SomeExpandable tape.now m room width.bytes ids p e v work.old }
+    ensures { ExpandsOne tape.now m room width.bytes ids p e v work.old result work.new }
 {
-    let n = usize::from(u16_at(work, p + 11 + width));
+    let n = usize::from(u16_at(work, p + 11 + width.bytes));
     let places = room.arrays;
     let keys = places + 8 * n + 8;
     let at = first_alternative(work, p, width);
     match grade(tape, work, m, width, ids, places, keys, n, at, e) {
-        Err(why) => Err(refused(work, why.question, why.at)),
+        Err(Some(why)) => Err(refused(work, why.question, why.at)),
+        Err(None) => unreachable!(),
         Ok(ascending) => {
             let k = sorted(work, keys, keys + 8 * n, n, ascending);
             match lowest(work, k, n, places) {

@@ -7,11 +7,10 @@ ghost use Rattle.precedence.specs.Names.{Naming, named_text};
 ghost use Rattle.levels.specs.Fresh.{too_long, new_texts, fresh_of, NameLong, PutsNames};
 
 use grades::grade::{decimal_size, put_decimal};
-use octets::numbers::store16;
-use octets::runs::copy;
 use precedence::names::base_text;
 use texts::Map;
 use texts::fields::mark;
+use texts::text::put_atom;
 
 // How long name k is, of those described up to n.
 fn name_length<'a>(tape: &'a [u8], work: &'a [u8], m: Map, n: usize, k: usize) -> usize
@@ -46,9 +45,7 @@ pub fn put_level(t: &[u8], v: usize, out: &mut [u8], to: usize) -> usize
     ensures { PutsNames out.old to (atom_bytes 2 (t.now ++ level_digits v)) result out.new }
 {
     let l = t.len() + decimal_size(v);
-    out[to] = 1;
-    store16(out, to + 1, l as u16);
-    copy(t, 0, t.len(), out, to + 3);
+    put_atom(t, l as u16, out, to);
     put_decimal(out, to + 3 + t.len(), v)
 }
 

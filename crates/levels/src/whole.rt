@@ -24,7 +24,7 @@ fn expand_item(
     i: usize,
     v: Written,
 ) -> Result<Written, Refusal>
-    requires { (2 ≤ t.width) × (t.width ≤ 3) × (i < t.count) × SomeItems tape.now m t room ids i v work.old }
+    requires { (i < t.count) × SomeItems tape.now m t room ids i v work.old }
     ensures { ItemSteps tape.now m t room ids i v work.old result work.new }
 {
     let p = place(work, t, i);
@@ -44,7 +44,7 @@ pub fn expand_precedence(
     t: Grammar,
     room: Room,
 ) -> Result<Written, Refusal>
-    requires { (2 ≤ t.width) × (t.width ≤ 3) × SomeGrammar tape.now m t room work.old }
+    requires { SomeGrammar tape.now m t room work.old }
     ensures { Levels tape.now m t room work.old result work.new }
 {
     let ids = ids(tape, work, m);

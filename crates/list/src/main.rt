@@ -8,13 +8,10 @@ use std::io::{Read, Write};
 
 // The bytes of work from a place up to another, if they are there.
 fn print_part(work: &[u8], from: usize, to: usize, writer: &mut impl Write) -> io::Result<()> {
-    if to > work.len() {
-        return Ok(());
+    match work.get(from..to) {
+        Some(part) => writer.write_all(part),
+        None => Ok(()),
     }
-    if from <= to {
-        writer.write_all(&work[from..to])?;
-    }
-    Ok(())
 }
 
 fn list_tape(

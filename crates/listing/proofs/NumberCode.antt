@@ -1,119 +1,37 @@
--- The loops of number_size and put_digits, and the ways out of put_number. Assumes nothing.
-use mathlib.Core.Path.{◌≡◌, refl, sym, ap, ◌∙◌}
-use mathlib.Core.List.{List, [], ◌∷◌}
-use Prim.Native.Nat.{ℕ, zero, suc, ◌+◌, ◌-◌, ◌/◌, ◌%◌, ◌^◌, ◌≤◌, ◌<◌}
+-- The ways out of put_number: r is whether the digits fit. Assumes nothing.
+use mathlib.Core.Path.{◌≡◌, refl, sym, ◌∙◌}
+use mathlib.Core.Bool.{Bool, true, false, not}
+use mathlib.Core.List.{List}
+use Prim.Native.Nat.{ℕ, ◌+◌, ◌≤◌}
 use native.Mathlib.Omega.{arith}
 use borrow.Author.Rules.{rules}
-use lib.ListN.{length, set}
-use lib.Seq.{sets, set_comm}
+use borrow.Author.Tests.{leb-true, leb-false, not-true, not-false}
+use lib.Dec.{leb}
+use lib.ListN.{length}
 use Rattle.octets.specs.Working.Stores.{store}
-use Rattle.octets.proofs.StoreLaws.{store-none, length_store}
-use Rattle.grades.proofs.DecimalLaws.{last, size_by, front, size_one, size_more}
+use Rattle.grades.specs.Grade.{number_digits}
 use Rattle.precedence.specs.Write.{Puts}
 use Rattle.precedence.proofs.WriteLaws.{puts_whole, puts_not}
 use Rattle.listing.specs.Listing.{shown_number}
-use Rattle.listing.proofs.NumberLaws.{number-front, number_size}
 
--- ---- number_size: n digits are counted but for those that q has, which are at most one more than `left`
-pub record Sizing (v n q : ℕ) : Type 0 where
-  pub left : ℕ
-  pub some : 1 ≤ n
-  pub sum : n + left ≡ 20
-  pub below : q < 10 ^ suc left
-  pub rest : n + size_by (suc left) q ≡ suc (length (shown_number v))
+shown : (v : ℕ) → number_digits v ≡ shown_number v
+unfolding number_digits shown_number
+shown v = refl
 
-pub size_start : (v : ℕ) → v < 2 ^ 64 → Sizing v 1 v
-size_start v h = record { left = 19; some = omega arith; sum = refl; below = omega arith; rest = omega (arith, number_size v) }
+module _ (w : List ℕ) (v lim to n : ℕ) (e : n ≡ length (number_digits v)) (r : Bool) (q : r ≡ leb (to + n) lim) where
+  pub number_over : not r ≡ true → Puts w lim to (shown_number v) (lim + 1) w
+  number_over h =
+      let l = leb-false (to + n) lim (sym q ∙ not-true r h) in
+      rw (← shown v) (puts_not w lim to (number_digits v) (omega arith))
 
-module _ (v n q : ℕ) (c : Sizing v n q) where
-  pub size_next : 9 < q → Sizing v (n + 1) (q / 10)
-  size_next h = go c.left c.sum c.below c.rest
-    where
-      go : (l : ℕ) → n + l ≡ 20 → q < 10 ^ suc l → n + size_by (suc l) q ≡ suc (length (shown_number v)) → Sizing v (n + 1) (q / 10)
-      go zero s b r = absurd (omega arith)
-      go (suc l) s b r = record { left = l; some = omega arith; sum = omega arith; below = omega arith; rest = omega (arith, r, size_more (suc l) q h) }
+  module _ (h : not r ≡ false) where
+    fit : to + n ≤ lim
+    fit = leb-true (to + n) lim (sym q ∙ not-false r h)
 
-  pub size_done : q ≤ 9 → n ≡ length (shown_number v)
-  size_done h = omega (arith, c.rest, size_one c.left q h)
+    pub number_room : lim ≤ length w → to + length (number_digits v) ≤ length w
+    number_room l = omega (arith, fit)
 
-pub ruleset sizing = (rules, size_start, size_next, size_done)
+    pub number_put : (w1 : List ℕ) (x : ℕ) → w1 ≡ store w to (number_digits v) → x ≡ to + length (number_digits v) → Puts w lim to (shown_number v) x w1
+    number_put w1 x j k = rw (k, ← e, ← shown v) (puts_whole w lim to (number_digits v) w1 n e fit j)
 
--- ---- put_digits
-sets_set : (b w : List ℕ) (i a d : ℕ) → a < i → set (sets w i b) a d ≡ sets (set w a d) i b
-sets_set [] w i a d h = refl
-sets_set (x ∷ b) w i a d h =
-    sets_set b (set w i x) (suc i) a d (omega arith) ∙ ap (λ (l : List ℕ). sets l (suc i) b) (set_comm w i a x d (λ e. absurd (omega (arith, e))))
-
--- a byte before a run
-store-front : (w : List ℕ) (a n d : ℕ) (b : List ℕ) → n ≡ suc a → set (store w n b) a d ≡ store w a (d ∷ b)
-unfolding store
-store-front w a n d b e = rw e (sets_set b w (suc a) a d (omega arith))
-
--- `behind` stands from `at` on; `left` digits, those of q, go before it
-pub record Putting (w : List ℕ) (to v : ℕ) (out : List ℕ) (at q : ℕ) : Type 0 where
-  pub behind : List ℕ
-  pub left : ℕ
-  pub place : at ≡ to + left
-  pub rest : front left q behind ≡ shown_number v
-  pub bytes : out ≡ store w at behind
-  pub room : at ≤ length w
-
-module _ (w : List ℕ) (to v : ℕ) where
-  pub put_start : (end : ℕ) → end ≡ to + length (shown_number v) → end ≤ length w → Putting w to v w end v
-  put_start end e k = record {
-    behind = [];
-    left = length (shown_number v);
-    place = e;
-    rest = ap (λ (n : ℕ). front n v []) (number_size v) ∙ sym (number-front v);
-    bytes = sym (store-none w end);
-    room = k;
-  }
-
-  pub put_done : (out : List ℕ) (at q : ℕ) → Putting w to v out at q → at ≤ to → out ≡ store w to (shown_number v)
-  unfolding front
-  put_done out at q c h = go c.left c.place c.rest
-    where
-      go : (l : ℕ) → at ≡ to + l → front l q c.behind ≡ shown_number v → out ≡ store w to (shown_number v)
-      go zero p r = c.bytes ∙ ap (λ (a : ℕ). store w a c.behind) (omega (arith, p)) ∙ ap (store w to) r
-      go (suc l) p r = absurd (omega arith)
-
-module _ (w : List ℕ) (to v : ℕ) (out : List ℕ) (at q : ℕ) (c : Putting w to v out at q) where
-  pub put_same : length out ≡ length w
-  put_same = ap length c.bytes ∙ length_store w at c.behind
-
-  pub put_inside : to < at → at - 1 < length out
-  put_inside h = omega (arith, put_same, c.room)
-
-  pub put_next : to < at → (d : ℕ) → d ≡ 48 + q % 10 → Putting w to v (set out (at - 1) d) (at - 1) (q / 10)
-  unfolding front
-  put_next h d e = go c.left c.place c.rest
-    where
-      go : (l : ℕ) → at ≡ to + l → front l q c.behind ≡ shown_number v → Putting w to v (set out (at - 1) d) (at - 1) (q / 10)
-      go zero p r = absurd (omega arith)
-      go (suc l) p r = record {
-        behind = last q ∷ c.behind;
-        left = l;
-        place = omega arith;
-        rest = r;
-        bytes = rw (e, c.bytes) (store-front w (at - 1) at (last q) c.behind (omega arith));
-        room = omega (arith, c.room);
-      }
-
-pub ruleset putting = (rules, put_start, put_done, put_same, put_inside, put_next)
-
--- ---- put_number
-module _ (w : List ℕ) (v lim to : ℕ) where
-  pub number_behind : lim < to → Puts w lim to (shown_number v) (lim + 1) w
-  number_behind h = puts_not w lim to (shown_number v) (omega arith)
-
-  module _ (n : ℕ) (e : n ≡ length (shown_number v)) where
-    pub number-over : to ≤ lim → lim - to < n → Puts w lim to (shown_number v) (lim + 1) w
-    number-over h k = puts_not w lim to (shown_number v) (omega (arith, e))
-
-    pub number-end : to + n ≡ to + length (shown_number v)
-    number-end = ap (λ (k : ℕ). to + k) e
-
-    pub number_put : to ≤ lim → n ≤ lim - to → (w1 : List ℕ) → w1 ≡ store w to (shown_number v) → Puts w lim to (shown_number v) (to + n) w1
-    number_put h k w1 j = puts_whole w lim to (shown_number v) w1 n e (omega arith) j
-
-pub ruleset numbering = (rules, number_behind, number-over, number-end, number_put)
+pub ruleset numbering = (rules, number_over, number_room, number_put)

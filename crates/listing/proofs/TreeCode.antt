@@ -176,13 +176,13 @@ module _ (s w : List ℕ) (a : Atoms) (at n : ℕ) (v : Valid false 2 s w a at n
         there : w₁ ≡ store w (7 * size) (part at (length s) s)
         there = copied ∙ ap (λ (p : ℕ). store w p (part at (length s) s)) items_there
 
-        pub layout_printable : Printable s w₁ table a.width (length w₁) (8 * length s)
+        pub layout_printable : Printable s w₁ table a.width.bytes (length w₁) (8 * length s)
         layout_printable = rw v.wide (printable room w₁ there)
 
-        pub layout_some : SomeAll (ItemGood a.width) (item_bytes a.width) s w₁ table n g.items (8 * length s)
+        pub layout_some : SomeAll (ItemGood a.width.bytes) (item_bytes a.width.bytes) s w₁ table n g.items (8 * length s)
         layout_some = rw (v.wide, items_there) (some room w₁ there)
 
-        pub layout_shown : (r : Printed) (w₂ : List ℕ) → ShowsAll (ItemGood a.width) (item_bytes a.width) s w₁ table listed_item n g.items (length w₁) (8 * length s) r w₂ → ListsTree s (length w) r.to w₂
+        pub layout_shown : (r : Printed) (w₂ : List ℕ) → ShowsAll (ItemGood a.width.bytes) (item_bytes a.width.bytes) s w₁ table listed_item n g.items (length w₁) (8 * length s) r w₂ → ListsTree s (length w) r.to w₂
         layout_shown r w₂ h = shown room w₁ there r w₂ (rw (v.wide, items_there) at h)
 
 pub ruleset validated = (rules, layout_fits, copy_inside, copy_room, layout_printable, layout_some, layout_shown)

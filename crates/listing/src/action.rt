@@ -6,6 +6,7 @@ ghost use Rattle.settling.specs.Print.{Printable};
 ghost use Rattle.listing.specs.Tree.{arrow_text, side_text, action_at};
 
 use crate::refused::put_run;
+use octets::numbers::Width;
 use settling::put::put_byte;
 use settling::words::{put_text, word_source};
 use texts::Map;
@@ -35,13 +36,13 @@ fn put_action(
     tape: &[u8],
     work: &mut [u8],
     m: Map,
-    width: usize,
+    width: Width,
     at: usize,
     lim: usize,
     to: usize,
 ) -> usize
-    requires { Printable tape.now work.old m width lim to × (at + 14 + width ≤ lim + 1) }
-    ensures { Puts work.old lim to (action_at width (texts tape.now work.old m) work.old at) result work.new }
+    requires { Printable tape.now work.old m width.bytes lim to × (at + 14 + width.bytes ≤ lim + 1) }
+    ensures { Puts work.old lim to (action_at width.bytes (texts tape.now work.old m) work.old at) result work.new }
 {
     let c = work[at + 11];
     if c == 0 {
@@ -60,13 +61,13 @@ pub fn put_tail(
     tape: &[u8],
     work: &mut [u8],
     m: Map,
-    width: usize,
+    width: Width,
     at: usize,
     lim: usize,
     to: usize,
 ) -> usize
-    requires { Printable tape.now work.old m width lim to × (at + 14 + width ≤ lim + 1) }
-    ensures { Puts work.old lim to (action_at width (texts tape.now work.old m) work.old at ++ (10 ∷ [])) result work.new }
+    requires { Printable tape.now work.old m width.bytes lim to × (at + 14 + width.bytes ≤ lim + 1) }
+    ensures { Puts work.old lim to (action_at width.bytes (texts tape.now work.old m) work.old at ++ (10 ∷ [])) result work.new }
 {
     let q = put_action(tape, work, m, width, at, lim, to);
     put_byte(work, 10, lim, q)

@@ -6,7 +6,7 @@ ghost use Rattle.listing.specs.Walk.{AlternativeGood, SomeOne, SomeAll, ShowsOne
 
 use crate::action::put_tail;
 use grades::annotations::symbols;
-use octets::numbers::u16_at;
+use octets::numbers::{Width, u16_at};
 use settling::Printed;
 use settling::print::print_list;
 use settling::put::put_two;
@@ -17,15 +17,15 @@ fn list_alternative(
     tape: &[u8],
     work: &mut [u8],
     m: Map,
-    width: usize,
+    width: Width,
     at: usize,
     lim: usize,
     to: usize,
 ) -> Printed
-    requires { Printable tape.now work.old m width lim to × SomeOne (AlternativeGood width) (alternative_bytes width) tape.now work.old m at to }
-    ensures { ShowsOne (AlternativeGood width) (alternative_bytes width) tape.now work.old m listed_alternative at lim to result work.new }
+    requires { Printable tape.now work.old m width.bytes lim to × SomeOne (AlternativeGood width.bytes) (alternative_bytes width.bytes) tape.now work.old m at to }
+    ensures { ShowsOne (AlternativeGood width.bytes) (alternative_bytes width.bytes) tape.now work.old m listed_alternative at lim to result work.new }
 {
-    let n = usize::from(u16_at(work, at + 12 + width));
+    let n = usize::from(u16_at(work, at + 12 + width.bytes));
     let b = symbols(work, at, width);
     let q = put_two(work, 32, 32, lim, to);
     let z = print_list(tape, work, m, width, 64, b, n, 41, lim, q);
@@ -38,14 +38,14 @@ pub fn list_alternatives(
     tape: &[u8],
     work: &mut [u8],
     m: Map,
-    width: usize,
+    width: Width,
     at: usize,
     n: usize,
     lim: usize,
     to: usize,
 ) -> Printed
-    requires { Printable tape.now work.old m width lim to × SomeAll (AlternativeGood width) (alternative_bytes width) tape.now work.old m n at to }
-    ensures { ShowsAll (AlternativeGood width) (alternative_bytes width) tape.now work.old m listed_alternative n at lim to result work.new }
+    requires { Printable tape.now work.old m width.bytes lim to × SomeAll (AlternativeGood width.bytes) (alternative_bytes width.bytes) tape.now work.old m n at to }
+    ensures { ShowsAll (AlternativeGood width.bytes) (alternative_bytes width.bytes) tape.now work.old m listed_alternative n at lim to result work.new }
 {
     let mut p = at;
     let mut q = to;

@@ -9,7 +9,7 @@ ghost use Rattle.listing.specs.Walk.{PutsHead};
 
 use crate::number::put_led;
 use crate::refused::put_run;
-use octets::numbers::u32_at;
+use octets::numbers::{Width, u32_at};
 use settling::words::{put_text, word_source};
 use texts::Map;
 
@@ -44,13 +44,13 @@ fn put_word(
     tape: &[u8],
     work: &mut [u8],
     m: Map,
-    width: usize,
+    width: Width,
     at: usize,
     lim: usize,
     to: usize,
 ) -> usize
-    requires { Printable tape.now work.old m width lim to × (at + width ≤ length work.old) }
-    ensures { Puts work.old lim to (word_at width (texts tape.now work.old m) work.old at) result work.new }
+    requires { Printable tape.now work.old m width.bytes lim to × (at + width.bytes ≤ length work.old) }
+    ensures { Puts work.old lim to (word_at width.bytes (texts tape.now work.old m) work.old at) result work.new }
 {
     let p = word_source(tape, work, m, width, at);
     put_text(tape, work, p, lim, to)
@@ -61,17 +61,17 @@ pub fn put_head(
     tape: &[u8],
     work: &mut [u8],
     m: Map,
-    width: usize,
+    width: Width,
     at: usize,
     lim: usize,
     to: usize,
 ) -> usize
-    requires { Printable tape.now work.old m width lim to × (at + 13 + width ≤ length work.old) }
-    ensures { PutsHead tape.now work.old m width at lim to result work.new }
+    requires { Printable tape.now work.old m width.bytes lim to × (at + 13 + width.bytes ≤ length work.old) }
+    ensures { PutsHead tape.now work.old m width.bytes at lim to result work.new }
 {
     let a = u32_at(work, at + 1) as usize;
     let b = u32_at(work, at + 5) as usize;
-    let f = work[at + 9 + width];
+    let f = work[at + 9 + width.bytes];
     let q = put_word(tape, work, m, width, at + 9, lim, to);
     put_line(work, a, b, f, lim, q)
 }

@@ -9,17 +9,17 @@ ghost use Rattle.listing.specs.Walk.{AlternativeGood, ItemGood, SomeOne, SomeAll
 
 use crate::alternatives::list_alternatives;
 use crate::head::put_head;
-use octets::numbers::u16_at;
+use octets::numbers::{Width, u16_at};
 use settling::Printed;
 use texts::Map;
 
 // Where the first alternative of the nonterminal at a place stands, also where work ends close behind its command.
-fn first_behind(work: &[u8], at: usize, width: usize) -> usize
-    requires { (width ≤ 3) × (at + 13 + width ≤ length work.now) }
-    ensures { result ≡ first_alternative width work.now at }
+fn first_behind(work: &[u8], at: usize, width: Width) -> usize
+    requires { at + 13 + width.bytes ≤ length work.now }
+    ensures { result ≡ first_alternative width.bytes work.now at }
 {
-    let args = usize::from(work[at + 10 + width]);
-    at + 13 + width + (1 + width) * args
+    let args = usize::from(work[at + 10 + width.bytes]);
+    at + 13 + width.bytes + (1 + width.bytes) * args
 }
 
 // The lines of the alternatives of the nonterminal at a place.
@@ -27,15 +27,15 @@ fn list_rest(
     tape: &[u8],
     work: &mut [u8],
     m: Map,
-    width: usize,
+    width: Width,
     at: usize,
     lim: usize,
     to: usize,
 ) -> Printed
-    requires { Printable tape.now work.old m width lim to × (at + 13 + width ≤ length work.old) × SomeAll (AlternativeGood width) (alternative_bytes width) tape.now work.old m (le_at 2 work.old (at + 11 + width)) (first_alternative width work.old at) to }
-    ensures { ShowsAll (AlternativeGood width) (alternative_bytes width) tape.now work.old m listed_alternative (le_at 2 work.old (at + 11 + width)) (first_alternative width work.old at) lim to result work.new }
+    requires { Printable tape.now work.old m width.bytes lim to × (at + 13 + width.bytes ≤ length work.old) × SomeAll (AlternativeGood width.bytes) (alternative_bytes width.bytes) tape.now work.old m (le_at 2 work.old (at + 11 + width.bytes)) (first_alternative width.bytes work.old at) to }
+    ensures { ShowsAll (AlternativeGood width.bytes) (alternative_bytes width.bytes) tape.now work.old m listed_alternative (le_at 2 work.old (at + 11 + width.bytes)) (first_alternative width.bytes work.old at) lim to result work.new }
 {
-    let n = usize::from(u16_at(work, at + 11 + width));
+    let n = usize::from(u16_at(work, at + 11 + width.bytes));
     let a = first_behind(work, at, width);
     list_alternatives(tape, work, m, width, a, n, lim, to)
 }
@@ -45,13 +45,13 @@ fn list_item(
     tape: &[u8],
     work: &mut [u8],
     m: Map,
-    width: usize,
+    width: Width,
     at: usize,
     lim: usize,
     to: usize,
 ) -> Printed
-    requires { Printable tape.now work.old m width lim to × SomeOne (ItemGood width) (item_bytes width) tape.now work.old m at to }
-    ensures { ShowsOne (ItemGood width) (item_bytes width) tape.now work.old m listed_item at lim to result work.new }
+    requires { Printable tape.now work.old m width.bytes lim to × SomeOne (ItemGood width.bytes) (item_bytes width.bytes) tape.now work.old m at to }
+    ensures { ShowsOne (ItemGood width.bytes) (item_bytes width.bytes) tape.now work.old m listed_item at lim to result work.new }
 {
     let c = work[at];
     if c == 16 {
@@ -59,7 +59,7 @@ fn list_item(
         return list_rest(tape, work, m, width, at, lim, q);
     }
     Printed {
-        at: at + 9 + width,
+        at: at + 9 + width.bytes,
         to: to,
     }
 }
@@ -69,14 +69,14 @@ pub fn list_items(
     tape: &[u8],
     work: &mut [u8],
     m: Map,
-    width: usize,
+    width: Width,
     at: usize,
     n: usize,
     lim: usize,
     to: usize,
 ) -> Printed
-    requires { Printable tape.now work.old m width lim to × SomeAll (ItemGood width) (item_bytes width) tape.now work.old m n at to }
-    ensures { ShowsAll (ItemGood width) (item_bytes width) tape.now work.old m listed_item n at lim to result work.new }
+    requires { Printable tape.now work.old m width.bytes lim to × SomeAll (ItemGood width.bytes) (item_bytes width.bytes) tape.now work.old m n at to }
+    ensures { ShowsAll (ItemGood width.bytes) (item_bytes width.bytes) tape.now work.old m listed_item n at lim to result work.new }
 {
     let mut p = at;
     let mut q = to;

@@ -4,6 +4,7 @@ ghost use Rattle.validate.specs.Whole.{Valid};
 ghost use Rattle.listing.specs.Walk.{ListsTree};
 
 use crate::items::list_items;
+use octets::numbers::Width;
 use octets::runs::copy;
 use texts::Map;
 use validate::Validated;
@@ -42,7 +43,7 @@ pub fn list_tree(tree: &[u8], work: &mut [u8]) -> usize
     requires { 8 * length tree.now ≤ length work.old }
     ensures { ListsTree tree.now (length work.old) result work.new }
 {
-    match validate(tree, work, 2, false) {
+    match validate(tree, work, Width { bytes: 2 }, false) {
         Err(_) => 8 * tree.len(),
         Ok(v) => list_valid(tree, work, v),
     }

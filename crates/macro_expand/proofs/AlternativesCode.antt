@@ -67,12 +67,12 @@ placed_behind w g v a b e xs ys h i l = record { lies = l; off = go h.off; befor
 
 -- ---- every alternative that stands there
 module _ (s w : List ℕ) (g : Ground) (n lim : ℕ) (c : Call) (p : ℕ) (v : Appended) (ps : List ℕ) (names : List Text) (args : Syms) (four : Bool) (e : ℕ) (a : Alternative)
-    (F : Framed s w g n lim c v ps names args) (W : AlternativeWithin four g.width (texts s w g.m) a) (P : Placed w g v p e (alternative_bytes g.width (texts s w g.m) a)) where
+    (F : Framed s w g n lim c v ps names args) (W : AlternativeWithin four g.width.bytes (texts s w g.m) a) (P : Placed w g v p e (alternative_bytes g.width.bytes (texts s w g.m) a)) where
   abbrev ts : List Text
   ts = texts s w g.m
 
   abbrev wd : ℕ
-  wd = g.width
+  wd = g.width.bytes
 
   D : Parted four wd ts w p e a
   D = parted four wd ts w p e a W P.lies
@@ -135,19 +135,13 @@ module _ (s w : List ℕ) (g : Ground) (n lim : ℕ) (c : Call) (p : ℕ) (v : A
 
 -- ---- the code
 module _ (s w : List ℕ) (g : Ground) (n lim : ℕ) (c : Call) (p : ℕ) (v : Appended) (K : Frame s w g n lim c v) (I : SomeAlternative s w g c p v) where
-  ahead : p + 14 + g.width ≤ conditions_from g.width w p
+  ahead : p + 14 + g.width.bytes ≤ conditions_from g.width.bytes w p
   ahead = alternative_head_lem s w g n lim c p v K.places K.names K.args I.four I.end I.alternative K.framed I.within I.placed
 
-  ends : conditions_from g.width w p ≤ I.end
+  ends : conditions_from g.width.bytes w p ≤ I.end
   ends = alternative_upto s w g n lim c p v K.places K.names K.args I.four I.end I.alternative K.framed I.within I.placed
 
-  pub single_narrow : 2 ≤ g.width
-  single_narrow = K.framed.going.ground.narrow
-
-  pub single_wide : g.width ≤ 3
-  single_wide = K.framed.going.ground.wide
-
-  pub single_count : p + 12 + g.width + 2 ≤ length w
+  pub single_count : p + 12 + g.width.bytes + 2 ≤ length w
   single_count = omega (arith, ahead, ends, I.placed.behind)
 
   pub single_head_lem : p + 11 ≤ length w
@@ -159,7 +153,7 @@ module _ (s w : List ℕ) (g : Ground) (n lim : ℕ) (c : Call) (p : ℕ) (v : A
   pub single_cursor : v.to ≤ lim + 1
   single_cursor = K.framed.going.upto
 
-  module _ (d : ℕ) (z : d ≡ conditions_from g.width w p) where
+  module _ (d : ℕ) (z : d ≡ conditions_from g.width.bytes w p) where
     pub single_ahead : p + 11 ≤ d
     single_ahead = omega (arith, ahead)
 
@@ -169,8 +163,8 @@ module _ (s w : List ℕ) (g : Ground) (n lim : ℕ) (c : Call) (p : ℕ) (v : A
     pub single_room : d ≤ length w
     single_room = omega (arith, ends, I.placed.behind)
 
-    module _ (j : ℕ) (y : j ≡ le_at 2 w (p + 12 + g.width)) (k : ℕ) (i : k ≡ j) (b : ℕ) (t : b ≡ symbols_from g.width w p) (span to : ℕ) (w1 : List ℕ) (A : Puts w lim v.to (bare_out w p d span) to w1) where
-      put : Puts w lim v.to (bare_out w p (conditions_from g.width w p) span) to w1
+    module _ (j : ℕ) (y : j ≡ le_at 2 w (p + 12 + g.width.bytes)) (k : ℕ) (i : k ≡ j) (b : ℕ) (t : b ≡ symbols_from g.width.bytes w p) (span to : ℕ) (w1 : List ℕ) (A : Puts w lim v.to (bare_out w p d span) to w1) where
+      put : Puts w lim v.to (bare_out w p (conditions_from g.width.bytes w p) span) to w1
       put = subst (λ (q : ℕ). Puts w lim v.to (bare_out w p q span) to w1) z A
 
       pub single_opens : OpensAlternative s w g n lim c span p v (record { many = k; run = record { at = b; out = record { to = to; count = v.count; deep = v.deep } } }) w1
@@ -195,7 +189,7 @@ module _ (s w : List ℕ) (g : Ground) (n lim : ℕ) (c : Call) (p : ℕ) (v : A
             (subst (λ (q : ℕ). PutsInAll s w1 g n lim c 64 k (record { at = q; out = record { to = to; count = v.count; deep = v.deep } }) r w2) t U);
       }
 
-pub ruleset singling = (rules, single_narrow, single_wide, single_count, single_head_lem, single_inside, single_cursor, single_ahead, single_before, single_room, single_opens)
+pub ruleset singling = (rules, single_count, single_head_lem, single_inside, single_cursor, single_ahead, single_before, single_room, single_opens)
 
 -- ---- expand_alternative
 module _ (s w : List ℕ) (g : Ground) (n lim : ℕ) (c : Call) (span p : ℕ) (v : Appended) (r : Opened) (w' : List ℕ) (O : OpensAlternative s w g n lim c span p v r w') where

@@ -50,28 +50,28 @@ module _ (s w : List ℕ) (g : Ground) (n lim : ℕ) (c : Call) (span p : ℕ) (
 
   module _ (j : Option Bool) (d : j ≡ holds_at g c w p) where
     -- what holds of it
-    module _ (ps : List ℕ) (names : List Text) (args : Syms) (four : Bool) (e : ℕ) (a : Alternative) (sp : Span) (F : Framed s w g n lim c v ps names args) (W : AlternativeWithin four g.width (texts s w g.m) a)
-        (P : Placed w g v p e (alternative_bytes g.width (texts s w g.m) a)) (u : e ≤ c.end) where
-      means : evaluate_condition names (renamed_all args) a.condition ≡ outcome_of j (span_in w (conditions_from g.width w p + 1))
-      means = holds-means s w g n lim c v ps names args F p e a four W (parted four g.width (texts s w g.m) w p e a W P.lies) u ∙ ap (λ (i : Option Bool). outcome_of i (span_in w (conditions_from g.width w p + 1))) (sym d)
+    module _ (ps : List ℕ) (names : List Text) (args : Syms) (four : Bool) (e : ℕ) (a : Alternative) (sp : Span) (F : Framed s w g n lim c v ps names args) (W : AlternativeWithin four g.width.bytes (texts s w g.m) a)
+        (P : Placed w g v p e (alternative_bytes g.width.bytes (texts s w g.m) a)) (u : e ≤ c.end) where
+      means : evaluate_condition names (renamed_all args) a.condition ≡ outcome_of j (span_in w (conditions_from g.width.bytes w p + 1))
+      means = holds-means s w g n lim c v ps names args F p e a four W (parted four g.width.bytes (texts s w g.m) w p e a W P.lies) u ∙ ap (λ (i : Option Bool). outcome_of i (span_in w (conditions_from g.width.bytes w p + 1))) (sym d)
 
-      held-is : held sp names (renamed_all args) (a ∷ []) ≡ elim (outcome_of j (span_in w (conditions_from g.width w p + 1))) [ yes b ↦ cond b (expand_alternative sp names (renamed_all args) a ∷ []) [] | no k q ↦ [] ]
+      held-is : held sp names (renamed_all args) (a ∷ []) ≡ elim (outcome_of j (span_in w (conditions_from g.width.bytes w p + 1))) [ yes b ↦ cond b (expand_alternative sp names (renamed_all args) a ∷ []) [] | no k q ↦ [] ]
       unfolding held
       held-is = ap (λ (o : Outcome Bool). elim o [ yes b ↦ cond b (expand_alternative sp names (renamed_all args) a ∷ []) [] | no k q ↦ [] ]) means
 
-      none_held : held sp names (renamed_all args) (a ∷ []) ≡ [] → Appends s g n lim ps w v (alternatives_piece g.width (held sp names (renamed_all args) (a ∷ []))) v w
-      none_held z = subst (λ (xs : List Alternative). Appends s g n lim ps w v (alternatives_piece g.width xs) v w) (sym z) (yields_none s g n lim ps w v F.going)
+      none_held : held sp names (renamed_all args) (a ∷ []) ≡ [] → Appends s g n lim ps w v (alternatives_piece g.width.bytes (held sp names (renamed_all args) (a ∷ []))) v w
+      none_held z = subst (λ (xs : List Alternative). Appends s g n lim ps w v (alternatives_piece g.width.bytes xs) v w) (sym z) (yields_none s g n lim ps w v F.going)
 
     pub if_refused : j ≡ None → PutsIf s w g n lim c span p v v w
     unfolding PutsIf
     if_refused i ps names args four e a sp F W P u S =
-        none_held ps names args four e a sp F W P u (held-is ps names args four e a sp F W P u ∙ ap (λ (o : Option Bool). elim (outcome_of o (span_in w (conditions_from g.width w p + 1))) [ yes b ↦ cond b (expand_alternative sp names (renamed_all args) a ∷ []) [] | no k q ↦ [] ]) i)
+        none_held ps names args four e a sp F W P u (held-is ps names args four e a sp F W P u ∙ ap (λ (o : Option Bool). elim (outcome_of o (span_in w (conditions_from g.width.bytes w p + 1))) [ yes b ↦ cond b (expand_alternative sp names (renamed_all args) a ∷ []) [] | no k q ↦ [] ]) i)
 
     module _ (b : Bool) (i : j ≡ Some b) where
-      by : (ps : List ℕ) (names : List Text) (args : Syms) (four : Bool) (e : ℕ) (a : Alternative) (sp : Span) → Framed s w g n lim c v ps names args → AlternativeWithin four g.width (texts s w g.m) a
-          → Placed w g v p e (alternative_bytes g.width (texts s w g.m) a) → e ≤ c.end → held sp names (renamed_all args) (a ∷ []) ≡ cond b (expand_alternative sp names (renamed_all args) a ∷ []) []
+      by : (ps : List ℕ) (names : List Text) (args : Syms) (four : Bool) (e : ℕ) (a : Alternative) (sp : Span) → Framed s w g n lim c v ps names args → AlternativeWithin four g.width.bytes (texts s w g.m) a
+          → Placed w g v p e (alternative_bytes g.width.bytes (texts s w g.m) a) → e ≤ c.end → held sp names (renamed_all args) (a ∷ []) ≡ cond b (expand_alternative sp names (renamed_all args) a ∷ []) []
       by ps names args four e a sp F W P u =
-          held-is ps names args four e a sp F W P u ∙ ap (λ (o : Option Bool). elim (outcome_of o (span_in w (conditions_from g.width w p + 1))) [ yes t ↦ cond t (expand_alternative sp names (renamed_all args) a ∷ []) [] | no k q ↦ [] ]) i
+          held-is ps names args four e a sp F W P u ∙ ap (λ (o : Option Bool). elim (outcome_of o (span_in w (conditions_from g.width.bytes w p + 1))) [ yes t ↦ cond t (expand_alternative sp names (renamed_all args) a ∷ []) [] | no k q ↦ [] ]) i
 
       pub if_not : b ≡ false → PutsIf s w g n lim c span p v v w
       unfolding PutsIf
@@ -81,7 +81,7 @@ module _ (s w : List ℕ) (g : Ground) (n lim : ℕ) (c : Call) (span p : ℕ) (
       pub if_put : b ≡ true → (r : Appended) (w' : List ℕ) → PutsAlternative s w g n lim c span p v r w' → PutsIf s w g n lim c span p v r w'
       unfolding PutsIf PutsAlternative
       if_put z r w' U ps names args four e a sp F W P u S =
-          subst (λ (xs : List Alternative). Appends s g n lim ps w v (alternatives_piece g.width xs) r w') (sym (by ps names args four e a sp F W P u ∙ ap (λ (t : Bool). cond t (expand_alternative sp names (renamed_all args) a ∷ []) []) z))
+          subst (λ (xs : List Alternative). Appends s g n lim ps w v (alternatives_piece g.width.bytes xs) r w') (sym (by ps names args four e a sp F W P u ∙ ap (λ (t : Bool). cond t (expand_alternative sp names (renamed_all args) a ∷ []) []) z))
           (yields_one s g n lim ps w v (expand_alternative sp names (renamed_all args) a) r w' (U ps names args four e a sp F W P u S))
 
 pub ruleset iffing = (rules, if_readable, if_inside, if_refused, if_not, if_put)
@@ -93,19 +93,19 @@ module _ (s w₀ : List ℕ) (g : Ground) (n lim : ℕ) (c : Call) (span k from 
     pub zs : List Alternative
     pub many : length zs ≡ i
     pub framed : Framed s w g n lim c r ps names args
-    pub within : Each (AlternativeWithin four g.width (texts s w g.m)) zs
-    pub placed : Placed w g r p e (bytes_of_each (alternative_bytes g.width (texts s w g.m)) zs)
+    pub within : Each (AlternativeWithin four g.width.bytes (texts s w g.m)) zs
+    pub placed : Placed w g r p e (bytes_of_each (alternative_bytes g.width.bytes (texts s w g.m)) zs)
     pub upto : e ≤ c.end
     pub span_is : le 8 span ≡ span_bytes sp
-    pub carry : (v' : Appended) (w' : List ℕ) → Appends s g n lim ps w r (alternatives_piece g.width (held sp names (renamed_all args) zs)) v' w'
-        → Appends s g n lim ps w₀ v (alternatives_piece g.width (held sp names (renamed_all args) xs)) v' w'
+    pub carry : (v' : Appended) (w' : List ℕ) → Appends s g n lim ps w r (alternatives_piece g.width.bytes (held sp names (renamed_all args) zs)) v' w'
+        → Appends s g n lim ps w₀ v (alternatives_piece g.width.bytes (held sp names (renamed_all args) xs)) v' w'
 
   pub record Adding (w : List ℕ) (i p : ℕ) (r : Appended) : Type 0 where
     pub frame : Frame s w g n lim c r
     pub some : SomeAlternatives s w g c span i p r
     pub long : length w ≡ length w₀
     pub each : (ps : List ℕ) (names : List Text) (args : Syms) (four : Bool) (e : ℕ) (xs : List Alternative) (sp : Span) → Framed s w₀ g n lim c v ps names args → length xs ≡ k
-        → Each (AlternativeWithin four g.width (texts s w₀ g.m)) xs → Placed w₀ g v from e (bytes_of_each (alternative_bytes g.width (texts s w₀ g.m)) xs) → e ≤ c.end → le 8 span ≡ span_bytes sp
+        → Each (AlternativeWithin four g.width.bytes (texts s w₀ g.m)) xs → Placed w₀ g v from e (bytes_of_each (alternative_bytes g.width.bytes (texts s w₀ g.m)) xs) → e ≤ c.end → le 8 span ≡ span_bytes sp
         → Rest w i p r ps names args four e xs sp
 
   pub adding_start : Frame s w₀ g n lim c v → SomeAlternatives s w₀ g c span k from v → Adding w₀ k from v
@@ -123,12 +123,6 @@ module _ (s w₀ : List ℕ) (g : Ground) (n lim : ℕ) (c : Call) (span k from 
     pub adding_long : length w ≡ length w₀
     adding_long = inv.long
 
-    pub adding_narrow : 2 ≤ g.width
-    adding_narrow = inv.frame.framed.going.ground.narrow
-
-    pub adding_wide : g.width ≤ 3
-    adding_wide = inv.frame.framed.going.ground.wide
-
     pub adding_definition : c.end + 16 ≤ length w
     adding_definition = inv.frame.framed.definition
 
@@ -140,8 +134,8 @@ module _ (s w₀ : List ℕ) (g : Ground) (n lim : ℕ) (c : Call) (span k from 
         o = inv.each ps names args four e xs sp F m W P u S
 
         go : (zs : List Alternative) → length zs ≡ i
-            → ((v' : Appended) (w' : List ℕ) → Appends s g n lim ps w r (alternatives_piece g.width (held sp names (renamed_all args) zs)) v' w' → Appends s g n lim ps w₀ v (alternatives_piece g.width (held sp names (renamed_all args) xs)) v' w')
-            → Appends s g n lim ps w₀ v (alternatives_piece g.width (held sp names (renamed_all args) xs)) r w
+            → ((v' : Appended) (w' : List ℕ) → Appends s g n lim ps w r (alternatives_piece g.width.bytes (held sp names (renamed_all args) zs)) v' w' → Appends s g n lim ps w₀ v (alternatives_piece g.width.bytes (held sp names (renamed_all args) xs)) v' w')
+            → Appends s g n lim ps w₀ v (alternatives_piece g.width.bytes (held sp names (renamed_all args) xs)) r w
         go [] j t = t r w (yields_none s g n lim ps w r o.framed.going)
         go (y ∷ ys) j t = absurd (omega arith)
 
@@ -150,34 +144,34 @@ module _ (s w₀ : List ℕ) (g : Ground) (n lim : ℕ) (c : Call) (span k from 
       unfolding bytes_of_each
       adding_first = go inv.some.alternatives inv.some.many inv.some.within inv.some.placed
         where
-          go : (ys : List Alternative) → length ys ≡ i → Each (AlternativeWithin inv.some.four g.width (texts s w g.m)) ys → Placed w g r p inv.some.end (bytes_of_each (alternative_bytes g.width (texts s w g.m)) ys)
+          go : (ys : List Alternative) → length ys ≡ i → Each (AlternativeWithin inv.some.four g.width.bytes (texts s w g.m)) ys → Placed w g r p inv.some.end (bytes_of_each (alternative_bytes g.width.bytes (texts s w g.m)) ys)
               → SomeAlternative s w g c p r
           go [] j W P = absurd (omega arith)
           go (y ∷ ys) j W P =
-              let a = placed_split w g r p inv.some.end (alternative_bytes g.width (texts s w g.m) y) (bytes_of_each (alternative_bytes g.width (texts s w g.m)) ys) P in
+              let a = placed_split w g r p inv.some.end (alternative_bytes g.width.bytes (texts s w g.m) y) (bytes_of_each (alternative_bytes g.width.bytes (texts s w g.m)) ys) P in
               record { four = inv.some.four; end = _; alternative = y; within = W.0; placed = a.0; upto = omega (arith, a.1.lies.end, inv.some.upto) }
 
       pub adding_inside : p < c.end
       adding_inside = if_inside s w g n lim c span p r inv.frame adding_first
 
-      module _ (q : ℕ) (d : q ≡ alternative_end g.width w p c.end) (t : Appended) (w' : List ℕ) (one : PutsIf s w g n lim c span p r t w') where
+      module _ (q : ℕ) (d : q ≡ alternative_end g.width.bytes w p c.end) (t : Appended) (w' : List ℕ) (one : PutsIf s w g n lim c span p r t w') where
         module _ (ps : List ℕ) (names : List Text) (args : Syms) (four : Bool) (e : ℕ) (y : Alternative) (ys : List Alternative) (sp : Span) (F : Framed s w g n lim c r ps names args)
-            (W : Each (AlternativeWithin four g.width (texts s w g.m)) (y ∷ ys)) (P : Placed w g r p e (bytes_of_each (alternative_bytes g.width (texts s w g.m)) (y ∷ ys))) (u : e ≤ c.end) (S : le 8 span ≡ span_bytes sp) where
+            (W : Each (AlternativeWithin four g.width.bytes (texts s w g.m)) (y ∷ ys)) (P : Placed w g r p e (bytes_of_each (alternative_bytes g.width.bytes (texts s w g.m)) (y ∷ ys))) (u : e ≤ c.end) (S : le 8 span ≡ span_bytes sp) where
           abbrev ts : List Text
           ts = texts s w g.m
 
           abbrev size : ℕ
-          size = length (alternative_bytes g.width ts y)
+          size = length (alternative_bytes g.width.bytes ts y)
 
-          parts : Placed w g r p (p + length (alternative_bytes g.width ts y)) (alternative_bytes g.width ts y) × Placed w g r (p + length (alternative_bytes g.width ts y)) e (bytes_of_each (alternative_bytes g.width ts) ys)
+          parts : Placed w g r p (p + length (alternative_bytes g.width.bytes ts y)) (alternative_bytes g.width.bytes ts y) × Placed w g r (p + length (alternative_bytes g.width.bytes ts y)) e (bytes_of_each (alternative_bytes g.width.bytes ts) ys)
           unfolding bytes_of_each
-          parts = placed_split w g r p e (alternative_bytes g.width ts y) (bytes_of_each (alternative_bytes g.width ts) ys) P
+          parts = placed_split w g r p e (alternative_bytes g.width.bytes ts y) (bytes_of_each (alternative_bytes g.width.bytes ts) ys) P
 
           place : q ≡ p + size
           unfolding bytes_of_each
-          place = d ∙ end_means four g.width ts w p c.end e y (bytes_of_each (alternative_bytes g.width ts) ys) W.0 P.lies (omega (arith, parts.1.lies.end))
+          place = d ∙ end_means four g.width.bytes ts w p c.end e y (bytes_of_each (alternative_bytes g.width.bytes ts) ys) W.0 P.lies (omega (arith, parts.1.lies.end))
 
-          put : Appends s g n lim ps w r (alternatives_piece g.width (held sp names (renamed_all args) (y ∷ []))) t w'
+          put : Appends s g n lim ps w r (alternatives_piece g.width.bytes (held sp names (renamed_all args) (y ∷ []))) t w'
           unfolding PutsIf
           put = one ps names args four (p + size) y sp F W.0 parts.0 (omega (arith, parts.1.lies.end)) S
 
@@ -185,32 +179,32 @@ module _ (s w₀ : List ℕ) (g : Ground) (n lim : ℕ) (c : Call) (span k from 
           piece = held sp names (renamed_all args) (y ∷ [])
 
           same : texts s w' g.m ≡ ts
-          same = texts-stay s g n lim ps w r F.going (alternatives_piece g.width piece) t w' put
+          same = texts-stay s g n lim ps w r F.going (alternatives_piece g.width.bytes piece) t w' put
 
           next_framed : Framed s w' g n lim c t ps names args
-          next_framed = frame_stays s g n lim c w r ps names args F (alternatives_piece g.width piece) t w' put
+          next_framed = frame_stays s g n lim c w r ps names args F (alternatives_piece g.width.bytes piece) t w' put
 
-          next_within : Each (AlternativeWithin four g.width (texts s w' g.m)) ys
-          next_within = subst (λ (us : List Text). Each (AlternativeWithin four g.width us) ys) (sym same) W.1
+          next_within : Each (AlternativeWithin four g.width.bytes (texts s w' g.m)) ys
+          next_within = subst (λ (us : List Text). Each (AlternativeWithin four g.width.bytes us) ys) (sym same) W.1
 
-          next_placed : Placed w' g t q e (bytes_of_each (alternative_bytes g.width (texts s w' g.m)) ys)
+          next_placed : Placed w' g t q e (bytes_of_each (alternative_bytes g.width.bytes (texts s w' g.m)) ys)
           next_placed =
-              let a = placed_stays s g n lim ps w r F.going (alternatives_piece g.width piece) t w' put (p + size) e (bytes_of_each (alternative_bytes g.width ts) ys) parts.1 in
-              subst (λ (us : List Text). Placed w' g t q e (bytes_of_each (alternative_bytes g.width us) ys)) (sym same) (subst (λ (j : ℕ). Placed w' g t j e (bytes_of_each (alternative_bytes g.width ts) ys)) (sym place) a)
+              let a = placed_stays s g n lim ps w r F.going (alternatives_piece g.width.bytes piece) t w' put (p + size) e (bytes_of_each (alternative_bytes g.width.bytes ts) ys) parts.1 in
+              subst (λ (us : List Text). Placed w' g t q e (bytes_of_each (alternative_bytes g.width.bytes us) ys)) (sym same) (subst (λ (j : ℕ). Placed w' g t j e (bytes_of_each (alternative_bytes g.width.bytes ts) ys)) (sym place) a)
 
           next_long : length w' ≡ length w
           next_long = put.long
 
-          next_carry : (v'' : Appended) (w'' : List ℕ) → Appends s g n lim ps w' t (alternatives_piece g.width (held sp names (renamed_all args) ys)) v'' w''
-              → Appends s g n lim ps w r (alternatives_piece g.width (held sp names (renamed_all args) (y ∷ ys))) v'' w''
+          next_carry : (v'' : Appended) (w'' : List ℕ) → Appends s g n lim ps w' t (alternatives_piece g.width.bytes (held sp names (renamed_all args) ys)) v'' w''
+              → Appends s g n lim ps w r (alternatives_piece g.width.bytes (held sp names (renamed_all args) (y ∷ ys))) v'' w''
           next_carry v'' w'' a = held_then s g n lim ps sp names (renamed_all args) y ys w r t w' v'' w'' F.going put a
 
         next_each : (ps : List ℕ) (names : List Text) (args : Syms) (four : Bool) (e : ℕ) (xs : List Alternative) (sp : Span) → Rest w i p r ps names args four e xs sp → Rest w' (i - 1) q t ps names args four e xs sp
         next_each ps names args four e xs sp o = go o.zs o.many o.within o.placed o.carry
           where
-            go : (zs : List Alternative) → length zs ≡ i → Each (AlternativeWithin four g.width (texts s w g.m)) zs → Placed w g r p e (bytes_of_each (alternative_bytes g.width (texts s w g.m)) zs)
-                → ((v' : Appended) (w'' : List ℕ) → Appends s g n lim ps w r (alternatives_piece g.width (held sp names (renamed_all args) zs)) v' w''
-                → Appends s g n lim ps w₀ v (alternatives_piece g.width (held sp names (renamed_all args) xs)) v' w'')
+            go : (zs : List Alternative) → length zs ≡ i → Each (AlternativeWithin four g.width.bytes (texts s w g.m)) zs → Placed w g r p e (bytes_of_each (alternative_bytes g.width.bytes (texts s w g.m)) zs)
+                → ((v' : Appended) (w'' : List ℕ) → Appends s g n lim ps w r (alternatives_piece g.width.bytes (held sp names (renamed_all args) zs)) v' w''
+                → Appends s g n lim ps w₀ v (alternatives_piece g.width.bytes (held sp names (renamed_all args) xs)) v' w'')
                 → Rest w' (i - 1) q t ps names args four e xs sp
             go [] j W P f = absurd (omega arith)
             go (z ∷ zs) j W P f = record {
@@ -235,7 +229,7 @@ module _ (s w₀ : List ℕ) (g : Ground) (n lim : ℕ) (c : Call) (span k from 
             K : Frame s w g n lim c r
             K = inv.frame
 
-            go : (ys : List Alternative) → length ys ≡ i → Each (AlternativeWithin inv.some.four g.width (texts s w g.m)) ys → Placed w g r p inv.some.end (bytes_of_each (alternative_bytes g.width (texts s w g.m)) ys) → Next
+            go : (ys : List Alternative) → length ys ≡ i → Each (AlternativeWithin inv.some.four g.width.bytes (texts s w g.m)) ys → Placed w g r p inv.some.end (bytes_of_each (alternative_bytes g.width.bytes (texts s w g.m)) ys) → Next
             go [] j W P = absurd (omega arith)
             go (y ∷ ys) j W P = record {
               alternatives = record {
@@ -263,4 +257,4 @@ module _ (s w₀ : List ℕ) (g : Ground) (n lim : ℕ) (c : Call) (span k from 
               each = λ ps names args four e xs sp F m W P u S. next_each ps names args four e xs sp (inv.each ps names args four e xs sp F m W P u S);
             }
 
-pub ruleset adding = (rules, adding_start, adding_frame, adding_long, adding_narrow, adding_wide, adding_definition, adding_done, adding_first, adding_inside, adding_next)
+pub ruleset adding = (rules, adding_start, adding_frame, adding_long, adding_definition, adding_done, adding_first, adding_inside, adding_next)

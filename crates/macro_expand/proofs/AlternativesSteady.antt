@@ -78,41 +78,41 @@ and-true false = refl
 
 module _ (s : List ℕ) (g : Ground) (n lim : ℕ) (ps : List ℕ) where
   -- nothing
-  pub yields_none : (w : List ℕ) (v : Appended) → Appending s g n lim ps w v → Appends s g n lim ps w v (alternatives_piece g.width []) v w
+  pub yields_none : (w : List ℕ) (v : Appended) → Appending s g n lim ps w v → Appends s g n lim ps w v (alternatives_piece g.width.bytes []) v w
   unfolding texts_of_each bytes_of_each
-  yields_none w v A = appends_is s g n lim ps w v (plainly []) v w (appends-none s g n lim ps w v A) (alternatives_piece g.width []) refl refl refl
+  yields_none w v A = appends_is s g n lim ps w v (plainly []) v w (appends-none s g n lim ps w v A) (alternatives_piece g.width.bytes []) refl refl refl
 
   -- one
-  pub yields_one : (w : List ℕ) (v : Appended) (a : Alternative) (v' : Appended) (w' : List ℕ) → Appends s g n lim ps w v (alternative_piece g.width a) v' w' → Appends s g n lim ps w v (alternatives_piece g.width (a ∷ [])) v' w'
+  pub yields_one : (w : List ℕ) (v : Appended) (a : Alternative) (v' : Appended) (w' : List ℕ) → Appends s g n lim ps w v (alternative_piece g.width.bytes a) v' w' → Appends s g n lim ps w v (alternatives_piece g.width.bytes (a ∷ [])) v' w'
   unfolding texts_of_each bytes_of_each
   yields_one w v a v' w' A =
-      appends_is s g n lim ps w v (alternative_piece g.width a) v' w' A (alternatives_piece g.width (a ∷ []))
-      (ap (with_new (named_in s w g v.count)) (append-nil (alternative_texts a))) (append-nil (alternative_bytes g.width (named_in s w' g v'.count) a)) (and-true _)
+      appends_is s g n lim ps w v (alternative_piece g.width.bytes a) v' w' A (alternatives_piece g.width.bytes (a ∷ []))
+      (ap (with_new (named_in s w g v.count)) (append-nil (alternative_texts a))) (append-nil (alternative_bytes g.width.bytes (named_in s w' g v'.count) a)) (and-true _)
 
   -- the first, then the others
   pub held_then : (sp : Span) (names : List Text) (args : Syms) (a : Alternative) (rest : List Alternative) (w : List ℕ) (v v1 : Appended) (w1 : List ℕ) (v2 : Appended) (w2 : List ℕ) → Appending s g n lim ps w v
-      → Appends s g n lim ps w v (alternatives_piece g.width (held sp names args (a ∷ []))) v1 w1 → Appends s g n lim ps w1 v1 (alternatives_piece g.width (held sp names args rest)) v2 w2
-      → Appends s g n lim ps w v (alternatives_piece g.width (held sp names args (a ∷ rest))) v2 w2
+      → Appends s g n lim ps w v (alternatives_piece g.width.bytes (held sp names args (a ∷ []))) v1 w1 → Appends s g n lim ps w1 v1 (alternatives_piece g.width.bytes (held sp names args rest)) v2 w2
+      → Appends s g n lim ps w v (alternatives_piece g.width.bytes (held sp names args (a ∷ rest))) v2 w2
   unfolding held texts_of_each bytes_of_each
   held_then sp names args a rest w v v1 w1 v2 w2 H A B = go (evaluate_condition names args a.condition) (held sp names args rest) A B
     where
-      none_first : (ys : List Alternative) → Appends s g n lim ps w v (alternatives_piece g.width []) v1 w1 → Appends s g n lim ps w1 v1 (alternatives_piece g.width ys) v2 w2 → Appends s g n lim ps w v (alternatives_piece g.width ys) v2 w2
+      none_first : (ys : List Alternative) → Appends s g n lim ps w v (alternatives_piece g.width.bytes []) v1 w1 → Appends s g n lim ps w1 v1 (alternatives_piece g.width.bytes ys) v2 w2 → Appends s g n lim ps w v (alternatives_piece g.width.bytes ys) v2 w2
       none_first ys P Q =
-          let x1 = alternatives_piece g.width [] in
-          let x2 = alternatives_piece g.width ys in
-          appends_is s g n lim ps w v (then_piece x1 x2) v2 w2 (appends_then s g n lim ps w v x1 v1 w1 x2 v2 w2 (steady_alternatives g.width []) H P Q) (alternatives_piece g.width ys) refl refl refl
+          let x1 = alternatives_piece g.width.bytes [] in
+          let x2 = alternatives_piece g.width.bytes ys in
+          appends_is s g n lim ps w v (then_piece x1 x2) v2 w2 (appends_then s g n lim ps w v x1 v1 w1 x2 v2 w2 (steady_alternatives g.width.bytes []) H P Q) (alternatives_piece g.width.bytes ys) refl refl refl
 
       go : (x : Outcome Bool) (ys : List Alternative)
-          → Appends s g n lim ps w v (alternatives_piece g.width (elim x [ yes b ↦ cond b (expand_alternative sp names args a ∷ []) [] | no k q ↦ [] ])) v1 w1
-          → Appends s g n lim ps w1 v1 (alternatives_piece g.width ys) v2 w2
-          → Appends s g n lim ps w v (alternatives_piece g.width (elim x [ yes b ↦ cond b (expand_alternative sp names args a ∷ ys) ys | no k q ↦ ys ])) v2 w2
+          → Appends s g n lim ps w v (alternatives_piece g.width.bytes (elim x [ yes b ↦ cond b (expand_alternative sp names args a ∷ []) [] | no k q ↦ [] ])) v1 w1
+          → Appends s g n lim ps w1 v1 (alternatives_piece g.width.bytes ys) v2 w2
+          → Appends s g n lim ps w v (alternatives_piece g.width.bytes (elim x [ yes b ↦ cond b (expand_alternative sp names args a ∷ ys) ys | no k q ↦ ys ])) v2 w2
       go (no k q) ys P Q = none_first ys P Q
       go (yes true) ys P Q =
-          let x1 = alternatives_piece g.width (expand_alternative sp names args a ∷ []) in
-          let x2 = alternatives_piece g.width ys in
-          appends_is s g n lim ps w v (then_piece x1 x2) v2 w2 (appends_then s g n lim ps w v x1 v1 w1 x2 v2 w2 (steady_alternatives g.width (expand_alternative sp names args a ∷ [])) H P Q)
-          (alternatives_piece g.width (expand_alternative sp names args a ∷ ys))
+          let x1 = alternatives_piece g.width.bytes (expand_alternative sp names args a ∷ []) in
+          let x2 = alternatives_piece g.width.bytes ys in
+          appends_is s g n lim ps w v (then_piece x1 x2) v2 w2 (appends_then s g n lim ps w v x1 v1 w1 x2 v2 w2 (steady_alternatives g.width.bytes (expand_alternative sp names args a ∷ [])) H P Q)
+          (alternatives_piece g.width.bytes (expand_alternative sp names args a ∷ ys))
           (ap (λ (l : List Text). with_new (named_in s w g v.count) (l ++ texts_of_each alternative_texts ys)) (sym (append-nil (alternative_texts (expand_alternative sp names args a)))))
-          (ap (λ (l : List ℕ). l ++ bytes_of_each (alternative_bytes g.width (named_in s w2 g v2.count)) ys) (sym (append-nil (alternative_bytes g.width (named_in s w2 g v2.count) (expand_alternative sp names args a)))))
+          (ap (λ (l : List ℕ). l ++ bytes_of_each (alternative_bytes g.width.bytes (named_in s w2 g v2.count)) ys) (sym (append-nil (alternative_bytes g.width.bytes (named_in s w2 g v2.count) (expand_alternative sp names args a)))))
           (ap (λ (f : Bool). f && each alternative_fits ys) (sym (and-true (alternative_fits (expand_alternative sp names args a)))))
       go (yes false) ys P Q = none_first ys P Q

@@ -80,7 +80,7 @@ module _ (s w : List ℕ) (g : Ground) (p k : ℕ) where
   pub record Rest (at i c : ℕ) (four : Bool) (left e : ℕ) (ys : Syms) : Type 0 where
     pub rest : Syms
     pub many : count rest ≡ i
-    pub stand : SymsStand s w g.m g.width four left at (g.from + e) rest
+    pub stand : SymsStand s w g.m g.width.bytes four left at (g.from + e) rest
     pub named : has_name ys ≡ has_name rest
     pub chosen-are : chosen ys ≡ c + chosen rest
 
@@ -114,9 +114,9 @@ module _ (s w : List ℕ) (g : Ground) (p k : ℕ) where
         pub others : Syms
         pub many : count others ≡ i - 1
         pub told_is : Told (get_or w at 0) first
-        pub behind : skip_out g.width g.end w at g.end 1 ≡ at + length (sym_bytes g.width (texts s w g.m) first)
+        pub behind : skip_out g.width.bytes g.end w at g.end 1 ≡ at + length (sym_bytes g.width.bytes (texts s w g.m) first)
         pub inside : at < length w
-        pub stand : SymsStand s w g.m g.width four left (at + length (sym_bytes g.width (texts s w g.m) first)) (g.from + e) others
+        pub stand : SymsStand s w g.m g.width.bytes four left (at + length (sym_bytes g.width.bytes (texts s w g.m) first)) (g.from + e) others
         pub named : has_name ys ≡ (is_named first || has_name others)
         pub chosen-are : chosen ys ≡ c + cond (is_chosen first) (suc (chosen others)) (chosen others)
 
@@ -124,19 +124,19 @@ module _ (s w : List ℕ) (g : Ground) (p k : ℕ) where
       unfolding count size_in
       first_of four left e ys b r = go r.rest r.many r.stand r.named r.chosen-are
         where
-          go : (zs : Syms) → count zs ≡ i → SymsStand s w g.m g.width four left at (g.from + e) zs → has_name ys ≡ has_name zs → chosen ys ≡ c + chosen zs → First four left e ys
+          go : (zs : Syms) → count zs ≡ i → SymsStand s w g.m g.width.bytes four left at (g.from + e) zs → has_name ys ≡ has_name zs → chosen ys ≡ c + chosen zs → First four left e ys
           go nil m t n q = absurd (omega (arith, m))
           go (cons y zs) m t n q =
-              let (a, f) = first_stands s w g.m g.width four left at (g.from + e) y zs t in
-              let u = one_stands s w g.m g.width four left at (at + length (sym_bytes g.width (texts s w g.m) y)) y a in
+              let (a, f) = first_stands s w g.m g.width.bytes four left at (g.from + e) y zs t in
+              let u = one_stands s w g.m g.width.bytes four left at (at + length (sym_bytes g.width.bytes (texts s w g.m) y)) y a in
               record {
                 first = y;
                 others = zs;
                 many = omega (arith, m);
-                told_is = told g.width (texts s w g.m) w at (at + length (sym_bytes g.width (texts s w g.m) y)) y a.lies;
-                behind = skip-means g.width (texts s w g.m) (cons y nil) (sym_fits_lem g.width (texts s w g.m) four y left a.within, tt) w at (at + length (sym_bytes g.width (texts s w g.m) y)) g.end
+                told_is = told g.width.bytes (texts s w g.m) w at (at + length (sym_bytes g.width.bytes (texts s w g.m) y)) y a.lies;
+                behind = skip-means g.width.bytes (texts s w g.m) (cons y nil) (sym_fits_lem g.width.bytes (texts s w g.m) four y left a.within, tt) w at (at + length (sym_bytes g.width.bytes (texts s w g.m) y)) g.end
                     (omega (arith, f.lies.end, h.ground.ordered)) u.lies;
-                inside = (standing s w g.m g.width four left at (at + length (sym_bytes g.width (texts s w g.m) y)) y a).within;
+                inside = (standing s w g.m g.width.bytes four left at (at + length (sym_bytes g.width.bytes (texts s w g.m) y)) y a).within;
                 stand = f;
                 named = n;
                 chosen-are = q;
@@ -154,7 +154,7 @@ module _ (s w : List ℕ) (g : Ground) (p k : ℕ) where
           ap (λ (x : Bool). cond x None (Some (chosen ys))) (sym q)
 
       -- it has none
-      pub analyzing_next : (get_or w at 0 ≡ 40 → ⊥) → (j : ℕ) → j ≡ chosen_one (get_or w at 0) → j ≤ 1 → (r : ℕ) → r ≡ skip_out g.width g.end w at g.end 1 → Analyzing r (i - 1) (c + j)
+      pub analyzing_next : (get_or w at 0 ≡ 40 → ⊥) → (j : ℕ) → j ≡ chosen_one (get_or w at 0) → j ≤ 1 → (r : ℕ) → r ≡ skip_out g.width.bytes g.end w at g.end 1 → Analyzing r (i - 1) (c + j)
       analyzing_next o j u v r q = record {
         some = h;
         few = omega (arith, A.few);
@@ -169,7 +169,7 @@ module _ (s w : List ℕ) (g : Ground) (p k : ℕ) where
           next four left d ys f = record {
             rest = f.others;
             many = f.many;
-            stand = subst (λ (x : ℕ). SymsStand s w g.m g.width four left x (g.from + d) f.others) (sym (q ∙ f.behind)) f.stand;
+            stand = subst (λ (x : ℕ). SymsStand s w g.m g.width.bytes four left x (g.from + d) f.others) (sym (q ∙ f.behind)) f.stand;
             named = f.named ∙ ap (λ (x : Bool). x || has_name f.others) (f.told_is.other o);
             chosen-are = f.chosen-are ∙ sums (is_chosen f.first) (chosen f.others) ∙ ap (λ (x : ℕ). c + x + chosen f.others) (sym (u ∙ f.told_is.one));
           }
@@ -192,13 +192,7 @@ module _ (s w : List ℕ) (g : Ground) (p k : ℕ) where
             let f : c ≡ chosen ys = omega (arith, r.chosen-are, e) in
             ap Some f ∙ ap (λ (x : Bool). cond x None (Some (chosen ys))) (sym (r.named ∙ a))
 
-    pub analyzing_narrow : 2 ≤ g.width
-    analyzing_narrow = h.ground.narrow
-
-    pub analyzing_wide : g.width ≤ 3
-    analyzing_wide = h.ground.wide
-
     pub analyzing_behind : g.end + 16 ≤ length w
     analyzing_behind = h.behind
 
-pub ruleset analyzing = (rules, analyzing_start, start_fits, analyzing_inside, analyzing_named, analyzing_next, analyzing_fits, analyzing_done, analyzing_narrow, analyzing_wide, analyzing_behind)
+pub ruleset analyzing = (rules, analyzing_start, start_fits, analyzing_inside, analyzing_named, analyzing_next, analyzing_fits, analyzing_done, analyzing_behind)

@@ -31,39 +31,33 @@ long_none wd = omega arith
 
 -- ---- argument: i parameters are to come, of m from a₀ on
 pub record Looking (g : Ground) (w : List ℕ) (k size m a₀ p₀ i a p : ℕ) : Type 0 where
-  pub narrow : 2 ≤ g.width
-  pub wide : g.width ≤ 3
+  pub narrow : 2 ≤ g.width.bytes
+  pub wide : g.width.bytes ≤ 3
   pub items : g.end + 16 ≤ length w
-  pub long : size ≡ 1 + g.width
-  pub room : a + parameters_long g.width i ≤ length w
-  pub rest : argument_in g.width g.end w k i a p ≡ argument_in g.width g.end w k m a₀ p₀
+  pub long : size ≡ 1 + g.width.bytes
+  pub room : a + parameters_long g.width.bytes i ≤ length w
+  pub rest : argument_in g.width.bytes g.end w k i a p ≡ argument_in g.width.bytes g.end w k m a₀ p₀
 
-pub look_start : (g : Ground) (c : Call) (w : List ℕ) (k : ℕ) → ReadableCall g c w → Looking g w k (1 + g.width) c.many c.params c.args c.many c.params c.args
+pub look_start : (g : Ground) (c : Call) (w : List ℕ) (k : ℕ) → ReadableCall g c w → Looking g w k (1 + g.width.bytes) c.many c.params c.args c.many c.params c.args
 look_start g c w k r = record { narrow = r.narrow; wide = r.wide; items = r.items; long = refl; room = r.parameters; rest = refl }
 
 module _ (g : Ground) (c : Call) (w : List ℕ) (k size i a p : ℕ) (l : Looking g w k size c.many c.params c.args i a p) where
-  whole : argument_in g.width g.end w k i a p ≡ argument_for g c w k
+  whole : argument_in g.width.bytes g.end w k i a p ≡ argument_for g c w k
   unfolding argument_for
   whole = l.rest
 
   pub look_done : i ≤ 0 → None ≡ argument_for g c w k
   unfolding argument_in
-  look_done h = let z : i ≡ 0 = omega arith in sym (ap (λ (j : ℕ). argument_in g.width g.end w k j a p) z) ∙ whole
+  look_done h = let z : i ≡ 0 = omega arith in sym (ap (λ (j : ℕ). argument_in g.width.bytes g.end w k j a p) z) ∙ whole
 
-  pub look_found : 0 < i → (v : ℕ) → v ≡ le_at g.width w (a + 1) → k ≡ v → Some p ≡ argument_for g c w k
+  pub look_found : 0 < i → (v : ℕ) → v ≡ le_at g.width.bytes w (a + 1) → k ≡ v → Some p ≡ argument_for g c w k
   unfolding argument_in pick
   look_found h v r e =
       let z : i ≡ suc (i - 1) = omega arith in
-      let o : argument_in g.width g.end w k (suc (i - 1)) a p ≡ argument_for g c w k = ap (λ (j : ℕ). argument_in g.width g.end w k j a p) (sym z) ∙ whole in
-      cc (eq-eqb k (le_at g.width w (a + 1)) (e ∙ r), o)
+      let o : argument_in g.width.bytes g.end w k (suc (i - 1)) a p ≡ argument_for g c w k = ap (λ (j : ℕ). argument_in g.width.bytes g.end w k j a p) (sym z) ∙ whole in
+      cc (eq-eqb k (le_at g.width.bytes w (a + 1)) (e ∙ r), o)
 
 module _ (g : Ground) (w : List ℕ) (k size m a₀ p₀ i a p : ℕ) (l : Looking g w k size m a₀ p₀ i a p) where
-  pub look_narrow : 2 ≤ g.width
-  look_narrow = l.narrow
-
-  pub look_wide : g.width ≤ 3
-  look_wide = l.wide
-
   pub look_items : g.end + 16 ≤ length w
   look_items = l.items
 
@@ -74,29 +68,29 @@ module _ (g : Ground) (w : List ℕ) (k size m a₀ p₀ i a p : ℕ) (l : Looki
     one : i ≡ suc next
     one = omega arith
 
-    long_next : parameters_long g.width i ≡ parameters_long g.width next + (1 + g.width)
-    long_next = ap (parameters_long g.width) one ∙ long_more g.width next
+    long_next : parameters_long g.width.bytes i ≡ parameters_long g.width.bytes next + (1 + g.width.bytes)
+    long_next = ap (parameters_long g.width.bytes) one ∙ long_more g.width.bytes next
 
-    pub look_fits : a + 1 + g.width ≤ length w
+    pub look_fits : a + 1 + g.width.bytes ≤ length w
     look_fits = omega (arith, long_next, l.room)
 
-    opened : argument_in g.width g.end w k (suc next) a p ≡ argument_in g.width g.end w k m a₀ p₀
-    opened = ap (λ (j : ℕ). argument_in g.width g.end w k j a p) (sym one) ∙ l.rest
+    opened : argument_in g.width.bytes g.end w k (suc next) a p ≡ argument_in g.width.bytes g.end w k m a₀ p₀
+    opened = ap (λ (j : ℕ). argument_in g.width.bytes g.end w k j a p) (sym one) ∙ l.rest
 
-    pub look_next : (v : ℕ) → v ≡ le_at g.width w (a + 1) → (k ≡ v → ⊥) → (q : ℕ) → q ≡ skip_out g.width g.end w p g.end 1 → Looking g w k size m a₀ p₀ (i - 1) (a + size) q
+    pub look_next : (v : ℕ) → v ≡ le_at g.width.bytes w (a + 1) → (k ≡ v → ⊥) → (q : ℕ) → q ≡ skip_out g.width.bytes g.end w p g.end 1 → Looking g w k size m a₀ p₀ (i - 1) (a + size) q
     unfolding argument_in pick
     look_next v r e q s =
-        let b : a + size ≡ a + (1 + g.width) = ap (λ (j : ℕ). a + j) l.long in
+        let b : a + size ≡ a + (1 + g.width.bytes) = ap (λ (j : ℕ). a + j) l.long in
         record {
           narrow = l.narrow;
           wide = l.wide;
           items = l.items;
           long = l.long;
           room = omega (arith, long_next, l.room, l.long);
-          rest = cc (ne_eqb k (le_at g.width w (a + 1)) (λ z. e (z ∙ sym r)), opened);
+          rest = cc (ne_eqb k (le_at g.width.bytes w (a + 1)) (λ z. e (z ∙ sym r)), opened);
         }
 
-pub ruleset looking = (rules, look_start, look_narrow, look_wide, look_items, look_done, look_fits, look_found, look_next)
+pub ruleset looking = (rules, look_start, look_items, look_done, look_fits, look_found, look_next)
 
 -- ---- is_equal
 same_or_not : (a b : Bool) → beq a b ≡ pick a b (pick b false true)
@@ -118,7 +112,7 @@ module _ (g : Ground) (c : Call) (w : List ℕ) (at : ℕ) where
   unfolding judged_at pick
   judge_behind h = cc (le-leb c.end at h)
 
-  module _ (h : at < c.end) (k : ℕ) (i : k ≡ le_at g.width w (at + 9)) (f : Option ℕ) (j : f ≡ argument_for g c w k) where
+  module _ (h : at < c.end) (k : ℕ) (i : k ≡ le_at g.width.bytes w (at + 9)) (f : Option ℕ) (j : f ≡ argument_for g c w k) where
     here : judged_at g c w at ≡ judged_by g c w at f
     unfolding judged_at pick
     here = cc (lt-leb c.end at h)
@@ -133,7 +127,7 @@ module _ (g : Ground) (c : Call) (w : List ℕ) (at : ℕ) where
       judge_past l = cc (here, le-leb g.end p l)
 
       module _ (l : p < g.end) where
-        pub judge_is : get_or w p 0 ≡ 34 → (b : Bool) → b ≡ equal_by g.width w p at → Some b ≡ judged_at g c w at
+        pub judge_is : get_or w p 0 ≡ 34 → (b : Bool) → b ≡ equal_by g.width.bytes w p at → Some b ≡ judged_at g c w at
         unfolding judged_by pick
         judge_is z b o = cc (here, lt-leb g.end p l, eq-eqb (get_or w p 0) 34 z)
 
@@ -156,7 +150,7 @@ module _ (g : Ground) (c : Call) (w : List ℕ) (p : ℕ) where
   unfolding holds_at pick
   holds_plain e = cc (eq-eqb (get_or w (p + 10) 0) 0 e)
 
-  pub holds_asked : (get_or w (p + 10) 0 ≡ 0 → ⊥) → (q : ℕ) → q ≡ conditions_from g.width w p → (r : Option Bool) → r ≡ judged_at g c w q → r ≡ holds_at g c w p
+  pub holds_asked : (get_or w (p + 10) 0 ≡ 0 → ⊥) → (q : ℕ) → q ≡ conditions_from g.width.bytes w p → (r : Option Bool) → r ≡ judged_at g c w q → r ≡ holds_at g c w p
   unfolding holds_at pick
   holds_asked e q j r k = cc (ne_eqb (get_or w (p + 10) 0) 0 e)
 
@@ -186,12 +180,6 @@ module _ (g : Ground) (c : Call) (w : List ℕ) (n at i p k : ℕ) (l : Holds g 
   pub hold_readable : ReadableCall g c w
   hold_readable = l.readable
 
-  pub hold_narrow : 2 ≤ g.width
-  hold_narrow = l.readable.narrow
-
-  pub hold_wide : g.width ≤ 3
-  hold_wide = l.readable.wide
-
   pub hold_definition : c.end + 16 ≤ length w
   hold_definition = l.readable.definition
 
@@ -214,12 +202,12 @@ module _ (g : Ground) (c : Call) (w : List ℕ) (n at i p k : ℕ) (l : Holds g 
       pub hold_room : p + 11 ≤ length w
       hold_room = omega (arith, l.readable.definition)
 
-      pub hold_refused : j ≡ None → (q : ℕ) → q ≡ conditions_from g.width w p → Err q ≡ hold_from g c w n at 0
+      pub hold_refused : j ≡ None → (q : ℕ) → q ≡ conditions_from g.width.bytes w p → Err q ≡ hold_from g c w n at 0
       unfolding hold_from pick
       hold_refused e q z = cc (lt-leb c.end p b, turned)
 
-      pub hold_next : (t : Bool) → j ≡ Some t → (q : ℕ) → q ≡ alternative_end g.width w p c.end → (m : ℕ) → m ≡ pick t (k + 1) k → m ≤ k + 1 → Holds g c w n at (i - 1) q m
+      pub hold_next : (t : Bool) → j ≡ Some t → (q : ℕ) → q ≡ alternative_end g.width.bytes w p c.end → (m : ℕ) → m ≡ pick t (k + 1) k → m ≤ k + 1 → Holds g c w n at (i - 1) q m
       unfolding hold_from pick
       hold_next t e q z m y u = record { readable = l.readable; few = omega (arith, l.few); rest = cc (lt-leb c.end p b, turned) }
 
-pub ruleset upholding = (rules, hold_start, hold_readable, hold_narrow, hold_wide, hold_definition, hold_done, hold_few, hold_past, hold_room, hold_refused, hold_next)
+pub ruleset upholding = (rules, hold_start, hold_readable, hold_definition, hold_done, hold_few, hold_past, hold_room, hold_refused, hold_next)

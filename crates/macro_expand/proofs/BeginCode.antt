@@ -27,7 +27,8 @@ use Rattle.appending.proofs.PiecesLaws.{steady_naming, appends_then, appends_giv
 use Rattle.macro_expand.specs.declared.begin.Named.{Named}
 use Rattle.macro_expand.specs.Expand.{sym_span, head_bytes, head_piece, Popped, SomePopped, IsAny, NamedBoth, NamesBoth, Begins}
 use Rattle.macro_expand.proofs.PoppedLaws.{popped_here, popped_print, popped_room, popped_named, popped_names_room, popped_span}
-use Rattle.macro_expand.proofs.ItemPieces.{low_bytes, item_head_lem, alternative_head_lem, told, appends_told, appends_has, appends_number}
+use Rattle.appending.proofs.SymbolsBytes.{low_bytes}
+use Rattle.macro_expand.proofs.ItemPieces.{item_head_lem, alternative_head_lem, told, appends_told, appends_has, appends_number}
 
 -- ---- every symbol that was taken off the pile
 module _ (s w : List ℕ) (g : Ground) (n lim q : ℕ) (v : Appended) (ps : List ℕ) (four : Bool) (left e : ℕ) (y : Sym) (R : Popped s w g n lim ps four left q e y v) where
@@ -112,7 +113,7 @@ module _ (s w : List ℕ) (g : Ground) (n lim q : ℕ) (v : Appended) (K : SomeP
 
 -- ---- begin
 module _ (s w : List ℕ) (g : Ground) (n lim q : ℕ) (v : Appended) (i : ℕ) (x : Named) (w2 : List ℕ) (N : NamesBoth s w g n lim q v i x w2) (flags alternatives symbols k1 k2 : ℕ) (r : ℕ) (w4 : List ℕ)
-    (P : Puts w2 lim v.to (item_head g.width x.span k1 flags alternatives ++ alternative_head g.width x.span 1 k2 symbols) r w4) (d : k1 ≡ x.name % 4294967296) (f : k2 ≡ x.text % 4294967296) where
+    (P : Puts w2 lim v.to (item_head g.width.bytes x.span k1 flags alternatives ++ alternative_head g.width.bytes x.span 1 k2 symbols) r w4) (d : k1 ≡ x.name % 4294967296) (f : k2 ≡ x.text % 4294967296) where
   abbrev v4 : Appended
   v4 = record { to = r; count = x.count; deep = v.deep }
 
@@ -122,21 +123,21 @@ module _ (s w : List ℕ) (g : Ground) (n lim q : ℕ) (v : Appended) (i : ℕ) 
     both_here = N.each ps four left e y R
 
     abbrev bytes : List Text → List ℕ
-    bytes ts = head_bytes g.width (sym_span y) (number ts (print y)) flags alternatives 1 (number ts (built_text i)) symbols
+    bytes ts = head_bytes g.width.bytes (sym_span y) (number ts (print y)) flags alternatives 1 (number ts (built_text i)) symbols
 
-    bytes_are : item_head g.width x.span k1 flags alternatives ++ alternative_head g.width x.span 1 k2 symbols ≡ bytes (named_in s w2 g x.count)
+    bytes_are : item_head g.width.bytes x.span k1 flags alternatives ++ alternative_head g.width.bytes x.span 1 k2 symbols ≡ bytes (named_in s w2 g x.count)
     unfolding head_bytes
     bytes_are =
-        let c : le g.width k1 ≡ le g.width (number (named_in s w2 g x.count) (print y)) =
-        ap (le g.width) d ∙ low_bytes g.width x.name N.narrow N.wide ∙ ap (le g.width) both_here.name in
-        let h : le g.width k2 ≡ le g.width (number (named_in s w2 g x.count) (built_text i)) =
-        ap (le g.width) f ∙ low_bytes g.width x.text N.narrow N.wide ∙ ap (le g.width) both_here.text in
+        let c : le g.width.bytes k1 ≡ le g.width.bytes (number (named_in s w2 g x.count) (print y)) =
+        ap (le g.width.bytes) d ∙ low_bytes g.width.bytes x.name N.narrow N.wide ∙ ap (le g.width.bytes) both_here.name in
+        let h : le g.width.bytes k2 ≡ le g.width.bytes (number (named_in s w2 g x.count) (built_text i)) =
+        ap (le g.width.bytes) f ∙ low_bytes g.width.bytes x.text N.narrow N.wide ∙ ap (le g.width.bytes) both_here.text in
         rw (
-          item_head_lem g.width x.span (sym_span y) both_here.span (number (named_in s w2 g x.count) (print y)) k1 flags alternatives c,
-          alternative_head_lem g.width x.span (sym_span y) both_here.span (number (named_in s w2 g x.count) (built_text i)) k2 1 symbols h,
+          item_head_lem g.width.bytes x.span (sym_span y) both_here.span (number (named_in s w2 g x.count) (print y)) k1 flags alternatives c,
+          alternative_head_lem g.width.bytes x.span (sym_span y) both_here.span (number (named_in s w2 g x.count) (built_text i)) k2 1 symbols h,
         ) refl
 
-    begun : Appends s g n lim ps w v (head_piece g.width (sym_span y) (print y) flags alternatives (built_text i) symbols) v4 w4
+    begun : Appends s g n lim ps w v (head_piece g.width.bytes (sym_span y) (print y) flags alternatives (built_text i) symbols) v4 w4
     begun =
         appends_told s g n lim ps w v (print y ∷ built_text i ∷ []) bytes (record { to = v.to; count = x.count; deep = v.deep }) w2 r w4 R.going both_here.appended
         (subst (λ (xs : List ℕ). Puts w2 lim v.to xs r w4) bytes_are P)

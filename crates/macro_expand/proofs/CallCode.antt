@@ -49,7 +49,7 @@ use Rattle.macro_expand.specs.Expand.{Popped}
 use Rattle.macro_expand.specs.Call.{Calls, SomeCall}
 use Rattle.macro_expand.specs.PutIn.{Placed, Framed}
 use Rattle.macro_expand.specs.Macro.{ReadsCall, macro_piece, PutsHead}
-use Rattle.macro_expand.proofs.PutInNamed.{low_bytes}
+use Rattle.appending.proofs.SymbolsBytes.{low_bytes}
 
 -- ---- what is pushed has a reference of its own
 own-here : (wd : ℕ) (ts : List Text) (P : ℕ → Type 0) (sp : Span) (t : Text) (xs : Syms) (q : ℕ) → Each P (keys_of wd ts (over sp (macro t) xs) q) → Each P (keys_of_all wd ts xs (q + (10 + wd))) × P q
@@ -77,8 +77,8 @@ expands_key (over s o xs) h = refl
 key_here : (s w : List ℕ) (g : Ground) (n lim q : ℕ) (v : Appended) (ps : List ℕ) (four : Bool) (left e : ℕ) (y : Sym) → Popped s w g n lim ps four left q e y v → among q ps ≡ true
 unfolding own_keys pick
 key_here s w g n lim q v ps four left e y O =
-    let ks = keys_of_all g.width (texts s w g.m) (children y) (q + size_of g.width (sym_node (texts s w g.m) y)) in
-    let z = keys_parts g.width (texts s w g.m) y q ∙ ap (λ (b : Bool). keys_of_all g.width (texts s w g.m) (children y) (q + size_of g.width (sym_node (texts s w g.m) y)) ++ own_keys b q) (expands_key y O.expands) in
+    let ks = keys_of_all g.width.bytes (texts s w g.m) (children y) (q + size_of g.width.bytes (sym_node (texts s w g.m) y)) in
+    let z = keys_parts g.width.bytes (texts s w g.m) y q ∙ ap (λ (b : Bool). keys_of_all g.width.bytes (texts s w g.m) (children y) (q + size_of g.width.bytes (sym_node (texts s w g.m) y)) ++ own_keys b q) (expands_key y O.expands) in
     (each-parts (λ (p : ℕ). among p ps ≡ true) ks (q ∷ []) (subst (Each (λ (p : ℕ). among p ps ≡ true)) z O.referred)).1.0
 
 -- ---- put_head
@@ -87,7 +87,7 @@ module _ (s w : List ℕ) (g : Ground) (n lim q d : ℕ) (v : Appended) (K : Som
   P0 = K.calls.popped
 
   here : among q K.places ≡ true
-  here = (own-here g.width (texts s w g.m) (λ (p : ℕ). among p K.places ≡ true) K.span K.name K.arguments q P0.referred).1
+  here = (own-here g.width.bytes (texts s w g.m) (λ (p : ℕ). among p K.places ≡ true) K.span K.name K.arguments q P0.referred).1
 
   pub head_ground : Grounded s w g
   head_ground = P0.going.ground
@@ -99,26 +99,26 @@ module _ (s w : List ℕ) (g : Ground) (n lim q d : ℕ) (v : Appended) (K : Som
   head_room = names_room s w g n v.count K.places P0.going.names P0.going.built q here
 
   module _ (x : Numbered) (w1 : List ℕ) (N : NamesOne s w g n v.count q x w1) (k : ℕ) (i : k ≡ x.number % 4294967296) (span flags m r : ℕ) (w2 : List ℕ)
-      (U : Puts w1 lim v.to (item_head g.width span k flags m) r w2) where
+      (U : Puts w1 lim v.to (item_head g.width.bytes span k flags m) r w2) where
     put : (ps : List ℕ) (four : Bool) (left e : ℕ) (y : Sym) → Popped s w g n lim ps four left q e y v → among q ps ≡ true
-        → Appends s g n lim ps w v (macro_piece g.width span (print y) flags m) (record { to = r; count = x.count; deep = v.deep }) w2
+        → Appends s g n lim ps w v (macro_piece g.width.bytes span (print y) flags m) (record { to = r; count = x.count; deep = v.deep }) w2
     unfolding NamesOne item_head with_new
     put ps four left e y O h =
         let G = O.going.ground in
-        let bytes = item_head g.width span k flags m in
+        let bytes = item_head g.width.bytes span k flags m in
         let by = N ps O.going.names h in
         let gives = number-gives s w g n v.count q ps x w1 G O.going.names O.going.built h by in
         let is : printed_at s w g q ≡ print y = stands_print s w g G four left q e y O.stands O.inside O.levels in
         let v1 : Appended = record { to = v.to; count = x.count; deep = v.deep } in
         let v2 : Appended = record { to = r; count = x.count; deep = v.deep } in
         let first = appends_gives s g n lim ps w v (printed_at s w g q) x w1 O.going gives in
-        let second = appends_puts s g n lim ps w1 (record { to = v.to; count = x.count; deep = v.deep }) (item_head g.width span k flags m) r w2 first.going U in
-        let both = appends_then s g n lim ps w v (naming (printed_at s w g q)) (record { to = v.to; count = x.count; deep = v.deep }) w1 (plainly (item_head g.width span k flags m)) (record { to = r; count = x.count; deep = v.deep }) w2 (steady_naming (printed_at s w g q)) O.going first second in
+        let second = appends_puts s g n lim ps w1 (record { to = v.to; count = x.count; deep = v.deep }) (item_head g.width.bytes span k flags m) r w2 first.going U in
+        let both = appends_then s g n lim ps w v (naming (printed_at s w g q)) (record { to = v.to; count = x.count; deep = v.deep }) w1 (plainly (item_head g.width.bytes span k flags m)) (record { to = r; count = x.count; deep = v.deep }) w2 (steady_naming (printed_at s w g q)) O.going first second in
         let same : named_in s w2 g x.count ≡ named_in s w1 g x.count = second.texts-are in
         let numbered : x.number ≡ number (named_in s w2 g x.count) (print y) = gives.is ∙ ap (number (named_in s w1 g x.count)) is ∙ ap (λ (ts : List Text). number ts (print y)) (sym same) in
-        let low : le g.width (number (named_in s w2 g x.count) (print y)) ≡ le g.width k = ap (le g.width) (sym numbered) ∙ sym (ap (le g.width) i ∙ low_bytes g.width x.number G.narrow G.wide) in
-        appends_is s g n lim ps w v (then_piece (naming (printed_at s w g q)) (plainly (item_head g.width span k flags m))) (record { to = r; count = x.count; deep = v.deep }) w2 both
-        (macro_piece g.width span (print y) flags m)
+        let low : le g.width.bytes (number (named_in s w2 g x.count) (print y)) ≡ le g.width.bytes k = ap (le g.width.bytes) (sym numbered) ∙ sym (ap (le g.width.bytes) i ∙ low_bytes g.width.bytes x.number G.narrow G.wide) in
+        appends_is s g n lim ps w v (then_piece (naming (printed_at s w g q)) (plainly (item_head g.width.bytes span k flags m))) (record { to = r; count = x.count; deep = v.deep }) w2 both
+        (macro_piece g.width.bytes span (print y) flags m)
         (ap (λ (t : Text). with_new (named_in s w g v.count) (t ∷ [])) (sym is))
         (ap (λ (l : List ℕ). 16 ∷ (le 8 span ++ (l ++ (flags ∷ (0 ∷ le 2 m))))) low) refl
 
@@ -142,7 +142,7 @@ module _ (s w : List ℕ) (g : Ground) (n lim q d : ℕ) (v : Appended) (ps : Li
   ts = texts s w g.m
 
   abbrev wd : ℕ
-  wd = g.width
+  wd = g.width.bytes
 
   H : Headed w wd ts d D end
   H = headed four' w wd ts d D end C.defines.within C.defines.lies

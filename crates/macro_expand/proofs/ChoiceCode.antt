@@ -60,6 +60,6 @@ module _ (s w : List ℕ) (g : Ground) (n lim q : ℕ) (v r : Appended) (w' : Li
   unfolding ExpandsAs ExpandsRepeat
   choice_done a d ps four left e sp o x R =
       let z = ap repeat_of (d ∙ repeat_code s w g n lim ps four left q e sp o x v R) ∙ op_back o in
-      subst (λ (u : Op). Appends s g n lim ps w v (item_piece g.width (item (expand_repeat_symbol sp (print (around sp (repeat o) x)) u (renamed x)))) r w') z (a ps four left e sp o x R)
+      subst (λ (u : Op). Appends s g n lim ps w v (item_piece g.width.bytes (item (expand_repeat_symbol sp (print (around sp (repeat o) x)) u (renamed x)))) r w') z (a ps four left e sp o x R)
 
 pub ruleset choosing = (rules, choice_inside, choice_done)

@@ -129,7 +129,7 @@ module _ (s w : List ℕ) (g : Ground) (n lim : ℕ) (c : Call) (v : Appended) (
   ts = texts s w g.m
 
   abbrev wd : ℕ
-  wd = g.width
+  wd = g.width.bytes
 
   -- ---- the argument's symbol
   abbrev said : Condition → Option Text → Outcome Bool

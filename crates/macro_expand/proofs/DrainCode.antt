@@ -35,21 +35,21 @@ module _ (s : List ℕ) (g : Ground) (n lim : ℕ) (t : Grammar) where
   -- ---- items one behind another
   module _ (ps : List ℕ) where
     -- none
-    drained_none : (w : List ℕ) (v : Appended) → Appending s g n lim ps w v → Appends s g n lim ps w v (items_piece g.width []) v w
+    drained_none : (w : List ℕ) (v : Appended) → Appending s g n lim ps w v → Appends s g n lim ps w v (items_piece g.width.bytes []) v w
     unfolding texts_of_each bytes_of_each
-    drained_none w v h = appends_is s g n lim ps w v (plainly []) v w (appends-none s g n lim ps w v h) (items_piece g.width []) refl refl refl
+    drained_none w v h = appends_is s g n lim ps w v (plainly []) v w (appends-none s g n lim ps w v h) (items_piece g.width.bytes []) refl refl refl
 
     -- one and then the others
     drained_then : (w : List ℕ) (v : Appended) (d : Nonterminal) (v1 : Appended) (w1 : List ℕ) (ds : List Item) (v2 : Appended) (w2 : List ℕ) → Appending s g n lim ps w v
-        → Appends s g n lim ps w v (item_piece g.width (item d)) v1 w1 → Appends s g n lim ps w1 v1 (items_piece g.width ds) v2 w2
-        → Appends s g n lim ps w v (items_piece g.width (item d ∷ ds)) v2 w2
+        → Appends s g n lim ps w v (item_piece g.width.bytes (item d)) v1 w1 → Appends s g n lim ps w1 v1 (items_piece g.width.bytes ds) v2 w2
+        → Appends s g n lim ps w v (items_piece g.width.bytes (item d ∷ ds)) v2 w2
     unfolding texts_of_each bytes_of_each
     drained_then w v d v1 w1 ds v2 w2 h a b =
-        appends_is s g n lim ps w v (then_piece (item_piece g.width (item d)) (items_piece g.width ds)) v2 w2
-        (appends_then s g n lim ps w v (item_piece g.width (item d)) v1 w1 (items_piece g.width ds) v2 w2 (steady_item g.width (item d)) h a b) (items_piece g.width (item d ∷ ds)) refl refl refl
+        appends_is s g n lim ps w v (then_piece (item_piece g.width.bytes (item d)) (items_piece g.width.bytes ds)) v2 w2
+        (appends_then s g n lim ps w v (item_piece g.width.bytes (item d)) v1 w1 (items_piece g.width.bytes ds) v2 w2 (steady_item g.width.bytes (item d)) h a b) (items_piece g.width.bytes (item d ∷ ds)) refl refl refl
 
     -- the outcome of the rest behind an item
-    drained_after : (w : List ℕ) (v : Appended) (d : Nonterminal) (v1 : Appended) (w1 : List ℕ) → Appending s g n lim ps w v → Appends s g n lim ps w v (item_piece g.width (item d)) v1 w1
+    drained_after : (w : List ℕ) (v : Appended) (d : Nonterminal) (v1 : Appended) (w1 : List ℕ) → Appending s g n lim ps w v → Appends s g n lim ps w v (item_piece g.width.bytes (item d)) v1 w1
         → (u : Outcome (List Item)) (r : Result Appended Refusal) (w2 : List ℕ) → DrainedBy s w1 g n lim v1 ps u r w2 → DrainedBy s w g n lim v ps (after u (λ ds. yes (item d ∷ ds))) r w2
     unfolding DrainedBy
     drained_after w v d v1 w1 h a (yes ds) r w2 (v2, e, b) = (v2, e, drained_then w v d v1 w1 ds v2 w2 h a b)
@@ -138,12 +138,12 @@ module _ (s : List ℕ) (g : Ground) (n lim : ℕ) (t : Grammar) where
                 other z = cc
             go (yes d) e (v', z, a) =
                 let f : x' ≡ v' = cc in
-                let b : Appends s g n lim ps w x (item_piece g.width (item d)) x' w' = subst (λ (q : Appended). Appends s g n lim ps w x (item_piece g.width (item d)) q w') (sym f) a in
+                let b : Appends s g n lim ps w x (item_piece g.width.bytes (item d)) x' w' = subst (λ (q : Appended). Appends s g n lim ps w x (item_piece g.width.bytes (item d)) q w') (sym f) a in
                 let k = o.pile.going in
                 record {
-                  pile = pile_stays s g n lim ps w x k (item_piece g.width (item d)) x' w' b t four G o.pile;
+                  pile = pile_stays s g n lim ps w x k (item_piece g.width.bytes (item d)) x' w' b t four G o.pile;
                   keys = λ m z. b.pile m z ∙ o.keys m z;
-                  symbols = λ q. symbol_stays s g n lim ps w x k (item_piece g.width (item d)) x' w' b q ∙ o.symbols q;
+                  symbols = λ q. symbol_stays s g n lim ps w x k (item_piece g.width.bytes (item d)) x' w' b q ∙ o.symbols q;
                   carry = λ r w2 q. carried (yes d) e r w2 (drained_after ps w x d x' w' k b (drain G (pending w₀ j)) r w2 q);
                 }
 
@@ -155,7 +155,7 @@ module _ (s : List ℕ) (g : Ground) (n lim : ℕ) (t : Grammar) where
         go : (u : Outcome Nonterminal) → ExpandsTo s w g n lim (key_at w g j) x ps u (Ok x') w' → Pile s w' g n lim t x' ps four G
         go (no k sp) z = absurd (cc)
         go (yes d) (v', z, a) =
-            subst (λ (q : Appended). Pile s w' g n lim t q ps four G) (let f : v' ≡ x' = cc in f) (pile_stays s g n lim ps w x p.going (item_piece g.width (item d)) v' w' a t four G p)
+            subst (λ (q : Appended). Pile s w' g n lim t q ps four G) (let f : v' ≡ x' = cc in f) (pile_stays s g n lim ps w x p.going (item_piece g.width.bytes (item d)) v' w' a t four G p)
 
     -- ---- as the code has it
     pub draining_same : length w ≡ length w₀

@@ -53,7 +53,7 @@ none≢some a e = let z : ◌≡◌ {A = ℕ} 0 1 = cc in omega arith
 module _ (t : Grammar) (ts : List Text) (w : List ℕ) where
   pub record RowAt (i p : ℕ) (x : Item) : Type 0 where
     pub end : ℕ
-    pub lies : Lies w (item_place_in t w i) (item_bytes t.width ts x) end
+    pub lies : Lies w (item_place_in t w i) (item_bytes t.width.bytes ts x) end
     pub from : p ≤ item_place_in t w i
     pub upto : end ≤ t.end
 
@@ -67,14 +67,14 @@ module _ (t : Grammar) (ts : List Text) (w : List ℕ) where
 
       here : RowAt k p y
       here = record {
-        end = p + length (item_bytes t.width ts y);
-        lies = subst (λ (q : ℕ). Lies w q (item_bytes t.width ts y) (p + length (item_bytes t.width ts y))) (sym r.0) r.1;
+        end = p + length (item_bytes t.width.bytes ts y);
+        lies = subst (λ (q : ℕ). Lies w q (item_bytes t.width.bytes ts y) (p + length (item_bytes t.width.bytes ts y))) (sym r.0) r.1;
         from = omega (arith, r.0);
-        upto = row_below t ts w (k + 1) (p + length (item_bytes t.width ts y)) ys r.2;
+        upto = row_below t ts w (k + 1) (p + length (item_bytes t.width.bytes ts y)) ys r.2;
       }
   row_at (y ∷ ys) k p (suc i) x r e =
       let z : k + 1 + i ≡ k + suc i = omega arith in
-      let a = row_at ys (k + 1) (p + length (item_bytes t.width ts y)) i x r.2 e in
+      let a = row_at ys (k + 1) (p + length (item_bytes t.width.bytes ts y)) i x r.2 e in
       subst (λ (n : ℕ). RowAt n p x) z (record { end = a.end; lies = a.lies; from = omega (arith, a.from); upto = a.upto })
 
   pub within_at : (four : Bool) (wd : ℕ) (us : List Text) (G : Tree) (i : ℕ) (x : Item) → Each (ItemWithin four wd us) G → item_of G i ≡ some x → ItemWithin four wd us x

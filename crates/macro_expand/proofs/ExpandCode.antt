@@ -50,7 +50,7 @@ use Rattle.macro_expand.proofs.ExpandTrees.{is_names, code_names, Stays, other_s
 
 -- ---- parameter
 module _ (g : Ground) (c : Call) (w : List ℕ) (p : ℕ) where
-  pub parameter_named : get_or w p 0 ≡ 36 → (k : ℕ) → k ≡ le_at g.width w (p + 9) → (r : Maybe ℕ) → r ≡ argument_for g c w k → r ≡ parameter_at g c w p
+  pub parameter_named : get_or w p 0 ≡ 36 → (k : ℕ) → k ≡ le_at g.width.bytes w (p + 9) → (r : Maybe ℕ) → r ≡ argument_for g c w k → r ≡ parameter_at g c w p
   unfolding parameter_at pick
   parameter_named e k i r j = cc (eq-eqb (get_or w p 0) 36 e)
 
@@ -58,14 +58,14 @@ module _ (g : Ground) (c : Call) (w : List ℕ) (p : ℕ) where
   unfolding parameter_at pick
   parameter_not e = cc (ne_eqb (get_or w p 0) 36 e)
 
-  by_name : (b : Bool) → eqb (get_or w p 0) 36 ≡ b → parameter_at g c w p ≡ pick b (argument_for g c w (le_at g.width w (p + 9))) None
+  by_name : (b : Bool) → eqb (get_or w p 0) 36 ≡ b → parameter_at g c w p ≡ pick b (argument_for g c w (le_at g.width.bytes w (p + 9))) None
   unfolding parameter_at
   by_name b e = cc
 
 pub ruleset parametric = (rules, parameter_named, parameter_not)
 
 -- ---- put_here
-pub here_put : (w : List ℕ) (g : Ground) (lim : ℕ) (x : Copied) (k : ℕ) → k ≡ long_of g.width (get_or w x.at 0) → (to : ℕ) (w' : List ℕ) → Puts w lim x.out.to (part x.at (x.at + k) w) to w'
+pub here_put : (w : List ℕ) (g : Ground) (lim : ℕ) (x : Copied) (k : ℕ) → k ≡ long_of g.width.bytes (get_or w x.at 0) → (to : ℕ) (w' : List ℕ) → Puts w lim x.out.to (part x.at (x.at + k) w) to w'
     → PutsHere w g lim x (record { at = x.at + k; out = record { to = to; count = x.out.count; deep = x.out.deep } }) w'
 here_put w g lim x k e to w' P = record {
   at = ap (λ (j : ℕ). x.at + j) e;
@@ -93,12 +93,12 @@ unanswered s w g ps four left (some x) h = absurd h
 
 -- ---- every symbol that stands there
 module _ (s w : List ℕ) (g : Ground) (n lim : ℕ) (c : Call) (left : ℕ) (x : Copied) (ps : List ℕ) (names : List Text) (args : Syms) (four : Bool) (e : ℕ) (y : Sym)
-    (F : Framed s w g n lim c x.out ps names args) (W : SymWithin four g.width (texts s w g.m) y left) (P : Placed w g x.out x.at e (sym_bytes g.width (texts s w g.m) y)) where
+    (F : Framed s w g n lim c x.out ps names args) (W : SymWithin four g.width.bytes (texts s w g.m) y left) (P : Placed w g x.out x.at e (sym_bytes g.width.bytes (texts s w g.m) y)) where
   abbrev ts : List Text
   ts = texts s w g.m
 
   abbrev wd : ℕ
-  wd = g.width
+  wd = g.width.bytes
 
   abbrev p : ℕ
   p = x.at
@@ -312,26 +312,20 @@ module _ (s w : List ℕ) (g : Ground) (n lim : ℕ) (c : Call) (left : ℕ) (x 
   pub one_span : x.at + 1 + 8 ≤ length w
   one_span = omega (arith, long, I.placed.behind)
 
-  pub one_narrow : 2 ≤ g.width
-  one_narrow = K.framed.going.ground.narrow
-
-  pub one_wide : g.width ≤ 3
-  one_wide = K.framed.going.ground.wide
-
   pub one_inside : lim ≤ length w
   one_inside = K.framed.going.inside
 
   pub one_deep : 1 ≤ left
   one_deep = symbol_deep s w g n lim c left x K.places K.names K.args I.four I.end I.symbol K.framed I.within I.placed
 
-  pub one_upto : x.at + long_of g.width (get_or w x.at 0) ≤ x.out.to
+  pub one_upto : x.at + long_of g.width.bytes (get_or w x.at 0) ≤ x.out.to
   one_upto = symbol_upto s w g n lim c left x K.places K.names K.args I.four I.end I.symbol K.framed I.within I.placed
 
   module _ (q : ℕ) (h : Some q ≡ parameter_at g c w x.at) (b : (j : ℕ) → Bound.Fits w8 (get_or w j 0)) (span : ℕ) (j : span ≡ le_at 8 w (x.at + 1)) where
     pub one_argument : AnyArgument s w g n lim q span x.out
     one_argument = parameter_any s w g n lim c left x K.places K.names K.args I.four I.end I.symbol K.framed I.within I.placed q (sym h) span j b
 
-    pub one_parameter : (v : Appended) (w' : List ℕ) → PutsArgument s w g n lim q span left x.out v w' → PutsIn s w g n lim c left x (record { at = x.at + (9 + g.width); out = v }) w'
+    pub one_parameter : (v : Appended) (w' : List ℕ) → PutsArgument s w g n lim q span left x.out v w' → PutsIn s w g n lim c left x (record { at = x.at + (9 + g.width.bytes); out = v }) w'
     unfolding PutsIn
     one_parameter v w' U ps names args four e y F W P = parameter_put s w g n lim c left x ps names args four e y F W P q (sym h) span j b v w' U
 
@@ -341,7 +335,7 @@ module _ (s w : List ℕ) (g : Ground) (n lim : ℕ) (c : Call) (left : ℕ) (x 
   pub one_none : (f : Maybe ℕ) → f ≡ parameter_at g c w x.at → f ≡ None → None ≡ parameter_at g c w x.at
   one_none f i h = sym h ∙ i
 
-  module _ (h : None ≡ parameter_at g c w x.at) (k : ℕ) (j : k ≡ inside_at g.width w x.at) (r : Copied) (w1 : List ℕ) (H : PutsHere w g lim x r w1) where
+  module _ (h : None ≡ parameter_at g c w x.at) (k : ℕ) (j : k ≡ inside_at g.width.bytes w x.at) (r : Copied) (w1 : List ℕ) (H : PutsHere w g lim x r w1) where
     pub one_opens : Opens s w g n lim c left x (record { many = k; run = r }) w1
     unfolding PutsIn
     one_opens = record {
@@ -380,8 +374,8 @@ module _ (s w : List ℕ) (g : Ground) (n lim : ℕ) (c : Call) (left : ℕ) (x 
   pub opened_carry : (t : Copied) (w'' : List ℕ) → PutsInAll s w' g n lim c (left - 1) r.many r.run t w'' → PutsIn s w g n lim c left x t w''
   opened_carry t w'' U = O.carry t w'' U
 
-pub ruleset giving_way = (rules, one_span, one_narrow, one_wide, one_argument, one_parameter)
+pub ruleset giving_way = (rules, one_span, one_argument, one_parameter)
 
-pub ruleset opening = (rules, one_behind, one_far, one_narrow, one_wide, one_inside, one_upto, one_opens)
+pub ruleset opening = (rules, one_behind, one_far, one_inside, one_upto, one_opens)
 
 pub ruleset expanding_one = (rules, one_readable, one_behind, one_found, one_none, opened_deep, opened_falls, opened_frame, opened_insides, opened_carry)

@@ -34,17 +34,17 @@ module _ (s w₀ : List ℕ) (g : Ground) (n lim : ℕ) (c : Call) (left k : ℕ
     pub zs : Syms
     pub many : count zs ≡ i
     pub framed : Framed s w g n lim c r.out ps names args
-    pub within : SymsWithin four g.width (texts s w g.m) zs left
-    pub placed : Placed w g r.out r.at e (syms_bytes g.width (texts s w g.m) zs)
-    pub carry : (v' : Appended) (w' : List ℕ) → Appends s g n lim ps w r.out (syms_piece g.width (macro_expand_symbols names (renamed_all args) zs) left) v' w'
-        → Appends s g n lim ps w₀ x.out (syms_piece g.width (macro_expand_symbols names (renamed_all args) ys) left) v' w'
+    pub within : SymsWithin four g.width.bytes (texts s w g.m) zs left
+    pub placed : Placed w g r.out r.at e (syms_bytes g.width.bytes (texts s w g.m) zs)
+    pub carry : (v' : Appended) (w' : List ℕ) → Appends s g n lim ps w r.out (syms_piece g.width.bytes (macro_expand_symbols names (renamed_all args) zs) left) v' w'
+        → Appends s g n lim ps w₀ x.out (syms_piece g.width.bytes (macro_expand_symbols names (renamed_all args) ys) left) v' w'
 
   pub record Filling (w : List ℕ) (r : Copied) (i : ℕ) : Type 0 where
     pub frame : Frame s w g n lim c r.out
     pub some : SomeInsides s w g left i r
     pub long : length w ≡ length w₀
     pub each : (ps : List ℕ) (names : List Text) (args : Syms) (four : Bool) (e : ℕ) (ys : Syms) → Framed s w₀ g n lim c x.out ps names args → count ys ≡ k
-        → SymsWithin four g.width (texts s w₀ g.m) ys left → Placed w₀ g x.out x.at e (syms_bytes g.width (texts s w₀ g.m) ys) → Ahead w r i ps names args four e ys
+        → SymsWithin four g.width.bytes (texts s w₀ g.m) ys left → Placed w₀ g x.out x.at e (syms_bytes g.width.bytes (texts s w₀ g.m) ys) → Ahead w r i ps names args four e ys
 
   pub filling_start : Frame s w₀ g n lim c x.out → SomeInsides s w₀ g left k x → Filling w₀ x k
   filling_start K I = record {
@@ -68,12 +68,12 @@ module _ (s w₀ : List ℕ) (g : Ground) (n lim : ℕ) (c : Call) (left k : ℕ
         o : Ahead w r i ps names args four e ys
         o = inv.each ps names args four e ys F m W P
 
-        go : (zs : Syms) → count zs ≡ i → Placed w g r.out r.at e (syms_bytes g.width (texts s w g.m) zs)
-            → ((v' : Appended) (w' : List ℕ) → Appends s g n lim ps w r.out (syms_piece g.width (macro_expand_symbols names (renamed_all args) zs) left) v' w'
-            → Appends s g n lim ps w₀ x.out (syms_piece g.width (macro_expand_symbols names (renamed_all args) ys) left) v' w')
-            → (r.at ≡ e) × Appends s g n lim ps w₀ x.out (syms_piece g.width (macro_expand_symbols names (renamed_all args) ys) left) r.out w
+        go : (zs : Syms) → count zs ≡ i → Placed w g r.out r.at e (syms_bytes g.width.bytes (texts s w g.m) zs)
+            → ((v' : Appended) (w' : List ℕ) → Appends s g n lim ps w r.out (syms_piece g.width.bytes (macro_expand_symbols names (renamed_all args) zs) left) v' w'
+            → Appends s g n lim ps w₀ x.out (syms_piece g.width.bytes (macro_expand_symbols names (renamed_all args) ys) left) v' w')
+            → (r.at ≡ e) × Appends s g n lim ps w₀ x.out (syms_piece g.width.bytes (macro_expand_symbols names (renamed_all args) ys) left) r.out w
         go nil j p u =
-            (omega (arith, p.lies.end), u r.out w (appends_is s g n lim ps w r.out (plainly []) r.out w (appends-none s g n lim ps w r.out o.framed.going) (syms_piece g.width nil left) refl refl refl))
+            (omega (arith, p.lies.end), u r.out w (appends_is s g n lim ps w r.out (plainly []) r.out w (appends-none s g n lim ps w r.out o.framed.going) (syms_piece g.width.bytes nil left) refl refl refl))
         go (cons y zs) j p u = absurd (omega arith)
 
     module _ (positive : 0 < i) where
@@ -84,65 +84,65 @@ module _ (s w₀ : List ℕ) (g : Ground) (n lim : ℕ) (c : Call) (left k : ℕ
       unfolding count syms_bytes
       filling_first = go inv.some.symbols inv.some.many inv.some.within inv.some.placed
         where
-          go : (ys : Syms) → count ys ≡ i → SymsWithin inv.some.four g.width (texts s w g.m) ys left → Placed w g r.out r.at inv.some.end (syms_bytes g.width (texts s w g.m) ys) → SomeInside s w g left r
+          go : (ys : Syms) → count ys ≡ i → SymsWithin inv.some.four g.width.bytes (texts s w g.m) ys left → Placed w g r.out r.at inv.some.end (syms_bytes g.width.bytes (texts s w g.m) ys) → SomeInside s w g left r
           go nil j W P = absurd (omega arith)
           go (cons y ys) j W P = record {
             four = inv.some.four;
             end = _;
             symbol = y;
             within = W.0;
-            placed = (placed_split w g r.out r.at inv.some.end (sym_bytes g.width (texts s w g.m) y) (syms_bytes g.width (texts s w g.m) ys) P).0;
+            placed = (placed_split w g r.out r.at inv.some.end (sym_bytes g.width.bytes (texts s w g.m) y) (syms_bytes g.width.bytes (texts s w g.m) ys) P).0;
           }
 
       module _ (t : Copied) (w' : List ℕ) (one : PutsIn s w g n lim c left r t w') where
         -- the first of those to come
         module _ (ps : List ℕ) (names : List Text) (args : Syms) (four : Bool) (e : ℕ) (y : Sym) (ys : Syms) (F : Framed s w g n lim c r.out ps names args)
-            (W : SymsWithin four g.width (texts s w g.m) (cons y ys) left) (P : Placed w g r.out r.at e (syms_bytes g.width (texts s w g.m) (cons y ys))) where
+            (W : SymsWithin four g.width.bytes (texts s w g.m) (cons y ys) left) (P : Placed w g r.out r.at e (syms_bytes g.width.bytes (texts s w g.m) (cons y ys))) where
           abbrev ts : List Text
           ts = texts s w g.m
 
-          parts : Placed w g r.out r.at (r.at + length (sym_bytes g.width ts y)) (sym_bytes g.width ts y) × Placed w g r.out (r.at + length (sym_bytes g.width ts y)) e (syms_bytes g.width ts ys)
+          parts : Placed w g r.out r.at (r.at + length (sym_bytes g.width.bytes ts y)) (sym_bytes g.width.bytes ts y) × Placed w g r.out (r.at + length (sym_bytes g.width.bytes ts y)) e (syms_bytes g.width.bytes ts ys)
           unfolding syms_bytes
-          parts = placed_split w g r.out r.at e (sym_bytes g.width ts y) (syms_bytes g.width ts ys) P
+          parts = placed_split w g r.out r.at e (sym_bytes g.width.bytes ts y) (syms_bytes g.width.bytes ts ys) P
 
-          put : (t.at ≡ r.at + length (sym_bytes g.width ts y)) × Appends s g n lim ps w r.out (sym_piece g.width (macro_expand_symbol names (renamed_all args) y) left) t.out w'
+          put : (t.at ≡ r.at + length (sym_bytes g.width.bytes ts y)) × Appends s g n lim ps w r.out (sym_piece g.width.bytes (macro_expand_symbol names (renamed_all args) y) left) t.out w'
           unfolding PutsIn
-          put = one ps names args four (r.at + length (sym_bytes g.width ts y)) y F W.0 parts.0
+          put = one ps names args four (r.at + length (sym_bytes g.width.bytes ts y)) y F W.0 parts.0
 
           same : texts s w' g.m ≡ ts
-          same = texts-stay s g n lim ps w r.out F.going (sym_piece g.width (macro_expand_symbol names (renamed_all args) y) left) t.out w' put.1
+          same = texts-stay s g n lim ps w r.out F.going (sym_piece g.width.bytes (macro_expand_symbol names (renamed_all args) y) left) t.out w' put.1
 
           next_framed : Framed s w' g n lim c t.out ps names args
-          next_framed = frame_stays s g n lim c w r.out ps names args F (sym_piece g.width (macro_expand_symbol names (renamed_all args) y) left) t.out w' put.1
+          next_framed = frame_stays s g n lim c w r.out ps names args F (sym_piece g.width.bytes (macro_expand_symbol names (renamed_all args) y) left) t.out w' put.1
 
-          next_within : SymsWithin four g.width (texts s w' g.m) ys left
-          next_within = subst (λ (us : List Text). SymsWithin four g.width us ys left) (sym same) W.1
+          next_within : SymsWithin four g.width.bytes (texts s w' g.m) ys left
+          next_within = subst (λ (us : List Text). SymsWithin four g.width.bytes us ys left) (sym same) W.1
 
-          next_placed : Placed w' g t.out t.at e (syms_bytes g.width (texts s w' g.m) ys)
+          next_placed : Placed w' g t.out t.at e (syms_bytes g.width.bytes (texts s w' g.m) ys)
           next_placed =
-              let a = placed_stays s g n lim ps w r.out F.going (sym_piece g.width (macro_expand_symbol names (renamed_all args) y) left) t.out w' put.1 (r.at + length (sym_bytes g.width ts y)) e (syms_bytes g.width ts ys) parts.1 in
-              subst (λ (us : List Text). Placed w' g t.out t.at e (syms_bytes g.width us ys)) (sym same) (subst (λ (j : ℕ). Placed w' g t.out j e (syms_bytes g.width ts ys)) (sym put.0) a)
+              let a = placed_stays s g n lim ps w r.out F.going (sym_piece g.width.bytes (macro_expand_symbol names (renamed_all args) y) left) t.out w' put.1 (r.at + length (sym_bytes g.width.bytes ts y)) e (syms_bytes g.width.bytes ts ys) parts.1 in
+              subst (λ (us : List Text). Placed w' g t.out t.at e (syms_bytes g.width.bytes us ys)) (sym same) (subst (λ (j : ℕ). Placed w' g t.out j e (syms_bytes g.width.bytes ts ys)) (sym put.0) a)
 
           next_long : length w' ≡ length w
           next_long = put.1.long
 
-          next_carry : (v'' : Appended) (w'' : List ℕ) → Appends s g n lim ps w' t.out (syms_piece g.width (macro_expand_symbols names (renamed_all args) ys) left) v'' w''
-              → Appends s g n lim ps w r.out (syms_piece g.width (macro_expand_symbols names (renamed_all args) (cons y ys)) left) v'' w''
+          next_carry : (v'' : Appended) (w'' : List ℕ) → Appends s g n lim ps w' t.out (syms_piece g.width.bytes (macro_expand_symbols names (renamed_all args) ys) left) v'' w''
+              → Appends s g n lim ps w r.out (syms_piece g.width.bytes (macro_expand_symbols names (renamed_all args) (cons y ys)) left) v'' w''
           unfolding macro_expand_symbols syms_texts syms_bytes
           next_carry v'' w'' a =
-              let x1 = sym_piece g.width (macro_expand_symbol names (renamed_all args) y) left in
-              let x2 = syms_piece g.width (macro_expand_symbols names (renamed_all args) ys) left in
+              let x1 = sym_piece g.width.bytes (macro_expand_symbol names (renamed_all args) y) left in
+              let x2 = syms_piece g.width.bytes (macro_expand_symbols names (renamed_all args) ys) left in
               appends_is s g n lim ps w r.out (then_piece x1 x2) v'' w''
-              (appends_then s g n lim ps w r.out x1 t.out w' x2 v'' w'' (steady_symbol g.width (macro_expand_symbol names (renamed_all args) y) left) F.going put.1 a)
-              (syms_piece g.width (macro_expand_symbols names (renamed_all args) (cons y ys)) left) refl refl refl
+              (appends_then s g n lim ps w r.out x1 t.out w' x2 v'' w'' (steady_symbol g.width.bytes (macro_expand_symbol names (renamed_all args) y) left) F.going put.1 a)
+              (syms_piece g.width.bytes (macro_expand_symbols names (renamed_all args) (cons y ys)) left) refl refl refl
 
         next_each : (ps : List ℕ) (names : List Text) (args : Syms) (four : Bool) (e : ℕ) (ys : Syms) → Ahead w r i ps names args four e ys → Ahead w' t (i - 1) ps names args four e ys
         unfolding count
         next_each ps names args four e ys o = go o.zs o.many o.within o.placed o.carry
           where
-            go : (zs : Syms) → count zs ≡ i → SymsWithin four g.width (texts s w g.m) zs left → Placed w g r.out r.at e (syms_bytes g.width (texts s w g.m) zs)
-                → ((v' : Appended) (w'' : List ℕ) → Appends s g n lim ps w r.out (syms_piece g.width (macro_expand_symbols names (renamed_all args) zs) left) v' w''
-                → Appends s g n lim ps w₀ x.out (syms_piece g.width (macro_expand_symbols names (renamed_all args) ys) left) v' w'')
+            go : (zs : Syms) → count zs ≡ i → SymsWithin four g.width.bytes (texts s w g.m) zs left → Placed w g r.out r.at e (syms_bytes g.width.bytes (texts s w g.m) zs)
+                → ((v' : Appended) (w'' : List ℕ) → Appends s g n lim ps w r.out (syms_piece g.width.bytes (macro_expand_symbols names (renamed_all args) zs) left) v' w''
+                → Appends s g n lim ps w₀ x.out (syms_piece g.width.bytes (macro_expand_symbols names (renamed_all args) ys) left) v' w'')
                 → Ahead w' t (i - 1) ps names args four e ys
             go nil j W P u = absurd (omega arith)
             go (cons z zs) j W P u = record {
@@ -166,7 +166,7 @@ module _ (s w₀ : List ℕ) (g : Ground) (n lim : ℕ) (c : Call) (left k : ℕ
             K : Frame s w g n lim c r.out
             K = inv.frame
 
-            go : (ys : Syms) → count ys ≡ i → SymsWithin inv.some.four g.width (texts s w g.m) ys left → Placed w g r.out r.at inv.some.end (syms_bytes g.width (texts s w g.m) ys) → Some
+            go : (ys : Syms) → count ys ≡ i → SymsWithin inv.some.four g.width.bytes (texts s w g.m) ys left → Placed w g r.out r.at inv.some.end (syms_bytes g.width.bytes (texts s w g.m) ys) → Some
             go nil j W P = absurd (omega arith)
             go (cons y ys) j W P = record {
               insides = record {

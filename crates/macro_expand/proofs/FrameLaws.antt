@@ -102,9 +102,9 @@ module _ (s : List ℕ) (g : Ground) (n lim : ℕ) (c : Call) (w : List ℕ) (v 
     referring = referring_stays s g n lim ps w v F.going x v' w' a F.four F.left F.from F.end args F.referring;
     four' = F.four';
     upto = F.upto;
-    uses = subst (λ (ts : List Text). Each (Uses F.four' g.width ts is_name) names) (sym same) F.uses;
-    parameters = subst (λ (ts : List Text). Placed w' g v' c.params F.upto (bytes_of_each (argument_bytes g.width ts) names)) (sym same)
-        (placed_stays s g n lim ps w v F.going x v' w' a c.params F.upto (bytes_of_each (argument_bytes g.width (texts s w g.m)) names) F.parameters);
+    uses = subst (λ (ts : List Text). Each (Uses F.four' g.width.bytes ts is_name) names) (sym same) F.uses;
+    parameters = subst (λ (ts : List Text). Placed w' g v' c.params F.upto (bytes_of_each (argument_bytes g.width.bytes ts) names)) (sym same)
+        (placed_stays s g n lim ps w v F.going x v' w' a c.params F.upto (bytes_of_each (argument_bytes g.width.bytes (texts s w g.m)) names) F.parameters);
     named = F.named;
     called = F.called;
     definition = rw a.long F.definition;
@@ -127,18 +127,18 @@ parameter_read wd ts w a e t k l = (le-read_last w e (a + 1) wd k (byte_read w e
 -- ---- the first of symbols that have references, and the others
 module _ (s w : List ℕ) (g : Ground) (ps : List ℕ) (four : Bool) (left p e : ℕ) (x : Sym) (xs : Syms) (R : Referring s w g ps four left p e (cons x xs)) where
   abbrev next : ℕ
-  next = p + length (sym_bytes g.width (texts s w g.m) x)
+  next = p + length (sym_bytes g.width.bytes (texts s w g.m) x)
 
-  next_is : g.from + next ≡ g.from + p + length (sym_bytes g.width (texts s w g.m) x)
+  next_is : g.from + next ≡ g.from + p + length (sym_bytes g.width.bytes (texts s w g.m) x)
   next_is = omega arith
 
-  keys : Each (λ (q : ℕ). among q ps ≡ true) (keys_of g.width (texts s w g.m) x p) × Each (λ (q : ℕ). among q ps ≡ true) (keys_of_all g.width (texts s w g.m) xs next)
+  keys : Each (λ (q : ℕ). among q ps ≡ true) (keys_of g.width.bytes (texts s w g.m) x p) × Each (λ (q : ℕ). among q ps ≡ true) (keys_of_all g.width.bytes (texts s w g.m) xs next)
   unfolding keys_of_all
-  keys = each-parts (λ (q : ℕ). among q ps ≡ true) (keys_of g.width (texts s w g.m) x p) (keys_of_all g.width (texts s w g.m) xs next) R.referred
+  keys = each-parts (λ (q : ℕ). among q ps ≡ true) (keys_of g.width.bytes (texts s w g.m) x p) (keys_of_all g.width.bytes (texts s w g.m) xs next) R.referred
 
   pub referring_behind : Referring s w g ps four left next e xs
   referring_behind = record {
-    stand = rw next_is (first_stands s w g.m g.width four left (g.from + p) (g.from + e) x xs R.stand).1;
+    stand = rw next_is (first_stands s w g.m g.width.bytes four left (g.from + p) (g.from + e) x xs R.stand).1;
     inside = R.inside;
     levels = R.levels;
     referred = keys.1;
@@ -147,10 +147,10 @@ module _ (s w : List ℕ) (g : Ground) (ps : List ℕ) (four : Bool) (left p e :
   pub referring_first : Referring s w g ps four left p next (cons x nil)
   unfolding keys_of_all
   referring_first = record {
-    stand = rw next_is (one_stands s w g.m g.width four left (g.from + p) (g.from + p + length (sym_bytes g.width (texts s w g.m) x)) x (first_stands s w g.m g.width four left (g.from + p) (g.from + e) x xs R.stand).0);
+    stand = rw next_is (one_stands s w g.m g.width.bytes four left (g.from + p) (g.from + p + length (sym_bytes g.width.bytes (texts s w g.m) x)) x (first_stands s w g.m g.width.bytes four left (g.from + p) (g.from + e) x xs R.stand).0);
     inside = omega (arith, R.inside, referring_behind.stand.lies.end);
     levels = R.levels;
-    referred = subst (Each (λ (q : ℕ). among q ps ≡ true)) (sym (append-nil (keys_of g.width (texts s w g.m) x p))) keys.0;
+    referred = subst (Each (λ (q : ℕ). among q ps ≡ true)) (sym (append-nil (keys_of g.width.bytes (texts s w g.m) x p))) keys.0;
   }
 
 -- ---- the symbol for a parameter
@@ -171,7 +171,7 @@ module _ (s w : List ℕ) (g : Ground) (places : List ℕ) (four : Bool) (left :
   ts = texts s w g.m
 
   abbrev wd : ℕ
-  wd = g.width
+  wd = g.width.bytes
 
   finds : (names : List Text) (xs : Syms) (a e q d : ℕ) → length names ≡ count xs → Each (Uses four' wd ts is_name) names → Lies w a (bytes_of_each (argument_bytes wd ts) names) e
       → Referring s w g places four left q d xs → Finds s w g places four left (argument_in wd g.end w (number ts t) (length names) a (g.from + q)) (argument_of names xs t)
@@ -204,7 +204,7 @@ module _ (s w : List ℕ) (g : Ground) (n lim : ℕ) (c : Call) (v : Appended) (
   frame_readable = record {
     narrow = F.going.ground.narrow;
     wide = F.going.ground.wide;
-    parameters = omega (arith, F.parameters.lies.end, F.parameters.behind, parameters_long_lem g.width (texts s w g.m) names, ap (parameters_long g.width) F.named);
+    parameters = omega (arith, F.parameters.lies.end, F.parameters.behind, parameters_long_lem g.width.bytes (texts s w g.m) names, ap (parameters_long g.width.bytes) F.named);
     items = F.going.behind;
     definition = F.definition;
   }

@@ -125,13 +125,13 @@ module _ (s w : List ℕ) (g : Ground) (n lim q : ℕ) (v : Appended) (i m : ℕ
       many_is : m ≡ count xs
       many_is = S.many ∙ group_many s w g n lim ps four left q e sp xs v R
 
-      begun : Appends s g n lim ps w v (head_piece g.width sp key 1 1 (built_text i) (count xs)) x.out w1
+      begun : Appends s g n lim ps w v (head_piece g.width.bytes sp key 1 1 (built_text i) (count xs)) x.out w1
       unfolding Begins
-      begun = subst (λ (k : ℕ). Appends s g n lim ps w v (head_piece g.width sp (print (over sp group xs)) 1 1 (built_text i) k) x.out w1) many_is (B ps four left e (over sp group xs) R).1
+      begun = subst (λ (k : ℕ). Appends s g n lim ps w v (head_piece g.width.bytes sp (print (over sp group xs)) 1 1 (built_text i) k) x.out w1) many_is (B ps four left e (over sp group xs) R).1
 
       there : Referring s w1 g ps four (left - 1) (q + 11) e xs
       there =
-          referring_stays s g n lim ps w v R.going (head_piece g.width sp key 1 1 (built_text i) (count xs)) x.out w1 begun four (left - 1) (q + 11) e xs
+          referring_stays s g n lim ps w v R.going (head_piece g.width.bytes sp key 1 1 (built_text i) (count xs)) x.out w1 begun four (left - 1) (q + 11) e xs
           (group_referring s w g n lim ps four left q e sp xs v R)
 
     pub group_there : (k : ℕ) → k ≡ m → SomeReferring s w1 g n lim (q + 11) k x.out
@@ -150,13 +150,13 @@ module _ (s w : List ℕ) (g : Ground) (n lim q : ℕ) (v : Appended) (i m : ℕ
     unfolding PutsGroup PutsSymbols
     group_put k z c w2 P ps four left e sp xs R =
         let key = print (over sp group xs) in
-        let H = head_piece g.width sp (print (over sp group xs)) 1 1 (built_text i) (count xs) in
-        let X = symbols_piece g.width xs in
+        let H = head_piece g.width.bytes sp (print (over sp group xs)) 1 1 (built_text i) (count xs) in
+        let X = symbols_piece g.width.bytes xs in
         let h = begun ps four left e sp xs R in
         let d = (P ps four (left - 1) e xs (sym (z ∙ many_is ps four left e sp xs R)) h.going (there ps four left e sp xs R)).1 in
-        let a = appends_then s g n lim ps w v H x.out w1 X c.out w2 (steady_head g.width sp (print (over sp group xs)) 1 1 (built_text i) (count xs)) R.going h d in
-        appends_is s g n lim ps w v (then_piece H X) c.out w2 a (item_piece g.width (item (made sp key true (simple sp (user (built_text i)) (renamed_all xs) ∷ []))))
-        (ap (with_new (named_in s w g v.count)) (piece_texts g.width sp key i xs)) (piece_bytes g.width sp key i xs (named_in s w2 g c.out.count))
+        let a = appends_then s g n lim ps w v H x.out w1 X c.out w2 (steady_head g.width.bytes sp (print (over sp group xs)) 1 1 (built_text i) (count xs)) R.going h d in
+        appends_is s g n lim ps w v (then_piece H X) c.out w2 a (item_piece g.width.bytes (item (made sp key true (simple sp (user (built_text i)) (renamed_all xs) ∷ []))))
+        (ap (with_new (named_in s w g v.count)) (piece_texts g.width.bytes sp key i xs)) (piece_bytes g.width.bytes sp key i xs (named_in s w2 g c.out.count))
         (one_fits sp key true (user (built_text i)) (renamed_all xs) (lt-ltb (count (renamed_all xs)) 65536 (omega (arith, renamed_count xs, group_few s w g n lim ps four left q e sp xs v R))) ∙ group_fits s w g n lim ps four left q e sp xs v R)
 
 pub ruleset grouping = (rules, group_any, eleven_fits, group_there, group_put)

@@ -125,20 +125,20 @@ module _ (s w : List ℕ) (g : Ground) (n lim : ℕ) (ps : List ℕ) (four : Boo
   abbrev head : List ℕ
   head = 41 ∷ (span_bytes sp ++ le 2 (count xs))
 
-  lies_all : Lies w (g.from + q) (head ++ syms_bytes g.width ts xs) (g.from + e)
+  lies_all : Lies w (g.from + q) (head ++ syms_bytes g.width.bytes ts xs) (g.from + e)
   unfolding sym_bytes node_bytes symbol_bytes over_node
   lies_all = R.stands.lies
 
   head_long : length head ≡ 11
   head_long = omega (arith, length-append (span_bytes sp) (le 2 (count xs)), span_long sp, length-le 2 (count xs))
 
-  parts : Lies w (g.from + q) head (g.from + q + length head) × Lies w (g.from + q + length head) (syms_bytes g.width ts xs) (g.from + e)
-  parts = lies_split w (g.from + q) (g.from + e) head (syms_bytes g.width ts xs) lies_all
+  parts : Lies w (g.from + q) head (g.from + q + length head) × Lies w (g.from + q + length head) (syms_bytes g.width.bytes ts xs) (g.from + e)
+  parts = lies_split w (g.from + q) (g.from + e) head (syms_bytes g.width.bytes ts xs) lies_all
 
-  inner : SpanWithin sp × (count xs < 65536) × SymsWithin four g.width ts xs (left - 1)
+  inner : SpanWithin sp × (count xs < 65536) × SymsWithin four g.width.bytes ts xs (left - 1)
   inner = go left R.stands.within
     where
-      go : (k : ℕ) → SymWithin four g.width ts (over sp group xs) k → SpanWithin sp × (count xs < 65536) × SymsWithin four g.width ts xs (k - 1)
+      go : (k : ℕ) → SymWithin four g.width.bytes ts (over sp group xs) k → SpanWithin sp × (count xs < 65536) × SymsWithin four g.width.bytes ts xs (k - 1)
       go zero h = absurd h
       go (suc k) h = let z : suc k - 1 ≡ k = omega arith in (h.0, h.1, rw z h.2)
 
@@ -162,7 +162,7 @@ module _ (s w : List ℕ) (g : Ground) (n lim : ℕ) (ps : List ℕ) (four : Boo
   pub group_stand : StandAt s w g four (left - 1) (q + 11) e xs
   group_stand =
       let z : g.from + q + length head ≡ g.from + (q + 11) = omega (arith, head_long) in
-      record { within = inner.2; lies = subst (λ (a : ℕ). Lies w a (syms_bytes g.width (texts s w g.m) xs) (g.from + e)) z parts.1 }
+      record { within = inner.2; lies = subst (λ (a : ℕ). Lies w a (syms_bytes g.width.bytes (texts s w g.m) xs) (g.from + e)) z parts.1 }
 
   -- theorem: its symbols stand behind its eleven bytes, and have their references
   pub group_referring : Referring s w g ps four (left - 1) (q + 11) e xs
@@ -171,11 +171,11 @@ module _ (s w : List ℕ) (g : Ground) (n lim : ℕ) (ps : List ℕ) (four : Boo
     stand = group_stand;
     inside = R.inside;
     levels = omega (arith, R.levels);
-    referred = (each-parts (λ (p : ℕ). among p ps ≡ true) (keys_of_all g.width (texts s w g.m) xs (q + 11)) (q ∷ []) R.referred).0;
+    referred = (each-parts (λ (p : ℕ). among p ps ≡ true) (keys_of_all g.width.bytes (texts s w g.m) xs (q + 11)) (q ∷ []) R.referred).0;
   }
 
   pub group_fits : syms_fit (renamed_all xs) 64 ≡ true
-  group_fits = all_fit four g.width ts xs (left - 1) 64 (omega (arith, R.levels)) inner.2
+  group_fits = all_fit four g.width.bytes ts xs (left - 1) 64 (omega (arith, R.levels)) inner.2
 
   pub group_room : g.from + q + 11 ≤ g.end
   unfolding size_in

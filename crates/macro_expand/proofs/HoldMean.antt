@@ -38,7 +38,7 @@ module _ (s w : List ℕ) (g : Ground) (n lim : ℕ) (c : Call) (v : Appended) (
   ts = texts s w g.m
 
   abbrev wd : ℕ
-  wd = g.width
+  wd = g.width.bytes
 
   abbrev xs : Syms
   xs = renamed_all args

@@ -2,8 +2,7 @@
 use mathlib.Core.Path.{◌≡◌, refl, sym, ap, subst}
 use mathlib.Core.Bool.{true}
 use mathlib.Core.List.{List, [], ◌++◌, append-nil}
-use Prim.Native.Nat.{ℕ, zero, suc, ◌+◌, ◌*◌, ◌/◌, ◌%◌, ◌≤◌}
-use native.Mathlib.Omega.{arith}
+use Prim.Native.Nat.{ℕ}
 use Rattle.octets.specs.Plain.Numbers.{le}
 use Rattle.parse_tree.specs.Plain.Tree.{Text}
 use Rattle.parse_tree.specs.Plain.Texts.{has, number, with_new}
@@ -20,51 +19,6 @@ use Rattle.appending.specs.Commands.{item_head, alternative_head}
 use Rattle.appending.specs.Pieces.{Piece, plainly, Steady, Appending, Appends}
 use Rattle.appending.proofs.PiecesLaws.{appends_then, appends_is, appends_puts}
 use Rattle.macro_expand.specs.Expand.{head_piece}
-
--- ---- a number in two or three bytes is that of its lowest four
-rest_most : (k m h : ℕ) → k ≡ 256 * h + m → k / 256 ≤ h + m / 256
-rest_most k m h e = omega arith
-
-rest_least : (k m h : ℕ) → k ≡ 256 * h + m → h + m / 256 ≤ k / 256
-rest_least k m h e = omega arith
-
-rest-is : (k m h : ℕ) → k ≡ 256 * h + m → k / 256 ≡ h + m / 256
-rest-is k m h e = omega (arith, rest_most k m h e, rest_least k m h e)
-
-low-is : (k m h : ℕ) → k ≡ 256 * h + m → m % 256 ≡ k % 256
-low-is k m h e = omega (arith, rest-is k m h e)
-
-module _ (k : ℕ) where
-  abbrev m : ℕ
-  m = k % 4294967296
-
-  abbrev q : ℕ
-  q = k / 4294967296
-
-  first-is : k ≡ 256 * (16777216 * q) + m
-  first-is = omega arith
-
-  second_is : k / 256 ≡ 256 * (65536 * q) + m / 256
-  second_is = omega (arith, rest-is k m (16777216 * q) first-is)
-
-  third_is : k / 256 / 256 ≡ 256 * (256 * q) + m / 256 / 256
-  third_is = omega (arith, rest-is (k / 256) (m / 256) (65536 * q) second_is)
-
-  two_bytes : le 2 m ≡ le 2 k
-  unfolding le
-  two_bytes = cc (low-is k m (16777216 * q) first-is, low-is (k / 256) (m / 256) (65536 * q) second_is)
-
-  three_bytes : le 3 m ≡ le 3 k
-  unfolding le
-  three_bytes =
-      cc (low-is k m (16777216 * q) first-is, low-is (k / 256) (m / 256) (65536 * q) second_is, low-is (k / 256 / 256) (m / 256 / 256) (256 * q) third_is)
-
-pub low_bytes : (wd k : ℕ) → 2 ≤ wd → wd ≤ 3 → le wd (k % 4294967296) ≡ le wd k
-low_bytes zero k a b = absurd (omega arith)
-low_bytes (suc zero) k a b = absurd (omega arith)
-low_bytes (suc (suc zero)) k a b = two_bytes k
-low_bytes (suc (suc (suc zero))) k a b = three_bytes k
-low_bytes (suc (suc (suc (suc n)))) k a b = absurd (omega arith)
 
 -- ---- commands by the span and the numbers that they mean
 module _ (wd span : ℕ) (sp : Span) (z : le 8 span ≡ span_bytes sp) where

@@ -34,7 +34,8 @@ use Rattle.appending.proofs.PiecesLaws.{appends_is}
 use Rattle.macro_expand.specs.declared.look.Called.{Called}
 use Rattle.macro_expand.specs.Expand.{head_bytes, Popped, SomePopped, IsLook, look_act, act_of, CalledLook, CallsLook, ExpandsLook}
 use Rattle.macro_expand.proofs.PoppedLaws.{popped_room, popped_named, popped_names_room, popped_span}
-use Rattle.macro_expand.proofs.ItemPieces.{low_bytes, item_head_lem, alternative_head_lem, told, appends_told}
+use Rattle.appending.proofs.SymbolsBytes.{low_bytes}
+use Rattle.macro_expand.proofs.ItemPieces.{item_head_lem, alternative_head_lem, told, appends_told}
 use Rattle.macro_expand.proofs.ItemTrees.{one_bytes, one_texts}
 use Rattle.macro_expand.proofs.BeginCode.{name_appended, name_number}
 
@@ -117,24 +118,24 @@ module _ (wd : ℕ) (ts : List Text) (sp : Span) (key : Text) where
   look_piece behind = (one_texts sp key true lookbehind_action nil, refl)
 
 module _ (s w : List ℕ) (g : Ground) (n lim q : ℕ) (v : Appended) (x : Called) (w1 : List ℕ) (C : CallsLook s w g n lim q v x w1) (k1 r : ℕ) (w2 : List ℕ)
-    (P : Puts w1 lim v.to (item_head g.width x.span k1 1 1 ++ alternative_head g.width x.span x.act 0 0) r w2) (d : k1 ≡ x.name % 4294967296) where
+    (P : Puts w1 lim v.to (item_head g.width.bytes x.span k1 1 1 ++ alternative_head g.width.bytes x.span x.act 0 0) r w2) (d : k1 ≡ x.name % 4294967296) where
   pub look_done : ExpandsLook s w g n lim q v (record { to = r; count = x.count; deep = v.deep }) w2
   unfolding ExpandsLook head_bytes
   look_done ps four left e sp k R =
       let c = C.each ps four left e sp k R in
       let key = print (symbol_of (looking sp k)) in
       let T = named_in s w1 g x.count in
-      let f : List Text → List ℕ = λ ts. head_bytes g.width sp (number ts (print (symbol_of (looking sp k)))) 1 1 (act_of k) 0 0 in
-      let i : le g.width k1 ≡ le g.width (number (named_in s w1 g x.count) (print (symbol_of (looking sp k)))) =
-      ap (le g.width) d ∙ low_bytes g.width x.name C.narrow C.wide ∙ ap (le g.width) c.name in
-      let j : item_head g.width x.span k1 1 1 ++ alternative_head g.width x.span x.act 0 0 ≡ head_bytes g.width sp (number (named_in s w1 g x.count) (print (symbol_of (looking sp k)))) 1 1 (act_of k) 0 0 =
+      let f : List Text → List ℕ = λ ts. head_bytes g.width.bytes sp (number ts (print (symbol_of (looking sp k)))) 1 1 (act_of k) 0 0 in
+      let i : le g.width.bytes k1 ≡ le g.width.bytes (number (named_in s w1 g x.count) (print (symbol_of (looking sp k)))) =
+      ap (le g.width.bytes) d ∙ low_bytes g.width.bytes x.name C.narrow C.wide ∙ ap (le g.width.bytes) c.name in
+      let j : item_head g.width.bytes x.span k1 1 1 ++ alternative_head g.width.bytes x.span x.act 0 0 ≡ head_bytes g.width.bytes sp (number (named_in s w1 g x.count) (print (symbol_of (looking sp k)))) 1 1 (act_of k) 0 0 =
       rw (
-        item_head_lem g.width x.span sp c.span (number (named_in s w1 g x.count) (print (symbol_of (looking sp k)))) k1 1 1 i,
-        alternative_head_lem g.width x.span sp c.span 0 0 x.act 0 refl,
+        item_head_lem g.width.bytes x.span sp c.span (number (named_in s w1 g x.count) (print (symbol_of (looking sp k)))) k1 1 1 i,
+        alternative_head_lem g.width.bytes x.span sp c.span 0 0 x.act 0 refl,
         c.act,
       ) refl in
       let a = appends_told s g n lim ps w v (key ∷ []) f (record { to = v.to; count = x.count; deep = v.deep }) w1 r w2 R.going c.appended (subst (λ (xs : List ℕ). Puts w1 lim v.to xs r w2) j P) in
-      let p = look_piece g.width (named_in s w2 g x.count) sp key k in
-      appends_is s g n lim ps w v (told (key ∷ []) f) _ w2 a (item_piece g.width (item (expand_lookaround_symbol sp key k))) (ap (with_new (named_in s w g v.count)) p.0) (look_bytes g.width (named_in s w2 g x.count) sp key k) p.1
+      let p = look_piece g.width.bytes (named_in s w2 g x.count) sp key k in
+      appends_is s g n lim ps w v (told (key ∷ []) f) _ w2 a (item_piece g.width.bytes (item (expand_lookaround_symbol sp key k))) (ap (with_new (named_in s w g v.count)) p.0) (look_bytes g.width.bytes (named_in s w2 g x.count) sp key k) p.1
 
 pub ruleset looking_done = (rules, look_done)

@@ -59,7 +59,7 @@ module _ (s w : List ℕ) (g : Ground) (n lim q d : ℕ) (v : Appended) (ps : Li
   ts = texts s w g.m
 
   abbrev wd : ℕ
-  wd = g.width
+  wd = g.width.bytes
 
   abbrev y : Sym
   y = over sp (macro t) xs
@@ -141,12 +141,6 @@ module _ (s w : List ℕ) (g : Ground) (n lim q d : ℕ) (v : Appended) (K : Som
   abbrev C0 : Calls s w g n lim q d v K.places K.four K.left K.end K.span K.name K.arguments K.four' K.behind K.definition
   C0 = K.calls
 
-  pub macro_narrow : 2 ≤ g.width
-  macro_narrow = C0.popped.going.ground.narrow
-
-  pub macro_wide : g.width ≤ 3
-  macro_wide = C0.popped.going.ground.wide
-
   inside : g.from + q + 9 ≤ g.end
   unfolding size_in
   inside = omega (arith, call_inside s w g n lim q d v K.places K.four K.left K.end K.span K.name K.arguments K.four' K.behind K.definition C0, C0.popped.going.ground.ordered)
@@ -157,13 +151,13 @@ module _ (s w : List ℕ) (g : Ground) (n lim q d : ℕ) (v : Appended) (K : Som
   pub macro_call : g.from + q + 16 ≤ length w
   macro_call = omega (arith, inside, C0.popped.going.behind)
 
-  ahead : d + 13 + g.width ≤ K.behind
+  ahead : d + 13 + g.width.bytes ≤ K.behind
   ahead = call_head s w g n lim q d v K.places K.four K.left K.end K.span K.name K.arguments K.four' K.behind K.definition C0
 
   pub macro_definition : d + 16 ≤ length w
   macro_definition = omega (arith, ahead, C0.defines.behind)
 
-  pub macro_flags : d + 9 + g.width < length w
+  pub macro_flags : d + 9 + g.width.bytes < length w
   macro_flags = omega (arith, ahead, C0.defines.behind)
 
   module _ (x : Macro) (R : ReadsCall w g q d x) where
@@ -174,25 +168,25 @@ module _ (s w : List ℕ) (g : Ground) (n lim q d : ℕ) (v : Appended) (K : Som
     macro_few = R.few
 
     module _ (b : (j : ℕ) → Bound.Fits w8 (get_or w j 0)) (span : ℕ) (i : span ≡ le_at 8 w (g.from + q + 1)) (m k : ℕ) (c : k ≡ m % 65536) (u : Appended) (w1 : List ℕ)
-        (H : PutsHead s w g n lim q span (get_or w (d + 9 + g.width) 0) k v u w1) where
+        (H : PutsHead s w g n lim q span (get_or w (d + 9 + g.width.bytes) 0) k v u w1) where
       macro_frame : Frame s w1 g n lim x.call u
       macro_frame = record {
         places = K.places;
         names = K.definition.args;
         args = K.arguments;
-        framed = item_framed s w g n lim q d v K.places K.four K.left K.end K.span K.name K.arguments K.four' K.behind K.definition C0 x R span (get_or w (d + 9 + g.width) 0) k u w1 H;
+        framed = item_framed s w g n lim q d v K.places K.four K.left K.end K.span K.name K.arguments K.four' K.behind K.definition C0 x R span (get_or w (d + 9 + g.width.bytes) 0) k u w1 H;
       }
 
       macro_some : SomeAlternatives s w1 g x.call span x.many x.from u
       macro_some =
-          item_some s w g n lim q d v K.places K.four K.left K.end K.span K.name K.arguments K.four' K.behind K.definition C0 x R span (get_or w (d + 9 + g.width) 0) k u w1 H
+          item_some s w g n lim q d v K.places K.four K.left K.end K.span K.name K.arguments K.four' K.behind K.definition C0 x R span (get_or w (d + 9 + g.width.bytes) 0) k u w1 H
           (span_of s w g n lim q d v K.places K.four K.left K.end K.span K.name K.arguments K.four' K.behind K.definition C0 b span i)
 
       macro_put : m < 65536 → (r : Appended) (w2 : List ℕ) → PutsHolding s w1 g n lim x.call span x.many x.from u r w2 → PutsMacro s w g n lim q d m v r w2
       unfolding PutsMacro
       macro_put l r w2 U ps four left e sp t xs four' end D C z =
           let h : k ≡ m = omega (arith, c) in
-          item_whole s w g n lim q d v ps four left e sp t xs four' end D C x R span (get_or w (d + 9 + g.width) 0) k u w1 H
+          item_whole s w g n lim q d v ps four left e sp t xs four' end D C x R span (get_or w (d + 9 + g.width.bytes) 0) k u w1 H
           (span_of s w g n lim q d v ps four left e sp t xs four' end D C b span i) refl (h ∙ z) (omega arith) r w2 U
 
       pub macro_starts : m < 65536 → StartsMacro s w g n lim q d x m v (record { span = span; out = u }) w1
@@ -249,4 +243,4 @@ module _ (s w : List ℕ) (g : Ground) (n lim q d : ℕ) (v : Appended) (K : Som
         subst (λ (a : Outcome (List Alternative)). ExpandsTo s w g n lim q v ps (after a (λ as'. yes (record { span = sp; name = print (over sp (macro t) xs); inline = D.inline; public = D.public; args = []; alternatives = as' }))) (Ok r) w') (sym z.0)
         (r, refl, U ps four left e sp t xs four' end D C (omega (arith, z.1)))
 
-pub ruleset expanding_macro = (rules, macro_narrow, macro_wide, macro_call, macro_definition, macro_readable, macro_few, expand_room, expand_add, expand_refused, expand_few, expand_is)
+pub ruleset expanding_macro = (rules, macro_call, macro_definition, macro_readable, macro_few, expand_room, expand_add, expand_refused, expand_few, expand_is)

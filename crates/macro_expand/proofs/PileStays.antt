@@ -41,8 +41,8 @@ module _ (s : List ℕ) (g : Ground) (n lim : ℕ) (ps : List ℕ) (w : List ℕ
 
   pub stands_stay : (four : Bool) (left p e : ℕ) (y : Sym) → e ≤ size_in g → StandsAt s w g four left p e y → StandsAt s w' g four left p e y
   stands_stay four left p e y i r = record {
-    within = subst (λ (ts : List Text). SymWithin four g.width ts y left) (sym same) r.within;
-    lies = subst (λ (ts : List Text). Lies w' (g.from + p) (sym_bytes g.width ts y) (g.from + e)) (sym same) (lies_stays s g n lim ps w v h x v' w' a (sym_bytes g.width (texts s w g.m) y) p e i r.lies);
+    within = subst (λ (ts : List Text). SymWithin four g.width.bytes ts y left) (sym same) r.within;
+    lies = subst (λ (ts : List Text). Lies w' (g.from + p) (sym_bytes g.width.bytes ts y) (g.from + e)) (sym same) (lies_stays s g n lim ps w v h x v' w' a (sym_bytes g.width.bytes (texts s w g.m) y) p e i r.lies);
   }
 
   pub on_pile_stays : (G : Tree) (p : ℕ) → OnPile s w g ps G p → OnPile s w' g ps G p
@@ -53,8 +53,8 @@ module _ (s : List ℕ) (g : Ground) (n lim : ℕ) (ps : List ℕ) (w : List ℕ
         end = o.end;
         stands = subst (StandsAt s w' g false 64 p o.end) e (stands_stay false 64 p o.end y o.inside o.stands);
         inside = o.inside;
-        referred = subst (λ (z : Sym). Each (λ (q : ℕ). among q ps ≡ true) (keys_of g.width (texts s w' g.m) z p)) e
-            (subst (λ (ts : List Text). Each (λ (q : ℕ). among q ps ≡ true) (keys_of g.width ts y p)) (sym same) o.referred);
+        referred = subst (λ (z : Sym). Each (λ (q : ℕ). among q ps ≡ true) (keys_of g.width.bytes (texts s w' g.m) z p)) e
+            (subst (λ (ts : List Text). Each (λ (q : ℕ). among q ps ≡ true) (keys_of g.width.bytes ts y p)) (sym same) o.referred);
         expands = rw (symbol_stays p) o.expands;
         calls = rw (symbol_stays p) o.calls;
       }
@@ -82,7 +82,7 @@ module _ (s : List ℕ) (g : Ground) (n lim : ℕ) (ps : List ℕ) (w : List ℕ
     pub declares_stay : Declares s w' g t v' four G
     declares_stay = record {
       row = row_stays;
-      within = subst (λ (ts : List Text). Each (ItemWithin four g.width ts) G) (sym same) d.within;
+      within = subst (λ (ts : List Text). Each (ItemWithin four g.width.bytes ts) G) (sym same) d.within;
       many = d.many;
       width = d.width;
       off = off_stays d.off;

@@ -76,8 +76,8 @@ module _ (s w : List ℕ) (g : Ground) (n lim : ℕ) (ps : List ℕ) (four : Boo
   pub popped_here : among q ps ≡ true
   unfolding keys_of_all
   popped_here =
-      let z = append-nil (keys_of g.width (texts s w g.m) y q) in
-      (own_key g.width (texts s w g.m) (λ (p : ℕ). among p ps ≡ true) y nil q (expands_key y R.expands) (rw z R.referred)).0
+      let z = append-nil (keys_of g.width.bytes (texts s w g.m) y q) in
+      (own_key g.width.bytes (texts s w g.m) (λ (p : ℕ). among p ps ≡ true) y nil q (expands_key y R.expands) (rw z R.referred)).0
 
   pub popped_print : printed_at s w g q ≡ print y
   popped_print = stands_print s w g R.going.ground four left q e y R.stands R.inside R.levels
@@ -85,8 +85,8 @@ module _ (s w : List ℕ) (g : Ground) (n lim : ℕ) (ps : List ℕ) (four : Boo
   abbrev code : ℕ
   code = sym_code (texts s w g.m) y
 
-  spanned : Spanned code (sym_span y) (sym_bytes g.width (texts s w g.m) y)
-  spanned = sym_spanned g.width (texts s w g.m) y
+  spanned : Spanned code (sym_span y) (sym_bytes g.width.bytes (texts s w g.m) y)
+  spanned = sym_spanned g.width.bytes (texts s w g.m) y
 
   lies_spanned : Lies w (g.from + q) (code ∷ (span_bytes (sym_span y) ++ spanned.more)) (g.from + e)
   lies_spanned = subst (λ (xs : List ℕ). Lies w (g.from + q) xs (g.from + e)) spanned.is R.stands.lies

@@ -35,7 +35,8 @@ use Rattle.macro_expand.specs.declared.plus.Pushing.{Pushing}
 use Rattle.macro_expand.specs.Expand.{head_piece, all_named}
 use Rattle.macro_expand.specs.Repeat.{ExpandsAs, BeginsWith, GoesOn, NamedPush, NamesPush, push_head, push_piece, PutsSecond, PutsPush}
 use Rattle.macro_expand.proofs.PoppedLaws.{popped_span}
-use Rattle.macro_expand.proofs.ItemPieces.{low_bytes, steady_head, appends_told, appends_has, appends_number}
+use Rattle.appending.proofs.SymbolsBytes.{low_bytes}
+use Rattle.macro_expand.proofs.ItemPieces.{steady_head, appends_told, appends_has, appends_number}
 use Rattle.macro_expand.proofs.RepeatTrees.{repeat_referring, repeat_fits}
 use Rattle.macro_expand.proofs.RepeatCode.{span_inside, inside-fits}
 use Rattle.macro_expand.proofs.PushTrees.{new_later, steady_push, push-same, plus_bytes, plus_texts, plus_fits}
@@ -100,8 +101,8 @@ module _ (s w : List ℕ) (g : Ground) (n c : ℕ) (a : Numbered) (w1 : List ℕ
     v_number =
         gives_2.is ∙ sym (appends_number s g n lim ps w2 v2 (naming (built_text 4)) v3 w3 named-3 (built_text 1) (appends_has s g n lim ps w1 v1 (naming (built_text 1)) v2 w2 named-2).0)
 
-    low : (m k i : ℕ) → m ≡ k % 4294967296 → k ≡ i → le g.width m ≡ le g.width i
-    low m k i e f = ap (le g.width) e ∙ low_bytes g.width k D.ground.narrow D.ground.wide ∙ ap (le g.width) f
+    low : (m k i : ℕ) → m ≡ k % 4294967296 → k ≡ i → le g.width.bytes m ≡ le g.width.bytes i
+    low m k i e f = ap (le g.width.bytes) e ∙ low_bytes g.width.bytes k D.ground.narrow D.ground.wide ∙ ap (le g.width.bytes) f
 
     push-named : (k1 k2 k3 : ℕ) → k1 ≡ a.number % 4294967296 → k2 ≡ b.number % 4294967296 → k3 ≡ d.number % 4294967296
         → NamedPush s w g n lim ps v (record { push = k1; v = k2; e = k3; count = d.count }) w3
@@ -141,16 +142,10 @@ module _ (s w : List ℕ) (g : Ground) (n lim : ℕ) (v : Appended) (K : SomeApp
   second_built = record { places = K.places; names = K.going.names; built = K.going.built }
 
   module _ (t : Pushing) (w1 : List ℕ) (N : NamesPush s w g n v.count t w1) where
-    pub second_narrow : 2 ≤ g.width
-    second_narrow = N.ground.narrow
-
-    pub second_wide : g.width ≤ 3
-    second_wide = N.ground.wide
-
     pub second_inside : lim ≤ length w1
     second_inside = omega (arith, N.long, K.going.inside)
 
-    module _ (span name m r : ℕ) (w2 : List ℕ) (P : Puts w1 lim v.to (push_head g.width span t.push t.v m t.e) r w2) (d : m ≡ name % 4294967296) where
+    module _ (span name m r : ℕ) (w2 : List ℕ) (P : Puts w1 lim v.to (push_head g.width.bytes span t.push t.v m t.e) r w2) (d : m ≡ name % 4294967296) where
       abbrev u1 : Appended
       u1 = record { to = v.to; count = t.count; deep = v.deep }
 
@@ -167,28 +162,28 @@ module _ (s w : List ℕ) (g : Ground) (n lim : ℕ) (v : Appended) (K : SomeApp
             appends_is s g n lim ps w v (all_named (built_text 3 ∷ built_text 1 ∷ built_text 4 ∷ [])) u1 w1 texts.appended (all_named (built_text 3 ∷ built_text 1 ∷ key ∷ built_text 4 ∷ []))
             (new_later (named_in s w g v.count) (built_text 3) (built_text 1) key (built_text 4) i) refl refl
 
-        key_is : le g.width m ≡ le g.width (number (named_in s w1 g t.count) key)
+        key_is : le g.width.bytes m ≡ le g.width.bytes (number (named_in s w1 g t.count) key)
         key_is =
-            ap (le g.width) d ∙ low_bytes g.width name h.ground.narrow h.ground.wide
-            ∙ ap (le g.width) (j ∙ sym (appends_number s g n lim ps w v (all_named (built_text 3 ∷ built_text 1 ∷ key ∷ built_text 4 ∷ [])) u1 w1 with_key key i))
+            ap (le g.width.bytes) d ∙ low_bytes g.width.bytes name h.ground.narrow h.ground.wide
+            ∙ ap (le g.width.bytes) (j ∙ sym (appends_number s g n lim ps w v (all_named (built_text 3 ∷ built_text 1 ∷ key ∷ built_text 4 ∷ [])) u1 w1 with_key key i))
 
-        pushed-all : Appends s g n lim ps w v (push_piece g.width span key) u2 w2
+        pushed-all : Appends s g n lim ps w v (push_piece g.width.bytes span key) u2 w2
         pushed-all =
-            appends_told s g n lim ps w v (built_text 3 ∷ built_text 1 ∷ key ∷ built_text 4 ∷ []) (push_piece g.width span key).bytes u1 w1 r w2 h with_key
-            (subst (λ (xs : List ℕ). Puts w1 lim v.to xs r w2) (push-same g.width span t.push t.v m t.e _ _ _ _ texts.push-is texts.v_is key_is texts.e_is) P)
+            appends_told s g n lim ps w v (built_text 3 ∷ built_text 1 ∷ key ∷ built_text 4 ∷ []) (push_piece g.width.bytes span key).bytes u1 w1 r w2 h with_key
+            (subst (λ (xs : List ℕ). Puts w1 lim v.to xs r w2) (push-same g.width.bytes span t.push t.v m t.e _ _ _ _ texts.push-is texts.v_is key_is texts.e_is) P)
 
       -- of any
       plainly-put : (ps : List ℕ) → Appending s g n lim ps w v
-          → Appends s g n lim ps w v (then_piece (all_named (built_text 3 ∷ built_text 1 ∷ built_text 4 ∷ [])) (plainly (push_head g.width span t.push t.v m t.e))) u2 w2
+          → Appends s g n lim ps w v (then_piece (all_named (built_text 3 ∷ built_text 1 ∷ built_text 4 ∷ [])) (plainly (push_head g.width.bytes span t.push t.v m t.e))) u2 w2
       plainly-put ps h =
           let a = (N.each lim ps v refl h).appended in
-          appends_then s g n lim ps w v (all_named (built_text 3 ∷ built_text 1 ∷ built_text 4 ∷ [])) u1 w1 (plainly (push_head g.width span t.push t.v m t.e)) u2 w2 (record { same = λ ts us e. refl }) h a
-          (appends_puts s g n lim ps w1 u1 (push_head g.width span t.push t.v m t.e) r w2 a.going P)
+          appends_then s g n lim ps w v (all_named (built_text 3 ∷ built_text 1 ∷ built_text 4 ∷ [])) u1 w1 (plainly (push_head g.width.bytes span t.push t.v m t.e)) u2 w2 (record { same = λ ts us e. refl }) h a
+          (appends_puts s g n lim ps w1 u1 (push_head g.width.bytes span t.push t.v m t.e) r w2 a.going P)
 
       pub second_done : PutsSecond s w g n lim span name v u2 w2
       second_done = record { stays = λ ps h. (_, plainly-put ps h); each = λ ps key h i j. pushed-all ps key h i j }
 
-pub ruleset push-second = (rules, second_ground, second_built, second_narrow, second_wide, second_inside, second_done)
+pub ruleset push-second = (rules, second_ground, second_built, second_inside, second_done)
 
 -- ---- push_rest
 pub rest_appending : (s w : List ℕ) (g : Ground) (n lim p k : ℕ) (v : Appended) → SomeReferring s w g n lim p k v → SomeAppending s w g n lim v
@@ -213,8 +208,8 @@ module _ (s w : List ℕ) (g : Ground) (n lim p span name : ℕ) (v r : Appended
   unfolding PutsPush PutsSymbols count
   rest_done c w2 Q ps four left e x key h R i j =
       let a = S.each ps key h i j in
-      appends_then s g n lim ps w v (push_piece g.width span key) r w1 (symbols_piece g.width (cons x nil)) c.out w2 (steady_push g.width span key) h a
-      (Q ps four left e (cons x nil) refl a.going (referring_stays s g n lim ps w v h (push_piece g.width span key) r w1 a four left p e (cons x nil) R)).1
+      appends_then s g n lim ps w v (push_piece g.width.bytes span key) r w1 (symbols_piece g.width.bytes (cons x nil)) c.out w2 (steady_push g.width.bytes span key) h a
+      (Q ps four left e (cons x nil) refl a.going (referring_stays s g n lim ps w v h (push_piece g.width.bytes span key) r w1 a four left p e (cons x nil) R)).1
 
 pub ruleset push-resting = (rules, rest_appending, rest_there, rest_done)
 
@@ -231,15 +226,15 @@ module _ (s w : List ℕ) (g : Ground) (n lim q : ℕ) (v : Appended) (x : Begun
       let c = B.each ps four left e sp o y R in
       let h = c.appended in
       let k : le 8 z ≡ span_bytes sp = ap (le 8) d ∙ popped_span s w g n lim ps four left q e (around sp (repeat o) y) v R (λ j. (b j).fits) in
-      let H = head_piece g.width sp (print (around sp (repeat o) y)) 0 2 (built_text 2) 1 in
-      let X = symbols_piece g.width (cons y nil) in
-      let N = then_piece (push_piece g.width z (print (around sp (repeat o) y))) (symbols_piece g.width (cons y nil)) in
-      let st = steady_then H X (steady_head g.width sp (print (around sp (repeat o) y)) 0 2 (built_text 2) 1) (steady_symbols g.width (cons y nil)) in
+      let H = head_piece g.width.bytes sp (print (around sp (repeat o) y)) 0 2 (built_text 2) 1 in
+      let X = symbols_piece g.width.bytes (cons y nil) in
+      let N = then_piece (push_piece g.width.bytes z (print (around sp (repeat o) y))) (symbols_piece g.width.bytes (cons y nil)) in
+      let st = steady_then H X (steady_head g.width.bytes sp (print (around sp (repeat o) y)) 0 2 (built_text 2) 1) (steady_symbols g.width.bytes (cons y nil)) in
       let there = referring_stays s g n lim ps w v R.going (then_piece H X) x.out w1 h four (left - 1) (q + 10) e (cons y nil) (repeat_referring s w g n lim ps four left q e sp o y v R) in
       let f = P ps four (left - 1) e y key h.going there (appends_has s g n lim ps w v (then_piece H X) x.out w1 h).0 c.name in
       let a = appends_then s g n lim ps w v (then_piece H X) x.out w1 N r w2 st R.going h f in
-      appends_is s g n lim ps w v (then_piece (then_piece H X) N) r w2 a (item_piece g.width (item (expand_repeat_symbol sp key plus (renamed y))))
-      (ap (with_new (named_in s w g v.count)) (plus_texts g.width sp key y)) (plus_bytes g.width sp key y (named_in s w2 g r.count) z k)
-      (plus_fits g.width sp key y (repeat_fits s w g n lim ps four left q e sp o y v R 64 (omega arith)) (repeat_fits s w g n lim ps four left q e sp o y v R 63 (omega arith)))
+      appends_is s g n lim ps w v (then_piece (then_piece H X) N) r w2 a (item_piece g.width.bytes (item (expand_repeat_symbol sp key plus (renamed y))))
+      (ap (with_new (named_in s w g v.count)) (plus_texts g.width.bytes sp key y)) (plus_bytes g.width.bytes sp key y (named_in s w2 g r.count) z k)
+      (plus_fits g.width.bytes sp key y (repeat_fits s w g n lim ps four left q e sp o y v R 64 (omega arith)) (repeat_fits s w g n lim ps four left q e sp o y v R 63 (omega arith)))
 
 pub ruleset plussing = (rules, span_inside, inside-fits, plus_there, plus_done)

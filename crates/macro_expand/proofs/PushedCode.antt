@@ -42,7 +42,7 @@ use Rattle.macro_expand.proofs.KeyCodes.{key_code, key_code_lem, macro_there, re
 use Rattle.macro_expand.proofs.DrainLaws.{look_item, repeat_item, group_item, macro_item, row_at, within_at}
 
 -- ---- definition
-module _ (s w : List ℕ) (g : Ground) (t : Grammar) (q : ℕ) (k₀ k c₀ c : ℕ) (a₀ : k₀ ≡ le_at g.width w (g.from + q + 9)) (a : k ≡ k₀) (b₀ : c₀ ≡ cell_at w g.m.base k) (b : c ≡ c₀) where
+module _ (s w : List ℕ) (g : Ground) (t : Grammar) (q : ℕ) (k₀ k c₀ c : ℕ) (a₀ : k₀ ≡ le_at g.width.bytes w (g.from + q + 9)) (a : k ≡ k₀) (b₀ : c₀ ≡ cell_at w g.m.base k) (b : c ≡ c₀) where
   cell_is : (i : ℕ) → Definition s w g t q i → c % 2147483648 ≡ i + 1
   cell_is i d = ap (λ (x : ℕ). x % 2147483648) (b ∙ b₀ ∙ ap (cell_at w g.m.base) (a ∙ a₀)) ∙ d.cell
 
@@ -71,7 +71,7 @@ module _ (s w : List ℕ) (g : Ground) (n lim : ℕ) (t : Grammar) (v : Appended
     popped = record { going = p.going; stands = o.stands; inside = o.inside; levels = omega arith; referred = o.referred; expands = o.expands }
 
     code_there : get_or w (g.from + at) 0 ≡ key_code y
-    code_there = key_code_lem g.width (texts s w g.m) w (g.from + at) (g.from + o.end) y o.expands o.stands.lies
+    code_there = key_code_lem g.width.bytes (texts s w g.m) w (g.from + at) (g.from + o.end) y o.expands o.stands.lies
 
     -- ---- a macro call
     module _ (sp : Span) (m : Text) (xs : Syms) (e : y ≡ over sp (macro m) xs) where
@@ -87,12 +87,12 @@ module _ (s w : List ℕ) (g : Ground) (n lim : ℕ) (t : Grammar) (v : Appended
       abbrev nm : ℕ
       nm = number (texts s w g.m) m
 
-      head : Named w g.width (g.from + at) 37 sp nm (count xs ∷ []) (g.from + at + length (node_bytes g.width (Node.Symbol sp (SymbolKind.Over (over_node (texts s w g.m) (macro m) (count xs))))))
+      head : Named w g.width.bytes (g.from + at) 37 sp nm (count xs ∷ []) (g.from + at + length (node_bytes g.width.bytes (Node.Symbol sp (SymbolKind.Over (over_node (texts s w g.m) (macro m) (count xs))))))
       unfolding sym_bytes node_bytes symbol_bytes over_node
       head =
-          let k = lies_split w (g.from + at) (g.from + o.end) (node_bytes g.width (Node.Symbol sp (SymbolKind.Over (over_node (texts s w g.m) (macro m) (count xs))))) (syms_bytes g.width (texts s w g.m) xs) stands.lies in
+          let k = lies_split w (g.from + at) (g.from + o.end) (node_bytes g.width.bytes (Node.Symbol sp (SymbolKind.Over (over_node (texts s w g.m) (macro m) (count xs))))) (syms_bytes g.width.bytes (texts s w g.m) xs) stands.lies in
           let h = stands.within in
-          named w g.width (g.from + at) 37 sp nm (count xs ∷ []) _ h.0 h.1.0.1 k.0
+          named w g.width.bytes (g.from + at) 37 sp nm (count xs ∷ []) _ h.0 h.1.0.1 k.0
 
       found : (i : ℕ) × (item_of G i ≡ some (item D)) × (nm < g.m.count) × (cell_at w g.m.base nm % 2147483648 ≡ i + 1)
       found = p.declares.found m D calls.1
@@ -100,9 +100,9 @@ module _ (s w : List ℕ) (g : Ground) (n lim : ℕ) (t : Grammar) (v : Appended
       defined : Definition s w g t at found.0
       defined =
           let d = p.declares in
-          let z : le_at g.width w (g.from + at + 9) ≡ nm = head.name in
+          let z : le_at g.width.bytes w (g.from + at + 9) ≡ nm = head.name in
           let r = p.going.ground.table.room in
-          let q = lies_inside w (g.from + at + 9 + g.width) _ (count xs ∷ []) (omega arith) head.rest in
+          let q = lies_inside w (g.from + at + 9 + g.width.bytes) _ (count xs ∷ []) (omega arith) head.rest in
           record {
             narrow = p.going.ground.narrow;
             wide = p.going.ground.wide;
@@ -122,8 +122,8 @@ module _ (s w : List ℕ) (g : Ground) (n lim : ℕ) (t : Grammar) (v : Appended
           let a = row_at t (texts s w g.m) w G 0 t.at found.0 (item D) d.row found.1 in
           let z : 0 + found.0 ≡ found.0 = omega arith in
           record {
-            within = within_at t (texts s w g.m) w four g.width (texts s w g.m) G found.0 (item D) d.within found.1;
-            lies = subst (λ (k : ℕ). Lies w (item_place_in t w k) (item_bytes g.width (texts s w g.m) (item D)) a.end) z (subst (λ (k : ℕ). Lies w (item_place_in t w (0 + found.0)) (item_bytes k (texts s w g.m) (item D)) a.end) d.width a.lies);
+            within = within_at t (texts s w g.m) w four g.width.bytes (texts s w g.m) G found.0 (item D) d.within found.1;
+            lies = subst (λ (k : ℕ). Lies w (item_place_in t w k) (item_bytes g.width.bytes (texts s w g.m) (item D)) a.end) z (subst (λ (k : ℕ). Lies w (item_place_in t w (0 + found.0)) (item_bytes k (texts s w g.m) (item D)) a.end) d.width a.lies);
             off = beside d.off (subst (λ (k : ℕ). t.at ≤ item_place_in t w k) z a.from) a.upto;
             before = omega (arith, d.before, a.upto);
             behind = omega (arith, d.behind, a.upto);

@@ -30,10 +30,11 @@ use Rattle.expander.specs.Ground.{size_in}
 use Rattle.expander.specs.Replace.{expanded_code}
 use Rattle.expander.proofs.KeysLaws.{sym_length, stands_code}
 use Rattle.appending.specs.declared.Appended.{Appended}
+use Rattle.appending.specs.Symbols.{Nameable, PutsNamed}
 use Rattle.appending.specs.Pieces.{nested, then_piece, Appends}
 use Rattle.appending.proofs.PiecesLaws.{steady_nested, appends_then, appends_is, appends_nested}
 use Rattle.macro_expand.specs.PutIn.{symbol_piece, sym_piece, Argument, SomeArgument, AnyArgument, PutsOne, PutsArgument, wrapping, fits_at, deepened_by}
-use Rattle.macro_expand.proofs.PutInNamed.{argument-stands}
+use Rattle.macro_expand.proofs.PutInNamed.{argument-stands, named-from, named_some, named_put}
 
 -- ---- how deep
 none_fit : (y : Sym) → sym_fits y zero ≡ false
@@ -125,20 +126,20 @@ and-true : (b : Bool) → b ≡ b && true
 and-true true = refl
 and-true false = refl
 
-module _ (s w : List ℕ) (g : Ground) (n lim p span levels : ℕ) (v : Appended) (f : Bool) (i : f ≡ fits_at g.width g.end w levels p) (u : Appended) (j : u ≡ deepened_by v f) where
+module _ (s w : List ℕ) (g : Ground) (n lim p span levels : ℕ) (v : Appended) (f : Bool) (i : f ≡ fits_at g.width.bytes g.end w levels p) (u : Appended) (j : u ≡ deepened_by v f) where
   module _ (ps : List ℕ) (four : Bool) (left from end : ℕ) (x : Sym) (sp : Span) (R : Argument s w g n lim p span v ps four left from end x sp) where
-    stands : SymStands s w g.m g.width four left p (g.from + end) x
-    stands = subst (λ (q : ℕ). SymStands s w g.m g.width four left q (g.from + end) x) (sym R.at) (argument-stands s w g n lim p span v ps four left from end x sp R)
+    stands : SymStands s w g.m g.width.bytes four left p (g.from + end) x
+    stands = subst (λ (q : ℕ). SymStands s w g.m g.width.bytes four left q (g.from + end) x) (sym R.at) (argument-stands s w g n lim p span v ps four left from end x sp R)
 
     upto : g.from + end ≤ g.end
     unfolding size_in
     upto = omega (arith, R.referring.inside, R.going.ground.ordered)
 
     pub any_long : p + 9 ≤ g.end
-    any_long = omega (arith, upto, stands.lies.end, sym_length g.width (texts s w g.m) x, node_size g.width (texts s w g.m) x)
+    any_long = omega (arith, upto, stands.lies.end, sym_length g.width.bytes (texts s w g.m) x, node_size g.width.bytes (texts s w g.m) x)
 
     fits_is : f ≡ sym_fits (at sp (renamed x)) levels
-    fits_is = i ∙ fits_means s w g.m g.width four g.end x left p (g.from + end) levels stands upto ∙ sym (at-fits sp (renamed x) levels)
+    fits_is = i ∙ fits_means s w g.m g.width.bytes four g.end x left p (g.from + end) levels stands upto ∙ sym (at-fits sp (renamed x) levels)
 
     asked : Appends s g n lim ps w v (nested f) u w
     unfolding deepened_by
@@ -151,11 +152,11 @@ module _ (s w : List ℕ) (g : Ground) (n lim p span levels : ℕ) (v : Appended
     any_code = subst (λ (q : ℕ). expanded_code (get_or w q 0) ≡ is_key x) (sym R.at)
         (stands_code s w g R.going.ground four left from end x (argument-stands s w g n lim p span v ps four left from end x sp R) R.referring.inside)
 
-    pub any_whole : (r : Appended) (w' : List ℕ) → Appends s g n lim ps w u (symbol_piece g.width (at sp (renamed x)) true) r w' → Appends s g n lim ps w v (sym_piece g.width (at sp (renamed x)) levels) r w'
+    pub any_whole : (r : Appended) (w' : List ℕ) → Appends s g n lim ps w u (symbol_piece g.width.bytes (at sp (renamed x)) true) r w' → Appends s g n lim ps w v (sym_piece g.width.bytes (at sp (renamed x)) levels) r w'
     any_whole r w' a =
-        appends_is s g n lim ps w v (then_piece (nested f) (symbol_piece g.width (at sp (renamed x)) true)) r w'
-        (appends_then s g n lim ps w v (nested f) u w (symbol_piece g.width (at sp (renamed x)) true) r w' (steady_nested f) R.going asked a)
-        (sym_piece g.width (at sp (renamed x)) levels) refl refl (sym fits_is ∙ and-true f)
+        appends_is s g n lim ps w v (then_piece (nested f) (symbol_piece g.width.bytes (at sp (renamed x)) true)) r w'
+        (appends_then s g n lim ps w v (nested f) u w (symbol_piece g.width.bytes (at sp (renamed x)) true) r w' (steady_nested f) R.going asked a)
+        (sym_piece g.width.bytes (at sp (renamed x)) levels) refl refl (sym fits_is ∙ and-true f)
 
   -- ---- the code
   module _ (K : AnyArgument s w g n lim p span v) (e : Bool) (z : e ≡ expanded_code (get_or w p 0)) where
@@ -183,9 +184,18 @@ module _ (s w : List ℕ) (g : Ground) (n lim p span levels : ℕ) (v : Appended
         any_whole ps four left from end x sp R r w'
         (P ps four left from end x sp (sym (any_code ps four left from end x sp R) ∙ sym z ∙ d) (any_now ps four left from end x sp R))
 
+    pub any_from : e ≡ true → g.from ≤ p
+    any_from d = named-from s w g n lim p span u (any_some true d)
+
+    pub any_named : e ≡ true → Nameable s w g n lim (p - g.from) u
+    any_named d = named_some s w g n lim p span u (any_some true d)
+
+    pub any_name_put : e ≡ true → (r : Appended) (w' : List ℕ) → PutsNamed s w g n lim (p - g.from) span u r w' → PutsArgument s w g n lim p span levels v r w'
+    any_name_put d r w' P = any_put true d r w' (named_put s w g n lim p span u r w' P)
+
 pub any_here : (s w : List ℕ) (g : Ground) (n lim p span : ℕ) (v : Appended) → AnyArgument s w g n lim p span v → p < length w
 any_here s w g n lim p span v K =
     let S = K.some in
-    omega (arith, any_long s w g n lim p span 0 v (fits_at g.width g.end w 0 p) refl (deepened_by v (fits_at g.width g.end w 0 p)) refl S.places S.four S.left S.from S.end S.symbol S.span_of S.is, S.is.going.behind)
+    omega (arith, any_long s w g n lim p span 0 v (fits_at g.width.bytes g.end w 0 p) refl (deepened_by v (fits_at g.width.bytes g.end w 0 p)) refl S.places S.four S.left S.from S.end S.symbol S.span_of S.is, S.is.going.behind)
 
-pub ruleset putting_any = (rules, any_some, any_put, any_here)
+pub ruleset putting_any = (rules, any_some, any_put, any_from, any_named, any_name_put, any_here)

@@ -92,12 +92,6 @@ pub fit_start : (width e : ℕ) (w : List ℕ) (left p : ℕ) → 2 ≤ width �
 fit_start width e w left p a b c = record { narrow = a; wide = b; room = c; rest = refl }
 
 module _ (width e : ℕ) (w : List ℕ) (left p q i : ℕ) (l : Fitting width e w left p q i) where
-  pub fit_narrow : 2 ≤ width
-  fit_narrow = l.narrow
-
-  pub fit_wide : width ≤ 3
-  fit_wide = l.wide
-
   pub fit_done : i ≤ 0 → false ≡ fits_at width e w left p
   unfolding fits_at
   fit_done h = let z : i ≡ 0 = omega arith in sym (ap (λ (j : ℕ). fits_at width e w j q) z) ∙ l.rest
@@ -126,4 +120,4 @@ module _ (width e : ℕ) (w : List ℕ) (left p q i : ℕ) (l : Fitting width e 
         unfolding fits_at pick
         fit_next y n j = record { narrow = l.narrow; wide = l.wide; room = l.room; rest = cc (lt-leb e q k, opened) }
 
-pub ruleset fitting = (rules, fit_start, fit_narrow, fit_wide, fit_done, fit_past, fit_here, fit_room, fit_other, fit_next)
+pub ruleset fitting = (rules, fit_start, fit_done, fit_past, fit_here, fit_room, fit_other, fit_next)

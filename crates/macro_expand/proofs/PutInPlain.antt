@@ -105,7 +105,7 @@ module _ (s w : List ℕ) (g : Ground) (n lim p span : ℕ) (v : Appended) (ps :
   ts = texts s w g.m
 
   abbrev wd : ℕ
-  wd = g.width
+  wd = g.width.bytes
 
   fits : SymsFits wd ts (cons x nil)
   fits = syms_fit_lem wd ts four (cons x nil) left R.referring.stand.within
@@ -201,20 +201,14 @@ module _ (s w : List ℕ) (g : Ground) (n lim p span : ℕ) (v : Appended) (ps :
 
 -- ---- the code
 module _ (s w : List ℕ) (g : Ground) (n lim p span : ℕ) (v : Appended) (K : SomeArgument false s w g n lim p span v) where
-  in_items : p + long_of g.width (get_or w p 0) ≤ g.end
+  in_items : p + long_of g.width.bytes (get_or w p 0) ≤ g.end
   in_items = plain-inside s w g n lim p span v K.places K.four K.left K.from K.end K.symbol K.span_of K.is
 
-  some_long_lem : 9 ≤ long_of g.width (get_or w p 0)
+  some_long_lem : 9 ≤ long_of g.width.bytes (get_or w p 0)
   some_long_lem = plain-long s w g n lim p span v K.places K.four K.left K.from K.end K.symbol K.span_of K.is
 
   pub one_here : p < length w
   one_here = omega (arith, in_items, some_long_lem, K.is.going.behind)
-
-  pub one_narrow : 2 ≤ g.width
-  one_narrow = K.is.going.ground.narrow
-
-  pub one_wide : g.width ≤ 3
-  one_wide = K.is.going.ground.wide
 
   pub one_behind : p + 16 ≤ length w
   one_behind = omega (arith, in_items, some_long_lem, K.is.going.behind)
@@ -222,7 +216,7 @@ module _ (s w : List ℕ) (g : Ground) (n lim p span : ℕ) (v : Appended) (K : 
   pub one_room : lim ≤ length w
   one_room = K.is.going.inside
 
-  module _ (l : ℕ) (z : l ≡ long_of g.width (get_or w p 0)) where
+  module _ (l : ℕ) (z : l ≡ long_of g.width.bytes (get_or w p 0)) where
     pub one_ordered : p + 9 ≤ p + l
     one_ordered = omega (arith, some_long_lem)
 
@@ -232,8 +226,8 @@ module _ (s w : List ℕ) (g : Ground) (n lim p span : ℕ) (v : Appended) (K : 
     pub one_from : g.from ≤ p + l
     one_from = omega (arith, K.is.at)
 
-    module _ (m : ℕ) (i : m ≡ inside_at g.width w p) (to : ℕ) (w1 : List ℕ) (P : Puts w lim v.to (get_or w p 0 ∷ (le 8 span ++ part (p + 9) (p + l) w)) to w1) where
-      put : Puts w lim v.to (get_or w p 0 ∷ (le 8 span ++ part (p + 9) (p + long_of g.width (get_or w p 0)) w)) to w1
+    module _ (m : ℕ) (i : m ≡ inside_at g.width.bytes w p) (to : ℕ) (w1 : List ℕ) (P : Puts w lim v.to (get_or w p 0 ∷ (le 8 span ++ part (p + 9) (p + l) w)) to w1) where
+      put : Puts w lim v.to (get_or w p 0 ∷ (le 8 span ++ part (p + 9) (p + long_of g.width.bytes (get_or w p 0)) w)) to w1
       put = subst (λ (j : ℕ). Puts w lim v.to (get_or w p 0 ∷ (le 8 span ++ part (p + 9) (p + j) w)) to w1) z P
 
       pub one_referring : SomeReferring s w1 g n lim (p + l - g.from) m (record { to = to; count = v.count; deep = v.deep })
@@ -255,4 +249,4 @@ module _ (s w : List ℕ) (g : Ground) (n lim p span : ℕ) (v : Appended) (K : 
           plain-appended s w g n lim p span v ps four left from end x sp R k m i to w1 put r w2
           (subst (λ (j : ℕ). PutsSymbols s w1 g n lim (p + j - g.from) m (record { to = to; count = v.count; deep = v.deep }) r w2) z Q)
 
-pub ruleset plain-one = (rules, one_here, one_narrow, one_wide, one_behind, one_room, one_ordered, one_upto, one_from, one_referring, one_put)
+pub ruleset plain-one = (rules, one_here, one_behind, one_room, one_ordered, one_upto, one_from, one_referring, one_put)

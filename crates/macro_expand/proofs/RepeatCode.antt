@@ -36,7 +36,8 @@ use Rattle.macro_expand.specs.declared.begin.Begun.{Begun}
 use Rattle.macro_expand.specs.Expand.{head_bytes, head_piece, Popped, SomePopped, IsAny, IsRepeat, Begins}
 use Rattle.macro_expand.specs.Repeat.{ExpandsAs, BeganWith, BeginsWith, by_number, bare_head, PutsBy}
 use Rattle.macro_expand.proofs.PoppedLaws.{popped_room, popped_span}
-use Rattle.macro_expand.proofs.ItemPieces.{low_bytes, alternative_head_lem, steady_head, appends_told, appends_has, appends_number}
+use Rattle.appending.proofs.SymbolsBytes.{low_bytes}
+use Rattle.macro_expand.proofs.ItemPieces.{alternative_head_lem, steady_head, appends_told, appends_has, appends_number}
 use Rattle.macro_expand.proofs.ItemTrees.{simple_node, two_bytes, two_texts, two_fits}
 use Rattle.macro_expand.proofs.RepeatTrees.{text_some, text_nothing, repeat_referring, repeat_fits}
 
@@ -106,28 +107,28 @@ module _ (s w : List ℕ) (g : Ground) (n lim q : ℕ) (v : Appended) (flags i :
     abbrev key : Text
     key = print (around sp (repeat o) y)
 
-    begun : (x.name ≡ number (named_in s w1 g x.out.count) key) × Appends s g n lim ps w v (head_piece g.width sp key flags 2 (built_text i) 1) x.out w1
+    begun : (x.name ≡ number (named_in s w1 g x.out.count) key) × Appends s g n lim ps w v (head_piece g.width.bytes sp key flags 2 (built_text i) 1) x.out w1
     unfolding Begins
     begun = B ps four left e (around sp (repeat o) y) R
 
     there : Referring s w1 g ps four (left - 1) (q + 10) e (cons y nil)
     there =
-        referring_stays s g n lim ps w v R.going (head_piece g.width sp key flags 2 (built_text i) 1) x.out w1 begun.1 four (left - 1) (q + 10) e (cons y nil)
+        referring_stays s g n lim ps w v R.going (head_piece g.width.bytes sp key flags 2 (built_text i) 1) x.out w1 begun.1 four (left - 1) (q + 10) e (cons y nil)
         (repeat_referring s w g n lim ps four left q e sp o y v R)
 
     module _ (c : Copied) (w2 : List ℕ) (P : PutsSymbols s w1 g n lim (q + 10) 1 x.out c w2) where
-      copied : Appends s g n lim ps w1 x.out (symbols_piece g.width (cons y nil)) c.out w2
+      copied : Appends s g n lim ps w1 x.out (symbols_piece g.width.bytes (cons y nil)) c.out w2
       unfolding PutsSymbols count
       copied = (P ps four (left - 1) e (cons y nil) refl begun.1.going there).1
 
       still : Referring s w2 g ps four (left - 1) (q + 10) e (cons y nil)
-      still = referring_stays s g n lim ps w1 x.out begun.1.going (symbols_piece g.width (cons y nil)) c.out w2 copied four (left - 1) (q + 10) e (cons y nil) there
+      still = referring_stays s g n lim ps w1 x.out begun.1.going (symbols_piece g.width.bytes (cons y nil)) c.out w2 copied four (left - 1) (q + 10) e (cons y nil) there
 
       with_symbol : BeganWith s w g n lim q v ps flags i sp key y (record { name = x.name; out = c.out }) w2
       with_symbol = record {
-        name = begun.0 ∙ sym (appends_number s g n lim ps w1 x.out (symbols_piece g.width (cons y nil)) c.out w2 copied key (appends_has s g n lim ps w v _ x.out w1 begun.1).0);
+        name = begun.0 ∙ sym (appends_number s g n lim ps w1 x.out (symbols_piece g.width.bytes (cons y nil)) c.out w2 copied key (appends_has s g n lim ps w v _ x.out w1 begun.1).0);
         appended =
-            appends_then s g n lim ps w v (head_piece g.width sp key flags 2 (built_text i) 1) x.out w1 (symbols_piece g.width (cons y nil)) c.out w2 (steady_head g.width sp key flags 2 (built_text i) 1) R.going
+            appends_then s g n lim ps w v (head_piece g.width.bytes sp key flags 2 (built_text i) 1) x.out w1 (symbols_piece g.width.bytes (cons y nil)) c.out w2 (steady_head g.width.bytes sp key flags 2 (built_text i) 1) R.going
             begun.1 copied;
       }
 
@@ -186,10 +187,10 @@ module _ (s w : List ℕ) (g : Ground) (n lim : ℕ) (v : Appended) (K : SomeApp
   by_built = record { places = K.places; names = K.going.names; built = K.going.built }
 
   -- ---- put_bare
-  pub bare_done : (i : ℕ) (t : Numbered) (w1 : List ℕ) → GivesBuilt s w g n v.count i t w1 → (span m r : ℕ) (w2 : List ℕ) → Puts w1 lim v.to (alternative_head g.width span 1 m 0) r w2 → m ≡ t.number % 4294967296
-      → PutsBy s w g n lim v (built_text i) (bare_head g.width span) (record { to = r; count = t.count; deep = v.deep }) w2
+  pub bare_done : (i : ℕ) (t : Numbered) (w1 : List ℕ) → GivesBuilt s w g n v.count i t w1 → (span m r : ℕ) (w2 : List ℕ) → Puts w1 lim v.to (alternative_head g.width.bytes span 1 m 0) r w2 → m ≡ t.number % 4294967296
+      → PutsBy s w g n lim v (built_text i) (bare_head g.width.bytes span) (record { to = r; count = t.count; deep = v.deep }) w2
   unfolding bare_head alternative_head
-  bare_done i t w1 B span m r w2 P d = put_by s w g n lim v i t w1 B (bare_head g.width span) (λ k. rw (low_bytes g.width k K.going.ground.narrow K.going.ground.wide) refl) m r w2 d P
+  bare_done i t w1 B span m r w2 P d = put_by s w g n lim v i t w1 B (bare_head g.width.bytes span) (λ k. rw (low_bytes g.width.bytes k K.going.ground.narrow K.going.ground.wide) refl) m r w2 d P
 
 pub ruleset putting_bare = (rules, by_ground, by_built, by_inside, bare_done)
 
@@ -224,20 +225,20 @@ pub with_appending : (s w : List ℕ) (g : Ground) (n lim q : ℕ) (v : Appended
 with_appending s w g n lim q v flags i x w1 B = record { places = B.some.places; going = B.some.going }
 
 module _ (s w : List ℕ) (g : Ground) (n lim q : ℕ) (v : Appended) (x : Begun) (w1 : List ℕ) (B : BeginsWith s w g n lim q v 1 5 x w1) where
-  pub question_done : (z : ℕ) (r : Appended) (w2 : List ℕ) → PutsBy s w1 g n lim x.out (built_text 6) (bare_head g.width z) r w2 → z ≡ le_at 8 w (g.from + q + 1) → ((j : ℕ) → Bound.Fits w8 (get_or w j 0))
+  pub question_done : (z : ℕ) (r : Appended) (w2 : List ℕ) → PutsBy s w1 g n lim x.out (built_text 6) (bare_head g.width.bytes z) r w2 → z ≡ le_at 8 w (g.from + q + 1) → ((j : ℕ) → Bound.Fits w8 (get_or w j 0))
       → ExpandsAs s w g n lim q v question r w2
   unfolding ExpandsAs PutsBy
   question_done z r w2 P d b ps four left e sp o y R =
       let key = print (around sp (repeat o) y) in
       let h = (B.each ps four left e sp o y R).appended in
       let k : le 8 z ≡ span_bytes sp = ap (le 8) d ∙ popped_span s w g n lim ps four left q e (around sp (repeat o) y) v R (λ j. (b j).fits) in
-      let H = head_piece g.width sp (print (around sp (repeat o) y)) 1 2 (built_text 5) 1 in
-      let X = symbols_piece g.width (cons y nil) in
-      let N = by_number (built_text 6) (bare_head g.width z) in
-      let st = steady_then H X (steady_head g.width sp (print (around sp (repeat o) y)) 1 2 (built_text 5) 1) (steady_symbols g.width (cons y nil)) in
+      let H = head_piece g.width.bytes sp (print (around sp (repeat o) y)) 1 2 (built_text 5) 1 in
+      let X = symbols_piece g.width.bytes (cons y nil) in
+      let N = by_number (built_text 6) (bare_head g.width.bytes z) in
+      let st = steady_then H X (steady_head g.width.bytes sp (print (around sp (repeat o) y)) 1 2 (built_text 5) 1) (steady_symbols g.width.bytes (cons y nil)) in
       let a = appends_then s g n lim ps w v (then_piece H X) x.out w1 N r w2 st R.going h (P ps h.going) in
-      appends_is s g n lim ps w v (then_piece (then_piece H X) N) r w2 a (item_piece g.width (item (expand_repeat_symbol sp key question (renamed y))))
-      (ap (with_new (named_in s w g v.count)) (question_texts g.width sp key y)) (question_bytes g.width sp key y (named_in s w2 g r.count) z k)
-      (question_fits g.width sp key y (repeat_fits s w g n lim ps four left q e sp o y v R 64 (omega arith)))
+      appends_is s g n lim ps w v (then_piece (then_piece H X) N) r w2 a (item_piece g.width.bytes (item (expand_repeat_symbol sp key question (renamed y))))
+      (ap (with_new (named_in s w g v.count)) (question_texts g.width.bytes sp key y)) (question_bytes g.width.bytes sp key y (named_in s w2 g r.count) z k)
+      (question_fits g.width.bytes sp key y (repeat_fits s w g n lim ps four left q e sp o y v R 64 (omega arith)))
 
 pub ruleset questioning = (rules, span_inside, with_appending, question_done)

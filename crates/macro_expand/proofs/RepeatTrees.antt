@@ -99,15 +99,15 @@ module _ (s w : List ℕ) (g : Ground) (n lim : ℕ) (ps : List ℕ) (four : Boo
   abbrev head : List ℕ
   head = 38 ∷ (span_bytes sp ++ (op_code o ∷ []))
 
-  lies_all : Lies w (g.from + q) (head ++ sym_bytes g.width ts x) (g.from + e)
+  lies_all : Lies w (g.from + q) (head ++ sym_bytes g.width.bytes ts x) (g.from + e)
   unfolding sym_bytes node_bytes symbol_bytes around_node
   lies_all = R.stands.lies
 
   head_long : length head ≡ 10
   head_long = omega (arith, length-append (span_bytes sp) (op_code o ∷ []), span_long sp)
 
-  parts : Lies w (g.from + q) head (g.from + q + length head) × Lies w (g.from + q + length head) (sym_bytes g.width ts x) (g.from + e)
-  parts = lies_split w (g.from + q) (g.from + e) head (sym_bytes g.width ts x) lies_all
+  parts : Lies w (g.from + q) head (g.from + q + length head) × Lies w (g.from + q + length head) (sym_bytes g.width.bytes ts x) (g.from + e)
+  parts = lies_split w (g.from + q) (g.from + e) head (sym_bytes g.width.bytes ts x) lies_all
 
   -- theorem: its operator
   pub repeat_code : get_or w (g.from + q + 9) 0 ≡ op_code o
@@ -118,22 +118,22 @@ module _ (s w : List ℕ) (g : Ground) (n lim : ℕ) (ps : List ℕ) (four : Boo
       let z : g.from + q + 9 ≡ g.from + q + 1 + length (span_bytes sp) = omega (arith, span_long sp) in
       ap (λ (i : ℕ). get_or w i 0) z ∙ c.1
 
-  pub repeat_within : (0 < left) × SymWithin four g.width ts x (left - 1)
-  repeat_within = inner-within four g.width ts sp o x left R.stands.within
+  pub repeat_within : (0 < left) × SymWithin four g.width.bytes ts x (left - 1)
+  repeat_within = inner-within four g.width.bytes ts sp o x left R.stands.within
 
-  pub repeat_inner : SymStands s w g.m g.width four (left - 1) (g.from + (q + 10)) (g.from + e) x
+  pub repeat_inner : SymStands s w g.m g.width.bytes four (left - 1) (g.from + (q + 10)) (g.from + e) x
   repeat_inner =
       let z : g.from + q + length head ≡ g.from + (q + 10) = omega (arith, head_long) in
-      record { within = repeat_within.1; lies = subst (λ (a : ℕ). Lies w a (sym_bytes g.width (texts s w g.m) x) (g.from + e)) z parts.1 }
+      record { within = repeat_within.1; lies = subst (λ (a : ℕ). Lies w a (sym_bytes g.width.bytes (texts s w g.m) x) (g.from + e)) z parts.1 }
 
   -- theorem: the symbol inside stands behind its ten bytes, and has its references
   pub repeat_referring : Referring s w g ps four (left - 1) (q + 10) e (cons x nil)
   unfolding keys_of keys_of_all around_long
   repeat_referring =
-      let k = each-parts (λ (p : ℕ). among p ps ≡ true) (keys_of g.width (texts s w g.m) x (q + 10)) (around_keys (repeat o) q) R.referred in
-      let z = append-nil (keys_of g.width (texts s w g.m) x (q + 10)) in
+      let k = each-parts (λ (p : ℕ). among p ps ≡ true) (keys_of g.width.bytes (texts s w g.m) x (q + 10)) (around_keys (repeat o) q) R.referred in
+      let z = append-nil (keys_of g.width.bytes (texts s w g.m) x (q + 10)) in
       record {
-        stand = one_stands s w g.m g.width four (left - 1) (g.from + (q + 10)) (g.from + e) x repeat_inner;
+        stand = one_stands s w g.m g.width.bytes four (left - 1) (g.from + (q + 10)) (g.from + e) x repeat_inner;
         inside = R.inside;
         levels = omega (arith, R.levels);
         referred = rw z k.0;
@@ -141,4 +141,4 @@ module _ (s w : List ℕ) (g : Ground) (n lim : ℕ) (ps : List ℕ) (four : Boo
 
   -- theorem: it is nested within bounds, also in two more symbols but one
   pub repeat_fits : (k : ℕ) → 63 ≤ k → sym_fits (renamed x) k ≡ true
-  repeat_fits k i = renamed_fits four g.width ts x (left - 1) k (omega (arith, R.levels)) repeat_within.1
+  repeat_fits k i = renamed_fits four g.width.bytes ts x (left - 1) k (omega (arith, R.levels)) repeat_within.1

@@ -34,7 +34,8 @@ use Rattle.macro_expand.specs.declared.star.Starred.{Starred}
 use Rattle.macro_expand.specs.Expand.{head_piece, SomePopped, IsRepeat, Begins}
 use Rattle.macro_expand.specs.Repeat.{ExpandsAs, by_number, PutsBy, star_head, star_piece, PutsStar, BeginsStar, ReadsStar}
 use Rattle.macro_expand.proofs.PoppedLaws.{popped_span, popped_room}
-use Rattle.macro_expand.proofs.ItemPieces.{low_bytes, steady_head}
+use Rattle.appending.proofs.SymbolsBytes.{low_bytes}
+use Rattle.macro_expand.proofs.ItemPieces.{steady_head}
 use Rattle.macro_expand.proofs.RepeatTrees.{repeat_inner, repeat_referring}
 use Rattle.macro_expand.proofs.RepeatCode.{inside-fits, popped_any, by_ground, by_built, by_inside, put_by, begun_there}
 use Rattle.macro_expand.proofs.PushCode.{rest_appending}
@@ -53,10 +54,10 @@ pub ruleset star_putting = (rules, star_put)
 
 -- ---- put_v
 pub v_done : (s w : List ℕ) (g : Ground) (n lim : ℕ) (v : Appended) → SomeAppending s w g n lim v → (t : Numbered) (w1 : List ℕ) → GivesBuilt s w g n v.count 1 t w1 → (span m r : ℕ) (w2 : List ℕ)
-    → Puts w1 lim v.to (star_head g.width span m) r w2 → m ≡ t.number % 4294967296 → PutsBy s w g n lim v (built_text 1) (star_head g.width span) (record { to = r; count = t.count; deep = v.deep }) w2
+    → Puts w1 lim v.to (star_head g.width.bytes span m) r w2 → m ≡ t.number % 4294967296 → PutsBy s w g n lim v (built_text 1) (star_head g.width.bytes span) (record { to = r; count = t.count; deep = v.deep }) w2
 unfolding star_head alternative_head name_head
 v_done s w g n lim v K t w1 B span m r w2 P d =
-    put_by s w g n lim v 1 t w1 B (star_head g.width span) (λ k. rw (low_bytes g.width k K.going.ground.narrow K.going.ground.wide) refl) m r w2 d P
+    put_by s w g n lim v 1 t w1 B (star_head g.width.bytes span) (λ k. rw (low_bytes g.width.bytes k K.going.ground.narrow K.going.ground.wide) refl) m r w2 d P
 
 pub ruleset v_putting = (rules, by_ground, by_built, by_inside, v_done)
 
@@ -65,8 +66,8 @@ not-not : (a b : Bool) → (a || not (not b)) ≡ a || b
 not-not a true = refl
 not-not a false = refl
 
-module _ (s w : List ℕ) (g : Ground) (n lim p span : ℕ) (v r : Appended) (w1 : List ℕ) (S : PutsBy s w g n lim v (built_text 1) (star_head g.width span) r w1) where
-  first_put : (ps : List ℕ) → Appending s g n lim ps w v → Appends s g n lim ps w v (by_number (built_text 1) (star_head g.width span)) r w1
+module _ (s w : List ℕ) (g : Ground) (n lim p span : ℕ) (v r : Appended) (w1 : List ℕ) (S : PutsBy s w g n lim v (built_text 1) (star_head g.width.bytes span) r w1) where
+  first_put : (ps : List ℕ) → Appending s g n lim ps w v → Appends s g n lim ps w v (by_number (built_text 1) (star_head g.width.bytes span)) r w1
   unfolding PutsBy
   first_put ps h = S ps h
 
@@ -82,21 +83,21 @@ module _ (s w : List ℕ) (g : Ground) (n lim p span : ℕ) (v r : Appended) (w1
         going = a.going;
         many = K.many;
         referring =
-            referring_stays s g n lim K.places w v K.going (by_number (built_text 1) (star_head g.width span)) r w1 a K.four K.left p K.end K.symbols K.referring;
+            referring_stays s g n lim K.places w v K.going (by_number (built_text 1) (star_head g.width.bytes span)) r w1 a K.four K.left p K.end K.symbols K.referring;
       }
 
   pub star_rest_done : (c : Copied) (w2 : List ℕ) → PutsSymbols s w1 g n lim p 1 r c w2 → (deep d : Bool) → d ≡ c.out.deep || deep
       → PutsStar s w g n lim p span deep v (record { to = c.out.to; count = c.out.count; deep = d }) w2
   unfolding PutsStar PutsSymbols count
   star_rest_done c w2 Q deep d z ps four left e x h R =
-      let D = by_number (built_text 1) (star_head g.width span) in
-      let X = symbols_piece g.width (cons x nil) in
+      let D = by_number (built_text 1) (star_head g.width.bytes span) in
+      let X = symbols_piece g.width.bytes (cons x nil) in
       let a = first_put ps h in
-      let f = (Q ps four left e (cons x nil) refl a.going (referring_stays s g n lim ps w v h (by_number (built_text 1) (star_head g.width span)) r w1 a four left p e (cons x nil) R)).1 in
-      let both = appends_then s g n lim ps w v D r w1 X c.out w2 (steady_number (built_text 1) (star_head g.width span)) h a f in
+      let f = (Q ps four left e (cons x nil) refl a.going (referring_stays s g n lim ps w v h (by_number (built_text 1) (star_head g.width.bytes span)) r w1 a four left p e (cons x nil) R)).1 in
+      let both = appends_then s g n lim ps w v D r w1 X c.out w2 (steady_number (built_text 1) (star_head g.width.bytes span)) h a f in
       let k = appends_nested s g n lim ps w2 c.out (not deep) both.going in
-      let st = steady_then D X (steady_number (built_text 1) (star_head g.width span)) (steady_symbols g.width (cons x nil)) in
-      subst (λ (u : Bool). Appends s g n lim ps w v (star_piece g.width span x deep) (record { to = c.out.to; count = c.out.count; deep = u }) w2) (not-not c.out.deep deep ∙ sym z)
+      let st = steady_then D X (steady_number (built_text 1) (star_head g.width.bytes span)) (steady_symbols g.width.bytes (cons x nil)) in
+      subst (λ (u : Bool). Appends s g n lim ps w v (star_piece g.width.bytes span x deep) (record { to = c.out.to; count = c.out.count; deep = u }) w2) (not-not c.out.deep deep ∙ sym z)
       (appends_then s g n lim ps w v (then_piece D X) c.out w2 (nested (not deep)) (record { to = c.out.to; count = c.out.count; deep = c.out.deep || not (not deep) }) w2 st h both k)
 
 pub or_yes : (a b : Bool) → a ≡ true → true ≡ a || b
@@ -108,7 +109,7 @@ or_no a b e = rw e refl
 pub ruleset star_resting = (or_yes, or_no, rules, rest_appending, star_there, star_rest_done)
 
 -- ---- read_star
-pub starred_done : (w : List ℕ) (g : Ground) (q z : ℕ) (deep : Bool) → z ≡ le_at 8 w (g.from + q + 1) → deep ≡ not (fits_at g.width g.end w 62 (g.from + (q + 10))) → ((j : ℕ) → Bound.Fits w8 (get_or w j 0))
+pub starred_done : (w : List ℕ) (g : Ground) (q z : ℕ) (deep : Bool) → z ≡ le_at 8 w (g.from + q + 1) → deep ≡ not (fits_at g.width.bytes g.end w 62 (g.from + (q + 10))) → ((j : ℕ) → Bound.Fits w8 (get_or w j 0))
     → ReadsStar w g q (record { span = z; deep = deep })
 starred_done w g q z deep d t b = record { bytes = λ j. (b j).fits; span_is = d; deep_is = t }
 
@@ -122,12 +123,6 @@ pub ruleset beginning_star = (rules, popped_any, star_begun)
 
 -- ---- expand_star
 module _ (s w : List ℕ) (g : Ground) (n lim q : ℕ) (v : Appended) (K : SomePopped IsRepeat s w g n lim q v) where
-  pub star_narrow : 2 ≤ g.width
-  star_narrow = K.popped.going.ground.narrow
-
-  pub star_wide : g.width ≤ 3
-  star_wide = K.popped.going.ground.wide
-
   pub star_end : g.end + 16 ≤ length w
   star_end = K.popped.going.behind
 
@@ -143,17 +138,17 @@ star_done s w g n lim q v x w1 B u r w2 P S ps four left e sp o y R =
     let key = print (around sp (repeat o) y) in
     let h = (B.begins ps four left e (around sp (repeat o) y) R).1 in
     let k : le 8 u.span ≡ span_bytes sp = ap (le 8) S.span_is ∙ popped_span s w g n lim ps four left q e (around sp (repeat o) y) v R S.bytes in
-    let H = head_piece g.width sp (print (around sp (repeat o) y)) 1 2 (built_text 0) 0 in
+    let H = head_piece g.width.bytes sp (print (around sp (repeat o) y)) 1 2 (built_text 0) 0 in
     let there = referring_stays s g n lim ps w v R.going H x.out w1 h four (left - 1) (q + 10) e (cons y nil) (repeat_referring s w g n lim ps four left q e sp o y v R) in
     let f = P ps four (left - 1) e y h.going there in
-    let a = appends_then s g n lim ps w v H x.out w1 (star_piece g.width z y deep) r w2 (steady_head g.width sp (print (around sp (repeat o) y)) 1 2 (built_text 0) 0) R.going h f in
-    let i = fits_means s w g.m g.width four g.end y (left - 1) (g.from + (q + 10)) (g.from + e) 62 (repeat_inner s w g n lim ps four left q e sp o y v R) (omega (arith, R.inside, R.going.ground.ordered)) in
-    appends_is s g n lim ps w v (then_piece H (star_piece g.width z y deep)) r w2 a (item_piece g.width (item (expand_repeat_symbol sp key star (renamed y))))
-    (star_texts g.width sp key y (named_in s w g v.count) z deep) (star_bytes g.width sp key y (named_in s w2 g r.count) z deep k)
-    (star_fits g.width sp key y z deep (flip u.deep (sym_fits (renamed y) 62) (S.deep_is ∙ ap not i)))
+    let a = appends_then s g n lim ps w v H x.out w1 (star_piece g.width.bytes z y deep) r w2 (steady_head g.width.bytes sp (print (around sp (repeat o) y)) 1 2 (built_text 0) 0) R.going h f in
+    let i = fits_means s w g.m g.width.bytes four g.end y (left - 1) (g.from + (q + 10)) (g.from + e) 62 (repeat_inner s w g n lim ps four left q e sp o y v R) (omega (arith, R.inside, R.going.ground.ordered)) in
+    appends_is s g n lim ps w v (then_piece H (star_piece g.width.bytes z y deep)) r w2 a (item_piece g.width.bytes (item (expand_repeat_symbol sp key star (renamed y))))
+    (star_texts g.width.bytes sp key y (named_in s w g v.count) z deep) (star_bytes g.width.bytes sp key y (named_in s w2 g r.count) z deep k)
+    (star_fits g.width.bytes sp key y z deep (flip u.deep (sym_fits (renamed y) 62) (S.deep_is ∙ ap not i)))
   where
     flip : (d c : Bool) → d ≡ not c → not d ≡ c
     flip d true h = ap not h
     flip d false h = ap not h
 
-pub ruleset starring = (rules, inside-fits, star_narrow, star_wide, star_end, star_place, star_done)
+pub ruleset starring = (rules, inside-fits, star_end, star_place, star_done)

@@ -37,14 +37,14 @@ pub record SomeAlternative (s w : List ℕ) (g : Ground) (c : Call) (p : ℕ) (v
   pub four : Bool
   pub end : ℕ
   pub alternative : Alternative
-  pub within : AlternativeWithin four g.width (texts s w g.m) alternative
-  pub placed : Placed w g v p end (alternative_bytes g.width (texts s w g.m) alternative)
+  pub within : AlternativeWithin four g.width.bytes (texts s w g.m) alternative
+  pub placed : Placed w g v p end (alternative_bytes g.width.bytes (texts s w g.m) alternative)
   pub upto : end ≤ c.end
 
 unfoldable pub PutsAlternative : List ℕ → List ℕ → Ground → ℕ → ℕ → Call → ℕ → ℕ → Appended → Appended → List ℕ → Type 0
 PutsAlternative s w g n lim c span p v r w' = (ps : List ℕ) (names : List Text) (args : Syms) (four : Bool) (e : ℕ) (a : Alternative) (sp : Span) → Framed s w g n lim c v ps names args
-    → AlternativeWithin four g.width (texts s w g.m) a → Placed w g v p e (alternative_bytes g.width (texts s w g.m) a) → e ≤ c.end → le 8 span ≡ span_bytes sp
-    → Appends s g n lim ps w v (alternative_piece g.width (expand_alternative sp names (renamed_all args) a)) r w'
+    → AlternativeWithin four g.width.bytes (texts s w g.m) a → Placed w g v p e (alternative_bytes g.width.bytes (texts s w g.m) a) → e ≤ c.end → le 8 span ≡ span_bytes sp
+    → Appends s g n lim ps w v (alternative_piece g.width.bytes (expand_alternative sp names (renamed_all args) a)) r w'
 
 -- its command was appended, and its symbols are to come
 pub record OpensAlternative (s w : List ℕ) (g : Ground) (n lim : ℕ) (c : Call) (span p : ℕ) (v : Appended) (r : Opened) (w' : List ℕ) : Type 0 where
@@ -63,8 +63,8 @@ held sp names args (a ∷ rest) = elim (evaluate_condition names args a.conditio
 -- one, if it holds
 unfoldable pub PutsIf : List ℕ → List ℕ → Ground → ℕ → ℕ → Call → ℕ → ℕ → Appended → Appended → List ℕ → Type 0
 PutsIf s w g n lim c span p v r w' = (ps : List ℕ) (names : List Text) (args : Syms) (four : Bool) (e : ℕ) (a : Alternative) (sp : Span) → Framed s w g n lim c v ps names args
-    → AlternativeWithin four g.width (texts s w g.m) a → Placed w g v p e (alternative_bytes g.width (texts s w g.m) a) → e ≤ c.end → le 8 span ≡ span_bytes sp
-    → Appends s g n lim ps w v (alternatives_piece g.width (held sp names (renamed_all args) (a ∷ []))) r w'
+    → AlternativeWithin four g.width.bytes (texts s w g.m) a → Placed w g v p e (alternative_bytes g.width.bytes (texts s w g.m) a) → e ≤ c.end → le 8 span ≡ span_bytes sp
+    → Appends s g n lim ps w v (alternatives_piece g.width.bytes (held sp names (renamed_all args) (a ∷ []))) r w'
 
 -- ---- one behind another
 pub record SomeAlternatives (s w : List ℕ) (g : Ground) (c : Call) (span k p : ℕ) (v : Appended) : Type 0 where
@@ -74,11 +74,11 @@ pub record SomeAlternatives (s w : List ℕ) (g : Ground) (c : Call) (span k p :
   pub end : ℕ
   pub alternatives : List Alternative
   pub many : length alternatives ≡ k
-  pub within : Each (AlternativeWithin four g.width (texts s w g.m)) alternatives
-  pub placed : Placed w g v p end (bytes_of_each (alternative_bytes g.width (texts s w g.m)) alternatives)
+  pub within : Each (AlternativeWithin four g.width.bytes (texts s w g.m)) alternatives
+  pub placed : Placed w g v p end (bytes_of_each (alternative_bytes g.width.bytes (texts s w g.m)) alternatives)
   pub upto : end ≤ c.end
 
 unfoldable pub PutsHolding : List ℕ → List ℕ → Ground → ℕ → ℕ → Call → ℕ → ℕ → ℕ → Appended → Appended → List ℕ → Type 0
 PutsHolding s w g n lim c span k p v r w' = (ps : List ℕ) (names : List Text) (args : Syms) (four : Bool) (e : ℕ) (xs : List Alternative) (sp : Span) → Framed s w g n lim c v ps names args
-    → length xs ≡ k → Each (AlternativeWithin four g.width (texts s w g.m)) xs → Placed w g v p e (bytes_of_each (alternative_bytes g.width (texts s w g.m)) xs) → e ≤ c.end → le 8 span ≡ span_bytes sp
-    → Appends s g n lim ps w v (alternatives_piece g.width (held sp names (renamed_all args) xs)) r w'
+    → length xs ≡ k → Each (AlternativeWithin four g.width.bytes (texts s w g.m)) xs → Placed w g v p e (bytes_of_each (alternative_bytes g.width.bytes (texts s w g.m)) xs) → e ≤ c.end → le 8 span ≡ span_bytes sp
+    → Appends s g n lim ps w v (alternatives_piece g.width.bytes (held sp names (renamed_all args) xs)) r w'

@@ -20,9 +20,9 @@ argument_in wd e w k (suc n) a p = pick (eqb k (le_at wd w (a + 1))) (Some p) (a
 
 -- what is read lies in work
 pub record ReadableCall (g : Ground) (c : Call) (w : List ℕ) : Type 0 where
-  pub narrow : 2 ≤ g.width
-  pub wide : g.width ≤ 3
-  pub parameters : c.params + parameters_long g.width c.many ≤ length w
+  pub narrow : 2 ≤ g.width.bytes
+  pub wide : g.width.bytes ≤ 3
+  pub parameters : c.params + parameters_long g.width.bytes c.many ≤ length w
   pub items : g.end + 16 ≤ length w
   pub definition : c.end + 16 ≤ length w
 
@@ -32,24 +32,24 @@ equal_by wd w p at = pick (eqb (le_at wd w (p + 9)) (le_at wd w (at + 10 + wd)))
 
 module _ (g : Ground) (c : Call) (w : List ℕ) where
   unfoldable pub argument_for : ℕ → Option ℕ
-  argument_for k = argument_in g.width g.end w k c.many c.params c.args
+  argument_for k = argument_in g.width.bytes g.end w k c.many c.params c.args
 
   -- ---- the condition at a place, whose argument was looked for
   unfoldable pub judged_by : ℕ → Option ℕ → Option Bool
   judged_by at None = None
-  judged_by at (Some p) = pick (leb g.end p) None (pick (eqb (get_or w p 0) 34) (Some (equal_by g.width w p at)) None)
+  judged_by at (Some p) = pick (leb g.end p) None (pick (eqb (get_or w p 0) 34) (Some (equal_by g.width.bytes w p at)) None)
 
   unfoldable pub judged_at : ℕ → Option Bool
-  judged_at at = pick (leb c.end at) None (judged_by at (argument_for (le_at g.width w (at + 9))))
+  judged_at at = pick (leb c.end at) None (judged_by at (argument_for (le_at g.width.bytes w (at + 9))))
 
   -- ---- whether the alternative at p holds
   unfoldable pub holds_at : ℕ → Option Bool
-  holds_at p = pick (eqb (get_or w (p + 10) 0) 0) (Some true) (judged_at (conditions_from g.width w p))
+  holds_at p = pick (eqb (get_or w (p + 10) 0) 0) (Some true) (judged_at (conditions_from g.width.bytes w p))
 
   -- how many of n from p on hold, with k before
   unfoldable pub hold_from : ℕ → ℕ → ℕ → Result ℕ ℕ
   hold_from zero p k = Ok k
   hold_from (suc n) p k = pick (leb c.end p) (Ok k) (elim (holds_at p) [
-    | Some b ↦ hold_from n (alternative_end g.width w p c.end) (pick b (k + 1) k)
-    | None ↦ Err (conditions_from g.width w p)
+    | Some b ↦ hold_from n (alternative_end g.width.bytes w p c.end) (pick b (k + 1) k)
+    | None ↦ Err (conditions_from g.width.bytes w p)
   ])

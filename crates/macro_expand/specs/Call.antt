@@ -19,8 +19,8 @@ use Rattle.macro_expand.specs.Expand.{Popped, ExpandsTo}
 
 -- the definition D stands at d, up to e, where nothing is written
 pub record Defines (s w : List ℕ) (g : Ground) (v : Appended) (four : Bool) (d e : ℕ) (D : Nonterminal) : Type 0 where
-  pub within : NonterminalWithin four g.width (texts s w g.m) D
-  pub lies : Lies w d (item_bytes g.width (texts s w g.m) (item D)) e
+  pub within : NonterminalWithin four g.width.bytes (texts s w g.m) D
+  pub lies : Lies w d (item_bytes g.width.bytes (texts s w g.m) (item D)) e
   pub off : (e ≤ list_place g 0) ⊎ ((top_of g ≤ d) × (e ≤ v.to))
   pub before : e ≤ v.to
   pub behind : e + 16 ≤ length w

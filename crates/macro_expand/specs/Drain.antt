@@ -41,9 +41,9 @@ item_of (x ∷ xs) (suc i) = item_of xs i
 -- the items G stand where nothing is written, and the cell of a macro's name has the index of its definition, and one
 pub record Declares (s w : List ℕ) (g : Ground) (t : Grammar) (v : Appended) (four : Bool) (G : Tree) : Type 0 where
   pub row : Row t (texts s w g.m) w 0 t.at G
-  pub within : Each (ItemWithin four g.width (texts s w g.m)) G
+  pub within : Each (ItemWithin four g.width.bytes (texts s w g.m)) G
   pub many : t.count ≡ length G
-  pub width : t.width ≡ g.width
+  pub width : t.width.bytes ≡ g.width.bytes
   pub off : (t.end ≤ list_place g 0) ⊎ ((top_of g ≤ t.at) × (t.end ≤ v.to))
   pub before : t.end ≤ v.to
   pub behind : t.end + 16 ≤ length w
@@ -67,7 +67,7 @@ pub record OnPile (s w : List ℕ) (g : Ground) (ps : List ℕ) (G : Tree) (p : 
   pub end : ℕ
   pub stands : StandsAt s w g false 64 p end (symbol_in s w g p)
   pub inside : end ≤ size_in g
-  pub referred : Each (λ (q : ℕ). among q ps ≡ true) (keys_of g.width (texts s w g.m) (symbol_in s w g p) p)
+  pub referred : Each (λ (q : ℕ). among q ps ≡ true) (keys_of g.width.bytes (texts s w g.m) (symbol_in s w g p) p)
   pub expands : Expands (symbol_in s w g p)
   pub calls : CallsMacro G (symbol_in s w g p)
 
@@ -101,7 +101,7 @@ abbrev pub items_piece : ℕ → List Item → Piece
 items_piece wd is = record { texts = texts_of_each item_texts is; bytes = λ ts. bytes_of_each (item_bytes wd ts) is; fits = each item_fits is }
 
 unfoldable pub DrainedBy : List ℕ → List ℕ → Ground → ℕ → ℕ → Appended → List ℕ → Outcome (List Item) → Result Appended Refusal → List ℕ → Type 0
-DrainedBy s w g n lim v ps (yes is) r w' = (v' : Appended) × (r ≡ Ok v') × Appends s g n lim ps w v (items_piece g.width is) v' w'
+DrainedBy s w g n lim v ps (yes is) r w' = (v' : Appended) × (r ≡ Ok v') × Appends s g n lim ps w v (items_piece g.width.bytes is) v' w'
 DrainedBy s w g n lim v ps (no k sp) r w' = r ≡ Err (refusal_over k sp)
 
 -- "New items are appended in the order they leave the pile, last in first out"
@@ -113,11 +113,11 @@ Drains s w g n lim t v r w' = (ps : List ℕ) (four : Bool) (G : Tree) → Pile 
 
 -- a call of m stands at q, whose number and cell are such that its definition is the i-th item
 pub record Definition (s w : List ℕ) (g : Ground) (t : Grammar) (q : ℕ) (i : ℕ) : Type 0 where
-  pub narrow : 2 ≤ g.width
-  pub wide : g.width ≤ 3
-  pub call : g.from + q + 9 + g.width ≤ length w
-  pub name : g.m.base + 24 * le_at g.width w (g.from + q + 9) + 24 ≤ length w
-  pub cell : cell_at w g.m.base (le_at g.width w (g.from + q + 9)) % 2147483648 ≡ i + 1
+  pub narrow : 2 ≤ g.width.bytes
+  pub wide : g.width.bytes ≤ 3
+  pub call : g.from + q + 9 + g.width.bytes ≤ length w
+  pub name : g.m.base + 24 * le_at g.width.bytes w (g.from + q + 9) + 24 ≤ length w
+  pub cell : cell_at w g.m.base (le_at g.width.bytes w (g.from + q + 9)) % 2147483648 ≡ i + 1
   pub list : t.list + 8 * t.count ≤ length w
   pub ordered : t.at ≤ t.end
 

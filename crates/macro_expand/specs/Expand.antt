@@ -41,7 +41,7 @@ pub record Popped (s w : List ℕ) (g : Ground) (n lim : ℕ) (ps : List ℕ) (f
   pub stands : StandsAt s w g four left q e y
   pub inside : e ≤ size_in g
   pub levels : left ≤ 64
-  pub referred : Each (λ (p : ℕ). among p ps ≡ true) (keys_of g.width (texts s w g.m) y q)
+  pub referred : Each (λ (p : ℕ). among p ps ≡ true) (keys_of g.width.bytes (texts s w g.m) y q)
   pub expands : Expands y
 
 -- there is such a symbol, of which P is true
@@ -71,24 +71,24 @@ module _ (s w : List ℕ) (g : Ground) (n lim q : ℕ) (v : Appended) where
   -- the action is the i-th built-in text
   unfoldable pub Begins : ℕ → ℕ → ℕ → ℕ → Begun → List ℕ → Type 0
   Begins flags alternatives i symbols r w' = (ps : List ℕ) (four : Bool) (left e : ℕ) (y : Sym) → Popped s w g n lim ps four left q e y v
-      → (r.name ≡ number (named_in s w' g r.out.count) (print y)) × Appends s g n lim ps w v (head_piece g.width (sym_span y) (print y) flags alternatives (built_text i) symbols) r.out w'
+      → (r.name ≡ number (named_in s w' g r.out.count) (print y)) × Appends s g n lim ps w v (head_piece g.width.bytes (sym_span y) (print y) flags alternatives (built_text i) symbols) r.out w'
 
   -- ---- whole items
 
   -- d is appended, or refused
   unfoldable pub ExpandsTo : List ℕ → Outcome Nonterminal → Result Appended Refusal → List ℕ → Type 0
-  ExpandsTo ps (yes d) r w' = (v' : Appended) × (r ≡ Ok v') × Appends s g n lim ps w v (item_piece g.width (item d)) v' w'
+  ExpandsTo ps (yes d) r w' = (v' : Appended) × (r ≡ Ok v') × Appends s g n lim ps w v (item_piece g.width.bytes (item d)) v' w'
   ExpandsTo ps (no k sp) r w' = r ≡ Err (refusal_over k sp)
 
   -- `@L` or `@R`
   unfoldable pub ExpandsLook : Appended → List ℕ → Type 0
   ExpandsLook r w' = (ps : List ℕ) (four : Bool) (left e : ℕ) (sp : Span) (k : Look) → Popped s w g n lim ps four left q e (symbol_of (looking sp k)) v
-      → Appends s g n lim ps w v (item_piece g.width (item (expand_lookaround_symbol sp (print (symbol_of (looking sp k))) k))) r w'
+      → Appends s g n lim ps w v (item_piece g.width.bytes (item (expand_lookaround_symbol sp (print (symbol_of (looking sp k))) k))) r w'
 
   -- a repeat
   unfoldable pub ExpandsRepeat : Appended → List ℕ → Type 0
   ExpandsRepeat r w' = (ps : List ℕ) (four : Bool) (left e : ℕ) (sp : Span) (o : Op) (x : Sym) → Popped s w g n lim ps four left q e (around sp (repeat o) x) v
-      → Appends s g n lim ps w v (item_piece g.width (item (expand_repeat_symbol sp (print (around sp (repeat o) x)) o (renamed x)))) r w'
+      → Appends s g n lim ps w v (item_piece g.width.bytes (item (expand_repeat_symbol sp (print (around sp (repeat o) x)) o (renamed x)))) r w'
 
   -- a group
   unfoldable pub ExpandsExpr : Result Appended Refusal → List ℕ → Type 0
@@ -126,8 +126,8 @@ pub record NamedBoth (s w : List ℕ) (g : Ground) (n lim : ℕ) (ps : List ℕ)
 
 -- of every symbol that was taken off the pile
 pub record NamesBoth (s w : List ℕ) (g : Ground) (n lim q : ℕ) (v : Appended) (i : ℕ) (r : Named) (w' : List ℕ) : Type 0 where
-  pub narrow : 2 ≤ g.width
-  pub wide : g.width ≤ 3
+  pub narrow : 2 ≤ g.width.bytes
+  pub wide : g.width.bytes ≤ 3
   pub inside : lim ≤ length w'
   pub each : (ps : List ℕ) (four : Bool) (left e : ℕ) (y : Sym) → Popped s w g n lim ps four left q e y v → NamedBoth s w g n lim ps v (sym_span y) (print y) (built_text i) r w'
 
@@ -150,7 +150,7 @@ pub record CalledLook (s w : List ℕ) (g : Ground) (n lim : ℕ) (ps : List ℕ
 
 -- of every one that was taken off the pile
 pub record CallsLook (s w : List ℕ) (g : Ground) (n lim q : ℕ) (v : Appended) (r : Called) (w' : List ℕ) : Type 0 where
-  pub narrow : 2 ≤ g.width
-  pub wide : g.width ≤ 3
+  pub narrow : 2 ≤ g.width.bytes
+  pub wide : g.width.bytes ≤ 3
   pub inside : lim ≤ length w'
   pub each : (ps : List ℕ) (four : Bool) (left e : ℕ) (sp : Span) (k : Look) → Popped s w g n lim ps four left q e (symbol_of (looking sp k)) v → CalledLook s w g n lim ps v sp k r w'

@@ -26,4 +26,4 @@ pub record SomeGroup (s w : List ℕ) (g : Ground) (n lim q : ℕ) (v : Appended
 -- its item with the i-th built-in text
 unfoldable pub PutsGroup : List ℕ → List ℕ → Ground → ℕ → ℕ → ℕ → Appended → ℕ → Appended → List ℕ → Type 0
 PutsGroup s w g n lim q v i r w' = (ps : List ℕ) (four : Bool) (left e : ℕ) (sp : Span) (xs : Syms) → Popped s w g n lim ps four left q e (over sp group xs) v
-    → Appends s g n lim ps w v (item_piece g.width (item (made sp (print (over sp group xs)) true (simple sp (user (built_text i)) (renamed_all xs) ∷ [])))) r w'
+    → Appends s g n lim ps w v (item_piece g.width.bytes (item (made sp (print (over sp group xs)) true (simple sp (user (built_text i)) (renamed_all xs) ∷ [])))) r w'

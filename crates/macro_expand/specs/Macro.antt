@@ -20,12 +20,12 @@ use Rattle.macro_expand.specs.Alternatives.{held, SomeAlternatives, PutsHolding}
 
 -- the call at q and the definition at d
 pub record ReadsCall (w : List ℕ) (g : Ground) (q d : ℕ) (r : Macro) : Type 0 where
-  pub params : r.call.params ≡ d + 13 + g.width
-  pub many : r.call.many ≡ get_or w (d + 10 + g.width) 0
-  pub args : r.call.args ≡ g.from + q + (10 + g.width)
+  pub params : r.call.params ≡ d + 13 + g.width.bytes
+  pub many : r.call.many ≡ get_or w (d + 10 + g.width.bytes) 0
+  pub args : r.call.args ≡ g.from + q + (10 + g.width.bytes)
   pub end : r.call.end + 16 ≡ length w
-  pub alternatives : r.many ≡ le_at 2 w (d + 11 + g.width)
-  pub first : r.from ≡ first_alternative g.width w d
+  pub alternatives : r.many ≡ le_at 2 w (d + 11 + g.width.bytes)
+  pub first : r.from ≡ first_alternative g.width.bytes w d
   pub few : r.many < 65536
 
 -- the command of an item without arguments, whose name is a text
@@ -34,7 +34,7 @@ macro_piece wd span key flags alternatives = record { texts = key ∷ []; bytes 
 
 unfoldable pub PutsHead : List ℕ → List ℕ → Ground → ℕ → ℕ → ℕ → ℕ → ℕ → ℕ → Appended → Appended → List ℕ → Type 0
 PutsHead s w g n lim q span flags m v r w' = (ps : List ℕ) (four : Bool) (left e : ℕ) (y : Sym) → Popped s w g n lim ps four left q e y v
-    → Appends s g n lim ps w v (macro_piece g.width span (print y) flags m) r w'
+    → Appends s g n lim ps w v (macro_piece g.width.bytes span (print y) flags m) r w'
 
 -- the item of the definition D, without arguments, with those of its alternatives that hold
 abbrev pub expanded_by : Span → Text → Syms → Nonterminal → Nonterminal
@@ -43,7 +43,7 @@ expanded_by sp key xs D = record { span = sp; name = key; inline = D.inline; pub
 unfoldable pub PutsMacro : List ℕ → List ℕ → Ground → ℕ → ℕ → ℕ → ℕ → ℕ → Appended → Appended → List ℕ → Type 0
 PutsMacro s w g n lim q d m v r w' = (ps : List ℕ) (four : Bool) (left e : ℕ) (sp : Span) (t : Text) (xs : Syms) (four' : Bool) (end : ℕ) (D : Nonterminal)
     → Calls s w g n lim q d v ps four left e sp t xs four' end D → m ≡ length (held sp D.args (renamed_all xs) D.alternatives)
-    → Appends s g n lim ps w v (item_piece g.width (item (expanded_by sp (print (over sp (macro t) xs)) (renamed_all xs) D))) r w'
+    → Appends s g n lim ps w v (item_piece g.width.bytes (item (expanded_by sp (print (over sp (macro t) xs)) (renamed_all xs) D))) r w'
 
 -- the item's command was appended, and its alternatives are to come
 pub record StartsMacro (s w : List ℕ) (g : Ground) (n lim q d : ℕ) (x : Macro) (m : ℕ) (v : Appended) (r : Started) (w' : List ℕ) : Type 0 where

@@ -56,8 +56,8 @@ pub record Framed (s w : List ℕ) (g : Ground) (n lim : ℕ) (c : Call) (v : Ap
   pub referring : Referring s w g ps four left from end args
   pub four' : Bool
   pub upto : ℕ
-  pub uses : Each (Uses four' g.width (texts s w g.m) is_name) names
-  pub parameters : Placed w g v c.params upto (bytes_of_each (argument_bytes g.width (texts s w g.m)) names)
+  pub uses : Each (Uses four' g.width.bytes (texts s w g.m) is_name) names
+  pub parameters : Placed w g v c.params upto (bytes_of_each (argument_bytes g.width.bytes (texts s w g.m)) names)
   pub named : c.many ≡ length names
   pub called : count args ≡ c.many
   pub definition : c.end + 16 ≤ length w
@@ -95,12 +95,12 @@ pub record AnyArgument (s w : List ℕ) (g : Ground) (n lim p span : ℕ) (v : A
 -- every such one, expanded or not
 unfoldable pub PutsOne : Bool → List ℕ → List ℕ → Ground → ℕ → ℕ → ℕ → ℕ → Appended → Appended → List ℕ → Type 0
 PutsOne k s w g n lim p span v r w' = (ps : List ℕ) (four : Bool) (left from end : ℕ) (x : Sym) (sp : Span) → is_key x ≡ k → Argument s w g n lim p span v ps four left from end x sp
-    → Appends s g n lim ps w v (symbol_piece g.width (at sp (renamed x)) true) r w'
+    → Appends s g n lim ps w v (symbol_piece g.width.bytes (at sp (renamed x)) true) r w'
 
 -- any such one, with so many levels of nesting left
 unfoldable pub PutsArgument : List ℕ → List ℕ → Ground → ℕ → ℕ → ℕ → ℕ → ℕ → Appended → Appended → List ℕ → Type 0
 PutsArgument s w g n lim p span levels v r w' = (ps : List ℕ) (four : Bool) (left from end : ℕ) (x : Sym) (sp : Span) → Argument s w g n lim p span v ps four left from end x sp
-    → Appends s g n lim ps w v (sym_piece g.width (at sp (renamed x)) levels) r w'
+    → Appends s g n lim ps w v (sym_piece g.width.bytes (at sp (renamed x)) levels) r w'
 
 -- 27 and 28
 unfoldable pub wrapping : ℕ → Bool
@@ -116,40 +116,40 @@ deepened_by v b = record { to = v.to; count = v.count; deep = v.deep || not b }
 
 -- ---- a command of the definition, as it stands
 pub record PutsHere (w : List ℕ) (g : Ground) (lim : ℕ) (x r : Copied) (w' : List ℕ) : Type 0 where
-  pub at : r.at ≡ x.at + long_of g.width (get_or w x.at 0)
+  pub at : r.at ≡ x.at + long_of g.width.bytes (get_or w x.at 0)
   pub out : r.out ≡ record { to = r.out.to; count = x.out.count; deep = x.out.deep }
-  pub puts : Puts w lim x.out.to (part x.at (x.at + long_of g.width (get_or w x.at 0)) w) r.out.to w'
+  pub puts : Puts w lim x.out.to (part x.at (x.at + long_of g.width.bytes (get_or w x.at 0)) w) r.out.to w'
 
 -- ---- the symbol for the parameter at a place, if one stands there
 unfoldable pub parameter_at : Ground → Call → List ℕ → ℕ → Option ℕ
-parameter_at g c w p = pick (eqb (get_or w p 0) 36) (argument_for g c w (le_at g.width w (p + 9))) None
+parameter_at g c w p = pick (eqb (get_or w p 0) 36) (argument_for g c w (le_at g.width.bytes w (p + 9))) None
 
 -- ---- a symbol of the definition
 pub record SomeInside (s w : List ℕ) (g : Ground) (left : ℕ) (x : Copied) : Type 0 where
   pub four : Bool
   pub end : ℕ
   pub symbol : Sym
-  pub within : SymWithin four g.width (texts s w g.m) symbol left
-  pub placed : Placed w g x.out x.at end (sym_bytes g.width (texts s w g.m) symbol)
+  pub within : SymWithin four g.width.bytes (texts s w g.m) symbol left
+  pub placed : Placed w g x.out x.at end (sym_bytes g.width.bytes (texts s w g.m) symbol)
 
 pub record SomeInsides (s w : List ℕ) (g : Ground) (left k : ℕ) (x : Copied) : Type 0 where
   pub four : Bool
   pub end : ℕ
   pub symbols : Syms
   pub many : count symbols ≡ k
-  pub within : SymsWithin four g.width (texts s w g.m) symbols left
-  pub placed : Placed w g x.out x.at end (syms_bytes g.width (texts s w g.m) symbols)
+  pub within : SymsWithin four g.width.bytes (texts s w g.m) symbols left
+  pub placed : Placed w g x.out x.at end (syms_bytes g.width.bytes (texts s w g.m) symbols)
 
 -- every such symbol was appended with the arguments put in
 unfoldable pub PutsIn : List ℕ → List ℕ → Ground → ℕ → ℕ → Call → ℕ → Copied → Copied → List ℕ → Type 0
-PutsIn s w g n lim c left x r w' = (ps : List ℕ) (names : List Text) (args : Syms) (four : Bool) (e : ℕ) (y : Sym) → Framed s w g n lim c x.out ps names args → SymWithin four g.width (texts s w g.m) y left
-    → Placed w g x.out x.at e (sym_bytes g.width (texts s w g.m) y)
-    → (r.at ≡ e) × Appends s g n lim ps w x.out (sym_piece g.width (macro_expand_symbol names (renamed_all args) y) left) r.out w'
+PutsIn s w g n lim c left x r w' = (ps : List ℕ) (names : List Text) (args : Syms) (four : Bool) (e : ℕ) (y : Sym) → Framed s w g n lim c x.out ps names args → SymWithin four g.width.bytes (texts s w g.m) y left
+    → Placed w g x.out x.at e (sym_bytes g.width.bytes (texts s w g.m) y)
+    → (r.at ≡ e) × Appends s g n lim ps w x.out (sym_piece g.width.bytes (macro_expand_symbol names (renamed_all args) y) left) r.out w'
 
 unfoldable pub PutsInAll : List ℕ → List ℕ → Ground → ℕ → ℕ → Call → ℕ → ℕ → Copied → Copied → List ℕ → Type 0
-PutsInAll s w g n lim c left k x r w' = (ps : List ℕ) (names : List Text) (args : Syms) (four : Bool) (e : ℕ) (ys : Syms) → Framed s w g n lim c x.out ps names args → count ys ≡ k → SymsWithin four g.width (texts s w g.m) ys left
-    → Placed w g x.out x.at e (syms_bytes g.width (texts s w g.m) ys)
-    → (r.at ≡ e) × Appends s g n lim ps w x.out (syms_piece g.width (macro_expand_symbols names (renamed_all args) ys) left) r.out w'
+PutsInAll s w g n lim c left k x r w' = (ps : List ℕ) (names : List Text) (args : Syms) (four : Bool) (e : ℕ) (ys : Syms) → Framed s w g n lim c x.out ps names args → count ys ≡ k → SymsWithin four g.width.bytes (texts s w g.m) ys left
+    → Placed w g x.out x.at e (syms_bytes g.width.bytes (texts s w g.m) ys)
+    → (r.at ≡ e) × Appends s g n lim ps w x.out (syms_piece g.width.bytes (macro_expand_symbols names (renamed_all args) ys) left) r.out w'
 
 -- a command was appended, and the symbols inside are to come
 pub record Opens (s w : List ℕ) (g : Ground) (n lim : ℕ) (c : Call) (left : ℕ) (x : Copied) (r : Opened) (w' : List ℕ) : Type 0 where

@@ -30,12 +30,12 @@ module _ (s w : List ℕ) (g : Ground) (n lim q : ℕ) (v : Appended) where
   -- whatever repeat stands there, the item that it has as one of the operator o was appended
   unfoldable pub ExpandsAs : Op → Appended → List ℕ → Type 0
   ExpandsAs o r w' = (ps : List ℕ) (four : Bool) (left e : ℕ) (sp : Span) (o' : Op) (x : Sym) → Popped s w g n lim ps four left q e (around sp (repeat o') x) v
-      → Appends s g n lim ps w v (item_piece g.width (item (expand_repeat_symbol sp (print (around sp (repeat o') x)) o (renamed x)))) r w'
+      → Appends s g n lim ps w v (item_piece g.width.bytes (item (expand_repeat_symbol sp (print (around sp (repeat o') x)) o (renamed x)))) r w'
 
   -- the beginning of an item whose first alternative has the symbol inside
   pub record BeganWith (ps : List ℕ) (flags : ℕ) (i : ℕ) (sp : Span) (key : Text) (x : Sym) (r : Begun) (w' : List ℕ) : Type 0 where
     pub name : r.name ≡ number (named_in s w' g r.out.count) key
-    pub appended : Appends s g n lim ps w v (then_piece (head_piece g.width sp key flags 2 (built_text i) 1) (symbols_piece g.width (cons x nil))) r.out w'
+    pub appended : Appends s g n lim ps w v (then_piece (head_piece g.width.bytes sp key flags 2 (built_text i) 1) (symbols_piece g.width.bytes (cons x nil))) r.out w'
 
   pub record BeginsWith (flags i : ℕ) (r : Begun) (w' : List ℕ) : Type 0 where
     pub some : SomeReferring s w' g n lim (q + 10) 1 r.out
@@ -64,9 +64,9 @@ pub record GoesOn (s w : List ℕ) (g : Ground) (n c i : ℕ) (r : Numbered) (w'
 
 -- the texts of its second alternative have numbers
 pub record NamedPush (s w : List ℕ) (g : Ground) (n lim : ℕ) (ps : List ℕ) (v : Appended) (r : Pushing) (w' : List ℕ) : Type 0 where
-  pub push-is : le g.width r.push ≡ le g.width (number (named_in s w' g r.count) (built_text 3))
-  pub v_is : le g.width r.v ≡ le g.width (number (named_in s w' g r.count) (built_text 1))
-  pub e_is : le g.width r.e ≡ le g.width (number (named_in s w' g r.count) (built_text 4))
+  pub push-is : le g.width.bytes r.push ≡ le g.width.bytes (number (named_in s w' g r.count) (built_text 3))
+  pub v_is : le g.width.bytes r.v ≡ le g.width.bytes (number (named_in s w' g r.count) (built_text 1))
+  pub e_is : le g.width.bytes r.e ≡ le g.width.bytes (number (named_in s w' g r.count) (built_text 4))
   pub appended : Appends s g n lim ps w v (all_named (built_text 3 ∷ built_text 1 ∷ built_text 4 ∷ [])) (record { to = v.to; count = r.count; deep = v.deep }) w'
 
 pub record NamesPush (s w : List ℕ) (g : Ground) (n c : ℕ) (r : Pushing) (w' : List ℕ) : Type 0 where
@@ -89,13 +89,13 @@ push_piece wd span key = record {
 pub record PutsSecond (s w : List ℕ) (g : Ground) (n lim span name : ℕ) (v r : Appended) (w' : List ℕ) : Type 0 where
   pub stays : (ps : List ℕ) → Appending s g n lim ps w v → (x : Piece) × Appends s g n lim ps w v x r w'
   pub each : (ps : List ℕ) (key : Text) → Appending s g n lim ps w v → has key (named_in s w g v.count) ≡ true → name ≡ number (named_in s w g v.count) key
-      → Appends s g n lim ps w v (push_piece g.width span key) r w'
+      → Appends s g n lim ps w v (push_piece g.width.bytes span key) r w'
 
 -- and with it, for every symbol that stands at p
 unfoldable pub PutsPush : List ℕ → List ℕ → Ground → ℕ → ℕ → ℕ → ℕ → ℕ → Appended → Appended → List ℕ → Type 0
 PutsPush s w g n lim p span name v r w' = (ps : List ℕ) (four : Bool) (left e : ℕ) (x : Sym) (key : Text) → Appending s g n lim ps w v → Referring s w g ps four left p e (cons x nil)
     → has key (named_in s w g v.count) ≡ true → name ≡ number (named_in s w g v.count) key
-    → Appends s g n lim ps w v (then_piece (push_piece g.width span key) (symbols_piece g.width (cons x nil))) r w'
+    → Appends s g n lim ps w v (then_piece (push_piece g.width.bytes span key) (symbols_piece g.width.bytes (cons x nil))) r w'
 
 -- ---- `X*`
 
@@ -109,7 +109,7 @@ star_piece wd span x deep = then_piece (then_piece (by_number (built_text 1) (st
 
 unfoldable pub PutsStar : List ℕ → List ℕ → Ground → ℕ → ℕ → ℕ → ℕ → Bool → Appended → Appended → List ℕ → Type 0
 PutsStar s w g n lim p span deep v r w' = (ps : List ℕ) (four : Bool) (left e : ℕ) (x : Sym) → Appending s g n lim ps w v → Referring s w g ps four left p e (cons x nil)
-    → Appends s g n lim ps w v (star_piece g.width span x deep) r w'
+    → Appends s g n lim ps w v (star_piece g.width.bytes span x deep) r w'
 
 -- the beginning of its item, where the symbol inside the repeat still stands
 pub record BeginsStar (s w : List ℕ) (g : Ground) (n lim q : ℕ) (v : Appended) (r : Begun) (w' : List ℕ) : Type 0 where
@@ -120,4 +120,4 @@ pub record BeginsStar (s w : List ℕ) (g : Ground) (n lim q : ℕ) (v : Appende
 pub record ReadsStar (w : List ℕ) (g : Ground) (q : ℕ) (r : Starred) : Type 0 where
   pub bytes : Bytes w
   pub span_is : r.span ≡ le_at 8 w (g.from + q + 1)
-  pub deep_is : r.deep ≡ not (fits_at g.width g.end w 62 (g.from + (q + 10)))
+  pub deep_is : r.deep ≡ not (fits_at g.width.bytes g.end w 62 (g.from + (q + 10)))

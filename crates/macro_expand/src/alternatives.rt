@@ -7,9 +7,8 @@ ghost use Rattle.macro_expand.specs.Alternatives.{bare_out, SomeAlternative, Ope
 use crate::arguments::{Call, conditions, holds};
 use crate::expand::{Opened, macro_expand_symbols};
 use crate::put_in::put_spanned;
-use appending::Appended;
 use appending::symbols::Copied;
-use expander::Ground;
+use appending::{Appended, Round};
 use grades::annotations::{alternative_end, symbols};
 use octets::numbers::u16_at;
 use precedence::write::{put_byte, put_run};
@@ -28,21 +27,19 @@ fn put_bare(work: &mut [u8], p: usize, e: usize, span: u64, lim: usize, to: usiz
 fn open_alternative(
     tape: &[u8],
     work: &mut [u8],
-    g: Ground,
-    n: usize,
-    lim: usize,
+    round: Round,
     c: Call,
     span: u64,
     p: usize,
     v: Appended,
 ) -> Opened
-    requires { Frame tape.now work.old g n lim c v × SomeAlternative tape.now work.old g c p v }
-    ensures { OpensAlternative tape.now work.old g n lim c span p v result work.new }
+    requires { Frame tape.now work.old round.g round.n round.lim c v × SomeAlternative tape.now work.old round.g c p v }
+    ensures { OpensAlternative tape.now work.old round.g round.n round.lim c span p v result work.new }
 {
-    let many = usize::from(u16_at(work, p + 12 + g.width));
-    let at = symbols(work, p, g.width);
-    let e = conditions(work, p, g.width);
-    let to = put_bare(work, p, e, span, lim, v.to);
+    let many = usize::from(u16_at(work, p + 12 + round.g.width.bytes));
+    let at = symbols(work, p, round.g.width);
+    let e = conditions(work, p, round.g.width);
+    let to = put_bare(work, p, e, span, round.lim, v.to);
     let out = Appended { to, ..v };
     Opened {
         many,
@@ -54,19 +51,17 @@ fn open_alternative(
 pub fn expand_alternative(
     tape: &[u8],
     work: &mut [u8],
-    g: Ground,
-    n: usize,
-    lim: usize,
+    round: Round,
     c: Call,
     span: u64,
     p: usize,
     v: Appended,
 ) -> Appended
-    requires { Frame tape.now work.old g n lim c v × SomeAlternative tape.now work.old g c p v }
-    ensures { PutsAlternative tape.now work.old g n lim c span p v result work.new }
+    requires { Frame tape.now work.old round.g round.n round.lim c v × SomeAlternative tape.now work.old round.g c p v }
+    ensures { PutsAlternative tape.now work.old round.g round.n round.lim c span p v result work.new }
 {
-    let h = open_alternative(tape, work, g, n, lim, c, span, p, v);
-    let r = macro_expand_symbols(tape, work, g, n, lim, c, 64, h.many, h.run);
+    let h = open_alternative(tape, work, round, c, span, p, v);
+    let r = macro_expand_symbols(tape, work, round, c, 64, h.many, h.run);
     r.out
 }
 
@@ -74,19 +69,17 @@ pub fn expand_alternative(
 fn expand_if(
     tape: &[u8],
     work: &mut [u8],
-    g: Ground,
-    n: usize,
-    lim: usize,
+    round: Round,
     c: Call,
     span: u64,
     p: usize,
     v: Appended,
 ) -> Appended
-    requires { Frame tape.now work.old g n lim c v × SomeAlternative tape.now work.old g c p v }
-    ensures { PutsIf tape.now work.old g n lim c span p v result work.new }
+    requires { Frame tape.now work.old round.g round.n round.lim c v × SomeAlternative tape.now work.old round.g c p v }
+    ensures { PutsIf tape.now work.old round.g round.n round.lim c span p v result work.new }
 {
-    match holds(work, g, c, p) {
-        Some(true) => expand_alternative(tape, work, g, n, lim, c, span, p, v),
+    match holds(work, round.g, c, p) {
+        Some(true) => expand_alternative(tape, work, round, c, span, p, v),
         _ => v,
     }
 }
@@ -95,23 +88,21 @@ fn expand_if(
 pub fn expand_alternatives(
     tape: &[u8],
     work: &mut [u8],
-    g: Ground,
-    n: usize,
-    lim: usize,
+    round: Round,
     c: Call,
     span: u64,
     k: usize,
     at: usize,
     v: Appended,
 ) -> Appended
-    requires { Frame tape.now work.old g n lim c v × SomeAlternatives tape.now work.old g c span k at v }
-    ensures { PutsHolding tape.now work.old g n lim c span k at v result work.new }
+    requires { Frame tape.now work.old round.g round.n round.lim c v × SomeAlternatives tape.now work.old round.g c span k at v }
+    ensures { PutsHolding tape.now work.old round.g round.n round.lim c span k at v result work.new }
 {
     let mut p = at;
     let mut r = v;
     for _ in 0..k {
-        let e = alternative_end(work, p, c.end, g.width);
-        r = expand_if(tape, work, g, n, lim, c, span, p, r);
+        let e = alternative_end(work, p, c.end, round.g.width);
+        r = expand_if(tape, work, round, c, span, p, r);
         p = e;
     }
     r

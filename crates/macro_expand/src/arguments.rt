@@ -7,7 +7,7 @@ ghost use Rattle.macro_expand.specs.Arguments.{ReadableCall, argument_for, equal
 use expander::Ground;
 use grades::annotations::alternative_end;
 use grades::skip::skip;
-use octets::numbers::atom_at;
+use octets::numbers::{Width, atom_at};
 
 // Where the parameters and the symbols for them stand, how many there are, and the place before which the definition ends.
 #[derive(Clone, Copy)]
@@ -23,7 +23,7 @@ pub fn argument(work: &[u8], g: Ground, c: Call, k: u32) -> Option<usize>
     requires { ReadableCall g c work.now }
     ensures { result ≡ argument_for g c work.now k }
 {
-    let size = 1 + g.width;
+    let size = 1 + g.width.bytes;
     let mut a = c.params;
     let mut p = c.args;
     for _ in 0..c.many {
@@ -37,12 +37,12 @@ pub fn argument(work: &[u8], g: Ground, c: Call, k: u32) -> Option<usize>
 }
 
 // Whether the literal at p is what the condition at a place asks.
-fn is_equal(work: &[u8], w: usize, p: usize, at: usize) -> bool
-    requires { (2 ≤ w) × (w ≤ 3) × (p + 16 ≤ length work.now) × (at + 16 ≤ length work.now) }
-    ensures { result ≡ equal_by w work.now p at }
+fn is_equal(work: &[u8], width: Width, p: usize, at: usize) -> bool
+    requires { (p + 16 ≤ length work.now) × (at + 16 ≤ length work.now) }
+    ensures { result ≡ equal_by width.bytes work.now p at }
 {
-    let same = atom_at(work, p + 9, w) == atom_at(work, at + 10 + w, w);
-    same == (work[at + 9 + w] == 0)
+    let same = atom_at(work, p + 9, width) == atom_at(work, at + 10 + width.bytes, width);
+    same == (work[at + 9 + width.bytes] == 0)
 }
 
 // Whether the condition at a place holds, if its argument is a quoted literal.
@@ -62,12 +62,12 @@ pub fn evaluate_cond(work: &[u8], g: Ground, c: Call, at: usize) -> Option<bool>
 }
 
 // Where the conditions of the alternative at p begin.
-pub fn conditions(work: &[u8], p: usize, width: usize) -> usize
-    requires { (2 ≤ width) × (width ≤ 3) × (p + 11 ≤ length work.now) }
-    ensures { result ≡ conditions_from width work.now p }
+pub fn conditions(work: &[u8], p: usize, width: Width) -> usize
+    requires { p + 11 ≤ length work.now }
+    ensures { result ≡ conditions_from width.bytes work.now p }
 {
     let n = usize::from(work[p + 9]);
-    p + (14 + width) + n * (2 + 3 * width)
+    p + (14 + width.bytes) + n * (2 + 3 * width.bytes)
 }
 
 // Whether the alternative at p holds, as `evaluate_cond` says it.

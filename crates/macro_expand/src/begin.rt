@@ -6,13 +6,12 @@ ghost use Rattle.appending.specs.Commands.{item_head, alternative_head};
 ghost use Rattle.macro_expand.specs.Expand.{IsAny, IsRepeat, SomePopped, NamesBoth, Begins};
 ghost use Rattle.macro_expand.specs.Repeat.{BeginsWith};
 
-use appending::Appended;
 use appending::built::{BuiltIn, built};
 use appending::commands::{put_alternative, put_item};
 use appending::symbols::put_symbols;
-use expander::Ground;
+use appending::{Appended, Round};
 use expander::slots::number;
-use octets::numbers::u64_at;
+use octets::numbers::{Width, u64_at};
 
 // The number of the item's name, and what is appended.
 #[derive(Clone, Copy)]
@@ -30,22 +29,13 @@ struct Named {
     count: usize,
 }
 
-fn names(
-    tape: &[u8],
-    work: &mut [u8],
-    g: Ground,
-    n: usize,
-    lim: usize,
-    q: usize,
-    text: BuiltIn,
-    v: Appended,
-) -> Named
-    requires { SomePopped IsAny tape.now work.old g n lim q v }
-    ensures { NamesBoth tape.now work.old g n lim q v (number_of text) result work.new }
+fn names(tape: &[u8], work: &mut [u8], round: Round, q: usize, text: BuiltIn, v: Appended) -> Named
+    requires { SomePopped IsAny tape.now work.old round.g round.n round.lim q v }
+    ensures { NamesBoth tape.now work.old round.g round.n round.lim q v (number_of text) result work.new }
 {
-    let span = u64_at(work, g.from + q + 1);
-    let x = number(tape, work, g, n, v.count, q);
-    let t = built(tape, work, g, n, x.count, text);
+    let span = u64_at(work, round.g.from + q + 1);
+    let x = number(tape, work, round.g, round.n, v.count, q);
+    let t = built(tape, work, round.g, round.n, x.count, text);
     Named {
         span,
         name: x.number,
@@ -64,24 +54,22 @@ pub fn put_head(
     act: u8,
     t: u32,
     symbols: u16,
-    width: usize,
+    width: Width,
     lim: usize,
     to: usize,
 ) -> usize
-    requires { (2 ≤ width) × (width ≤ 3) × (lim ≤ length work.old) }
-    ensures { Puts work.old lim to (item_head width span k flags alternatives ++ alternative_head width span act t symbols) result work.new }
+    requires { lim ≤ length work.old }
+    ensures { Puts work.old lim to (item_head width.bytes span k flags alternatives ++ alternative_head width.bytes span act t symbols) result work.new }
 {
     let first = put_item(work, span, k, flags, alternatives, width, lim, to);
     put_alternative(work, span, act, t, symbols, width, lim, first)
 }
 
-// The item of the symbol at q, whose first alternative's action is a built-in text; n symbols were pushed, and items are written before lim.
+// The item of the symbol at q, whose first alternative's action is a built-in text.
 pub fn begin(
     tape: &[u8],
     work: &mut [u8],
-    g: Ground,
-    n: usize,
-    lim: usize,
+    round: Round,
     q: usize,
     flags: u8,
     alternatives: u16,
@@ -89,10 +77,10 @@ pub fn begin(
     symbols: u16,
     v: Appended,
 ) -> Begun
-    requires { SomePopped IsAny tape.now work.old g n lim q v }
-    ensures { Begins tape.now work.old g n lim q v flags alternatives (number_of text) symbols result work.new }
+    requires { SomePopped IsAny tape.now work.old round.g round.n round.lim q v }
+    ensures { Begins tape.now work.old round.g round.n round.lim q v flags alternatives (number_of text) symbols result work.new }
 {
-    let x = names(tape, work, g, n, lim, q, text, v);
+    let x = names(tape, work, round, q, text, v);
     let to = put_head(
         work,
         x.span,
@@ -102,8 +90,8 @@ pub fn begin(
         1,
         (x.text % 4294967296) as u32,
         symbols,
-        g.width,
-        lim,
+        round.g.width,
+        round.lim,
         v.to,
     );
     Begun {
@@ -120,19 +108,17 @@ pub fn begin(
 pub fn begin_with(
     tape: &[u8],
     work: &mut [u8],
-    g: Ground,
-    n: usize,
-    lim: usize,
+    round: Round,
     q: usize,
     flags: u8,
     text: BuiltIn,
     v: Appended,
 ) -> Begun
-    requires { SomePopped IsRepeat tape.now work.old g n lim q v }
-    ensures { BeginsWith tape.now work.old g n lim q v flags (number_of text) result work.new }
+    requires { SomePopped IsRepeat tape.now work.old round.g round.n round.lim q v }
+    ensures { BeginsWith tape.now work.old round.g round.n round.lim q v flags (number_of text) result work.new }
 {
-    let x = begin(tape, work, g, n, lim, q, flags, 2, text, 1, v);
-    let y = put_symbols(tape, work, g, n, lim, q + 10, 1, x.out);
+    let x = begin(tape, work, round, q, flags, 2, text, 1, v);
+    let y = put_symbols(tape, work, round, q + 10, 1, x.out);
     Begun {
         name: x.name,
         out: y.out,

@@ -5,8 +5,8 @@ ghost use Rattle.macro_expand.specs.Macro.{ReadsCall, PutsHead, StartsMacro, Put
 
 use crate::alternatives::expand_alternatives;
 use crate::arguments::{Call, holding};
-use appending::Appended;
 use appending::commands::put_item;
+use appending::{Appended, Round};
 use expander::Ground;
 use expander::slots::number;
 use grades::annotations::first_alternative;
@@ -31,18 +31,18 @@ pub struct Started {
 }
 
 fn read_call(work: &[u8], g: Ground, q: usize, d: usize) -> Macro
-    requires { (2 ≤ g.width) × (g.width ≤ 3) × (d + 16 ≤ length work.now) × (g.from + q + 16 ≤ length work.now) }
+    requires { (d + 16 ≤ length work.now) × (g.from + q + 16 ≤ length work.now) }
     ensures { ReadsCall work.now g q d result }
 {
     let c = Call {
-        params: d + 13 + g.width,
-        many: usize::from(work[d + 10 + g.width]),
-        args: g.from + q + (10 + g.width),
+        params: d + 13 + g.width.bytes,
+        many: usize::from(work[d + 10 + g.width.bytes]),
+        args: g.from + q + (10 + g.width.bytes),
         end: work.len() - 16,
     };
     Macro {
         call: c,
-        many: usize::from(u16_at(work, d + 11 + g.width)),
+        many: usize::from(u16_at(work, d + 11 + g.width.bytes)),
         from: first_alternative(work, d, g.width),
     }
 }
@@ -51,9 +51,7 @@ fn read_call(work: &[u8], g: Ground, q: usize, d: usize) -> Macro
 fn put_head(
     tape: &[u8],
     work: &mut [u8],
-    g: Ground,
-    n: usize,
-    lim: usize,
+    round: Round,
     q: usize,
     d: usize,
     span: u64,
@@ -61,18 +59,18 @@ fn put_head(
     m: u16,
     v: Appended,
 ) -> Appended
-    requires { SomeCall tape.now work.old g n lim q d v }
-    ensures { PutsHead tape.now work.old g n lim q span flags m v result work.new }
+    requires { SomeCall tape.now work.old round.g round.n round.lim q d v }
+    ensures { PutsHead tape.now work.old round.g round.n round.lim q span flags m v result work.new }
 {
-    let x = number(tape, work, g, n, v.count, q);
+    let x = number(tape, work, round.g, round.n, v.count, q);
     let to = put_item(
         work,
         span,
         (x.number % 4294967296) as u32,
         flags,
         m,
-        g.width,
-        lim,
+        round.g.width,
+        round.lim,
         v.to,
     );
     Appended {
@@ -86,22 +84,20 @@ fn put_head(
 fn start(
     tape: &[u8],
     work: &mut [u8],
-    g: Ground,
-    n: usize,
-    lim: usize,
+    round: Round,
     q: usize,
     d: usize,
     x: Macro,
     m: usize,
     v: Appended,
 ) -> Started
-    requires { SomeCall tape.now work.old g n lim q d v × ReadsCall work.old g q d x × (m < 65536) }
-    ensures { StartsMacro tape.now work.old g n lim q d x m v result work.new }
+    requires { SomeCall tape.now work.old round.g round.n round.lim q d v × ReadsCall work.old round.g q d x × (m < 65536) }
+    ensures { StartsMacro tape.now work.old round.g round.n round.lim q d x m v result work.new }
 {
-    let span = u64_at(work, g.from + q + 1);
-    let flags = work[d + 9 + g.width];
+    let span = u64_at(work, round.g.from + q + 1);
+    let flags = work[d + 9 + round.g.width.bytes];
     let k = (m % 65536) as u16;
-    let out = put_head(tape, work, g, n, lim, q, d, span, flags, k, v);
+    let out = put_head(tape, work, round, q, d, span, flags, k, v);
     Started { span, out }
 }
 
@@ -109,39 +105,35 @@ fn start(
 fn put_macro(
     tape: &[u8],
     work: &mut [u8],
-    g: Ground,
-    n: usize,
-    lim: usize,
+    round: Round,
     q: usize,
     d: usize,
     x: Macro,
     m: usize,
     v: Appended,
 ) -> Appended
-    requires { SomeCall tape.now work.old g n lim q d v × ReadsCall work.old g q d x × (m < 65536) }
-    ensures { PutsMacro tape.now work.old g n lim q d m v result work.new }
+    requires { SomeCall tape.now work.old round.g round.n round.lim q d v × ReadsCall work.old round.g q d x × (m < 65536) }
+    ensures { PutsMacro tape.now work.old round.g round.n round.lim q d m v result work.new }
 {
-    let b = start(tape, work, g, n, lim, q, d, x, m, v);
-    expand_alternatives(tape, work, g, n, lim, x.call, b.span, x.many, x.from, b.out)
+    let b = start(tape, work, round, q, d, x, m, v);
+    expand_alternatives(tape, work, round, x.call, b.span, x.many, x.from, b.out)
 }
 
 // The call at q, counted from the first item, of the macro that is defined at d.
 pub fn expand_macro_symbol(
     tape: &[u8],
     work: &mut [u8],
-    g: Ground,
-    n: usize,
-    lim: usize,
+    round: Round,
     q: usize,
     d: usize,
     v: Appended,
 ) -> Result<Appended, Refusal>
-    requires { SomeCall tape.now work.old g n lim q d v }
-    ensures { ExpandsMacro tape.now work.old g n lim q d v result work.new }
+    requires { SomeCall tape.now work.old round.g round.n round.lim q d v }
+    ensures { ExpandsMacro tape.now work.old round.g round.n round.lim q d v result work.new }
 {
-    let x = read_call(work, g, q, d);
-    match holding(work, g, x.call, x.many, x.from) {
+    let x = read_call(work, round.g, q, d);
+    match holding(work, round.g, x.call, x.many, x.from) {
         Err(p) => Err(refusal::over(17, span_at(work, p + 1))),
-        Ok(m) => Ok(put_macro(tape, work, g, n, lim, q, d, x, m, v)),
+        Ok(m) => Ok(put_macro(tape, work, round, q, d, x, m, v)),
     }
 }

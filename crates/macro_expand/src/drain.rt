@@ -6,7 +6,7 @@ use crate::call::expand_macro_symbol;
 use crate::group::expand_expr_symbol;
 use crate::look::expand_lookaround_symbol;
 use crate::repeat::expand_repeat_symbol;
-use appending::Appended;
+use appending::{Appended, Round};
 use expander::Ground;
 use octets::numbers::atom_at;
 use parse_tree::refusal::Refusal;
@@ -28,22 +28,20 @@ fn definition<'a>(tape: &'a [u8], work: &'a [u8], g: Ground, t: Grammar, q: usiz
 fn expand_other(
     tape: &[u8],
     work: &mut [u8],
-    g: Ground,
-    n: usize,
-    lim: usize,
+    round: Round,
     t: Grammar,
     j: usize,
     q: usize,
     c: u8,
     v: Appended,
 ) -> Result<Appended, Refusal>
-    requires { SomeOther tape.now work.old g n lim t v j q c }
-    ensures { ExpandsPushed tape.now work.old g n lim t j v result work.new }
+    requires { SomeOther tape.now work.old round.g round.n round.lim t v j q c }
+    ensures { ExpandsPushed tape.now work.old round.g round.n round.lim t j v result work.new }
 {
     match c {
-        38 => Ok(expand_repeat_symbol(tape, work, g, n, lim, q, v)),
-        41 => expand_expr_symbol(tape, work, g, n, lim, q, v),
-        _ => Ok(expand_lookaround_symbol(tape, work, g, n, lim, q, v)),
+        38 => Ok(expand_repeat_symbol(tape, work, round, q, v)),
+        41 => expand_expr_symbol(tape, work, round, q, v),
+        _ => Ok(expand_lookaround_symbol(tape, work, round, q, v)),
     }
 }
 
@@ -51,42 +49,38 @@ fn expand_other(
 fn expand(
     tape: &[u8],
     work: &mut [u8],
-    g: Ground,
-    n: usize,
-    lim: usize,
+    round: Round,
     t: Grammar,
     j: usize,
     v: Appended,
 ) -> Result<Appended, Refusal>
-    requires { SomePile tape.now work.old g n lim t v × (j < n) }
-    ensures { ExpandsPushed tape.now work.old g n lim t j v result work.new }
+    requires { SomePile tape.now work.old round.g round.n round.lim t v × (j < round.n) }
+    ensures { ExpandsPushed tape.now work.old round.g round.n round.lim t j v result work.new }
 {
-    let q = mark(work, g.keys, j);
-    let c = work[g.from + q];
+    let q = mark(work, round.g.keys, j);
+    let c = work[round.g.from + q];
     if c == 37 {
-        let d = definition(tape, work, g, t, q);
-        expand_macro_symbol(tape, work, g, n, lim, q, d, v)
+        let d = definition(tape, work, round.g, t, q);
+        expand_macro_symbol(tape, work, round, q, d, v)
     } else {
-        expand_other(tape, work, g, n, lim, t, j, q, c, v)
+        expand_other(tape, work, round, t, j, q, c, v)
     }
 }
 
-// The items of all n that were pushed.
+// The items of all symbols that were pushed.
 pub fn drain(
     tape: &[u8],
     work: &mut [u8],
-    g: Ground,
-    n: usize,
-    lim: usize,
+    round: Round,
     t: Grammar,
     v: Appended,
 ) -> Result<Appended, Refusal>
-    requires { SomePile tape.now work.old g n lim t v }
-    ensures { Drains tape.now work.old g n lim t v result work.new }
+    requires { SomePile tape.now work.old round.g round.n round.lim t v }
+    ensures { Drains tape.now work.old round.g round.n round.lim t v result work.new }
 {
     let mut x = v;
-    for j in (0..n).rev() {
-        x = expand(tape, work, g, n, lim, t, j, x)?;
+    for j in (0..round.n).rev() {
+        x = expand(tape, work, round, t, j, x)?;
     }
     Ok(x)
 }

@@ -6,8 +6,8 @@ ghost use Rattle.macro_expand.specs.PutIn.{parameter_at, PutsHere, Opens, Frame,
 
 use crate::arguments::{Call, argument};
 use crate::put_in::put_argument;
-use appending::Appended;
 use appending::symbols::Copied;
+use appending::{Appended, Round};
 use expander::Ground;
 use grades::skip::inside;
 use octets::numbers::{atom_at, u64_at};
@@ -35,7 +35,7 @@ fn parameter(work: &[u8], g: Ground, c: Call, at: usize) -> Option<usize>
 
 // The command at x.at, as it stands. `put_command` of appending is the same from another place on: what both do is `put_run`, and a common form is no shorter.
 fn put_here(work: &mut [u8], g: Ground, lim: usize, x: Copied) -> Copied
-    requires { (2 ≤ g.width) × (g.width ≤ 3) × (x.at + long_of g.width (get_or work.old x.at 0) ≤ x.out.to) × (lim ≤ length work.old) × (x.at + 17 ≤ length work.old) }
+    requires { (x.at + long_of g.width.bytes (get_or work.old x.at 0) ≤ x.out.to) × (lim ≤ length work.old) × (x.at + 17 ≤ length work.old) }
     ensures { PutsHere work.old g lim x result work.new }
 {
     let at = x.at;
@@ -51,39 +51,28 @@ fn put_here(work: &mut [u8], g: Ground, lim: usize, x: Copied) -> Copied
 fn put_parameter(
     tape: &[u8],
     work: &mut [u8],
-    g: Ground,
-    n: usize,
-    lim: usize,
+    round: Round,
     c: Call,
     left: usize,
     x: Copied,
     p: usize,
 ) -> Copied
-    requires { Frame tape.now work.old g n lim c x.out × SomeInside tape.now work.old g left x × (Some p ≡ parameter_at g c work.old x.at) }
-    ensures { PutsIn tape.now work.old g n lim c left x result work.new }
+    requires { Frame tape.now work.old round.g round.n round.lim c x.out × SomeInside tape.now work.old round.g left x × (Some p ≡ parameter_at round.g c work.old x.at) }
+    ensures { PutsIn tape.now work.old round.g round.n round.lim c left x result work.new }
 {
-    let e = x.at + (9 + g.width);
+    let e = x.at + (9 + round.g.width.bytes);
     let span = u64_at(work, x.at + 1);
-    let out = put_argument(tape, work, g, n, lim, p, span, left, x.out);
+    let out = put_argument(tape, work, round, p, span, left, x.out);
     Copied { at: e, out }
 }
 
 // The command at x.at, which is no parameter, and how many symbols stand straight inside.
-fn open(
-    tape: &[u8],
-    work: &mut [u8],
-    g: Ground,
-    n: usize,
-    lim: usize,
-    c: Call,
-    left: usize,
-    x: Copied,
-) -> Opened
-    requires { Frame tape.now work.old g n lim c x.out × SomeInside tape.now work.old g left x × (None ≡ parameter_at g c work.old x.at) }
-    ensures { Opens tape.now work.old g n lim c left x result work.new }
+fn open(tape: &[u8], work: &mut [u8], round: Round, c: Call, left: usize, x: Copied) -> Opened
+    requires { Frame tape.now work.old round.g round.n round.lim c x.out × SomeInside tape.now work.old round.g left x × (None ≡ parameter_at round.g c work.old x.at) }
+    ensures { Opens tape.now work.old round.g round.n round.lim c left x result work.new }
 {
-    let many = inside(work, x.at, g.width);
-    let run = put_here(work, g, lim, x);
+    let many = inside(work, x.at, round.g.width);
+    let run = put_here(work, round.g, round.lim, x);
     Opened { many, run }
 }
 
@@ -92,22 +81,20 @@ fn open(
 pub fn macro_expand_symbol(
     tape: &[u8],
     work: &mut [u8],
-    g: Ground,
-    n: usize,
-    lim: usize,
+    round: Round,
     c: Call,
     left: usize,
     x: Copied,
 ) -> Copied
-    requires { Frame tape.now work.old g n lim c x.out × SomeInside tape.now work.old g left x }
-    ensures { PutsIn tape.now work.old g n lim c left x result work.new }
+    requires { Frame tape.now work.old round.g round.n round.lim c x.out × SomeInside tape.now work.old round.g left x }
+    ensures { PutsIn tape.now work.old round.g round.n round.lim c left x result work.new }
 {
     let at = x.at;
-    match parameter(work, g, c, at) {
-        Some(p) => put_parameter(tape, work, g, n, lim, c, left, x, p),
+    match parameter(work, round.g, c, at) {
+        Some(p) => put_parameter(tape, work, round, c, left, x, p),
         None => {
-            let h = open(tape, work, g, n, lim, c, left, x);
-            macro_expand_symbols(tape, work, g, n, lim, c, left - 1, h.many, h.run)
+            let h = open(tape, work, round, c, left, x);
+            macro_expand_symbols(tape, work, round, c, left - 1, h.many, h.run)
         }
     }
 }
@@ -117,20 +104,18 @@ pub fn macro_expand_symbol(
 pub fn macro_expand_symbols(
     tape: &[u8],
     work: &mut [u8],
-    g: Ground,
-    n: usize,
-    lim: usize,
+    round: Round,
     c: Call,
     left: usize,
     k: usize,
     x: Copied,
 ) -> Copied
-    requires { Frame tape.now work.old g n lim c x.out × SomeInsides tape.now work.old g left k x }
-    ensures { PutsInAll tape.now work.old g n lim c left k x result work.new }
+    requires { Frame tape.now work.old round.g round.n round.lim c x.out × SomeInsides tape.now work.old round.g left k x }
+    ensures { PutsInAll tape.now work.old round.g round.n round.lim c left k x result work.new }
 {
     let mut r = x;
     for _ in 0..k {
-        r = macro_expand_symbol(tape, work, g, n, lim, c, left, r);
+        r = macro_expand_symbol(tape, work, round, c, left, r);
     }
     r
 }

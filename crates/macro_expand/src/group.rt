@@ -6,10 +6,9 @@ ghost use Rattle.macro_expand.specs.Group.{group_text, SomeGroup, PutsGroup};
 
 use crate::begin::begin;
 use crate::norm_util::analyze_expr;
-use appending::Appended;
 use appending::built::BuiltIn;
 use appending::symbols::put_symbols;
-use expander::Ground;
+use appending::{Appended, Round};
 use octets::numbers::u16_at;
 use parse_tree::node::span_at;
 use parse_tree::refusal;
@@ -30,43 +29,39 @@ fn group_action(chosen: usize, k: usize) -> BuiltIn
 fn put_group(
     tape: &[u8],
     work: &mut [u8],
-    g: Ground,
-    n: usize,
-    lim: usize,
+    round: Round,
     q: usize,
     text: BuiltIn,
     m: u16,
     v: Appended,
 ) -> Appended
-    requires { SomeGroup tape.now work.old g n lim q v m }
-    ensures { PutsGroup tape.now work.old g n lim q v (number_of text) result work.new }
+    requires { SomeGroup tape.now work.old round.g round.n round.lim q v m }
+    ensures { PutsGroup tape.now work.old round.g round.n round.lim q v (number_of text) result work.new }
 {
-    let b = begin(tape, work, g, n, lim, q, 1, 1, text, m, v);
-    let x = put_symbols(tape, work, g, n, lim, q + 11, usize::from(m), b.out);
+    let b = begin(tape, work, round, q, 1, 1, text, m, v);
+    let x = put_symbols(tape, work, round, q + 11, usize::from(m), b.out);
     x.out
 }
 
-// The group at q; n symbols were pushed, and items are written before lim.
+// The group at q.
 pub fn expand_expr_symbol(
     tape: &[u8],
     work: &mut [u8],
-    g: Ground,
-    n: usize,
-    lim: usize,
+    round: Round,
     q: usize,
     v: Appended,
 ) -> Result<Appended, Refusal>
-    requires { SomePopped IsGroup tape.now work.old g n lim q v }
-    ensures { ExpandsExpr tape.now work.old g n lim q v result work.new }
+    requires { SomePopped IsGroup tape.now work.old round.g round.n round.lim q v }
+    ensures { ExpandsExpr tape.now work.old round.g round.n round.lim q v result work.new }
 {
-    let at = g.from + q;
+    let at = round.g.from + q;
     let m = u16_at(work, at + 9);
     let k = usize::from(m);
-    match analyze_expr(tape, work, g, q + 11, k) {
+    match analyze_expr(tape, work, round.g, q + 11, k) {
         None => Err(refusal::over(19, span_at(work, at + 1))),
         Some(chosen) => {
             let text = group_action(chosen, k);
-            Ok(put_group(tape, work, g, n, lim, q, text, m, v))
+            Ok(put_group(tape, work, round, q, text, m, v))
         }
     }
 }

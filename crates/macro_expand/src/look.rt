@@ -3,8 +3,7 @@ ghost use Rattle.std.specs.Prelude.{◌≡◌, ◌<◌, length};
 ghost use Rattle.macro_expand.specs.Expand.{IsLook, SomePopped, look_act, CallsLook, ExpandsLook};
 
 use crate::begin::put_head;
-use appending::Appended;
-use expander::Ground;
+use appending::{Appended, Round};
 use expander::slots::number;
 use octets::numbers::u64_at;
 
@@ -25,22 +24,14 @@ fn act(work: &[u8], at: usize) -> u8
     if work[at] == 42 { 3 } else { 4 }
 }
 
-fn name_look(
-    tape: &[u8],
-    work: &mut [u8],
-    g: Ground,
-    n: usize,
-    lim: usize,
-    q: usize,
-    v: Appended,
-) -> Called
-    requires { SomePopped IsLook tape.now work.old g n lim q v }
-    ensures { CallsLook tape.now work.old g n lim q v result work.new }
+fn name_look(tape: &[u8], work: &mut [u8], round: Round, q: usize, v: Appended) -> Called
+    requires { SomePopped IsLook tape.now work.old round.g round.n round.lim q v }
+    ensures { CallsLook tape.now work.old round.g round.n round.lim q v result work.new }
 {
-    let at = g.from + q;
+    let at = round.g.from + q;
     let span = u64_at(work, at + 1);
     let a = act(work, at);
-    let x = number(tape, work, g, n, v.count, q);
+    let x = number(tape, work, round.g, round.n, v.count, q);
     Called {
         span,
         act: a,
@@ -49,20 +40,18 @@ fn name_look(
     }
 }
 
-// The item of the symbol at q; n symbols were pushed, and items are written before lim.
+// The item of the symbol at q.
 pub fn expand_lookaround_symbol(
     tape: &[u8],
     work: &mut [u8],
-    g: Ground,
-    n: usize,
-    lim: usize,
+    round: Round,
     q: usize,
     v: Appended,
 ) -> Appended
-    requires { SomePopped IsLook tape.now work.old g n lim q v }
-    ensures { ExpandsLook tape.now work.old g n lim q v result work.new }
+    requires { SomePopped IsLook tape.now work.old round.g round.n round.lim q v }
+    ensures { ExpandsLook tape.now work.old round.g round.n round.lim q v result work.new }
 {
-    let x = name_look(tape, work, g, n, lim, q, v);
+    let x = name_look(tape, work, round, q, v);
     let to = put_head(
         work,
         x.span,
@@ -72,8 +61,8 @@ pub fn expand_lookaround_symbol(
         x.act,
         0,
         0,
-        g.width,
-        lim,
+        round.g.width,
+        round.lim,
         v.to,
     );
     Appended {

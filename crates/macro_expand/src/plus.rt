@@ -10,13 +10,13 @@ ghost use Rattle.macro_expand.specs.Expand.{IsRepeat, SomePopped};
 ghost use Rattle.macro_expand.specs.Repeat.{ExpandsAs, GoesOn, NamesPush, push_head, PutsSecond, PutsPush};
 
 use crate::begin::begin_with;
-use appending::Appended;
 use appending::built::{BuiltIn, built};
 use appending::commands::{put_alternative, put_name, put_nonterminal};
 use appending::symbols::put_symbols;
+use appending::{Appended, Round};
 use expander::Ground;
 use expander::slots::Numbered;
-use octets::numbers::u64_at;
+use octets::numbers::{Width, u64_at};
 
 // The numbers of the texts of the second alternative of `X+`, and how many texts are new.
 #[derive(Clone, Copy)]
@@ -56,12 +56,12 @@ fn put_push(
     span: u64,
     name: u32,
     t: Pushing,
-    width: usize,
+    width: Width,
     lim: usize,
     to: usize,
 ) -> usize
-    requires { (2 ≤ width) × (width ≤ 3) × (lim ≤ length work.old) }
-    ensures { Puts work.old lim to (push_head width span t.push t.v name t.e) result work.new }
+    requires { lim ≤ length work.old }
+    ensures { Puts work.old lim to (push_head width.bytes span t.push t.v name t.e) result work.new }
 {
     let a = put_alternative(work, span, 1, t.push, 2, width, lim, to);
     let b = put_name(work, span, t.v, width, lim, a);
@@ -73,24 +73,22 @@ fn put_push(
 fn put_second(
     tape: &[u8],
     work: &mut [u8],
-    g: Ground,
-    n: usize,
-    lim: usize,
+    round: Round,
     span: u64,
     name: usize,
     v: Appended,
 ) -> Appended
-    requires { SomeAppending tape.now work.old g n lim v }
-    ensures { PutsSecond tape.now work.old g n lim span name v result work.new }
+    requires { SomeAppending tape.now work.old round.g round.n round.lim v }
+    ensures { PutsSecond tape.now work.old round.g round.n round.lim span name v result work.new }
 {
-    let t = push_texts(tape, work, g, n, v.count);
+    let t = push_texts(tape, work, round.g, round.n, v.count);
     let to = put_push(
         work,
         span,
         (name % 4294967296) as u32,
         t,
-        g.width,
-        lim,
+        round.g.width,
+        round.lim,
         v.to,
     );
     Appended {
@@ -104,37 +102,27 @@ fn put_second(
 fn push_rest(
     tape: &[u8],
     work: &mut [u8],
-    g: Ground,
-    n: usize,
-    lim: usize,
+    round: Round,
     p: usize,
     span: u64,
     name: usize,
     v: Appended,
 ) -> Appended
-    requires { SomeReferring tape.now work.old g n lim p 1 v }
-    ensures { PutsPush tape.now work.old g n lim p span name v result work.new }
+    requires { SomeReferring tape.now work.old round.g round.n round.lim p 1 v }
+    ensures { PutsPush tape.now work.old round.g round.n round.lim p span name v result work.new }
 {
-    let first = put_second(tape, work, g, n, lim, span, name, v);
-    let x = put_symbols(tape, work, g, n, lim, p, 1, first);
+    let first = put_second(tape, work, round, span, name, v);
+    let x = put_symbols(tape, work, round, p, 1, first);
     x.out
 }
 
 // `X+`: the symbol, or what there is and one more.
-pub fn expand_plus(
-    tape: &[u8],
-    work: &mut [u8],
-    g: Ground,
-    n: usize,
-    lim: usize,
-    q: usize,
-    v: Appended,
-) -> Appended
-    requires { SomePopped IsRepeat tape.now work.old g n lim q v }
-    ensures { ExpandsAs tape.now work.old g n lim q v plus result work.new }
+pub fn expand_plus(tape: &[u8], work: &mut [u8], round: Round, q: usize, v: Appended) -> Appended
+    requires { SomePopped IsRepeat tape.now work.old round.g round.n round.lim q v }
+    ensures { ExpandsAs tape.now work.old round.g round.n round.lim q v plus result work.new }
 {
-    let span = u64_at(work, g.from + q + 1);
+    let span = u64_at(work, round.g.from + q + 1);
     let p = q + 10;
-    let x = begin_with(tape, work, g, n, lim, q, 0, BuiltIn::VecOfOne, v);
-    push_rest(tape, work, g, n, lim, p, span, x.name, x.out)
+    let x = begin_with(tape, work, round, q, 0, BuiltIn::VecOfOne, v);
+    push_rest(tape, work, round, p, span, x.name, x.out)
 }

@@ -8,35 +8,32 @@ ghost use Rattle.macro_expand.specs.Repeat.{ExpandsAs, repeat_of, bare_head, Put
 use crate::begin::begin_with;
 use crate::plus::expand_plus;
 use crate::star::expand_star;
-use appending::Appended;
 use appending::built::{BuiltIn, built};
 use appending::commands::put_alternative;
-use expander::Ground;
+use appending::{Appended, Round};
 use octets::numbers::u64_at;
 
 // An alternative without symbols, whose action is a built-in text.
 fn put_bare(
     tape: &[u8],
     work: &mut [u8],
-    g: Ground,
-    n: usize,
-    lim: usize,
+    round: Round,
     span: u64,
     text: BuiltIn,
     v: Appended,
 ) -> Appended
-    requires { SomeAppending tape.now work.old g n lim v }
-    ensures { PutsBy tape.now work.old g n lim v (built_text (number_of text)) (bare_head g.width span) result work.new }
+    requires { SomeAppending tape.now work.old round.g round.n round.lim v }
+    ensures { PutsBy tape.now work.old round.g round.n round.lim v (built_text (number_of text)) (bare_head round.g.width.bytes span) result work.new }
 {
-    let t = built(tape, work, g, n, v.count, text);
+    let t = built(tape, work, round.g, round.n, v.count, text);
     let to = put_alternative(
         work,
         span,
         1,
         (t.number % 4294967296) as u32,
         0,
-        g.width,
-        lim,
+        round.g.width,
+        round.lim,
         v.to,
     );
     Appended {
@@ -47,57 +44,38 @@ fn put_bare(
 }
 
 // `X?`: the symbol, or nothing.
-fn expand_question(
-    tape: &[u8],
-    work: &mut [u8],
-    g: Ground,
-    n: usize,
-    lim: usize,
-    q: usize,
-    v: Appended,
-) -> Appended
-    requires { SomePopped IsRepeat tape.now work.old g n lim q v }
-    ensures { ExpandsAs tape.now work.old g n lim q v question result work.new }
+fn expand_question(tape: &[u8], work: &mut [u8], round: Round, q: usize, v: Appended) -> Appended
+    requires { SomePopped IsRepeat tape.now work.old round.g round.n round.lim q v }
+    ensures { ExpandsAs tape.now work.old round.g round.n round.lim q v question result work.new }
 {
-    let span = u64_at(work, g.from + q + 1);
-    let x = begin_with(tape, work, g, n, lim, q, 1, BuiltIn::SomeOfOne, v);
-    put_bare(tape, work, g, n, lim, span, BuiltIn::Nothing, x.out)
+    let span = u64_at(work, round.g.from + q + 1);
+    let x = begin_with(tape, work, round, q, 1, BuiltIn::SomeOfOne, v);
+    put_bare(tape, work, round, span, BuiltIn::Nothing, x.out)
 }
 
 // The item that the repeat at q has as one of this operator.
-fn expand_as(
-    tape: &[u8],
-    work: &mut [u8],
-    g: Ground,
-    n: usize,
-    lim: usize,
-    q: usize,
-    op: u8,
-    v: Appended,
-) -> Appended
-    requires { SomePopped IsRepeat tape.now work.old g n lim q v }
-    ensures { ExpandsAs tape.now work.old g n lim q v (repeat_of op) result work.new }
+fn expand_as(tape: &[u8], work: &mut [u8], round: Round, q: usize, op: u8, v: Appended) -> Appended
+    requires { SomePopped IsRepeat tape.now work.old round.g round.n round.lim q v }
+    ensures { ExpandsAs tape.now work.old round.g round.n round.lim q v (repeat_of op) result work.new }
 {
     match op {
-        0 => expand_star(tape, work, g, n, lim, q, v),
-        1 => expand_plus(tape, work, g, n, lim, q, v),
-        _ => expand_question(tape, work, g, n, lim, q, v),
+        0 => expand_star(tape, work, round, q, v),
+        1 => expand_plus(tape, work, round, q, v),
+        _ => expand_question(tape, work, round, q, v),
     }
 }
 
-// The item of the symbol at q; n symbols were pushed, and items are written before lim.
+// The item of the symbol at q.
 pub fn expand_repeat_symbol(
     tape: &[u8],
     work: &mut [u8],
-    g: Ground,
-    n: usize,
-    lim: usize,
+    round: Round,
     q: usize,
     v: Appended,
 ) -> Appended
-    requires { SomePopped IsRepeat tape.now work.old g n lim q v }
-    ensures { ExpandsRepeat tape.now work.old g n lim q v result work.new }
+    requires { SomePopped IsRepeat tape.now work.old round.g round.n round.lim q v }
+    ensures { ExpandsRepeat tape.now work.old round.g round.n round.lim q v result work.new }
 {
-    let op = work[g.from + q + 9];
-    expand_as(tape, work, g, n, lim, q, op, v)
+    let op = work[round.g.from + q + 9];
+    expand_as(tape, work, round, q, op, v)
 }

@@ -10,17 +10,17 @@ ghost use Rattle.macro_expand.specs.Repeat.{ExpandsAs, PutsBy, star_head, PutsSt
 
 use crate::begin::{Begun, begin};
 use crate::put_in::fits;
-use appending::Appended;
 use appending::built::{BuiltIn, built};
 use appending::commands::{put_alternative, put_name, put_plus};
 use appending::symbols::put_symbols;
+use appending::{Appended, Round};
 use expander::Ground;
-use octets::numbers::u64_at;
+use octets::numbers::{Width, u64_at};
 
 // The commands of the second alternative of `X*` but the symbol's.
-fn put_star(work: &mut [u8], span: u64, k: u32, width: usize, lim: usize, to: usize) -> usize
-    requires { (2 ≤ width) × (width ≤ 3) × (lim ≤ length work.old) }
-    ensures { Puts work.old lim to (star_head width span k) result work.new }
+fn put_star(work: &mut [u8], span: u64, k: u32, width: Width, lim: usize, to: usize) -> usize
+    requires { lim ≤ length work.old }
+    ensures { Puts work.old lim to (star_head width.bytes span k) result work.new }
 {
     let a = put_alternative(work, span, 1, k, 1, width, lim, to);
     let b = put_name(work, span, k, width, lim, a);
@@ -28,25 +28,17 @@ fn put_star(work: &mut [u8], span: u64, k: u32, width: usize, lim: usize, to: us
 }
 
 // The same with the number of `v`.
-fn put_v(
-    tape: &[u8],
-    work: &mut [u8],
-    g: Ground,
-    n: usize,
-    lim: usize,
-    span: u64,
-    v: Appended,
-) -> Appended
-    requires { SomeAppending tape.now work.old g n lim v }
-    ensures { PutsBy tape.now work.old g n lim v (built_text 1) (star_head g.width span) result work.new }
+fn put_v(tape: &[u8], work: &mut [u8], round: Round, span: u64, v: Appended) -> Appended
+    requires { SomeAppending tape.now work.old round.g round.n round.lim v }
+    ensures { PutsBy tape.now work.old round.g round.n round.lim v (built_text 1) (star_head round.g.width.bytes span) result work.new }
 {
-    let t = built(tape, work, g, n, v.count, BuiltIn::Vector);
+    let t = built(tape, work, round.g, round.n, v.count, BuiltIn::Vector);
     let to = put_star(
         work,
         span,
         (t.number % 4294967296) as u32,
-        g.width,
-        lim,
+        round.g.width,
+        round.lim,
         v.to,
     );
     Appended {
@@ -60,19 +52,17 @@ fn put_v(
 fn star_rest(
     tape: &[u8],
     work: &mut [u8],
-    g: Ground,
-    n: usize,
-    lim: usize,
+    round: Round,
     p: usize,
     span: u64,
     deep: bool,
     v: Appended,
 ) -> Appended
-    requires { SomeReferring tape.now work.old g n lim p 1 v }
-    ensures { PutsStar tape.now work.old g n lim p span deep v result work.new }
+    requires { SomeReferring tape.now work.old round.g round.n round.lim p 1 v }
+    ensures { PutsStar tape.now work.old round.g round.n round.lim p span deep v result work.new }
 {
-    let first = put_v(tape, work, g, n, lim, span, v);
-    let x = put_symbols(tape, work, g, n, lim, p, 1, first);
+    let first = put_v(tape, work, round, span, v);
+    let x = put_symbols(tape, work, round, p, 1, first);
     Appended {
         deep: x.out.deep || deep,
         ..x.out
@@ -87,7 +77,7 @@ struct Starred {
 }
 
 fn read_star(work: &[u8], g: Ground, q: usize) -> Starred
-    requires { (2 ≤ g.width) × (g.width ≤ 3) × (g.end + 16 ≤ length work.now) × (g.from + q + 10 ≤ length work.now) }
+    requires { (g.end + 16 ≤ length work.now) × (g.from + q + 10 ≤ length work.now) }
     ensures { ReadsStar work.now g q result }
 {
     let span = u64_at(work, g.from + q + 1);
@@ -96,36 +86,20 @@ fn read_star(work: &[u8], g: Ground, q: usize) -> Starred
 }
 
 // The item and its first alternative.
-fn begin_star(
-    tape: &[u8],
-    work: &mut [u8],
-    g: Ground,
-    n: usize,
-    lim: usize,
-    q: usize,
-    v: Appended,
-) -> Begun
-    requires { SomePopped IsRepeat tape.now work.old g n lim q v }
-    ensures { BeginsStar tape.now work.old g n lim q v result work.new }
+fn begin_star(tape: &[u8], work: &mut [u8], round: Round, q: usize, v: Appended) -> Begun
+    requires { SomePopped IsRepeat tape.now work.old round.g round.n round.lim q v }
+    ensures { BeginsStar tape.now work.old round.g round.n round.lim q v result work.new }
 {
-    begin(tape, work, g, n, lim, q, 1, 2, BuiltIn::EmptyVec, 0, v)
+    begin(tape, work, round, q, 1, 2, BuiltIn::EmptyVec, 0, v)
 }
 
 // `X*`: nothing, or one or more. What is written for X is nested in two symbols more.
-pub fn expand_star(
-    tape: &[u8],
-    work: &mut [u8],
-    g: Ground,
-    n: usize,
-    lim: usize,
-    q: usize,
-    v: Appended,
-) -> Appended
-    requires { SomePopped IsRepeat tape.now work.old g n lim q v }
-    ensures { ExpandsAs tape.now work.old g n lim q v star result work.new }
+pub fn expand_star(tape: &[u8], work: &mut [u8], round: Round, q: usize, v: Appended) -> Appended
+    requires { SomePopped IsRepeat tape.now work.old round.g round.n round.lim q v }
+    ensures { ExpandsAs tape.now work.old round.g round.n round.lim q v star result work.new }
 {
-    let y = read_star(work, g, q);
+    let y = read_star(work, round.g, q);
     let p = q + 10;
-    let x = begin_star(tape, work, g, n, lim, q, v);
-    star_rest(tape, work, g, n, lim, p, y.span, y.deep, x.out)
+    let x = begin_star(tape, work, round, q, v);
+    star_rest(tape, work, round, p, y.span, y.deep, x.out)
 }

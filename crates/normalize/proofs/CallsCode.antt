@@ -25,17 +25,7 @@ use Rattle.stages.specs.Stages.{Judged, resolved}
 use Rattle.stages.specs.Levelling.{levelled_of}
 use Rattle.stages.specs.Expanding.{expanded_of}
 use Rattle.stages.specs.Whole.{again_stages, whole_of}
-use Rattle.normalize.specs.Pass.{in_room}
-use Rattle.stages.proofs.StoodMean.{stage_refused, stage_stands, hand_inside, hand_room, stage_no, hand_fits, stage_yes}
-
--- ---- `admit`
-pub ruleset admitting = (rules, stage_no, hand_inside, hand_room, hand_fits, stage_yes)
-
--- ---- `resolve_stage`
-pub stage_room : (s o w : List ℕ) → 8 * (length s + length o) ≤ length w → 8 * length s ≤ length w
-stage_room s o w h = omega arith
-
-pub ruleset staging = (rules, stage_room, stage_refused, stage_stands)
+use Rattle.normalize.specs.Calls.{in_room}
 
 -- ---- `call`: ok is what `enough` answered, x what the pass leaves
 module _ (s o w : List ℕ) (ok : Bool) (i : ok ≡ leb (8 * (length s + length o)) (length w)) where

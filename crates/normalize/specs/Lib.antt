@@ -1,2 +1,2 @@
--- What the contracts of the passes and of the call around them cite.
-pub mod Pass
+-- What the contracts of the calls cite.
+pub mod Calls

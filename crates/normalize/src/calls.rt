@@ -2,12 +2,17 @@
 ghost use Rattle.std.specs.Prelude.{true, ◌+◌, ◌*◌, ◌≤◌, length};
 ghost use Rattle.passes.specs.Calls.{validate_call, resolve_call, levels_call, macros_call, whole};
 ghost use Rattle.output.specs.Plain.Answers.{Called, Checked};
+ghost use Rattle.normalize.specs.Calls.{in_room};
 
-use crate::pass::{Expanding, Levelling, Resolving, Whole, call};
 use output::room::enough;
 use parse_tree::refusal;
 use parse_tree::refusal::Refusal;
+use stages::expanding::Expanding;
+use stages::levelling::Levelling;
+use stages::pass::{Pass, run};
+use stages::resolving::Resolving;
 use stages::validating::validate_tape;
+use stages::whole::Whole;
 
 // Validating alone: questions 1 to 4, with no output. A tape that is read is the tape of its tree, so a yes has its length.
 pub fn validate(tape: &[u8], work: &mut [u8]) -> Result<usize, Refusal>
@@ -17,6 +22,24 @@ pub fn validate(tape: &[u8], work: &mut [u8]) -> Result<usize, Refusal>
         return validate_tape(tape, work);
     }
     Err(refusal::at(1, 0))
+}
+
+// A pass of a tape, in a work buffer that may be too short and is zero afterwards.
+fn call<P: Pass + Copy>(
+    pass: P,
+    tape: &[u8],
+    output: &mut [u8],
+    work: &mut [u8],
+) -> Result<usize, Refusal>
+    ensures { Called (in_room tape.now (length output.old) (length work.old) (P.stage pass tape.now (length output.old))) tape.now output.old work.old result output.new work.new }
+{
+    if enough(tape.len(), output.len(), work.len()) {
+        let r = run(pass, tape, output, work);
+        work.fill(0);
+        r
+    } else {
+        Err(refusal::at(1, 0))
+    }
 }
 
 // Resolving alone: questions 1 to 13, 20 and 21.

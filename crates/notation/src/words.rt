@@ -6,12 +6,10 @@ pub fn find(text: &[u8], byte: u8, from: usize) -> usize
     requires { from ≤ length text.now }
     ensures { (from ≤ result) × (result ≤ length text.now) }
 {
-    for i in from..text.len() {
-        if text[i] == byte {
-            return i;
-        }
+    match text[from..].iter().position(|b| *b == byte) {
+        Some(i) => from + i,
+        None => text.len(),
     }
-    text.len()
 }
 
 // What a digit is worth, if it is one.

@@ -3,6 +3,15 @@ ghost use Rattle.std.specs.Prelude.{◌≡◌, ◌+◌, ◌≤◌, ◌<◌, leng
 ghost use Rattle.octets.specs.Plain.Numbers.{le_at, le};
 ghost use Rattle.octets.specs.Working.Stores.{store};
 
+// How many bytes an atom's number has.
+#[derive(Clone, Copy)]
+pub struct Width {
+    pub bytes: usize,
+    pub ghost narrow: { 2 ≤ bytes },
+    pub ghost wide: { bytes ≤ 3 },
+}
+
+// Three readers and three writers: from_le_bytes and to_le_bytes are no trait's methods, so that a trait of ours would have these bodies three times too, and two ghost members.
 pub fn u16_at(s: &[u8], at: usize) -> u16
     requires { at + 2 ≤ length s.now }
     ensures { result ≡ le_at 2 s.now at }
@@ -34,11 +43,11 @@ pub fn u64_at(s: &[u8], at: usize) -> u64
 }
 
 // The number of an atom: two or three bytes.
-pub fn atom_at(s: &[u8], at: usize, width: usize) -> u32
-    requires { (2 ≤ width) × (width ≤ 3) × (at + width ≤ length s.now) }
-    ensures { result ≡ le_at width s.now at }
+pub fn atom_at(s: &[u8], at: usize, width: Width) -> u32
+    requires { at + width.bytes ≤ length s.now }
+    ensures { result ≡ le_at width.bytes s.now at }
 {
-    if width == 2 {
+    if width.bytes == 2 {
         u32::from(u16_at(s, at))
     } else {
         u32::from_le_bytes([s[at], s[at + 1], s[at + 2], 0])

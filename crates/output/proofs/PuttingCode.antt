@@ -26,37 +26,19 @@ use Rattle.levels.specs.Fresh.{PutsNames}
 use Rattle.output.specs.Working.Putting.{numbered_text, TextsFit}
 
 -- ---- put_text: a byte, the length and the text, each behind the one before
-pub put_kept : (o a r : List ℕ) (to v : ℕ) → length a ≡ length (set o to v) → length r ≡ length a → length r ≡ length o
-put_kept o a r to v p q = omega (arith, p, q, length-set o to v)
-
-pub put_head : (o : List ℕ) (to n : ℕ) → to + 3 + n ≤ length o → to + 1 + 2 ≤ length (set o to 1)
-put_head o to n h = omega (arith, length-set o to 1)
-
-store-one : (o : List ℕ) (at v : ℕ) → set o at v ≡ store o at (v ∷ [])
-unfolding store
-store-one o at v = refl
-
 module _ (t u : Text) (e : t ≡ u) where
   pub put_cast : length u < 65536 → Fits w16 (length t)
   put_cast h = record { fits = omega (arith, ap length e) }
 
-  pub put_room : (o a : List ℕ) (to : ℕ) → to + 3 + length u ≤ length o → length a ≡ length (set o to 1) → to + 3 + (length t - 0) ≤ length a
-  put_room o a to h p = omega (arith, p, length-set o to 1, ap length e)
+  pub put_room : (o : List ℕ) (to : ℕ) → to + 3 + length u ≤ length o → to + 3 + length t ≤ length o
+  put_room o to h = omega (arith, ap length e)
 
   -- the place behind is a premise, since `search` does not find t from a sum
-  pub put_text_done : (o a r : List ℕ) (to q : ℕ) → r ≡ store a (to + 3) (part 0 (length t) t) → a ≡ store (set o to 1) (to + 1) (le 2 (length t))
-      → q ≡ to + 3 + length t → PutsNames o to (atom_bytes 2 u) q r
-  unfolding part atom_bytes node_bytes
-  put_text_done o a r to q g f p =
-      let y : List ℕ = 1 ∷ le 2 (length t) in
-      let i : a ≡ store o to y = f ∙ ap (λ (l : List ℕ). store l (to + 1) (le 2 (length t))) (store-one o to 1) ∙ store-append o to (to + 1) (1 ∷ []) (le 2 (length t)) refl in
-      record {
-        bytes = g ∙ ap (store a (to + 3)) (take_all (length t - 0) t (omega arith)) ∙ ap (λ (l : List ℕ). store l (to + 3) t) i
-            ∙ store-append o to (to + 3) y t (omega (arith, length-le 2 (length t))) ∙ ap (λ (x : Text). store o to (atom_bytes 2 x)) e;
-        after = omega (arith, ap length e, atom_size 2 u);
-      }
+  pub put_text_done : (o r : List ℕ) (to q : ℕ) → r ≡ store o to ((1 ∷ le 2 (length t)) ++ t) → q ≡ to + 3 + length t → PutsNames o to (atom_bytes 2 u) q r
+  unfolding atom_bytes node_bytes
+  put_text_done o r to q g p = record { bytes = g ∙ ap (λ (x : Text). store o to (atom_bytes 2 x)) e; after = omega (arith, p, ap length e, atom_size 2 u) }
 
-pub ruleset text_putting = (rules, put_kept, put_head, put_cast, put_room, put_text_done)
+pub ruleset text_putting = (rules, put_cast, put_room, put_text_done)
 
 -- ---- the texts from the k-th on: that one, and those behind it
 module _ (s w : List ℕ) (m : Map) (k : ℕ) where

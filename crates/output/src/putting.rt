@@ -6,10 +6,8 @@ ghost use Rattle.texts.specs.Table.{Table, texts};
 ghost use Rattle.levels.specs.Fresh.{PutsNames};
 ghost use Rattle.output.specs.Working.Putting.{numbered_text, TextsFit};
 
-use octets::numbers::store16;
-use octets::runs::copy;
 use texts::Map;
-use texts::text::text;
+use texts::text::{put_atom, text};
 
 // Text k of the table as an atom, to out from `to` on; says the place behind.
 fn put_text<'a>(
@@ -24,9 +22,7 @@ fn put_text<'a>(
     ensures { PutsNames out.old to (atom_bytes 2 (numbered_text tape.now work.now m k)) result out.new }
 {
     let t = text(tape, work, m, k);
-    out[to] = 1;
-    store16(out, to + 1, t.len() as u16);
-    copy(t, 0, t.len(), out, to + 3);
+    put_atom(t, t.len() as u16, out, to);
     to + 3 + t.len()
 }
 

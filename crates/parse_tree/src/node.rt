@@ -1,4 +1,4 @@
-// One command of a tape, read: the operands stand as in specs/Nodes.
+// One command of a tape, read: the operands stand as in specs/Nodes. That there is one is asked at each call: the place differs from one to the next.
 ghost use Rattle.std.specs.Prelude.{◌≡◌, ◌+◌, ◌≤◌, ◌<◌, length, get_or};
 ghost use Rattle.octets.specs.Plain.Numbers.{le_at};
 ghost use Rattle.parse_tree.specs.Working.Nodes.{node_at, text_node, nonterminal_node_at, terminal_node_at, argument_node_at, alternative_node_at, attribute_node_at, condition_node_at, nonterminal_here, alternative_here, attribute_here};
@@ -8,7 +8,7 @@ use crate::syntax::{
     Alternative, Around, Atom, Attribute, Condition, Leaf, Node, NonterminalData,
     NonterminalString, Over, Span, SymbolKind, TerminalData, TerminalString,
 };
-use octets::numbers::{atom_at, u16_at, u32_at};
+use octets::numbers::{Width, atom_at, u16_at, u32_at};
 
 // The span at a place.
 pub fn span_at(tape: &[u8], at: usize) -> Span
@@ -37,34 +37,34 @@ fn text_node(tape: &[u8], at: usize) -> Node
 // Each reader below tests its length by itself: a closure for the rest of it would be no plainer.
 
 // The nonterminal at a place where its command is whole.
-pub fn whole_nonterminal(tape: &[u8], at: usize, width: usize) -> NonterminalData
-    requires { (2 ≤ width) × (width ≤ 3) × (at + (13 + width) ≤ length tape.now) }
-    ensures { result ≡ nonterminal_here width tape.now at }
+pub fn whole_nonterminal(tape: &[u8], at: usize, width: Width) -> NonterminalData
+    requires { at + (13 + width.bytes) ≤ length tape.now }
+    ensures { result ≡ nonterminal_here width.bytes tape.now at }
 {
     NonterminalData {
         span: span_at(tape, at + 1),
         name: NonterminalString(atom_at(tape, at + 9, width)),
-        flags: tape[at + 9 + width],
-        args: tape[at + 10 + width],
-        alternatives: u16_at(tape, at + 11 + width),
+        flags: tape[at + 9 + width.bytes],
+        args: tape[at + 10 + width.bytes],
+        alternatives: u16_at(tape, at + 11 + width.bytes),
     }
 }
 
-fn nonterminal_at(tape: &[u8], at: usize, width: usize) -> Node
-    requires { (2 ≤ width) × (width ≤ 3) × (at < length tape.now) }
-    ensures { result ≡ nonterminal_node_at width tape.now at }
+fn nonterminal_at(tape: &[u8], at: usize, width: Width) -> Node
+    requires { at < length tape.now }
+    ensures { result ≡ nonterminal_node_at width.bytes tape.now at }
 {
-    if tape.len() - at < 13 + width {
+    if tape.len() - at < 13 + width.bytes {
         return Node::Unknown;
     }
     Node::Nonterminal(whole_nonterminal(tape, at, width))
 }
 
-fn terminal_at(tape: &[u8], at: usize, width: usize, code: u8) -> Node
-    requires { (2 ≤ width) × (width ≤ 3) × (at < length tape.now) }
-    ensures { result ≡ terminal_node_at width code tape.now at }
+fn terminal_at(tape: &[u8], at: usize, width: Width, code: u8) -> Node
+    requires { at < length tape.now }
+    ensures { result ≡ terminal_node_at width.bytes code tape.now at }
 {
-    if tape.len() - at < 9 + width {
+    if tape.len() - at < 9 + width.bytes {
         return Node::Unknown;
     }
     Node::Terminal(TerminalData {
@@ -74,20 +74,20 @@ fn terminal_at(tape: &[u8], at: usize, width: usize, code: u8) -> Node
     })
 }
 
-fn argument_at(tape: &[u8], at: usize, width: usize) -> Node
-    requires { (2 ≤ width) × (width ≤ 3) × (at < length tape.now) }
-    ensures { result ≡ argument_node_at width tape.now at }
+fn argument_at(tape: &[u8], at: usize, width: Width) -> Node
+    requires { at < length tape.now }
+    ensures { result ≡ argument_node_at width.bytes tape.now at }
 {
-    if tape.len() - at < 1 + width {
+    if tape.len() - at < 1 + width.bytes {
         return Node::Unknown;
     }
     Node::Argument(NonterminalString(atom_at(tape, at + 1, width)))
 }
 
 // The alternative at a place where its command is whole.
-pub fn whole_alternative(tape: &[u8], at: usize, width: usize) -> Alternative
-    requires { (2 ≤ width) × (width ≤ 3) × (at + (14 + width) ≤ length tape.now) }
-    ensures { result ≡ alternative_here width tape.now at }
+pub fn whole_alternative(tape: &[u8], at: usize, width: Width) -> Alternative
+    requires { at + (14 + width.bytes) ≤ length tape.now }
+    ensures { result ≡ alternative_here width.bytes tape.now at }
 {
     Alternative {
         span: span_at(tape, at + 1),
@@ -95,55 +95,55 @@ pub fn whole_alternative(tape: &[u8], at: usize, width: usize) -> Alternative
         conditions: tape[at + 10],
         action: tape[at + 11],
         text: Atom(atom_at(tape, at + 12, width)),
-        symbols: u16_at(tape, at + 12 + width),
+        symbols: u16_at(tape, at + 12 + width.bytes),
     }
 }
 
-fn alternative_at(tape: &[u8], at: usize, width: usize) -> Node
-    requires { (2 ≤ width) × (width ≤ 3) × (at < length tape.now) }
-    ensures { result ≡ alternative_node_at width tape.now at }
+fn alternative_at(tape: &[u8], at: usize, width: Width) -> Node
+    requires { at < length tape.now }
+    ensures { result ≡ alternative_node_at width.bytes tape.now at }
 {
-    if tape.len() - at < 14 + width {
+    if tape.len() - at < 14 + width.bytes {
         return Node::Unknown;
     }
     Node::Alternative(whole_alternative(tape, at, width))
 }
 
 // The attribute at a place where its command is whole.
-pub fn whole_attribute(tape: &[u8], at: usize, width: usize) -> Attribute
-    requires { (2 ≤ width) × (width ≤ 3) × (at + (2 + width + width + width) ≤ length tape.now) }
-    ensures { result ≡ attribute_here width tape.now at }
+pub fn whole_attribute(tape: &[u8], at: usize, width: Width) -> Attribute
+    requires { at + (2 + width.bytes + width.bytes + width.bytes) ≤ length tape.now }
+    ensures { result ≡ attribute_here width.bytes tape.now at }
 {
     Attribute {
         id: Atom(atom_at(tape, at + 1, width)),
-        kind: tape[at + 1 + width],
-        key: Atom(atom_at(tape, at + 2 + width, width)),
-        value: Atom(atom_at(tape, at + 2 + width + width, width)),
+        kind: tape[at + 1 + width.bytes],
+        key: Atom(atom_at(tape, at + 2 + width.bytes, width)),
+        value: Atom(atom_at(tape, at + 2 + width.bytes + width.bytes, width)),
     }
 }
 
-fn attribute_at(tape: &[u8], at: usize, width: usize) -> Node
-    requires { (2 ≤ width) × (width ≤ 3) × (at < length tape.now) }
-    ensures { result ≡ attribute_node_at width tape.now at }
+fn attribute_at(tape: &[u8], at: usize, width: Width) -> Node
+    requires { at < length tape.now }
+    ensures { result ≡ attribute_node_at width.bytes tape.now at }
 {
-    if tape.len() - at < 2 + width + width + width {
+    if tape.len() - at < 2 + width.bytes + width.bytes + width.bytes {
         return Node::Unknown;
     }
     Node::Attribute(whole_attribute(tape, at, width))
 }
 
-fn condition_at(tape: &[u8], at: usize, width: usize) -> Node
-    requires { (2 ≤ width) × (width ≤ 3) × (at < length tape.now) }
-    ensures { result ≡ condition_node_at width tape.now at }
+fn condition_at(tape: &[u8], at: usize, width: Width) -> Node
+    requires { at < length tape.now }
+    ensures { result ≡ condition_node_at width.bytes tape.now at }
 {
-    if tape.len() - at < 10 + width + width {
+    if tape.len() - at < 10 + width.bytes + width.bytes {
         return Node::Unknown;
     }
     Node::Condition(Condition {
         span: span_at(tape, at + 1),
         lhs: NonterminalString(atom_at(tape, at + 9, width)),
-        op: tape[at + 9 + width],
-        rhs: Atom(atom_at(tape, at + 10 + width, width)),
+        op: tape[at + 9 + width.bytes],
+        rhs: Atom(atom_at(tape, at + 10 + width.bytes, width)),
     })
 }
 
@@ -172,13 +172,13 @@ fn bare_leaf(code: u8) -> Leaf
 }
 
 // 20 to 24.
-fn named_at(tape: &[u8], at: usize, width: usize, code: u8) -> Node
-    requires { (2 ≤ width) × (width ≤ 3) × (at < length tape.now) }
-    ensures { result ≡ if_whole tape.now at (9 + width)
+fn named_at(tape: &[u8], at: usize, width: Width, code: u8) -> Node
+    requires { at < length tape.now }
+    ensures { result ≡ if_whole tape.now at (9 + width.bytes)
         (Node.Symbol (span_in tape.now (at + 1))
-        (SymbolKind.Leaf (named_leaf code (le_at width tape.now (at + 9))))) }
+        (SymbolKind.Leaf (named_leaf code (le_at width.bytes tape.now (at + 9))))) }
 {
-    if tape.len() - at < 9 + width {
+    if tape.len() - at < 9 + width.bytes {
         return Node::Unknown;
     }
     Node::Symbol(
@@ -188,20 +188,20 @@ fn named_at(tape: &[u8], at: usize, width: usize, code: u8) -> Node
 }
 
 // 25.
-fn macro_at(tape: &[u8], at: usize, width: usize) -> Node
-    requires { (2 ≤ width) × (width ≤ 3) × (at < length tape.now) }
-    ensures { result ≡ if_whole tape.now at (10 + width)
+fn macro_at(tape: &[u8], at: usize, width: Width) -> Node
+    requires { at < length tape.now }
+    ensures { result ≡ if_whole tape.now at (10 + width.bytes)
         (Node.Symbol (span_in tape.now (at + 1))
-        (SymbolKind.Over (Over.Macro (record { 0 = le_at width tape.now (at + 9) }) (get_or tape.now (at + 9 + width) 0)))) }
+        (SymbolKind.Over (Over.Macro (record { 0 = le_at width.bytes tape.now (at + 9) }) (get_or tape.now (at + 9 + width.bytes) 0)))) }
 {
-    if tape.len() - at < 10 + width {
+    if tape.len() - at < 10 + width.bytes {
         return Node::Unknown;
     }
     Node::Symbol(
         span_at(tape, at + 1),
         SymbolKind::Over(Over::Macro(
             NonterminalString(atom_at(tape, at + 9, width)),
-            tape[at + 9 + width],
+            tape[at + 9 + width.bytes],
         )),
     )
 }
@@ -236,13 +236,13 @@ fn choose_at(tape: &[u8], at: usize) -> Node
 }
 
 // 28.
-fn name_at(tape: &[u8], at: usize, width: usize) -> Node
-    requires { (2 ≤ width) × (width ≤ 3) × (at < length tape.now) }
-    ensures { result ≡ if_whole tape.now at (10 + width)
+fn name_at(tape: &[u8], at: usize, width: Width) -> Node
+    requires { at < length tape.now }
+    ensures { result ≡ if_whole tape.now at (10 + width.bytes)
         (Node.Symbol (span_in tape.now (at + 1))
-        (SymbolKind.Around (Around.Name (get_or tape.now (at + 9) 0) (record { 0 = le_at width tape.now (at + 10) })))) }
+        (SymbolKind.Around (Around.Name (get_or tape.now (at + 9) 0) (record { 0 = le_at width.bytes tape.now (at + 10) })))) }
 {
-    if tape.len() - at < 10 + width {
+    if tape.len() - at < 10 + width.bytes {
         return Node::Unknown;
     }
     Node::Symbol(
@@ -281,9 +281,9 @@ fn bare_at(tape: &[u8], at: usize, code: u8) -> Node
 }
 
 // The command of a symbol, 20 to 2c.
-fn symbol_at(tape: &[u8], at: usize, width: usize, code: u8) -> Node
-    requires { (2 ≤ width) × (width ≤ 3) × (at < length tape.now) }
-    ensures { result ≡ symbol_node_at width code tape.now at }
+fn symbol_at(tape: &[u8], at: usize, width: Width, code: u8) -> Node
+    requires { at < length tape.now }
+    ensures { result ≡ symbol_node_at width.bytes code tape.now at }
 {
     match code {
         0..=36 => named_at(tape, at, width, code),
@@ -297,9 +297,8 @@ fn symbol_at(tape: &[u8], at: usize, width: usize, code: u8) -> Node
 }
 
 // The command at a place.
-pub fn node(tape: &[u8], at: usize, width: usize) -> Node
-    requires { (2 ≤ width) × (width ≤ 3) }
-    ensures { result ≡ node_at width tape.now at }
+pub fn node(tape: &[u8], at: usize, width: Width) -> Node
+    ensures { result ≡ node_at width.bytes tape.now at }
 {
     if at >= tape.len() {
         return Node::Unknown;

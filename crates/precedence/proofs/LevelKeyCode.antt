@@ -9,6 +9,7 @@ use mir.Val.{Fits}
 use borrow.Author.Rules.{rules}
 use borrow.Author.Tests.{eq-eqb, ne_eqb}
 use lib.ListN.{length, get_or}
+use Rattle.std.specs.Prelude.{unwrap_or}
 use Rattle.octets.specs.Working.Choice.{pick}
 use Rattle.octets.specs.Plain.Numbers.{le_at}
 use Rattle.grades.specs.declared.Assoc.{Assoc}
@@ -73,13 +74,13 @@ module _ (wd : ℕ) (w : List ℕ) (places lim to k : ℕ) (g : KeyInside wd w p
     key_upto = rw y g.upto
 
     pub key_put : (n : ℕ) → n ≡ get_or w (p + 9) 0 → (ids f : Ids) → Annotates wd ids w (p + (14 + wd)) n f → (side : Assoc) → side ≡ key_side k
-        → (target : ℕ) (v : Level) (r : ℕ) (w1 : List ℕ) → PutsRenamed wd w p e f.precedence f.assoc target v.name v.below side lim to r w1
+        → (target : ℕ) (v : Level) (below r : ℕ) (w1 : List ℕ) → below ≡ unwrap_or v.below v.name → PutsRenamed wd w p e f.precedence f.assoc target v.name below side lim to r w1
         → PutsKey wd ids places target v lim k w to r w1
     unfolding key_place key_end
-    key_put n z ids f a side s target v r w1 q =
+    key_put n z ids f a side s target v below r w1 b q =
         let i = a.precedence.index in
         let j = a.assoc.index in
-        record { puts = rw (← s, ← x, ← y, ← z, ← i, ← j) q }
+        record { puts = rw (← b, ← s, ← x, ← y, ← z, ← i, ← j) q }
 
 pub ruleset keyed = (rules, key_symbols, key_upto, key_nine, key_nine_fits, key_attributes_fit, key_put)
 

@@ -6,6 +6,7 @@ use mathlib.Core.List.{List, [], ◌∷◌, map, append-nil}
 use Prim.Native.Nat.{ℕ, ◌+◌, ◌*◌, ◌/◌, ◌%◌, ◌<◌, ◌≤◌}
 use native.Mathlib.Omega.{arith}
 use lib.ListN.{length, get_or}
+use Rattle.std.specs.Prelude.{unwrap_or}
 use Rattle.octets.specs.Plain.Numbers.{le_at}
 use Rattle.octets.specs.Plain.Runs.{Lies}
 use Rattle.parse_tree.specs.Plain.Tree.{Text, Alternative}
@@ -111,7 +112,7 @@ module _ (four : Bool) (wd : ℕ) (ts : List Text) (places : ℕ) where
       let l = lies_agree w out (le_at 8 w (key_entry places k)) (le_at 8 w (key_entry places k + 8)) (alternative_bytes wd ts m.source) same (omega arith) (λ j a b. kept j (inl (omega arith))) m.lies in
       record { source = m.source; within = m.within; lies = rw (x, y) l; is = m.is; sided = m.sided }
 
-  module _ (narrow : wd ≤ 3) (keys : ℕ) (E : Text) (group : Group Graded) (known : has E ts ≡ true) (l : Level) (named : l.name ≡ number ts group.name) (lower : l.below ≡ number ts (lower_name group)) (lim : ℕ) where
+  module _ (narrow : wd ≤ 3) (keys : ℕ) (E : Text) (group : Group Graded) (known : has E ts ≡ true) (l : Level) (named : l.name ≡ number ts group.name) (lower : unwrap_or l.below l.name ≡ number ts (lower_name group)) (lim : ℕ) where
     key_means : (w : List ℕ) (k to r : ℕ) (w1 : List ℕ) (g : Graded) → lim + 16 ≤ length w → KeyMeans w k g → PutsKey wd (ids_in ts) places (number ts E) l lim k w to r w1
         → Puts w lim to (alternative_bytes wd ts (substitute E group g)) r w1
     key_means w k to r w1 g room m q =
@@ -123,7 +124,7 @@ module _ (four : Bool) (wd : ℕ) (ts : List Text) (places : ℕ) where
         let i : first_with wd (id_of ts precedence) w (p + (14 + wd)) (get_or w (p + 9) 0) ≡ first_index precedence a.attributes = rw (← c, n) v.level.index in
         let j : first_with wd (id_of ts assoc) w (p + (14 + wd)) (get_or w (p + 9) 0) ≡ first_index assoc a.attributes = rw (← c, n) v.side.index in
         alternative_means wd ts E group g a known (syms_fit_lem wd ts four a.symbols 64 m.within.symbols) m.is (key_side k) m.sided w p (key_end w places k) lim to r w1 m.lies room
-        (rw (i, j, named, lower) at q.puts)
+        (rw (i, j, lower, named) at q.puts)
 
     module _ (w : List ℕ) (to : ℕ) (room : lim + 16 ≤ length w) (stop : to ≤ lim + 1) (inside : KeysInside wd w places keys l lim to) where
       -- theorem: the alternatives of a level are put as its group has them

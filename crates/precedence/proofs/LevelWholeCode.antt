@@ -1,32 +1,31 @@
 -- The ways out of count_of and write_level. Assumes nothing.
 use mathlib.Core.Path.{◌≡◌, ◌∙◌}
-use mathlib.Core.Bool.{true, false}
 use mathlib.Core.Logic.{inl}
-use mathlib.Core.List.{List, []}
+use mathlib.Core.List.{List}
 use Prim.Native.Nat.{ℕ, ◌+◌, ◌-◌, ◌≤◌}
 use native.Mathlib.Omega.{arith}
 use borrow.Author.Rules.{rules}
 use lib.ListN.{length}
-use Rattle.octets.specs.Working.Choice.{pick}
+use Rattle.std.specs.Prelude.{Some, None}
 use Rattle.octets.specs.Plain.Numbers.{le_at}
 use Rattle.texts.proofs.TableStays.{le_at-agree}
 use Rattle.grades.specs.declared.Ids.{Ids}
 use Rattle.grades.specs.Annotations.{first_alternative}
 use Rattle.precedence.specs.declared.level.Level.{Level}
 use Rattle.precedence.specs.Write.{Puts, fall_bytes}
-use Rattle.precedence.specs.Level.{nonterminal_out, PutsAlternatives, KeysInside, level_count, LevelInside, PutsLevel}
+use Rattle.precedence.specs.Level.{nonterminal_out, PutsAlternatives, KeysInside, level_count, lower_bytes, LevelInside, PutsLevel}
 use Rattle.precedence.proofs.WriteLaws.{puts_beside, puts_on, puts_upto, puts_none}
 use Rattle.precedence.proofs.LevelKeysCode.{keys_stay}
 
 -- ---- count_of
 module _ (l : Level) where
-  pub count-lowest : l.lowest ≡ true → (n : ℕ) → n ≡ l.last - l.first → n ≡ level_count l
-  unfolding level_count pick
+  pub count-lowest : l.below ≡ None → (n : ℕ) → n ≡ l.last - l.first → n ≡ level_count l
+  unfolding level_count
   count-lowest z n y = rw (z, y)
 
-  pub count-more : l.lowest ≡ false → (n : ℕ) → n ≡ l.last - l.first → n + 1 ≡ level_count l
-  unfolding level_count pick
-  count-more z n y = rw (z, y)
+  pub count-more : (b : ℕ) → l.below ≡ Some b → (n : ℕ) → n ≡ l.last - l.first → n + 1 ≡ level_count l
+  unfolding level_count
+  count-more b z n y = rw (z, y)
 
 pub ruleset counting_level = (rules, count-lowest, count-more)
 
@@ -49,16 +48,16 @@ module _ (wd : ℕ) (w : List ℕ) (p places keys : ℕ) (l : Level) (lim to : �
 
   module _ (ids : Ids) (many target q r : ℕ) (w1 w2 : List ℕ) (c : many ≡ level_count l) (t : target ≡ le_at wd w (p + 9)) (x : Puts w lim to (nonterminal_out wd w p l.name many) q w1)
       (y : PutsAlternatives wd ids places keys target l lim w1 q r w2) where
-    whole : (e : ℕ) (w3 : List ℕ) → Puts w2 lim r (pick l.lowest [] (fall_bytes wd (le_at 8 w (p + 1)) l.below)) e w3 → PutsLevel wd ids p places keys l lim w to e w3
+    whole : (e : ℕ) (w3 : List ℕ) → Puts w2 lim r (lower_bytes wd (le_at 8 w (p + 1)) l.below) e w3 → PutsLevel wd ids p places keys l lim w to e w3
     whole e w3 z = record { headed = w1; filled = w2; behind = q; last = r; head = rw c at x; alternatives = rw t at y; falls = z }
 
-    pub level_lowest : l.lowest ≡ true → PutsLevel wd ids p places keys l lim w to r w2
-    unfolding pick
+    pub level_lowest : l.below ≡ None → PutsLevel wd ids p places keys l lim w to r w2
+    unfolding lower_bytes
     level_lowest b = whole r w2 (rw b (puts_none w2 lim r y.stop))
 
-    pub level_falls : l.lowest ≡ false → (e : ℕ) (w3 : List ℕ) → Puts w2 lim r (fall_bytes wd (le_at 8 w2 (p + 1)) l.below) e w3 → PutsLevel wd ids p places keys l lim w to e w3
-    unfolding pick
-    level_falls b e w3 z =
+    pub level_falls : (below : ℕ) → l.below ≡ Some below → (e : ℕ) (w3 : List ℕ) → Puts w2 lim r (fall_bytes wd (le_at 8 w2 (p + 1)) below) e w3 → PutsLevel wd ids p places keys l lim w to e w3
+    unfolding lower_bytes
+    level_falls below b e w3 z =
         let s = span_stays (nonterminal_out wd w p l.name many) q w1 x ids target r w2 y in
         whole e w3 (rw (b, ← s) z)
 

@@ -1,13 +1,13 @@
 -- What a level that is put means: the item of its group, with its fall-through. Assumes nothing.
 use mathlib.Core.Path.{◌≡◌, refl, sym, ap, ◌∙◌}
-use mathlib.Core.Bool.{Bool, true, false}
+use mathlib.Core.Bool.{Bool, true}
 use mathlib.Core.Logic.{inl, inr}
 use mathlib.Core.List.{List, [], ◌∷◌, ◌++◌, map, append_assoc}
 use mathlib.Core.Option.{Option, none, some}
 use Prim.Native.Nat.{ℕ, ◌+◌, ◌-◌, ◌*◌, ◌/◌, ◌%◌, ◌<◌, ◌≤◌}
 use native.Mathlib.Omega.{arith}
 use lib.ListN.{length, length-append, length-map}
-use Rattle.octets.specs.Working.Choice.{pick}
+use Rattle.std.specs.Prelude.{Option as Maybe, Some, None, unwrap_or}
 use Rattle.octets.specs.Plain.Numbers.{le_at, Bytes}
 use Rattle.octets.proofs.LiesLaws.{lies_split}
 use Rattle.parse_tree.specs.Plain.Tree.{Text, Alternative, Nonterminal}
@@ -18,39 +18,43 @@ use Rattle.parse_tree.specs.Working.Encode.{item_bytes, nonterminal_node, argume
 use Rattle.parse_tree.specs.declared.syntax.Span.{Span}
 use Rattle.passes.specs.Outcome.{with_alternatives, with_name}
 use Rattle.passes.specs.Grades.{Graded}
-use Rattle.passes.specs.Levels.{Group, lower_name, substitute, substituted, fall_through, with_fall_through}
+use Rattle.passes.specs.Levels.{Group, substitute, substituted, fall_through, with_fall_through}
 use Rattle.resolve.specs.Whole.{Apart}
 use Rattle.resolve.proofs.GrammarLaws.{Headed}
 use Rattle.grades.specs.Ids.{ids_in}
 use Rattle.grades.proofs.AlternativesMean.{first_means}
 use Rattle.precedence.specs.declared.level.Level.{Level}
-use Rattle.precedence.specs.Write.{Puts, fall_bytes}
-use Rattle.precedence.specs.Level.{nonterminal_out, key_end, PutsKeys, level_count, LevelInside, PutsLevel}
+use Rattle.precedence.specs.Write.{Puts}
+use Rattle.precedence.specs.Level.{nonterminal_out, key_end, PutsKeys, level_count, lower_bytes, LevelInside, PutsLevel}
 use Rattle.precedence.proofs.WriteLaws.{puts_beside, puts_on, puts_upto, puts_append}
 use Rattle.precedence.proofs.WriteMean.{fall_means}
 use Rattle.precedence.proofs.LevelMean.{head_means}
 use Rattle.precedence.proofs.LevelKeysMean.{KeysMean, keys_inside, keys_mean}
 
--- whether there is no lower level
-abbrev pub is_lowest : Option Text → Bool
-is_lowest none = true
-is_lowest (some n) = false
+-- the number of the name of a lower level, if there is one
+abbrev pub lower_number : List Text → Option Text → Maybe ℕ
+lower_number ts none = None
+lower_number ts (some t) = Some (number ts t)
+
+-- what stands for it where there is none: the level's own
+lower_or_own : (ts : List Text) (o : Option Text) (v : Text) (b : Maybe ℕ) (n : ℕ) → b ≡ lower_number ts o → n ≡ number ts v → unwrap_or b n ≡ number ts (elim o [ none ↦ v | some t ↦ t ])
+lower_or_own ts none v b n z y = rw z y
+lower_or_own ts (some t) v b n z y = rw z
 
 bytes_of_both : {A : Type 0} (f : A → List ℕ) (xs ys : List A) → bytes_of_each f (xs ++ ys) ≡ bytes_of_each f xs ++ bytes_of_each f ys
 unfolding bytes_of_each
 bytes_of_both f [] ys = refl
 bytes_of_both f (x ∷ xs) ys = ap (λ (r : List ℕ). f x ++ r) (bytes_of_both f xs ys) ∙ sym (append_assoc (f x) (bytes_of_each f xs) (bytes_of_each f ys))
 
-count-means : (as' : List Alternative) (s : Span) (o : Option Text) (b : Bool) (n : ℕ) → b ≡ is_lowest o → n ≡ length as' → pick b n (n + 1) ≡ length (as' ++ fall_through s o)
-unfolding pick
-count-means as' s none b n z y = rw z (omega (arith, y, length-append as' (fall_through s none)))
-count-means as' s (some t) b n z y = rw z (omega (arith, y, length-append as' (fall_through s (some t))))
+count-means : (ts : List Text) (as' : List Alternative) (s : Span) (o : Option Text) (b : Maybe ℕ) (n : ℕ) → b ≡ lower_number ts o → n ≡ length as'
+    → elim b [ Some v ↦ n + 1 | None ↦ n ] ≡ length (as' ++ fall_through s o)
+count-means ts as' s none b n z y = rw z (omega (arith, y, length-append as' (fall_through s none)))
+count-means ts as' s (some t) b n z y = rw z (omega (arith, y, length-append as' (fall_through s (some t))))
 
 -- a group, and the level that the code knows of it
 pub record LevelOf (ts : List Text) (group : Group Graded) (l : Level) : Type 0 where
   pub name : l.name ≡ number ts group.name
-  pub below : l.below ≡ number ts (lower_name group)
-  pub lowest : l.lowest ≡ is_lowest group.lower
+  pub below : l.below ≡ lower_number ts group.lower
   pub many : l.last ≡ l.first + length group.alternatives
 
 -- the two arrays, and of n places noted those of the level's keys
@@ -62,13 +66,12 @@ pub record ArraysOf (w : List ℕ) (places keys n : ℕ) (l : Level) (lim to : �
   pub noted : (j : ℕ) → l.first ≤ j → j < l.last → (le_at 8 w (keys + 8 * j) / 4 % 65536 < n) × (key_end w places (le_at 8 w (keys + 8 * j)) ≤ to)
 
 module _ (four : Bool) (wd : ℕ) (ts : List Text) (w : List ℕ) (p e : ℕ) (d : Nonterminal) (bytes : Bytes w) (h : Headed w wd ts p d e) where
-  falls_mean : (o : Option Text) (v : Text) (b : Bool) (below : ℕ) → b ≡ is_lowest o → below ≡ number ts (elim o [ none ↦ v | some n ↦ n ])
-      → pick b [] (fall_bytes wd (le_at 8 w (p + 1)) below) ≡ bytes_of_each (alternative_bytes wd ts) (fall_through d.span o)
-  unfolding pick bytes_of_each
-  falls_mean none v b below z y = rw z
-  falls_mean (some n) v b below z y =
+  falls_mean : (o : Option Text) (b : Maybe ℕ) → b ≡ lower_number ts o → lower_bytes wd (le_at 8 w (p + 1)) b ≡ bytes_of_each (alternative_bytes wd ts) (fall_through d.span o)
+  unfolding lower_bytes bytes_of_each
+  falls_mean none b z = rw z
+  falls_mean (some n) b z =
       let node = lies_split w p _ (node_bytes wd (nonterminal_node ts d)) (bytes_of_each (argument_bytes wd ts) d.args) h.front in
-      rw (z, y) (fall_means wd ts w d p _ n bytes node.0)
+      rw z (fall_means wd ts w d p _ n bytes node.0)
 
   -- theorem: where the nonterminal stands before `to` and its arrays apart, the level can be written
   pub level_inside : (places keys n : ℕ) (group : Group Graded) (l : Level) (lim to : ℕ) → LevelOf ts group l → KeysMean four wd ts places keys w l.first group.alternatives → ArraysOf w places keys n l lim to
@@ -102,7 +105,7 @@ module _ (four : Bool) (wd : ℕ) (ts : List Text) (w : List ℕ) (p e : ℕ) (d
 
     count-is : level_count l ≡ length (Mapped ++ Falls)
     unfolding level_count
-    count-is = count-means Mapped d.span group.lower l.lowest (l.last - l.first) of.lowest (omega (arith, of.many, length-map group.alternatives (substitute d.name group)))
+    count-is = count-means ts Mapped d.span group.lower l.below (l.last - l.first) of.below (omega (arith, of.many, length-map group.alternatives (substitute d.name group)))
 
     -- theorem: what is put is the item of the level's group
     pub level_means : (r : ℕ) (w1 : List ℕ) → PutsLevel wd (ids_in ts) p places keys l lim w to r w1 → Puts w lim to (item_bytes wd ts (with_fall_through d (substituted d.name group))) r w1
@@ -119,11 +122,11 @@ module _ (four : Bool) (wd : ℕ) (ts : List Text) (w : List ℕ) (p e : ℕ) (d
         let t = h.name in
         let k : PutsKeys wd (ids_in ts) places keys (number ts d.name) l lim (length group.alternatives) l.first q.headed q.behind q.last q.filled = rw (n, t) at q.alternatives.each in
         let y : Puts q.headed lim q.behind Y q.last q.filled
-        = keys_mean four wd ts places narrow keys d.name group known l of.name of.below lim w to inside.room inside.stop inside.level group.alternatives l.first q.headed q.behind q.last q.filled
+        = keys_mean four wd ts places narrow keys d.name group known l of.name (lower_or_own ts group.lower group.name l.below l.name of.below of.name) lim w to inside.room inside.stop inside.level group.alternatives l.first q.headed q.behind q.last q.filled
         (omega arith) (omega (arith, of.many)) x.long
         (λ i o. puts_beside w q.headed lim to (Node ++ Args) q.behind x i (elim o [ inl u ↦ inl u | inr u ↦ inr (omega arith) ]))
         (puts_on w q.headed lim to (Node ++ Args) q.behind x inside.stop) (puts_upto w q.headed lim to (Node ++ Args) q.behind x) means k in
-        let f = falls_mean group.lower group.name l.lowest l.below of.lowest of.below in
+        let f = falls_mean group.lower l.below of.below in
         let z : Puts q.filled lim q.last Z r w1 = rw f at q.falls in
         let yz = puts_append q.headed q.filled lim q.behind Y q.last y Z r w1 z in
         let whole = puts_append w q.headed lim to (Node ++ Args) q.behind x (Y ++ Z) r w1 yz in

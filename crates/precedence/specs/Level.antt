@@ -1,5 +1,5 @@
 -- The nonterminal of one level, put behind what is written so far. wd is the width of an atom's number in bytes. Assumes nothing: these are definitions.
-use Rattle.std.specs.Prelude.{◌≡◌, ◌⊎◌, List, [], ◌++◌, ℕ, zero, suc, ◌+◌, ◌-◌, ◌*◌, ◌/◌, ◌%◌, ◌≤◌, ◌<◌, eqb, length, get_or}
+use Rattle.std.specs.Prelude.{◌≡◌, ◌⊎◌, List, [], ◌++◌, ℕ, zero, suc, ◌+◌, ◌-◌, ◌*◌, ◌/◌, ◌%◌, ◌≤◌, ◌<◌, eqb, length, get_or, Option, Some, None, unwrap_or}
 use Rattle.octets.specs.Working.Choice.{pick}
 use Rattle.octets.specs.Plain.Numbers.{le_at, le}
 use Rattle.octets.specs.Plain.Runs.{part}
@@ -41,7 +41,7 @@ pub record PutsKey (wd : ℕ) (ids : Ids) (places target : ℕ) (l : Level) (lim
   pub puts : PutsRenamed wd w (key_place w places k) (key_end w places k)
       (first_with wd ids.precedence w (key_place w places k + (14 + wd)) (get_or w (key_place w places k + 9) 0))
       (first_with wd ids.assoc w (key_place w places k + (14 + wd)) (get_or w (key_place w places k + 9) 0))
-      target l.name l.below (key_side k) lim to r w'
+      target l.name (unwrap_or l.below l.name) (key_side k) lim to r w'
 
 -- its alternative stands below `to`, its entry apart from what is written
 pub record KeyInside (wd : ℕ) (w : List ℕ) (places lim to k : ℕ) : Type 0 where
@@ -77,7 +77,12 @@ pub record KeysInside (wd : ℕ) (w : List ℕ) (places keys : ℕ) (l : Level) 
 
 -- how many alternatives a level has, with its fall-through
 unfoldable pub level_count : Level → ℕ
-level_count l = pick l.lowest (l.last - l.first) (l.last - l.first + 1)
+level_count l = elim l.below [ Some b ↦ l.last - l.first + 1 | None ↦ l.last - l.first ]
+
+-- the bytes of the fall-through to the next lower level, if there is one
+unfoldable pub lower_bytes : ℕ → ℕ → Option ℕ → List ℕ
+lower_bytes wd span (Some below) = fall_bytes wd span below
+lower_bytes wd span None = []
 
 -- the nonterminal at p and the keys of a level stand so that it can be written
 pub record LevelInside (wd : ℕ) (w : List ℕ) (p places keys : ℕ) (l : Level) (lim to : ℕ) : Type 0 where
@@ -96,4 +101,4 @@ pub record PutsLevel (wd : ℕ) (ids : Ids) (p places keys : ℕ) (l : Level) (l
   pub last : ℕ
   pub head : Puts w lim to (nonterminal_out wd w p l.name (level_count l)) behind headed
   pub alternatives : PutsAlternatives wd ids places keys (le_at wd w (p + 9)) l lim headed behind last filled
-  pub falls : Puts filled lim last (pick l.lowest [] (fall_bytes wd (le_at 8 w (p + 1)) l.below)) r w'
+  pub falls : Puts filled lim last (lower_bytes wd (le_at 8 w (p + 1)) l.below) r w'

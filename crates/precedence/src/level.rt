@@ -9,38 +9,37 @@ use crate::substitute::put_atom;
 use crate::write::{fall_through, fits, put_alternative, put_run};
 use grades::annotations::{annotations, first_alternative};
 use grades::{Assoc, Ids};
-use octets::numbers::{atom_at, u64_at};
+use octets::numbers::{Width, atom_at, u64_at};
 
-// One level: its keys from first up to last, its name, and that of the next lower level; its own where it is the lowest.
+// One level: its keys from first up to last, its name, and that of the next lower level, if there is one.
 #[derive(Clone, Copy)]
 pub struct Level {
     pub first: usize,
     pub last: usize,
     pub name: u32,
-    pub below: u32,
-    pub lowest: bool,
+    pub below: Option<u32>,
 }
 
 // A number of two or three bytes, if it ends at lim or before.
-fn put_number(work: &mut [u8], v: u32, width: usize, lim: usize, to: usize) -> usize
-    requires { (2 ≤ width) × (width ≤ 3) × (lim + 16 ≤ length work.old) }
-    ensures { Puts work.old lim to (le width v) result work.new }
+fn put_number(work: &mut [u8], v: u32, width: Width, lim: usize, to: usize) -> usize
+    requires { lim + 16 ≤ length work.old }
+    ensures { Puts work.old lim to (le width.bytes v) result work.new }
 {
-    if !fits(lim, to, width) {
+    if !fits(lim, to, width.bytes) {
         return lim + 1;
     }
     put_atom(work, to, width, v);
-    to + width
+    to + width.bytes
 }
 
 // A nonterminal's command with another name, up to the count of its alternatives.
-fn put_named(work: &mut [u8], p: usize, name: u32, width: usize, lim: usize, to: usize) -> usize
-    requires { (2 ≤ width) × (width ≤ 3) × (p + 11 + width ≤ to) × (to ≤ lim + 1) × (lim + 16 ≤ length work.old) }
-    ensures { Puts work.old lim to (named_out width work.old p name) result work.new }
+fn put_named(work: &mut [u8], p: usize, name: u32, width: Width, lim: usize, to: usize) -> usize
+    requires { (p + 11 + width.bytes ≤ to) × (to ≤ lim + 1) × (lim + 16 ≤ length work.old) }
+    ensures { Puts work.old lim to (named_out width.bytes work.old p name) result work.new }
 {
     let q = put_run(work, p, p + 9, lim, to);
     let r = put_number(work, name, width, lim, q);
-    put_run(work, p + 9 + width, p + 11 + width, lim, r)
+    put_run(work, p + 9 + width.bytes, p + 11 + width.bytes, lim, r)
 }
 
 // The command of the nonterminal at p with another name and so many alternatives, and its arguments.
@@ -49,17 +48,17 @@ fn put_nonterminal_head(
     p: usize,
     name: u32,
     many: u32,
-    width: usize,
+    width: Width,
     lim: usize,
     to: usize,
 ) -> usize
-    requires { (2 ≤ width) × (width ≤ 3) × (first_alternative width work.old p ≤ to) × (to ≤ lim + 1) × (lim + 16 ≤ length work.old) }
-    ensures { Puts work.old lim to (nonterminal_out width work.old p name many) result work.new }
+    requires { (first_alternative width.bytes work.old p ≤ to) × (to ≤ lim + 1) × (lim + 16 ≤ length work.old) }
+    ensures { Puts work.old lim to (nonterminal_out width.bytes work.old p name many) result work.new }
 {
     let e = first_alternative(work, p, width);
     let q = put_named(work, p, name, width, lim, to);
-    let r = put_number(work, many, 2, lim, q);
-    put_run(work, p + 13 + width, e, lim, r)
+    let r = put_number(work, many, Width { bytes: 2 }, lim, q);
+    put_run(work, p + 13 + width.bytes, e, lim, r)
 }
 
 // The side that a key says.
@@ -79,22 +78,23 @@ fn put_key(
     work: &mut [u8],
     places: usize,
     k: usize,
-    width: usize,
+    width: Width,
     ids: Ids,
     target: u32,
     l: Level,
     lim: usize,
     to: usize,
 ) -> usize
-    requires { (2 ≤ width) × (width ≤ 3) × KeyInside width work.old places lim to k × (to ≤ lim + 1) × (lim + 16 ≤ length work.old) }
-    ensures { PutsKey width ids places target l lim k work.old to result work.new }
+    requires { KeyInside width.bytes work.old places lim to k × (to ≤ lim + 1) × (lim + 16 ≤ length work.old) }
+    ensures { PutsKey width.bytes ids places target l lim k work.old to result work.new }
 {
     let at = places + 8 * (k / 4 % 65536);
     let p = u64_at(work, at) as usize;
     let e = u64_at(work, at + 8) as usize;
     let n = usize::from(work[p + 9]);
-    let f = annotations(work, p + (14 + width), n, width, ids);
+    let f = annotations(work, p + (14 + width.bytes), n, width, ids);
     let side = side_of(k);
+    let below = l.below.unwrap_or(l.name);
     put_alternative(
         work,
         p,
@@ -104,7 +104,7 @@ fn put_key(
         width,
         target,
         l.name,
-        l.below,
+        below,
         side,
         lim,
         to,
@@ -116,15 +116,15 @@ fn put_alternatives(
     work: &mut [u8],
     places: usize,
     keys: usize,
-    width: usize,
+    width: Width,
     ids: Ids,
     target: u32,
     l: Level,
     lim: usize,
     to: usize,
 ) -> usize
-    requires { (2 ≤ width) × (width ≤ 3) × KeysInside width work.old places keys l lim to × (to ≤ lim + 1) × (lim + 16 ≤ length work.old) }
-    ensures { PutsAlternatives width ids places keys target l lim work.old to result work.new }
+    requires { KeysInside width.bytes work.old places keys l lim to × (to ≤ lim + 1) × (lim + 16 ≤ length work.old) }
+    ensures { PutsAlternatives width.bytes ids places keys target l lim work.old to result work.new }
 {
     let mut q = to;
     for i in l.first..l.last {
@@ -140,17 +140,17 @@ fn count_of(l: Level) -> u32
     ensures { result ≡ level_count l }
 {
     let n = (l.last - l.first) as u32;
-    if l.lowest {
-        return n;
+    match l.below {
+        Some(_) => n + 1,
+        None => n,
     }
-    n + 1
 }
 
 // The nonterminal at p, as this level has it: its command and arguments, the alternatives of the level, and the fall-through if it is not the lowest.
 pub fn write_level(
     work: &mut [u8],
     p: usize,
-    width: usize,
+    width: Width,
     ids: Ids,
     places: usize,
     keys: usize,
@@ -158,15 +158,15 @@ pub fn write_level(
     lim: usize,
     to: usize,
 ) -> usize
-    requires { (2 ≤ width) × (width ≤ 3) × LevelInside width work.old p places keys l lim to }
-    ensures { PutsLevel width ids p places keys l lim work.old to result work.new }
+    requires { LevelInside width.bytes work.old p places keys l lim to }
+    ensures { PutsLevel width.bytes ids p places keys l lim work.old to result work.new }
 {
     let many = count_of(l);
     let target = atom_at(work, p + 9, width);
     let q = put_nonterminal_head(work, p, l.name, many, width, lim, to);
     let r = put_alternatives(work, places, keys, width, ids, target, l, lim, q);
-    if l.lowest {
-        return r;
+    match l.below {
+        Some(below) => fall_through(work, p, below, width, lim, r),
+        None => r,
     }
-    fall_through(work, p, l.below, width, lim, r)
 }

@@ -8,7 +8,8 @@ ghost use Rattle.precedence.specs.Names.{LevelSmall, spelt, Naming, Based, Spell
 
 use grades::grade::{decimal_size, digit};
 use texts::Map;
-use texts::fields::{hash, head, link, mark, write};
+use texts::chain::search;
+use texts::fields::{hash, mark, write};
 use texts::hash::{bucket, next};
 use texts::text::text_at;
 
@@ -77,7 +78,8 @@ fn same_names(a: &[u8], u: Option<usize>, b: &[u8], v: Option<usize>) -> bool
     true
 }
 
-// A text of the table.
+// A text of the table. Here and below tape, work and m stay apart: `Based` and `Spelled` say of one text that it can be read, so a type
+// with the fact of `Naming` would ask more, and one without a fact would make each clause longer.
 pub fn base_text<'a>(tape: &'a [u8], work: &'a [u8], m: Map, k: usize) -> &'a [u8]
     requires { Based tape.now work.now m k }
     ensures { BaseText tape.now work.now m k result.now }
@@ -107,7 +109,8 @@ pub fn level_hash(tape: &[u8], work: &[u8], m: Map, base: usize, level: usize) -
     add_digits(hash(work, m.base, base), level)
 }
 
-// Whether text k, of the table or described, is the name of a level.
+// Whether text k, of the table or described, is the name of a level. Not inlined: else the closure in `find_name` is too long to be.
+#[inline(never)]
 pub fn is_level_name<'a>(
     tape: &'a [u8],
     work: &'a [u8],
@@ -163,15 +166,9 @@ pub fn find_name<'a>(
     ensures { Finds (named_texts tape.now work.now m n) (level_text tape.now work.now m base level) result }
 {
     let y = bucket(h, m.buckets);
-    let mut j = head(work, m.base, y) as usize;
-    while 0 < j {
-        let i = j - 1;
-        if matches(tape, work, m, base, level, i, h) {
-            return Some(i);
-        }
-        j = link(work, m.base, i);
-    }
-    None
+    search(work, m.base, m.buckets, y, n, |i| {
+        matches(tape, work, m, base, level, i, h)
+    })
 }
 
 // Record n describes the name of a level, and comes into its chain.

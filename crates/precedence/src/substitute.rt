@@ -6,7 +6,7 @@ ghost use Rattle.grades.specs.Skip.{names_at};
 ghost use Rattle.precedence.specs.Substitute.{marked_at, Replaces, MarksIn, replace_all, substitute_out};
 
 use grades::Assoc;
-use octets::numbers::{atom_at, store16};
+use octets::numbers::{Width, atom_at, store16};
 use resolve::commands::long;
 
 // Where the first and the last occurrence stood.
@@ -17,20 +17,20 @@ pub struct Marks {
 }
 
 // Whether the command at a place is an occurrence of the nonterminal `target`.
-fn names(work: &[u8], at: usize, width: usize, target: u32) -> bool
-    requires { (2 ≤ width) × (width ≤ 3) × (at + 16 ≤ length work.now) }
-    ensures { result ≡ names_at width target work.now at }
+fn names(work: &[u8], at: usize, width: Width, target: u32) -> bool
+    requires { at + 16 ≤ length work.now }
+    ensures { result ≡ names_at width.bytes target work.now at }
 {
     work[at] == 36 && atom_at(work, at + 9, width) == target
 }
 
 // The number of an atom: two or three bytes.
-pub fn put_atom(work: &mut [u8], at: usize, width: usize, v: u32)
-    requires { (2 ≤ width) × (width ≤ 3) × (at + width ≤ length work.old) }
-    ensures { work.new ≡ store work.old at (le width v) }
+pub fn put_atom(work: &mut [u8], at: usize, width: Width, v: u32)
+    requires { at + width.bytes ≤ length work.old }
+    ensures { work.new ≡ store work.old at (le width.bytes v) }
 {
     store16(work, at, (v % 65536) as u16);
-    if width == 3 {
+    if width.bytes == 3 {
         work[at + 2] = (v / 65536 % 256) as u8;
     }
 }
@@ -49,9 +49,9 @@ fn marked(m: Option<Marks>, p: usize) -> Marks
 }
 
 // The occurrence at p is renamed and marked.
-fn replace_symbol(work: &mut [u8], p: usize, width: usize, rest: u32, m: Option<Marks>) -> Marks
-    requires { (2 ≤ width) × (width ≤ 3) × (p + 16 ≤ length work.old) }
-    ensures { Replaces (store work.old (p + 9) (le width rest), Some (marked_at p m)) (Some result) work.new }
+fn replace_symbol(work: &mut [u8], p: usize, width: Width, rest: u32, m: Option<Marks>) -> Marks
+    requires { p + 16 ≤ length work.old }
+    ensures { Replaces (store work.old (p + 9) (le width.bytes rest), Some (marked_at p m)) (Some result) work.new }
 {
     put_atom(work, p + 9, width, rest);
     marked(m, p)
@@ -62,19 +62,19 @@ fn replace_symbols(
     work: &mut [u8],
     at: usize,
     e: usize,
-    width: usize,
+    width: Width,
     target: u32,
     rest: u32,
 ) -> Option<Marks>
-    requires { (2 ≤ width) × (width ≤ 3) × (e + 16 ≤ length work.old) }
-    ensures { Replaces (replace_all width target rest work.old at e) result work.new × MarksIn at e result }
+    requires { e + 16 ≤ length work.old }
+    ensures { Replaces (replace_all width.bytes target rest work.old at e) result work.new × MarksIn at e result }
 {
     let mut p = at;
     let mut m = None;
     while p < e {
         if names(work, p, width, target) {
             m = Some(replace_symbol(work, p, width, rest, m));
-            p += 9 + width;
+            p += 9 + width.bytes;
         } else {
             p += long(work[p], width);
         }
@@ -87,14 +87,14 @@ pub fn substitute(
     work: &mut [u8],
     at: usize,
     e: usize,
-    width: usize,
+    width: Width,
     target: u32,
     here: u32,
     below: u32,
     side: Assoc,
 )
-    requires { (2 ≤ width) × (width ≤ 3) × (e + 16 ≤ length work.old) }
-    ensures { work.new ≡ substitute_out width work.old at e target here below side }
+    requires { e + 16 ≤ length work.old }
+    ensures { work.new ≡ substitute_out width.bytes work.old at e target here below side }
 {
     match side {
         Assoc::Left => {

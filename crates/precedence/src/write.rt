@@ -1,4 +1,6 @@
-// An alternative of one level, written behind what is written so far. What does not fit before lim is not written, and the cursor stops at lim + 1.
+// An alternative of one level, written behind what is written so far. What does not fit before lim is not written, and the cursor stops at lim + 1:
+// no Option, since this ends no pass (20 and 21 are asked of the finished stage), so that each writer would take None only to hand it on.
+// lim and cursor are numbers, whose bounds each writer states: what is read meanwhile lies in the same work, so no type can hold the room to write in.
 ghost use Rattle.std.specs.Prelude.{◌≡◌, [], ◌∷◌, ◌++◌, ◌+◌, ◌-◌, ◌*◌, ◌≤◌, leb, length};
 ghost use Rattle.octets.specs.Plain.Numbers.{le_at, le};
 ghost use Rattle.octets.specs.Plain.Runs.{part};
@@ -9,7 +11,7 @@ ghost use Rattle.precedence.specs.Write.{Puts, kept_one, kept_bytes, single_head
 use crate::substitute::{put_atom, substitute};
 use grades::Assoc;
 use grades::annotations::symbols;
-use octets::numbers::{store16, store64, u64_at};
+use octets::numbers::{Width, store16, store64, u64_at};
 
 // The n bytes from a on, 8 to 16 of them, to another place: two numbers, which may overlap.
 fn copy_short(work: &mut [u8], a: usize, n: usize, to: usize)
@@ -92,14 +94,14 @@ pub fn put_attributes(
     n: usize,
     i: usize,
     j: usize,
-    width: usize,
+    width: Width,
     lim: usize,
     to: usize,
 ) -> usize
-    requires { (2 ≤ width) × (width ≤ 3) × (at + n * (2 + 3 * width) ≤ to) × (to ≤ lim + 1) × (lim + 16 ≤ length work.old) }
-    ensures { Puts work.old lim to (kept_bytes width work.old at n 0 i j) result work.new }
+    requires { (at + n * (2 + 3 * width.bytes) ≤ to) × (to ≤ lim + 1) × (lim + 16 ≤ length work.old) }
+    ensures { Puts work.old lim to (kept_bytes width.bytes work.old at n 0 i j) result work.new }
 {
-    let long = 2 + 3 * width;
+    let long = 2 + 3 * width.bytes;
     let mut a = at;
     let mut q = to;
     for k in 0..n {
@@ -119,20 +121,20 @@ pub fn put_command(work: &mut [u8], code: u8, span: u64, to: usize)
 }
 
 // The command of an alternative of one symbol.
-fn put_single(work: &mut [u8], span: u64, width: usize, to: usize)
-    requires { (2 ≤ width) × (width ≤ 3) × (to + (14 + width) ≤ length work.old) }
-    ensures { work.new ≡ store work.old to (single_head width span) }
+fn put_single(work: &mut [u8], span: u64, width: Width, to: usize)
+    requires { to + (14 + width.bytes) ≤ length work.old }
+    ensures { work.new ≡ store work.old to (single_head width.bytes span) }
 {
     put_command(work, 18, span, to);
-    put_atom(work, to + 9, 3, 0);
+    put_atom(work, to + 9, Width { bytes: 3 }, 0);
     put_atom(work, to + 12, width, 0);
-    store16(work, to + 12 + width, 1);
+    store16(work, to + 12 + width.bytes, 1);
 }
 
 // The nonterminal `below` as a symbol.
-pub fn put_nonterminal(work: &mut [u8], span: u64, below: u32, width: usize, to: usize)
-    requires { (2 ≤ width) × (width ≤ 3) × (to + (9 + width) ≤ length work.old) }
-    ensures { work.new ≡ store work.old to (36 ∷ (le 8 span ++ le width below)) }
+pub fn put_nonterminal(work: &mut [u8], span: u64, below: u32, width: Width, to: usize)
+    requires { to + (9 + width.bytes) ≤ length work.old }
+    ensures { work.new ≡ store work.old to (36 ∷ (le 8 span ++ le width.bytes below)) }
 {
     put_command(work, 36, span, to);
     put_atom(work, to + 9, width, below);
@@ -143,20 +145,20 @@ pub fn fall_through(
     work: &mut [u8],
     p: usize,
     below: u32,
-    width: usize,
+    width: Width,
     lim: usize,
     to: usize,
 ) -> usize
-    requires { (2 ≤ width) × (width ≤ 3) × (p + 9 ≤ length work.old) × (lim + 16 ≤ length work.old) }
-    ensures { Puts work.old lim to (fall_bytes width (le_at 8 work.old (p + 1)) below) result work.new }
+    requires { (p + 9 ≤ length work.old) × (lim + 16 ≤ length work.old) }
+    ensures { Puts work.old lim to (fall_bytes width.bytes (le_at 8 work.old (p + 1)) below) result work.new }
 {
-    if !fits(lim, to, 23 + 2 * width) {
+    if !fits(lim, to, 23 + 2 * width.bytes) {
         return lim + 1;
     }
     let span = u64_at(work, p + 1);
     put_single(work, span, width, to);
-    put_nonterminal(work, span, below, width, to + (14 + width));
-    to + (23 + 2 * width)
+    put_nonterminal(work, span, below, width, to + (14 + width.bytes));
+    to + (23 + 2 * width.bytes)
 }
 
 // A byte, if it ends at lim or before.
@@ -172,13 +174,13 @@ pub fn put_byte(work: &mut [u8], b: u8, lim: usize, to: usize) -> usize
 }
 
 // An alternative's command with another count of attributes.
-fn put_head(work: &mut [u8], p: usize, count: u8, width: usize, lim: usize, to: usize) -> usize
-    requires { (2 ≤ width) × (width ≤ 3) × (p + (14 + width) ≤ to) × (to ≤ lim + 1) × (lim + 16 ≤ length work.old) }
-    ensures { Puts work.old lim to (head_out width work.old p count) result work.new }
+fn put_head(work: &mut [u8], p: usize, count: u8, width: Width, lim: usize, to: usize) -> usize
+    requires { (p + (14 + width.bytes) ≤ to) × (to ≤ lim + 1) × (lim + 16 ≤ length work.old) }
+    ensures { Puts work.old lim to (head_out width.bytes work.old p count) result work.new }
 {
     let q = put_run(work, p, p + 9, lim, to);
     let r = put_byte(work, count, lim, q);
-    put_run(work, p + 10, p + (14 + width), lim, r)
+    put_run(work, p + 10, p + (14 + width.bytes), lim, r)
 }
 
 // One less, if i is an index below n.
@@ -195,19 +197,19 @@ fn put_parts(
     e: usize,
     i: usize,
     j: usize,
-    width: usize,
+    width: Width,
     lim: usize,
     to: usize,
 ) -> usize
-    requires { (2 ≤ width) × (width ≤ 3) × (conditions_from width work.old p ≤ e) × (e ≤ to) × (to ≤ lim + 1) × (lim + 16 ≤ length work.old) }
-    ensures { Puts work.old lim to (stripped_out width work.old p e i j) result work.new }
+    requires { (conditions_from width.bytes work.old p ≤ e) × (e ≤ to) × (to ≤ lim + 1) × (lim + 16 ≤ length work.old) }
+    ensures { Puts work.old lim to (stripped_out width.bytes work.old p e i j) result work.new }
 {
     let m = work[p + 9];
     let n = usize::from(m);
-    let a = p + (14 + width);
+    let a = p + (14 + width.bytes);
     let q = put_head(work, p, fewer(fewer(m, n, i), n, j), width, lim, to);
     let r = put_attributes(work, a, n, i, j, width, lim, q);
-    put_run(work, a + n * (2 + 3 * width), e, lim, r)
+    put_run(work, a + n * (2 + 3 * width.bytes), e, lim, r)
 }
 
 // An alternative without two of its attributes, its occurrences of the target renamed as its side says.
@@ -217,7 +219,7 @@ pub fn put_alternative(
     e: usize,
     i: usize,
     j: usize,
-    width: usize,
+    width: Width,
     target: u32,
     here: u32,
     below: u32,
@@ -225,8 +227,8 @@ pub fn put_alternative(
     lim: usize,
     to: usize,
 ) -> usize
-    requires { (2 ≤ width) × (width ≤ 3) × (symbols_from width work.old p ≤ e) × (e ≤ to) × (to ≤ lim + 1) × (lim + 16 ≤ length work.old) }
-    ensures { PutsRenamed width work.old p e i j target here below side lim to result work.new }
+    requires { (symbols_from width.bytes work.old p ≤ e) × (e ≤ to) × (to ≤ lim + 1) × (lim + 16 ≤ length work.old) }
+    ensures { PutsRenamed width.bytes work.old p e i j target here below side lim to result work.new }
 {
     let s = symbols(work, p, width);
     let q = put_parts(work, p, e, i, j, width, lim, to);

@@ -112,8 +112,8 @@ module _ (m : Map) (t : Grammar) (which : ℕ) (w₀ w : List ℕ) (i : ℕ) (g 
       pub each-skip : (get_or w p 0 ≡ which → ⊥) → (w'' : List ℕ) → w'' ≡ w → EachLeft m t which w₀ w'' (i + 1)
       each-skip n w'' a = rw a (each-kept w refl (skipped n))
 
-      module _ (z : get_or w p 0 ≡ which) (d : ℕ) (q : d ≡ declared_at t.width w p which) (v : Result (Unit {0}) Refusal) (w' : List ℕ) (o : Runs (declare_out m t.width w p d) v w') where
-        one : each_out m t which (suc (t.count - (i + 1))) i w ≡ run_then (declare_out m t.width w p d) (λ w''. each_out m t which (t.count - (i + 1)) (i + 1) w'')
+      module _ (z : get_or w p 0 ≡ which) (d : ℕ) (q : d ≡ declared_at t.width.bytes w p which) (v : Result (Unit {0}) Refusal) (w' : List ℕ) (o : Runs (declare_out m t.width.bytes w p d) v w') where
+        one : each_out m t which (suc (t.count - (i + 1))) i w ≡ run_then (declare_out m t.width.bytes w p d) (λ w''. each_out m t which (t.count - (i + 1)) (i + 1) w'')
         unfolding each_out pick
         one = cc (eq-eqb (get_or w p 0) which z)
 

@@ -69,28 +69,28 @@ select_49 (Item.terminal s match t ∷ xs) = ap (λ (l : List Global). named_of 
 -- ---- the scan of one code
 module _ (four : Bool) (m : Map) (t : Grammar) (ts : List Text) (which : ℕ) where
   abbrev step : List ℕ → ℕ → RunEnd
-  step w p = pick (eqb (get_or w p 0) which) (declare_out m t.width w p (declared_at t.width w p which)) (ran w)
+  step w p = pick (eqb (get_or w p 0) which) (declare_out m t.width.bytes w p (declared_at t.width.bytes w p which)) (ran w)
 
   -- what is told of an item at p: its code, its name, its span, and what it defines
-  entered_one : (g : Global) (w : List ℕ) (p c : ℕ) → get_or w p 0 ≡ c → le_at t.width w (p + 9) ≡ number ts g.name → span_in w (p + 1) ≡ g.span
-      → (which ≡ c → declared_at t.width w p which ≡ code_of g.def) → step w p ≡ entered m ts w (pick (eqb c which) (g ∷ []) [])
+  entered_one : (g : Global) (w : List ℕ) (p c : ℕ) → get_or w p 0 ≡ c → le_at t.width.bytes w (p + 9) ≡ number ts g.name → span_in w (p + 1) ≡ g.span
+      → (which ≡ c → declared_at t.width.bytes w p which ≡ code_of g.def) → step w p ≡ entered m ts w (pick (eqb c which) (g ∷ []) [])
   unfolding entered declare_out declare_by pick run_then
   entered_one g w p c a n s d = rw a (go (eqb c which) refl)
     where
-      go : (b : Bool) → eqb c which ≡ b → pick b (declare_out m t.width w p (declared_at t.width w p which)) (ran w) ≡ entered m ts w (pick b (g ∷ []) [])
+      go : (b : Bool) → eqb c which ≡ b → pick b (declare_out m t.width.bytes w p (declared_at t.width.bytes w p which)) (ran w) ≡ entered m ts w (pick b (g ∷ []) [])
       go true e = rw (d (sym (eqb-true c which e)), n, s) (sym (then-ran (declare_by m w (number ts g.name) (code_of g.def) g.span)))
       go false e = refl
 
-  step_is : (x : Item) → ItemWithin four t.width ts x → (w : List ℕ) (p e : ℕ) → Lies w p (item_bytes t.width ts x) e → step w p ≡ entered m ts w (one which x)
+  step_is : (x : Item) → ItemWithin four t.width.bytes ts x → (w : List ℕ) (p e : ℕ) → Lies w p (item_bytes t.width.bytes ts x) e → step w p ≡ entered m ts w (one which x)
   unfolding declared_at pick
   step_is (item d) h w p e l =
-      let z = headed four w t.width ts p d e h l in
+      let z = headed four w t.width.bytes ts p d e h l in
       entered_one (met_of d) w p 16 z.code z.name z.span (λ q. rw (q, z.args) refl)
   step_is (Item.terminal s extern x) h w p e l =
-      let z = terminal_headed four w t.width ts p s extern x e h.0 h.1.1 l in
+      let z = terminal_headed four w t.width.bytes ts p s extern x e h.0 h.1.1 l in
       entered_one (named_of s x) w p 48 z.code z.name z.span (λ q. rw q refl)
   step_is (Item.terminal s match x) h w p e l =
-      let z = terminal_headed four w t.width ts p s match x e h.0 h.1.1 l in
+      let z = terminal_headed four w t.width.bytes ts p s match x e h.0 h.1.1 l in
       entered_one (named_of s x) w p 49 z.code z.name z.span (λ q. rw q refl)
 
   -- ---- items one behind another, off the records
@@ -105,17 +105,17 @@ module _ (four : Bool) (m : Map) (t : Grammar) (ts : List Text) (which : ℕ) wh
     turn n i w = go (eqb (get_or w (item_place_in t w i) 0) which)
       where
         go : (b : Bool)
-            → pick b (run_then (declare_out m t.width w (item_place_in t w i) (declared_at t.width w (item_place_in t w i) which)) (λ w'. each_out m t which n (i + 1) w')) (each_out m t which n (i + 1) w)
-            ≡ run_then (pick b (declare_out m t.width w (item_place_in t w i) (declared_at t.width w (item_place_in t w i) which)) (ran w)) (λ w'. each_out m t which n (i + 1) w')
+            → pick b (run_then (declare_out m t.width.bytes w (item_place_in t w i) (declared_at t.width.bytes w (item_place_in t w i) which)) (λ w'. each_out m t which n (i + 1) w')) (each_out m t which n (i + 1) w)
+            ≡ run_then (pick b (declare_out m t.width.bytes w (item_place_in t w i) (declared_at t.width.bytes w (item_place_in t w i) which)) (ran w)) (λ w'. each_out m t which n (i + 1) w')
         go true = refl
         go false = refl
 
-    pub each-is : (xs : List Item) → Each (ItemWithin four t.width ts) xs → (i p : ℕ) → t.at ≤ p → Row t ts u i p xs → (w : List ℕ) → Cellwise m u w
+    pub each-is : (xs : List Item) → Each (ItemWithin four t.width.bytes ts) xs → (i p : ℕ) → t.at ≤ p → Row t ts u i p xs → (w : List ℕ) → Cellwise m u w
         → each_out m t which (length xs) i w ≡ entered m ts w (select which xs)
     unfolding each_out entered
     each-is [] h i p a r w c = refl
     each-is (x ∷ xs) h i p a r w c =
-        let e = p + length (item_bytes t.width ts x) in
+        let e = p + length (item_bytes t.width.bytes ts x) in
         let q = cells_row w c i p (x ∷ xs) a r in
         let y : step w (item_place_in t w i) ≡ entered m ts w (one which x) = ap (step w) q.0 ∙ step_is x h.0 w p e q.1 in
         turn (length xs) i w ∙ ap (λ (z : RunEnd). run_then z (λ w'. each_out m t which (length xs) (i + 1) w')) y
@@ -145,7 +145,7 @@ module _ (four : Bool) (wd : ℕ) (ts : List Text) where
       (each_append (Proper ts) (externs is) (matches is) (rw (select_48 is) at (select_proper is h 48)) (rw (select_49 is) at (select_proper is h 49)))
 
 -- ---- the theorem
-module _ (four : Bool) (m : Map) (t : Grammar) (ts : List Text) (is : List Item) (within : Each (ItemWithin four t.width ts) is) (many : t.count ≡ length is) (w : List ℕ)
+module _ (four : Bool) (m : Map) (t : Grammar) (ts : List Text) (is : List Item) (within : Each (ItemWithin four t.width.bytes ts) is) (many : t.count ≡ length is) (w : List ℕ)
     (off : Apart t.at t.end m.base (m.base + 24 * m.count)) (listed : 0 < t.count → Apart t.list (t.list + 8 * t.count) m.base (m.base + 24 * m.count)) (inside : t.end ≤ length w)
     (row : Row t ts w 0 t.at is) where
   scan : (which : ℕ) (u : List ℕ) → Cellwise m w u → each_out m t which t.count 0 u ≡ entered m ts u (select which is)
@@ -171,9 +171,9 @@ module _ (four : Bool) (m : Map) (t : Grammar) (ts : List Text) (is : List Item)
   globals-cellwise u e = entered_cellwise m ts (globals is) w u (sym globals-are ∙ e)
 
   pub globals-sound : (u : List ℕ) → Room m (length w) → Sound m w → globals_out m t w ≡ ran u → Sound m u
-  globals-sound u r s e = entered_sound m ts (globals is) (globals-proper four t.width ts is within) w u r s (sym globals-are ∙ e)
+  globals-sound u r s e = entered_sound m ts (globals is) (globals-proper four t.width.bytes ts is within) w u r s (sym globals-are ∙ e)
 
   pub globals-mean : distinct ts ≡ true → m.count ≡ length ts → Room m (length w) → Coded m ts w [] → Says m ts (globals is) (check_globals [] (globals is)) (globals_out m t w)
   globals-mean d c r h =
       says_as m ts (globals is) (check_globals [] (globals is)) _ _ globals-are
-      (entered_says m ts d c (globals is) w r h (globals-proper four t.width ts is within) (check_globals [] (globals is)) refl)
+      (entered_says m ts d c (globals is) w r h (globals-proper four t.width.bytes ts is within) (check_globals [] (globals is)) refl)

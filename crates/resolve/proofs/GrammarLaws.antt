@@ -48,7 +48,7 @@ named-last w wd at c sp k e f g l = named w wd at c sp k [] e f g (rw (append-ni
 -- ---- items at their places
 module _ (t : Grammar) (ts : List Text) where
   abbrev pub bytes_of : Item → List ℕ
-  bytes_of x = item_bytes t.width ts x
+  bytes_of x = item_bytes t.width.bytes ts x
 
   abbrev pub Row : List ℕ → ℕ → ℕ → List Item → Type 0
   Row w i p [] = (item_place_in t w i ≡ p) × (p ≡ t.end)
@@ -72,29 +72,29 @@ module _ (t : Grammar) (ts : List Text) where
   place_listed w i v h e l = rw (lt-leb t.count i h, e, le-ltb (t.end - t.at) v (omega arith)) refl
 
   module _ (w : List ℕ) (is : List Item) (many : t.count ≡ length is)
-      (places : (i : ℕ) → i < t.count → le_at 8 w (t.list + 8 * i) ≡ length (bytes_of_each (item_bytes t.width ts) (take i is))) where
+      (places : (i : ℕ) → i < t.count → le_at 8 w (t.list + 8 * i) ≡ length (bytes_of_each (item_bytes t.width.bytes ts) (take i is))) where
     abbrev size : List Item → ℕ
-    size xs = length (bytes_of_each (item_bytes t.width ts) xs)
+    size xs = length (bytes_of_each (item_bytes t.width.bytes ts) xs)
 
-    rows : (front rest : List Item) → is ≡ front ++ rest → (p : ℕ) → p ≡ t.at + size front → Lies w p (bytes_of_each (item_bytes t.width ts) rest) t.end → Row w (length front) p rest
+    rows : (front rest : List Item) → is ≡ front ++ rest → (p : ℕ) → p ≡ t.at + size front → Lies w p (bytes_of_each (item_bytes t.width.bytes ts) rest) t.end → Row w (length front) p rest
     unfolding bytes_of_each
     rows front [] e p z l =
         let n : List Item = [] in
         let q : t.end ≡ p = l.end ∙ (omega arith) in
         (place_last w (length front) (omega (arith, many, ap length e, length-append front n)) ∙ q, sym q)
     rows front (x ∷ rest) e p z l =
-        let s = lies_split w p t.end (bytes_of x) (bytes_of_each (item_bytes t.width ts) rest) l in
+        let s = lies_split w p t.end (bytes_of x) (bytes_of_each (item_bytes t.width.bytes ts) rest) l in
         let b : length front < t.count = omega (arith, many, ap length e, length-append front (x ∷ rest)) in
         let v : le_at 8 w (t.list + 8 * length front) ≡ size front = places (length front) b ∙ ap size (ap (take (length front)) e ∙ take-append_seam front (x ∷ rest)) in
-        let n = bytes_more (item_bytes t.width ts) front x in
+        let n = bytes_more (item_bytes t.width.bytes ts) front x in
         let q : length (front ++ (x ∷ [])) ≡ length front + 1 = omega (arith, length-append front (x ∷ [])) in
-        let o : p + length (bytes_of x) ≡ t.at + size (front ++ (x ∷ [])) = omega (arith, ap length n, length-append (bytes_of_each (item_bytes t.width ts) front) (bytes_of x)) in (
+        let o : p + length (bytes_of x) ≡ t.at + size (front ++ (x ∷ [])) = omega (arith, ap length n, length-append (bytes_of_each (item_bytes t.width.bytes ts) front) (bytes_of x)) in (
           place_listed w (length front) (size front) b v (omega (arith, s.1.end, z)) ∙ sym z,
           s.0,
           rw (← q) (rows (front ++ (x ∷ [])) rest (e ∙ sym (append_assoc front (x ∷ []) rest)) (p + length (bytes_of x)) o s.1),
         )
 
-    pub row_start : Lies w t.at (bytes_of_each (item_bytes t.width ts) is) t.end → Row w 0 t.at is
+    pub row_start : Lies w t.at (bytes_of_each (item_bytes t.width.bytes ts) is) t.end → Row w 0 t.at is
     unfolding bytes_of_each
     row_start l = rows [] is refl t.at (omega arith) l
 

@@ -159,13 +159,6 @@ unmark_next m wd n at w₀ w p k g j y id i d x w' e =
 pub ruleset unmarking = (rules, argument-inside, argument-fits, argument-ends, unmark_start, unmark_done, unmark_next)
 
 -- ---- validate_item
-module _ (m : Map) (t : Grammar) (n : ℕ) (g : Standing m t n) where
-  pub width_narrow : 2 ≤ t.width
-  width_narrow = g.narrow
-
-  pub width_wide : t.width ≤ 3
-  width_wide = g.wide
-
 marked_from : (x : Marking) (r : Bool) (w : List ℕ) → Marks x r w → r ≡ true → x ≡ marked w
 unfolding Marks
 marked_from (marked v) r w h e = ap marked (sym h.1)
@@ -183,8 +176,8 @@ pub item_times : (n wd : ℕ) → n < 256 → wd ≤ 3 → Fits w64 (n * (1 + wd
 item_times n wd a b = record { fits = omega (arith, few n wd a b) }
 
 module _ (m : Map) (t : Grammar) (w : List ℕ) (g : Standing m t (length w)) where
-  pub item_fits_lem : (n at : ℕ) → n < 256 → at + 16 ≤ length w → length w * 1 < 2 ^ 63 → Fits w64 (at + 13 + t.width + n * (1 + t.width))
-  item_fits_lem n at a b l = record { fits = omega (arith, few n t.width a g.wide, g.wide) }
+  pub item_fits_lem : (n at : ℕ) → n < 256 → at + 16 ≤ length w → length w * 1 < 2 ^ 63 → Fits w64 (at + 13 + t.width.bytes + n * (1 + t.width.bytes))
+  item_fits_lem n at a b l = record { fits = omega (arith, few n t.width.bytes a g.wide, g.wide) }
 
   -- w' is work after some calls
   module _ (w' : List ℕ) (l : length w' ≡ length w) where
@@ -206,40 +199,40 @@ module _ (m : Map) (t : Grammar) (w : List ℕ) (g : Standing m t (length w)) wh
       pub after-inside : 0 < t.count → (p : ℕ) → p ≤ t.end → p ≤ length w''
       after-inside h p o = omega (arith, item_inside h p o)
 
-module _ (m : Map) (t : Grammar) (w : List ℕ) (at e n b : ℕ) (i : b ≡ get_or w (at + 10 + t.width) 0) (j : n ≡ b) where
+module _ (m : Map) (t : Grammar) (w : List ℕ) (at e n b : ℕ) (i : b ≡ get_or w (at + 10 + t.width.bytes) 0) (j : n ≡ b) where
   abbrev args : ℕ
-  args = at + 13 + t.width
+  args = at + 13 + t.width.bytes
 
-  pub item_none : t.end < at + 13 + t.width + n * (1 + t.width) → Runs (item_out m t w at e) (Ok tt) w
+  pub item_none : t.end < at + 13 + t.width.bytes + n * (1 + t.width.bytes) → Runs (item_out m t w at e) (Ok tt) w
   unfolding item_out pick
-  item_none h = runs_fine _ w (cc (lt-ltb t.end (args + n * (1 + t.width)) h))
+  item_none h = runs_fine _ w (cc (lt-ltb t.end (args + n * (1 + t.width.bytes)) h))
 
-  module _ (h : at + 13 + t.width + n * (1 + t.width) ≤ t.end) (r : Bool) (w1 : List ℕ) (k : Marks (marks_out m t.width n w (at + 13 + t.width)) r w1) where
-    parts : item_out m t w at e ≡ parts_out m t.width w at n args (args + n * (1 + t.width)) e
+  module _ (h : at + 13 + t.width.bytes + n * (1 + t.width.bytes) ≤ t.end) (r : Bool) (w1 : List ℕ) (k : Marks (marks_out m t.width.bytes n w (at + 13 + t.width.bytes)) r w1) where
+    parts : item_out m t w at e ≡ parts_out m t.width.bytes w at n args (args + n * (1 + t.width.bytes)) e
     unfolding item_out pick
-    parts = cc (le-ltb t.end (args + n * (1 + t.width)) h)
+    parts = cc (le-ltb t.end (args + n * (1 + t.width.bytes)) h)
 
     pub item_twice : not r ≡ true → (s : Span) → s ≡ span_in w (at + 1) → (why : Refusal) → why ≡ refusal_over 7 s → (w' : List ℕ) → Runs (item_out m t w at e) (Err why) w'
     unfolding parts_out marked_then
     item_twice x s o why u w' =
         let v : why ≡ refusal_over 7 (span_in w (at + 1)) = cc in
-        let y = twice_from (marks_out m t.width n w args) r w1 k (not-true r x) in
+        let y = twice_from (marks_out m t.width.bytes n w args) r w1 k (not-true r x) in
         rw v (runs_refused _ 7 (span_in w (at + 1)) w' (parts ∙ cc))
 
-    module _ (x : not r ≡ false) (v : Result (Unit {0}) Refusal) (w2 : List ℕ) (o : Runs (run_out m t.width e w1 (at + 13 + t.width + n * (1 + t.width)) e) v w2) where
-      going : item_out m t w at e ≡ run_then (run_out m t.width e w1 (args + n * (1 + t.width)) e) (λ w₂. ran (unmarks_out m t.width n w₂ args))
+    module _ (x : not r ≡ false) (v : Result (Unit {0}) Refusal) (w2 : List ℕ) (o : Runs (run_out m t.width.bytes e w1 (at + 13 + t.width.bytes + n * (1 + t.width.bytes)) e) v w2) where
+      going : item_out m t w at e ≡ run_then (run_out m t.width.bytes e w1 (args + n * (1 + t.width.bytes)) e) (λ w₂. ran (unmarks_out m t.width.bytes n w₂ args))
       unfolding parts_out marked_then
-      going = let y = marked_from (marks_out m t.width n w args) r w1 k (not-false r x) in parts ∙ cc
+      going = let y = marked_from (marks_out m t.width.bytes n w args) r w1 k (not-false r x) in parts ∙ cc
 
       pub item_refused : (why : Refusal) → v ≡ Err why → (w' : List ℕ) → Runs (item_out m t w at e) (Err why) w'
       item_refused why u w' = rw going (then-refused _ _ why w2 w' (rw u at o))
 
-      pub item_done : v ≡ Ok tt → (w3 : List ℕ) → w3 ≡ unmarks_out m t.width n w2 (at + 13 + t.width) → Runs (item_out m t w at e) (Ok tt) w3
+      pub item_done : v ≡ Ok tt → (w3 : List ℕ) → w3 ≡ unmarks_out m t.width.bytes n w2 (at + 13 + t.width.bytes) → Runs (item_out m t w at e) (Ok tt) w3
       item_done u w3 z = runs_fine _ w3 (going ∙ then-fine _ _ w2 (rw u at o) ∙ ap ran (sym z))
 
 pub ruleset itemizing = (rules, item_times, item_fits_lem, item_room, item_inside, item_behind, item_none, item_twice, item_refused, item_done)
 
-pub ruleset forgetting = (after-room, width_narrow, width_wide, after-inside)
+pub ruleset forgetting = (after-room, after-inside)
 
 -- ---- validate
 -- the items from the i-th on leave what all leave

@@ -87,18 +87,18 @@ module _ (four : Bool) (m : Map) (t : Grammar) (ts : List Text) (c : m.count ≡
   Told f w p n r (no q s) = r ≡ stopped q s
 
   -- ---- one nonterminal
-  module _ (w : List ℕ) (ready : Ready w) (p e : ℕ) (low : t.at ≤ p) (high : e ≤ t.end) (d : Nonterminal) (within : NonterminalWithin four t.width ts d) (head : Headed w t.width ts p d e) where
+  module _ (w : List ℕ) (ready : Ready w) (p e : ℕ) (low : t.at ≤ p) (high : e ≤ t.end) (d : Nonterminal) (within : NonterminalWithin four t.width.bytes ts d) (head : Headed w t.width.bytes ts p d e) where
     abbrev a : ℕ
-    a = p + 13 + t.width
+    a = p + 13 + t.width.bytes
 
     abbrev args : List ℕ
-    args = bytes_of_each (argument_bytes t.width ts) d.args
+    args = bytes_of_each (argument_bytes t.width.bytes ts) d.args
 
     abbrev b : ℕ
     b = a + length args
 
     abbrev alternatives : List Alternative → List ℕ
-    alternatives xs = bytes_of_each (alternative_bytes t.width ts) xs
+    alternatives xs = bytes_of_each (alternative_bytes t.width.bytes ts) xs
 
     ends : e ≡ b + length (alternatives d.alternatives)
     ends = head.alternatives.end
@@ -114,81 +114,81 @@ module _ (four : Bool) (m : Map) (t : Grammar) (ts : List Text) (c : m.count ≡
       marked_cells : Cellwise m w v
       marked_cells = marks_cellwise m ts d.args w v is
 
-      run_told : RunTold t.width ts v b d.alternatives (run_out m t.width e v b e) (validate_alternatives G d.args d.alternatives)
+      run_told : RunTold t.width.bytes ts v b d.alternatives (run_out m t.width.bytes e v b e) (validate_alternatives G d.args d.alternatives)
       run_told =
-          alternatives_run m t.width ts four G d.args v
-          (looked_up m ts c G proper w ready.coded d.args (uses_has four t.width ts d.args within.args) v marks)
+          alternatives_run m t.width.bytes ts four G d.args v
+          (looked_up m ts c G proper w ready.coded d.args (uses_has four t.width.bytes ts d.args within.args) v marks)
           d.alternatives within.alternatives e b e (omega arith) off_rest
           (off_lies m w v marked_cells b e (alternatives d.alternatives) off_rest (let z = ready.inside in omega arith) head.alternatives)
 
       -- and the marks taken away
-      gone : (vs : List ℕ) → length vs ≡ length (alternatives d.alternatives) → unmarks_out m t.width (length d.args) (store v b vs) a ≡ store w b vs
+      gone : (vs : List ℕ) → length vs ≡ length (alternatives d.alternatives) → unmarks_out m t.width.bytes (length d.args) (store v b vs) a ≡ store w b vs
       gone vs n =
           let o : Apart b (b + length vs) m.base (m.base + 24 * m.count) = part_apart b e m.base (m.base + 24 * m.count) b (b + length vs) (omega arith) (omega (arith, ends)) off_rest in
           let r = ready.inside in
           let l : Lies (store v b vs) a args b =
           lies_agree v (store v b vs) a b args (length_store v b vs) (omega (arith, ends)) (λ i x y. get_d_store_before v b vs i y)
           (off_lies m w v marked_cells a b args off_args (omega (arith, ends)) head.arguments) in
-          unmarks_are m ts four t.width d.args within.args (store v b vs) a b off_args (omega (arith, ends, length_store v b vs)) l
+          unmarks_are m ts four t.width.bytes d.args within.args (store v b vs) a b off_args (omega (arith, ends, length_store v b vs)) l
           ∙ unmarks_store m ts d.args v b vs o
-          ∙ ap (λ (u : List ℕ). store u b vs) (marks_gone m ts d.args (has-below ts d.args m.count c (uses_has four t.width ts d.args within.args)) w v ready.sound ready.room is)
+          ∙ ap (λ (u : List ℕ). store u b vs) (marks_gone m ts d.args (has-below ts d.args m.count c (uses_has four t.width.bytes ts d.args within.args)) w v ready.sound ready.room is)
 
     -- ---- what an item becomes
     abbrev item_of : List Alternative → Item
     item_of bs = item (with_alternatives d bs)
 
-    head_bytes_lem : (bs : List Alternative) → length bs ≡ length d.alternatives → item_bytes t.width ts (item_of bs) ≡ (node_bytes t.width (nonterminal_node ts d) ++ args) ++ alternatives bs
+    head_bytes_lem : (bs : List Alternative) → length bs ≡ length d.alternatives → item_bytes t.width.bytes ts (item_of bs) ≡ (node_bytes t.width.bytes (nonterminal_node ts d) ++ args) ++ alternatives bs
     unfolding item_bytes nonterminal_node
-    head_bytes_lem bs n = rw n (sym (append_assoc (node_bytes t.width (nonterminal_node ts d)) args (alternatives bs)))
+    head_bytes_lem bs n = rw n (sym (append_assoc (node_bytes t.width.bytes (nonterminal_node ts d)) args (alternatives bs)))
 
     -- ---- the nonterminal as the run has it
-    parts : item_out m t w p e ≡ parts_out m t.width w p (length d.args) a b e
+    parts : item_out m t w p e ≡ parts_out m t.width.bytes w p (length d.args) a b e
     unfolding item_out pick
     parts =
-        let n = arguments_size t.width ts d.args in
-        let z : a + length d.args * (1 + t.width) ≡ b = omega arith in
+        let n = arguments_size t.width.bytes ts d.args in
+        let z : a + length d.args * (1 + t.width.bytes) ≡ b = omega arith in
         rw (head.args, z, le-ltb t.end b (omega (arith, ends))) refl
 
     abbrev said : Outcome Item
     said = after (validate_macro_args d) (λ u. after (validate_alternatives G d.args d.alternatives) (λ bs. yes (item_of bs)))
 
     abbrev size : ℕ
-    size = length (item_bytes t.width ts (item d))
+    size = length (item_bytes t.width.bytes ts (item d))
 
-    size_is : (bs : List Alternative) → length bs ≡ length d.alternatives → length (alternatives bs) ≡ length (alternatives d.alternatives) → length (item_bytes t.width ts (item_of bs)) ≡ size
+    size_is : (bs : List Alternative) → length bs ≡ length d.alternatives → length (alternatives bs) ≡ length (alternatives d.alternatives) → length (item_bytes t.width.bytes ts (item_of bs)) ≡ size
     size_is bs n l =
-        let f = node_bytes t.width (nonterminal_node ts d) ++ args in
-        ap length (head_bytes_lem bs n) ∙ length-append (node_bytes t.width (nonterminal_node ts d) ++ args) (alternatives bs) ∙ ap (λ (k : ℕ). length (node_bytes t.width (nonterminal_node ts d) ++ args) + k) l
-        ∙ sym (ap length (head_bytes_lem d.alternatives refl) ∙ length-append (node_bytes t.width (nonterminal_node ts d) ++ args) (alternatives d.alternatives))
+        let f = node_bytes t.width.bytes (nonterminal_node ts d) ++ args in
+        ap length (head_bytes_lem bs n) ∙ length-append (node_bytes t.width.bytes (nonterminal_node ts d) ++ args) (alternatives bs) ∙ ap (λ (k : ℕ). length (node_bytes t.width.bytes (nonterminal_node ts d) ++ args) + k) l
+        ∙ sym (ap length (head_bytes_lem d.alternatives refl) ∙ length-append (node_bytes t.width.bytes (nonterminal_node ts d) ++ args) (alternatives d.alternatives))
 
     abbrev run : Marking → RunEnd
-    run x = marked_then x (stopped 7 (span_in w (p + 1))) (λ v. run_then (run_out m t.width e v b e) (λ u. ran (unmarks_out m t.width (length d.args) u a)))
+    run x = marked_then x (stopped 7 (span_in w (p + 1))) (λ v. run_then (run_out m t.width.bytes e v b e) (λ u. ran (unmarks_out m t.width.bytes (length d.args) u a)))
 
     yes_told : (v : List ℕ) → marks_for m ts d.args w ≡ marked v → length v ≡ length w
         → ((x : Text) → has x ts ≡ true → known_at m v (number ts x) ≡ pick (has x d.args) (known_at m w (number ts x) + 512) (known_at m w (number ts x)))
-        → Told (item_bytes t.width ts) w p size (run (marked v)) (after (validate_alternatives G d.args d.alternatives) (λ bs. yes (item_of bs)))
+        → Told (item_bytes t.width.bytes ts) w p size (run (marked v)) (after (validate_alternatives G d.args d.alternatives) (λ bs. yes (item_of bs)))
     unfolding marked_then run_then
     yes_told v is long marks = go (validate_alternatives G d.args d.alternatives) refl (run_told v is long marks)
       where
-        go : (o : Outcome (List Alternative)) → validate_alternatives G d.args d.alternatives ≡ o → RunTold t.width ts v b d.alternatives (run_out m t.width e v b e) o
-            → Told (item_bytes t.width ts) w p size (run_then (run_out m t.width e v b e) (λ u. ran (unmarks_out m t.width (length d.args) u a))) (after o (λ bs. yes (item_of bs)))
+        go : (o : Outcome (List Alternative)) → validate_alternatives G d.args d.alternatives ≡ o → RunTold t.width.bytes ts v b d.alternatives (run_out m t.width.bytes e v b e) o
+            → Told (item_bytes t.width.bytes ts) w p size (run_then (run_out m t.width.bytes e v b e) (λ u. ran (unmarks_out m t.width.bytes (length d.args) u a))) (after o (λ bs. yes (item_of bs)))
         go (yes bs) q h =
             let n = alternatives_kept G d.args d.alternatives bs q in (
-              ap (λ (r : RunEnd). run_then r (λ u. ran (unmarks_out m t.width (length d.args) u a))) h.0
-                  ∙ ap ran (gone v is long marks (alternatives bs) h.1 ∙ behind_node w p b (node_bytes t.width (nonterminal_node ts d) ++ args) (alternatives bs) head.front head.front.end
+              ap (λ (r : RunEnd). run_then r (λ u. ran (unmarks_out m t.width.bytes (length d.args) u a))) h.0
+                  ∙ ap ran (gone v is long marks (alternatives bs) h.1 ∙ behind_node w p b (node_bytes t.width.bytes (nonterminal_node ts d) ++ args) (alternatives bs) head.front head.front.end
                   ∙ ap (store w p) (sym (head_bytes_lem bs n))),
               size_is bs n h.1,
             )
-        go (no k s) q h = ap (λ (r : RunEnd). run_then r (λ u. ran (unmarks_out m t.width (length d.args) u a))) h
+        go (no k s) q h = ap (λ (r : RunEnd). run_then r (λ u. ran (unmarks_out m t.width.bytes (length d.args) u a))) h
 
-    pub item_told : Told (item_bytes t.width ts) w p size (item_out m t w p e) said
+    pub item_told : Told (item_bytes t.width.bytes ts) w p size (item_out m t w p e) said
     unfolding parts_out marked_then
     item_told =
-        subst (λ (r : RunEnd). Told (item_bytes t.width ts) w p size r said) (sym (parts ∙ ap run (marks_are m ts four t.width d.args within.args w a b off_args (let z = ready.inside in omega (arith, ends)) head.arguments)))
-        (go (distinct d.args) (marks_mean m ts c w ready.room (known_small m ts c G proper w ready.coded) d.args (uses_has four t.width ts d.args within.args)))
+        subst (λ (r : RunEnd). Told (item_bytes t.width.bytes ts) w p size r said) (sym (parts ∙ ap run (marks_are m ts four t.width.bytes d.args within.args w a b off_args (let z = ready.inside in omega (arith, ends)) head.arguments)))
+        (go (distinct d.args) (marks_mean m ts c w ready.room (known_small m ts c G proper w ready.coded) d.args (uses_has four t.width.bytes ts d.args within.args)))
       where
         go : (x : Bool) → Marks m ts c w ready.room (known_small m ts c G proper w ready.coded) x (λ y. has y d.args) (marks_for m ts d.args w)
-            → Told (item_bytes t.width ts) w p size (run (marks_for m ts d.args w)) (after (cond x Yes (no 7 d.span)) (λ u. after (validate_alternatives G d.args d.alternatives) (λ bs. yes (item_of bs))))
+            → Told (item_bytes t.width.bytes ts) w p size (run (marks_for m ts d.args w)) (after (cond x Yes (no 7 d.span)) (λ u. after (validate_alternatives G d.args d.alternatives) (λ bs. yes (item_of bs))))
         go true (v, is, long, marks) = rw is (yes_told v is long marks)
         go false h = rw (h, head.span) refl
 
@@ -201,7 +201,7 @@ module _ (four : Bool) (m : Map) (t : Grammar) (ts : List Text) (c : m.count ≡
 
   module _ (apart : 0 < t.count → Apart t.at t.end t.list (t.list + 8 * t.count)) where
     abbrev each : List Item → List ℕ
-    each xs = bytes_of_each (item_bytes t.width ts) xs
+    each xs = bytes_of_each (item_bytes t.width.bytes ts) xs
 
     -- a row behind an item that is stored, as long as it was
     row_store : (w : List ℕ) → t.end ≤ length w → (i p e : ℕ) (vs : List ℕ) (xs : List Item) → t.at ≤ p → e ≤ t.end → e ≡ p + length vs → Row t ts w i e xs → Row t ts (store w p vs) i e xs
@@ -210,24 +210,24 @@ module _ (four : Bool) (m : Map) (t : Grammar) (ts : List Text) (c : m.count ≡
         (λ j k l. elim (apart (omega arith)) [ inl h ↦ get_d_store_after w p vs j (omega arith) | inr h ↦ get_d_store_before w p vs j (omega arith) ]) i e xs
         (λ j k l. get_d_store_after w p vs j (omega arith)) r
 
-    item_then : (w : List ℕ) (p e n : ℕ) (x : Item) (xs : List Item) (r : RunEnd) (f : List ℕ → RunEnd) (o : Outcome Item) (R : Outcome (List Item)) → n ≡ length (item_bytes t.width ts x) → e ≡ p + n
-        → Told (item_bytes t.width ts) w p n r o
-        → ((y : Item) → length (item_bytes t.width ts y) ≡ n → Told each (store w p (item_bytes t.width ts y)) e (length (each xs)) (f (store w p (item_bytes t.width ts y))) R)
+    item_then : (w : List ℕ) (p e n : ℕ) (x : Item) (xs : List Item) (r : RunEnd) (f : List ℕ → RunEnd) (o : Outcome Item) (R : Outcome (List Item)) → n ≡ length (item_bytes t.width.bytes ts x) → e ≡ p + n
+        → Told (item_bytes t.width.bytes ts) w p n r o
+        → ((y : Item) → length (item_bytes t.width.bytes ts y) ≡ n → Told each (store w p (item_bytes t.width.bytes ts y)) e (length (each xs)) (f (store w p (item_bytes t.width.bytes ts y))) R)
         → Told each w p (length (each (x ∷ xs))) (run_then r f) (after o (λ y. after R (λ ys. yes (y ∷ ys))))
     unfolding run_then bytes_of_each
     item_then w p e n x xs r f (yes y) (yes ys) z q h g =
         let k = g y h.1 in (
-          ap (λ (s : RunEnd). run_then s f) h.0 ∙ k.0 ∙ ap ran (store-append w p e (item_bytes t.width ts y) (each ys) (omega (arith, h.1))),
-          omega (arith, h.1, k.1, length-append (item_bytes t.width ts y) (each ys), length-append (item_bytes t.width ts x) (each xs)),
+          ap (λ (s : RunEnd). run_then s f) h.0 ∙ k.0 ∙ ap ran (store-append w p e (item_bytes t.width.bytes ts y) (each ys) (omega (arith, h.1))),
+          omega (arith, h.1, k.1, length-append (item_bytes t.width.bytes ts y) (each ys), length-append (item_bytes t.width.bytes ts x) (each xs)),
         )
     item_then w p e n x xs r f (yes y) (no k s) z q h g = ap (λ (s : RunEnd). run_then s f) h.0 ∙ g y h.1
     item_then w p e n x xs r f (no k s) R z q h g = ap (λ (s : RunEnd). run_then s f) h
 
-    terminal_then : (w : List ℕ) (p e : ℕ) (x : Item) (xs : List Item) (r : RunEnd) (R : Outcome (List Item)) → Lies w p (item_bytes t.width ts x) e → Told each w e (length (each xs)) r R
+    terminal_then : (w : List ℕ) (p e : ℕ) (x : Item) (xs : List Item) (r : RunEnd) (R : Outcome (List Item)) → Lies w p (item_bytes t.width.bytes ts x) e → Told each w e (length (each xs)) r R
         → Told each w p (length (each (x ∷ xs))) r (after R (λ ys. yes (x ∷ ys)))
     unfolding bytes_of_each
     terminal_then w p e x xs r (yes ys) l h =
-        (h.0 ∙ ap ran (behind_node w p e (item_bytes t.width ts x) (each ys) l l.end), omega (arith, h.1, length-append (item_bytes t.width ts x) (each ys), length-append (item_bytes t.width ts x) (each xs)))
+        (h.0 ∙ ap ran (behind_node w p e (item_bytes t.width.bytes ts x) (each ys) l l.end), omega (arith, h.1, length-append (item_bytes t.width.bytes ts x) (each ys), length-append (item_bytes t.width.bytes ts x) (each xs)))
     terminal_then w p e x xs r (no q s) l h = h
 
     skips : (n i p c : ℕ) (w : List ℕ) → item_place_in t w i ≡ p → get_or w p 0 ≡ c → (c ≡ 16 → ⊥) → items_out m t (suc n) i w ≡ items_out m t n (i + 1) w
@@ -238,27 +238,27 @@ module _ (four : Bool) (m : Map) (t : Grammar) (ts : List Text) (c : m.count ≡
     unfolding items_out pick
     takes n i p e w a b k = rw (a, b, k) refl
 
-    pub items_told : (xs : List Item) → Each (ItemWithin four t.width ts) xs → (i p : ℕ) (w : List ℕ) → t.at ≤ p → Row t ts w i p xs → Ready w
+    pub items_told : (xs : List Item) → Each (ItemWithin four t.width.bytes ts) xs → (i p : ℕ) (w : List ℕ) → t.at ≤ p → Row t ts w i p xs → Ready w
         → Told each w p (length (each xs)) (items_out m t (length xs) i w) (validate_items G xs)
     unfolding items_out validate_items bytes_of_each
     items_told [] h i p w low r y = (ap ran (sym (store-none w p)), refl)
     items_told (item d ∷ xs) h i p w low r y =
-        let e = p + length (item_bytes t.width ts (item d)) in
+        let e = p + length (item_bytes t.width.bytes ts (item d)) in
         let high = row_below t ts w (i + 1) e xs r.2 in
-        let head = headed four w t.width ts p d e h.0 r.1 in
+        let head = headed four w t.width.bytes ts p d e h.0 r.1 in
         let told = item_told w y p e low high d h.0 head in
         let o : Outcome Item = after (validate_macro_args d) (λ u. after (validate_alternatives G d.args d.alternatives) (λ bs. yes (item (with_alternatives d bs)))) in
-        let rest = item_then w p e (length (item_bytes t.width ts (item d))) (item d) xs (item_out m t w p e) (λ v. items_out m t (length xs) (i + 1) v)
+        let rest = item_then w p e (length (item_bytes t.width.bytes ts (item d))) (item d) xs (item_out m t w p e) (λ v. items_out m t (length xs) (i + 1) v)
         o (validate_items G xs) refl refl told
-        (λ x n. items_told xs h.1 (i + 1) e (store w p (item_bytes t.width ts x)) (omega arith)
-        (row_store w y.inside (i + 1) p e (item_bytes t.width ts x) xs low high (omega arith) r.2)
-        (ready_store w p (item_bytes t.width ts x) low (omega arith) y)) in
+        (λ x n. items_told xs h.1 (i + 1) e (store w p (item_bytes t.width.bytes ts x)) (omega arith)
+        (row_store w y.inside (i + 1) p e (item_bytes t.width.bytes ts x) xs low high (omega arith) r.2)
+        (ready_store w p (item_bytes t.width.bytes ts x) low (omega arith) y)) in
         subst (λ (o : Outcome (List Item)). Told each w p (length (each (item d ∷ xs))) (items_out m t (suc (length xs)) i w) o)
         (after-item (validate_macro_args d) (validate_alternatives G d.args d.alternatives) (λ bs. item (with_alternatives d bs)) (validate_items G xs))
         (subst (λ (q : RunEnd). Told each w p (length (each (item d ∷ xs))) q (after o (λ x. after (validate_items G xs) (λ ys. yes (x ∷ ys))))) (sym (takes (length xs) i p e w r.0 (row_place t ts w (i + 1) e xs r.2) head.code)) rest)
     items_told (Item.terminal s o x ∷ xs) h i p w low r y =
-        let e = p + length (item_bytes t.width ts (Item.terminal s o x)) in
-        let head = terminal_headed four w t.width ts p s o x e h.0.0 h.0.1.1 r.1 in
+        let e = p + length (item_bytes t.width.bytes ts (Item.terminal s o x)) in
+        let head = terminal_headed four w t.width.bytes ts p s o x e h.0.0 h.0.1.1 r.1 in
         subst (λ (q : RunEnd). Told each w p (length (each (Item.terminal s o x ∷ xs))) q (after (validate_items G xs) (λ ys. yes (Item.terminal s o x ∷ ys))))
         (sym (skips (length xs) i p (source_code o) w r.0 head.code (no_nonterminal o)))
         (terminal_then w p e (Item.terminal s o x) xs (items_out m t (length xs) (i + 1) w) (validate_items G xs) r.1 (items_told xs h.1 (i + 1) e w (omega arith) r.2 y))

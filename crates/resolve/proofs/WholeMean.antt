@@ -46,7 +46,7 @@ module _ (m : Map) (t : Grammar) (w : List ℕ) (standing : Standing m t (length
       cells : Cellwise m w u
       cells = globals-cellwise h.four m t ts is h.within h.many w h.items_apart h.list_apart h.inside row u entered
 
-      ready : Ready h.four m t ts h.texts is (globals-proper h.four t.width ts is h.within) h.items_apart u
+      ready : Ready h.four m t ts h.texts is (globals-proper h.four t.width.bytes ts is h.within) h.items_apart u
       ready = record {
         coded = coded;
         sound = globals-sound h.four m t ts is h.within h.many w h.items_apart h.list_apart h.inside row u standing.records (bytes_sound m w h.bytes standing.records) entered;
@@ -55,12 +55,12 @@ module _ (m : Map) (t : Grammar) (w : List ℕ) (standing : Standing m t (length
       }
 
       abbrev each : List Item → List ℕ
-      each xs = bytes_of_each (item_bytes t.width ts) xs
+      each xs = bytes_of_each (item_bytes t.width.bytes ts) xs
 
-      told : Told h.four m t ts h.texts is (globals-proper h.four t.width ts is h.within) h.items_apart
+      told : Told h.four m t ts h.texts is (globals-proper h.four t.width.bytes ts is h.within) h.items_apart
           each u t.at (length (each is)) (items_out m t (length is) 0 u) (validate_items is is)
       told =
-          items_told h.four m t ts h.texts is (globals-proper h.four t.width ts is h.within) h.items_apart h.apart is h.within 0 t.at u (omega arith)
+          items_told h.four m t ts h.texts is (globals-proper h.four t.width.bytes ts is h.within) h.items_apart h.apart is h.within 0 t.at u (omega arith)
           (row_same t ts w u cells.long h.inside (λ j k l. off_same m w u cells t.list (t.list + 8 * t.count) j (h.list_apart (omega arith)) k l) 0 t.at is
           (λ j k l. off_same m w u cells t.at t.end j h.items_apart k l) row) ready
 
@@ -79,7 +79,7 @@ module _ (m : Map) (t : Grammar) (w : List ℕ) (standing : Standing m t (length
       items_answer r w' k = go (validate_items is is) told (subst (λ (n : ℕ). Runs (items_out m t n 0 u) r w') h.many k)
         where
           go : (o : Outcome (List Item))
-              → Told h.four m t ts h.texts is (globals-proper h.four t.width ts is h.within) h.items_apart each u t.at (length (each is)) (items_out m t (length is) 0 u) o
+              → Told h.four m t ts h.texts is (globals-proper h.four t.width.bytes ts is h.within) h.items_apart each u t.at (length (each is)) (items_out m t (length is) 0 u) o
               → Runs (items_out m t (length is) 0 u) r w' → Answers m t ts o w r w'
           go (yes R) q k = let z : Runs (ran (store u t.at (each R))) r w' = rw q.0 at k in (z.0, rw z.1 (became R q.1))
           go (no n s) q k = let z : Runs (stopped n s) r w' = rw q at k in z

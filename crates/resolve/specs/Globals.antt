@@ -29,7 +29,7 @@ unfoldable pub each_out : Map → Grammar → ℕ → ℕ → ℕ → List ℕ �
 each_out m t which zero i w = ran w
 each_out m t which (suc n) i w =
     pick (eqb (get_or w (item_place_in t w i) 0) which)
-    (run_then (declare_out m t.width w (item_place_in t w i) (declared_at t.width w (item_place_in t w i) which)) (λ w'. each_out m t which n (i + 1) w'))
+    (run_then (declare_out m t.width.bytes w (item_place_in t w i) (declared_at t.width.bytes w (item_place_in t w i) which)) (λ w'. each_out m t which n (i + 1) w'))
     (each_out m t which n (i + 1) w)
 
 -- nonterminals, then 30, then 31

@@ -14,8 +14,8 @@ pub record Standing (m : Map) (t : Grammar) (n : ℕ) : Type 0 where
   pub listed : 0 < t.count → t.list + 8 * t.count ≤ n
   pub ordered : t.at ≤ t.end
   pub inside : 0 < t.count → t.end + 16 ≤ n
-  pub narrow : 2 ≤ t.width
-  pub wide : t.width ≤ 3
+  pub narrow : 2 ≤ t.width.bytes
+  pub wide : t.width.bytes ≤ 3
 
 -- the place of the i-th item, the end for the last and for any place behind it
 unfoldable pub item_place_in : Grammar → List ℕ → ℕ → ℕ
@@ -56,9 +56,9 @@ parts_out m wd w at n a p e =
 -- the nonterminal from a place up to e; one whose arguments reach behind the items' end is none
 unfoldable pub item_out : Map → Grammar → List ℕ → ℕ → ℕ → RunEnd
 item_out m t w at e =
-    let n = get_or w (at + 10 + t.width) 0 in
-    let a = at + 13 + t.width in
-    pick (ltb t.end (a + n * (1 + t.width))) (ran w) (parts_out m t.width w at n a (a + n * (1 + t.width)) e)
+    let n = get_or w (at + 10 + t.width.bytes) 0 in
+    let a = at + 13 + t.width.bytes in
+    pick (ltb t.end (a + n * (1 + t.width.bytes))) (ran w) (parts_out m t.width.bytes w at n a (a + n * (1 + t.width.bytes)) e)
 
 -- n items from the i-th on
 unfoldable pub items_out : Map → Grammar → ℕ → ℕ → List ℕ → RunEnd

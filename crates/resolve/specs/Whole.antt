@@ -23,11 +23,11 @@ Apart a b c d = (b ≤ c) ⊎ (d ≤ a)
 pub record Holds (w : List ℕ) (m : Map) (t : Grammar) (ts : List Text) (is : List Item) : Type 0 where
   pub four : Bool
   pub bytes : Bytes w
-  pub lies : Lies w t.at (bytes_of_each (item_bytes t.width ts) is) t.end
+  pub lies : Lies w t.at (bytes_of_each (item_bytes t.width.bytes ts) is) t.end
   pub inside : t.end ≤ length w
-  pub within : Each (ItemWithin four t.width ts) is
+  pub within : Each (ItemWithin four t.width.bytes ts) is
   pub many : t.count ≡ length is
-  pub places : (i : ℕ) → i < t.count → le_at 8 w (t.list + 8 * i) ≡ length (bytes_of_each (item_bytes t.width ts) (take i is))
+  pub places : (i : ℕ) → i < t.count → le_at 8 w (t.list + 8 * i) ≡ length (bytes_of_each (item_bytes t.width.bytes ts) (take i is))
   pub distinct : distinct ts ≡ true
   pub texts : m.count ≡ length ts
   pub blank : (k : ℕ) → k < m.count → cell_at w m.base k ≡ 0
@@ -43,7 +43,7 @@ pub record Free (m : Map) (t : Grammar) (i : ℕ) : Type 0 where
 -- from w to w' the items became R, and nothing else changed but cells
 pub record Became (m : Map) (t : Grammar) (ts : List Text) (R : List Item) (w w' : List ℕ) : Type 0 where
   pub long : length w' ≡ length w
-  pub lies : Lies w' t.at (bytes_of_each (item_bytes t.width ts) R) t.end
+  pub lies : Lies w' t.at (bytes_of_each (item_bytes t.width.bytes ts) R) t.end
   pub others : (i : ℕ) → Free m t i → get_or w' i 0 ≡ get_or w i 0
 
 -- a yes leaves the tree; a no gives the question's number and the span

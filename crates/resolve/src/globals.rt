@@ -8,7 +8,7 @@ ghost use Rattle.resolve.specs.Globals.{describe, declared_at, declare_out, each
 use crate::Grammar;
 use crate::cells::{define, known};
 use crate::items::place;
-use octets::numbers::atom_at;
+use octets::numbers::{Width, atom_at};
 use parse_tree::node::span_at;
 use parse_tree::refusal;
 use parse_tree::refusal::Refusal;
@@ -22,21 +22,21 @@ fn description(d: usize) -> usize
 }
 
 // What the item at a place, whose code is c, defines its name to be.
-fn declared(work: &[u8], width: usize, at: usize, c: u8) -> usize
-    requires { (2 ≤ width) × (width ≤ 3) × (at + 16 ≤ length work.now) }
-    ensures { (result ≡ declared_at width work.now at c) × (result < 4294967296) }
+fn declared(work: &[u8], width: Width, at: usize, c: u8) -> usize
+    requires { at + 16 ≤ length work.now }
+    ensures { (result ≡ declared_at width.bytes work.now at c) × (result < 4294967296) }
 {
     if c == 16 {
-        usize::from(work[at + 10 + width]) + 2
+        usize::from(work[at + 10 + width.bytes]) + 2
     } else {
         1
     }
 }
 
 // Enters the global at a place, if its name is new.
-fn declare(work: &mut [u8], m: Map, width: usize, at: usize, d: usize) -> Result<(), Refusal>
-    requires { Room m (length work.old) × (2 ≤ width) × (width ≤ 3) × (at + 16 ≤ length work.old) × (d < 4294967296) }
-    ensures { Runs (declare_out m width work.old at d) result work.new }
+fn declare(work: &mut [u8], m: Map, width: Width, at: usize, d: usize) -> Result<(), Refusal>
+    requires { Room m (length work.old) × (at + 16 ≤ length work.old) × (d < 4294967296) }
+    ensures { Runs (declare_out m width.bytes work.old at d) result work.new }
 {
     let id = atom_at(work, at + 9, width);
     let old = known(work, m, id);

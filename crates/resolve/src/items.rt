@@ -7,7 +7,7 @@ ghost use Rattle.resolve.specs.Items.{Standing, item_place_in, Marks, marks_out,
 use crate::Grammar;
 use crate::cells::{define, known};
 use crate::commands::validate_commands;
-use octets::numbers::{atom_at, u64_at};
+use octets::numbers::{Width, atom_at, u64_at};
 use parse_tree::node::span_at;
 use parse_tree::refusal;
 use parse_tree::refusal::Refusal;
@@ -26,9 +26,9 @@ pub fn place(work: &[u8], t: Grammar, i: usize) -> usize
 }
 
 // "arguments distinct? 7": the n arguments at a place are marked, as long as none has a mark.
-fn validate_macro_args(work: &mut [u8], m: Map, width: usize, n: usize, at: usize) -> bool
-    requires { Room m (length work.old) × (2 ≤ width) × (width ≤ 3) × (at + n * (1 + width) ≤ length work.old) }
-    ensures { Marks (marks_out m width n work.old at) result work.new }
+fn validate_macro_args(work: &mut [u8], m: Map, width: Width, n: usize, at: usize) -> bool
+    requires { Room m (length work.old) × (at + n * (1 + width.bytes) ≤ length work.old) }
+    ensures { Marks (marks_out m width.bytes n work.old at) result work.new }
 {
     let mut p = at;
     for _ in 0..n {
@@ -38,22 +38,22 @@ fn validate_macro_args(work: &mut [u8], m: Map, width: usize, n: usize, at: usiz
             return false;
         }
         define(work, m, id, d + 512);
-        p += 1 + width;
+        p += 1 + width.bytes;
     }
     true
 }
 
 // The marks of the n arguments at a place are taken away.
-fn forget_macro_args(work: &mut [u8], m: Map, width: usize, n: usize, at: usize)
-    requires { Room m (length work.old) × (2 ≤ width) × (width ≤ 3) × (at + n * (1 + width) ≤ length work.old) }
-    ensures { work.new ≡ unmarks_out m width n work.old at }
+fn forget_macro_args(work: &mut [u8], m: Map, width: Width, n: usize, at: usize)
+    requires { Room m (length work.old) × (at + n * (1 + width.bytes) ≤ length work.old) }
+    ensures { work.new ≡ unmarks_out m width.bytes n work.old at }
 {
     let mut p = at;
     for _ in 0..n {
         let id = atom_at(work, p + 1, width);
         let d = known(work, m, id);
         define(work, m, id, d % 512);
-        p += 1 + width;
+        p += 1 + width.bytes;
     }
 }
 
@@ -62,9 +62,9 @@ fn validate_item(work: &mut [u8], m: Map, t: Grammar, at: usize, e: usize) -> Re
     requires { Standing m t (length work.old) × (at + 16 ≤ length work.old) × (e ≤ t.end) × (0 < t.count) }
     ensures { Runs (item_out m t work.old at e) result work.new }
 {
-    let n = usize::from(work[at + 10 + t.width]);
-    let a = at + 13 + t.width;
-    let p = a + n * (1 + t.width);
+    let n = usize::from(work[at + 10 + t.width.bytes]);
+    let a = at + 13 + t.width.bytes;
+    let p = a + n * (1 + t.width.bytes);
     if t.end < p {
         return Ok(());
     }

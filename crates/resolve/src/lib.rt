@@ -2,6 +2,8 @@
 // name is stands in the cell of its text's record. Touches those cells and the items, nothing else.
 #![tactic(auto)]
 
+use octets::numbers::Width;
+
 pub mod cells;
 pub mod commands;
 pub mod globals;
@@ -17,7 +19,7 @@ pub struct Grammar {
     pub end: usize,
     pub list: usize,
     pub count: usize,
-    pub width: usize,
+    pub width: Width,
 }
 
 // What a scope says of a name that is defined: a terminal, a nonterminal or macro with so many arguments, or an argument of the item at

@@ -32,7 +32,7 @@ abbrev FoundFrom : List Text → Map → List ℕ → Tree → ℕ → Type 0
 FoundFrom ts m w G i = (n : Text) (D : Nonterminal) → macro_in (drop i G) n ≡ some D → FoundAt ts m w G n D
 
 -- ---- one item more
-module _ (s w : List ℕ) (m : Map) (t : Grammar) (i : ℕ) (l : i < t.count) (w' : List ℕ) (o : w' ≡ defined_at m t.width w (item_place_in t w i) i) where
+module _ (s w : List ℕ) (m : Map) (t : Grammar) (i : ℕ) (l : i < t.count) (w' : List ℕ) (o : w' ≡ defined_at m t.width.bytes w (item_place_in t w i) i) where
   module _ (four : Bool) (G : Tree) (h : Items s w m t four G) where
     abbrev ts : List Text
     ts = texts s w m
@@ -142,7 +142,7 @@ module _ (s w : List ℕ) (m : Map) (t : Grammar) (w' : List ℕ) (i : ℕ) (g :
         let a = g.some_items in
         items_headable s w' m t a.four a.tree (now_items a.four a.tree a.items) (i - 1) last_less
 
-    pub defining_next : (w'' : List ℕ) → w'' ≡ defined_at m t.width w' (item_place_in t w' (i - 1)) (i - 1) → Defining s w m t w'' (i - 1)
+    pub defining_next : (w'' : List ℕ) → w'' ≡ defined_at m t.width.bytes w' (item_place_in t w' (i - 1)) (i - 1) → Defining s w m t w'' (i - 1)
     defining_next w'' o =
         let a = g.some_items in
         let b = now_items a.four a.tree a.items in

@@ -34,14 +34,14 @@ module _ (w : List ℕ) (m : Map) (t : Grammar) (i p : ℕ) (e : p ≡ item_plac
   pub head_inside : Headable w m t i → p < length w
   head_inside h = omega (arith, h.inside)
 
-  pub head_at_lem : Headable w m t i → get_or w p 0 ≡ 16 → HeadAt w m t.width p i
-  head_at_lem h c = subst (λ (q : ℕ). HeadAt w m t.width q i) (sym e) (h.head (ap (λ (q : ℕ). get_or w q 0) (sym e) ∙ c))
+  pub head_at_lem : Headable w m t i → get_or w p 0 ≡ 16 → HeadAt w m t.width.bytes p i
+  head_at_lem h c = subst (λ (q : ℕ). HeadAt w m t.width.bytes q i) (sym e) (h.head (ap (λ (q : ℕ). get_or w q 0) (sym e) ∙ c))
 
-  pub head_told : get_or w p 0 ≡ 16 → (w' : List ℕ) → w' ≡ told_at m t.width w p i → w' ≡ defined_at m t.width w (item_place_in t w i) i
+  pub head_told : get_or w p 0 ≡ 16 → (w' : List ℕ) → w' ≡ told_at m t.width.bytes w p i → w' ≡ defined_at m t.width.bytes w (item_place_in t w i) i
   unfolding defined_at pick
   head_told c w' o = rw (← e, eq-eqb (get_or w p 0) 16 c) o
 
-  pub head_other : (get_or w p 0 ≡ 16 → ⊥) → w ≡ defined_at m t.width w (item_place_in t w i) i
+  pub head_other : (get_or w p 0 ≡ 16 → ⊥) → w ≡ defined_at m t.width.bytes w (item_place_in t w i) i
   unfolding defined_at pick
   head_other n = rw (← e, ne_eqb (get_or w p 0) 16 n) refl
 

@@ -43,7 +43,7 @@ module _ (s w w' : List ℕ) (m : Map) (t : Grammar) (four : Bool) (G : Tree) (h
     cells = cells_stay s w w' m h.cells r;
     row = subst (λ (ts : List Text). Row t ts w' 0 t.at G) (sym r.same)
         (row_same t (texts s w m) w w' r.long h.inside (λ i a b. r.others i (inl (omega (arith, h.list)))) 0 t.at G (λ j a b. byte_same j a b h.off) h.row);
-    within = subst (λ (ts : List Text). Each (ItemWithin four t.width ts) G) (sym r.same) h.within;
+    within = subst (λ (ts : List Text). Each (ItemWithin four t.width.bytes ts) G) (sym r.same) h.within;
     many = h.many;
     few = h.few;
     narrow = h.narrow;
@@ -117,14 +117,14 @@ module _ (s w : List ℕ) (m : Map) (t : Grammar) (four : Bool) (G : Tree) (h : 
         let z : 0 + i ≡ i = omega arith in
         subst (λ (k : ℕ). RowAt t ts w k t.at x) z (row_at t ts w G 0 t.at i x h.row e)
 
-    pub item_within : (x : Item) → item_of G i ≡ some x → ItemWithin four t.width ts x
-    item_within x e = within_at t ts w four t.width ts G i x h.within e
+    pub item_within : (x : Item) → item_of G i ≡ some x → ItemWithin four t.width.bytes ts x
+    item_within x e = within_at t ts w four t.width.bytes ts G i x h.within e
 
     pub record Says (d : Nonterminal) : Type 0 where
       pub end : ℕ
-      pub headed_is : Headed w t.width ts p d end
+      pub headed_is : Headed w t.width.bytes ts p d end
       pub upto : end ≤ length w
-      pub within : NonterminalWithin four t.width ts d
+      pub within : NonterminalWithin four t.width.bytes ts d
       pub below : number ts d.name < m.count
 
     pub says : (d : Nonterminal) → item_of G i ≡ some (item d) → Says d
@@ -133,7 +133,7 @@ module _ (s w : List ℕ) (m : Map) (t : Grammar) (four : Bool) (G : Tree) (h : 
         let b = item_within (item d) e in
         record {
           end = a.end;
-          headed_is = headed four w t.width ts p d a.end b a.lies;
+          headed_is = headed four w t.width.bytes ts p d a.end b a.lies;
           upto = omega (arith, a.upto, h.inside);
           within = b;
           below = omega (arith, number-below ts d.name b.name.0, texts-many);
@@ -143,7 +143,7 @@ module _ (s w : List ℕ) (m : Map) (t : Grammar) (four : Bool) (G : Tree) (h : 
     says_other sp o x e =
         let a = stands (terminal sp o x) e in
         let b = item_within (terminal sp o x) e in
-        let k = terminal_headed four w t.width ts p sp o x a.end b.0 b.1.1 a.lies in
+        let k = terminal_headed four w t.width.bytes ts p sp o x a.end b.0 b.1.1 a.lies in
         (λ q. source_other o (sym k.code ∙ q), omega (arith, a.upto, h.inside, k.rest.end))
 
     pub items_headable : i < t.count → Headable w m t i
@@ -152,7 +152,7 @@ module _ (s w : List ℕ) (m : Map) (t : Grammar) (four : Bool) (G : Tree) (h : 
         go : (x : Item) → item_of G i ≡ some x → Headable w m t i
         go (item d) e =
             let a = says d e in
-            let u : p + 13 + t.width ≤ length w = omega (arith, a.upto, a.headed_is.alternatives.end) in
+            let u : p + 13 + t.width.bytes ≤ length w = omega (arith, a.upto, a.headed_is.alternatives.end) in
             record {
               list = omega (arith, h.list, h.cells.table.room);
               ordered = row_below t ts w 0 t.at G h.row;
@@ -173,7 +173,7 @@ module _ (s w : List ℕ) (m : Map) (t : Grammar) (four : Bool) (G : Tree) (h : 
         }
 
     -- ---- and what telling it does
-    module _ (w' : List ℕ) (o : w' ≡ defined_at m t.width w p i) where
+    module _ (w' : List ℕ) (o : w' ≡ defined_at m t.width.bytes w p i) where
       pub record Plain (x : Item) : Type 0 where
         pub same : w' ≡ w
         pub skipped : (rest : Tree) (n : Text) → macro_in (x ∷ rest) n ≡ macro_in rest n
@@ -189,7 +189,7 @@ module _ (s w : List ℕ) (m : Map) (t : Grammar) (four : Bool) (G : Tree) (h : 
       told_plain : (d : Nonterminal) → Says d → length d.args ≡ 0 → Plain (item d)
       unfolding defined_at told_at pick
       told_plain d a z = record {
-        same = o ∙ rw (eq-eqb (get_or w p 0) 16 a.headed_is.code, eq-eqb (get_or w (p + 10 + t.width) 0) 0 (a.headed_is.args ∙ z)) refl;
+        same = o ∙ rw (eq-eqb (get_or w p 0) 16 a.headed_is.code, eq-eqb (get_or w (p + 10 + t.width.bytes) 0) 0 (a.headed_is.args ∙ z)) refl;
         skipped = λ rest n. cond_none (same_as d.name n) (some_args_lem d.args) (some d) (macro_in rest n) (args_none d.args z);
       }
 
@@ -201,7 +201,7 @@ module _ (s w : List ℕ) (m : Map) (t : Grammar) (four : Bool) (G : Tree) (h : 
         there = a.within.name.0;
         below = a.below;
         stored = o
-            ∙ rw (eq-eqb (get_or w p 0) 16 a.headed_is.code, ne_eqb (get_or w (p + 10 + t.width) 0) 0 (λ q. z (sym a.headed_is.args ∙ q)), a.headed_is.name) refl;
+            ∙ rw (eq-eqb (get_or w p 0) 16 a.headed_is.code, ne_eqb (get_or w (p + 10 + t.width.bytes) 0) 0 (λ q. z (sym a.headed_is.args ∙ q)), a.headed_is.name) refl;
         first = λ rest n. cond_some (same_as d.name n) (some_args_lem d.args) (some d) (macro_in rest n) (args_some d.args z);
       }
 

@@ -37,7 +37,7 @@ use Rattle.rounds.specs.Standing.{RoundTrees, round_atoms, DefinesMacros, RoundS
 
 -- ---- where a round writes
 module _ (s w w' : List ℕ) (room : Room) (t : Grammar) (z : State) (T : RoundTrees) (S : RoundStands s w room t z T) (g : Ground) (a e : ℕ) (wrote : WroteOnly g a e w w')
-    (map : g.m ≡ z.m) (width : g.width ≡ 2) (top : top_of g ≡ room.x) (before : room.y ≤ a) (same : texts s w' g.m ≡ round_atoms T) where
+    (map : g.m ≡ z.m) (width : g.width.bytes ≡ 2) (top : top_of g ≡ room.x) (before : room.y ≤ a) (same : texts s w' g.m ≡ round_atoms T) where
   abbrev ts : List Text
   ts = round_atoms T
 
@@ -85,7 +85,7 @@ module _ (s w w' : List ℕ) (room : Room) (t : Grammar) (z : State) (T : RoundT
   pub declares_now : (v : Appended) → room.y ≤ v.to → room.y + 16 ≤ length w → Declares s w' g t v false T.definitions
   declares_now v to behind = record {
     row = subst (λ (l : List Text). Row t l w' 0 t.at T.definitions) (sym same) row_now;
-    within = subst (λ (l : List Text). Each (ItemWithin false g.width l) T.definitions) (sym same) (rw width S.defines.within);
+    within = subst (λ (l : List Text). Each (ItemWithin false g.width.bytes l) T.definitions) (sym same) (rw width S.defines.within);
     many = S.defines.many;
     width = S.defines.width ∙ sym width;
     off = off_now v.to to;
@@ -189,8 +189,8 @@ pub row_more : (t : Grammar) (ts us : List Text) (w : List ℕ) (i p : ℕ) (is 
 row_more t ts us w i p [] k h = h
 row_more t ts us w i p (x ∷ xs) k h =
     subst (λ (b : List ℕ). (item_place_in t w i ≡ p) × Lies w p b (p + length b) × Row t (ts ++ us) w (i + 1) (p + length b) xs)
-    (sym (there_bytes t.width ts (ts ++ us) (record { more = us; is = refl }) x k.0))
-    (h.0, h.1, row_more t ts us w (i + 1) (p + length (item_bytes t.width ts x)) xs k.1 h.2)
+    (sym (there_bytes t.width.bytes ts (ts ++ us) (record { more = us; is = refl }) x k.0))
+    (h.0, h.1, row_more t ts us w (i + 1) (p + length (item_bytes t.width.bytes ts x)) xs k.1 h.2)
 
 -- ---- the next round
 below-has : (ts : List Text) (x : Text) → number ts x < length ts → has x ts ≡ true

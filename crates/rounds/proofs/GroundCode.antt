@@ -9,6 +9,7 @@ use borrow.Author.Rules.{rules}
 use borrow.Author.Tests.{ltb-true, ltb-false, eqb-true, eqb-false}
 use lib.Dec.{eqb, ltb}
 use lib.ListN.{length, get_or}
+use Rattle.octets.specs.declared.numbers.Width.{Width}
 use Rattle.octets.specs.Working.Choice.{pick}
 use Rattle.octets.specs.Plain.Numbers.{le_at, le}
 use Rattle.octets.specs.Working.Stores.{store}
@@ -45,7 +46,7 @@ buckets_some size h = go (ltb (size / 64 + 1) 4294967295) refl
     go false e = let z = ltb-false (size / 64 + 1) 4294967295 e in (omega arith, omega arith, omega arith)
 
 -- ---- ground
-module _ (s w : List ℕ) (m : Map) (width from end top : ℕ) (h : Groundable s w m width from end top) where
+module _ (s w : List ℕ) (m : Map) (width : Width) (from end top : ℕ) (h : Groundable s w m width.bytes from end top) where
   abbrev k : ℕ
   k = (end - from) / 9
 
@@ -63,7 +64,7 @@ module _ (s w : List ℕ) (m : Map) (width from end top : ℕ) (h : Groundable s
     heads-room = omega (arith, few.1, h.room, h.top_inside)
 
     pub grounds : (w' : List ℕ) → Relinked w w' (top - 8 * ((end - from) / 9) - 24 * ((end - from) / 9)) 0 b
-        → Grounds s w m width from end top (record { m = m; width = width; from = from; end = end; keys = top - 8 * ((end - from) / 9) - 24 * ((end - from) / 9); buckets = b; slots = top - 8 * ((end - from) / 9) }) w'
+        → Grounds s w m width.bytes from end top (record { m = m; width = width; from = from; end = end; keys = top - 8 * ((end - from) / 9) - 24 * ((end - from) / 9); buckets = b; slots = top - 8 * ((end - from) / 9) }) w'
     unfolding size_in top_of
     grounds w' r =
         let K = top - 8 * k - 24 * k in

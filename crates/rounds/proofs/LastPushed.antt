@@ -73,7 +73,7 @@ module _ (s w : List ℕ) (g : Ground) (to : ℕ) (r : Replaced) (w' : List ℕ)
   -- theorem: the records are as many as the pile has symbols
   pub pile_count : length (replaced_by is K).1.pile ≡ r.pile
   pile_count =
-      let f : ℕ → Pending = λ p. inner (sym_at false g.width (stage_in w g) (texts s w g.m) p) in
+      let f : ℕ → Pending = λ p. inner (sym_at false g.width.bytes (stage_in w g) (texts s w g.m) p) in
       let ps = (starts.slots s w g to r w' is K ms G h).pile in
       sym (ap length (starts.round s w g to r w' is K ms G h).pile) ∙ length-map ps f ∙ ap length (starts.held s w g to r w' is K ms G h).pile ∙ down-length (key_at w' g) r.pile
 
@@ -93,9 +93,9 @@ module _ (s w : List ℕ) (g : Ground) (to : ℕ) (r : Replaced) (w' : List ℕ)
   some x xs e = omega (arith, pile_count, ap length e)
 
   -- the span of its command in the stage, as it was read
-  last-node : (x : Pending) (xs : List Pending) → (replaced_by is K).1.pile ≡ x ∷ xs → node_span (node_at g.width (stage_in w g) last) ≡ span_of x
+  last-node : (x : Pending) (xs : List Pending) → (replaced_by is K).1.pile ≡ x ∷ xs → node_span (node_at g.width.bytes (stage_in w g) last) ≡ span_of x
   last-node x xs e =
-      let f : ℕ → Span = λ p. node_span (node_at g.width (stage_in w g) p) in
+      let f : ℕ → Span = λ p. node_span (node_at g.width.bytes (stage_in w g) p) in
       down-first f (key_at w' g) r.pile (span_of x) (map span_of xs)
       (ap (map f) (sym (starts.held s w g to r w' is K ms G h).pile) ∙ (starts.round s w g to r w' is K ms G h).spans ∙ ap (map span_of) e)
 
@@ -105,6 +105,6 @@ module _ (s w : List ℕ) (g : Ground) (to : ℕ) (r : Replaced) (w' : List ℕ)
       let l = some x xs e in
       let k : KeyAt s w' g last = names.records.keys (r.pile - 1) (omega arith) in
       sym (stage_span w' g last (last-inside l))
-      ∙ sym (key_span g.width (stage_in w' g) last k.key)
-      ∙ sym (ap (λ (t : List ℕ). node_span (node_at g.width t last)) (starts.stage_read s w g to r w' is K ms G h))
+      ∙ sym (key_span g.width.bytes (stage_in w' g) last k.key)
+      ∙ sym (ap (λ (t : List ℕ). node_span (node_at g.width.bytes t last)) (starts.stage_read s w g to r w' is K ms G h))
       ∙ last-node x xs e

@@ -69,13 +69,13 @@ pub stage_lies : (w : List ℕ) (g : Ground) (xs : List ℕ) → Lies w g.from x
 stage_lies w g xs l = subst (λ (t : List ℕ). Lies t 0 xs (length t)) (sym (stage_is w g xs l)) (lies_all xs)
 
 -- theorem: items that stand are read
-pub stage_read : (s w : List ℕ) (g : Ground) (is : List Item) → Grounded s w g → Lies w g.from (bytes_of_each (item_bytes g.width (texts s w g.m)) is) g.end
-    → Each (ItemWithin false g.width (texts s w g.m)) is
-    → (n : ℕ) × (read_items false g.width (stage_in w g) (texts s w g.m) n 0 ≡ got is (length (stage_in w g)))
+pub stage_read : (s w : List ℕ) (g : Ground) (is : List Item) → Grounded s w g → Lies w g.from (bytes_of_each (item_bytes g.width.bytes (texts s w g.m)) is) g.end
+    → Each (ItemWithin false g.width.bytes (texts s w g.m)) is
+    → (n : ℕ) × (read_items false g.width.bytes (stage_in w g) (texts s w g.m) n 0 ≡ got is (length (stage_in w g)))
 stage_read s w g is G l h = (
   length is,
-  items_read false g.width (stage_in w g) (texts s w g.m) is h (length is) 0 (length (stage_in w g)) (omega arith) refl
-      (stage_lies w g (bytes_of_each (item_bytes g.width (texts s w g.m)) is) l),
+  items_read false g.width.bytes (stage_in w g) (texts s w g.m) is h (length is) 0 (length (stage_in w g)) (omega arith) refl
+      (stage_lies w g (bytes_of_each (item_bytes g.width.bytes (texts s w g.m)) is) l),
 )
 
 -- fewer new texts need less room
@@ -85,11 +85,11 @@ list_fewer g n m i h = omega (arith, h)
 
 -- theorem: and they are turns of the run
 pub stage_some : (s w : List ℕ) (g : Ground) (to : ℕ) (is : List Item) → Grounded s w g → Bytes (stage_in w g)
-    → Lies w g.from (bytes_of_each (item_bytes g.width (texts s w g.m)) is) g.end → Each (ItemWithin false g.width (texts s w g.m)) is
+    → Lies w g.from (bytes_of_each (item_bytes g.width.bytes (texts s w g.m)) is) g.end → Each (ItemWithin false g.width.bytes (texts s w g.m)) is
     → list_place g (length (expanded_items (without_macros is))) ≤ g.keys → Writable s w g to (size_in g) → Chained w g.keys g.buckets 0 → SomeStage s w g to
 stage_some s w g to is G b l h r y c =
     let u = stage_read s w g is G l h in
-    let v = walks_mean g.width (stage_in w g) (texts s w g.m) b G.distinct-texts u.0 is u.1 in
+    let v = walks_mean g.width.bytes (stage_in w g) (texts s w g.m) b G.distinct-texts u.0 is u.1 in
     record {
       turns = length (stage_in w g);
       left = v.0;

@@ -45,10 +45,10 @@ use Rattle.rounds.proofs.RoundNext as nexts
 
 -- ---- replace
 module _ (s w : List ℕ) (room : Room) (t : Grammar) (z : State) (K : SomeRound s w room t z) where
-  pub replace_ground : Groundable s w z.m t.width z.from z.end room.x
+  pub replace_ground : Groundable s w z.m t.width.bytes z.from z.end room.x
   replace_ground = places.can_ground s w room t z K.trees K.standing
 
-  module _ (g : Ground) (w1 : List ℕ) (L : Grounds s w z.m t.width z.from z.end room.x g w1) (b : (j : ℕ) → Bound.Fits w8 (get_or w1 j 0)) where
+  module _ (g : Ground) (w1 : List ℕ) (L : Grounds s w z.m t.width.bytes z.from z.end room.x g w1) (b : (j : ℕ) → Bound.Fits w8 (get_or w1 j 0)) where
     bytes_in_lem : Bytes (stage_in w1 g)
     bytes_in_lem = stage_bytes_lem s w1 g L.ground (λ j. (b j).fits)
 

@@ -31,12 +31,12 @@ use Rattle.rounds.proofs.ReadyMeans.{stage_some}
 use Rattle.rounds.proofs.RoundPlaces as places
 
 module _ (s w : List ℕ) (room : Room) (t : Grammar) (z : State) (T : RoundTrees) (S : RoundStands s w room t z T) (g : Ground) (w₁ : List ℕ)
-    (L : Grounds s w z.m t.width z.from z.end room.x g w₁) where
+    (L : Grounds s w z.m t.width.bytes z.from z.end room.x g w₁) where
   abbrev items_size : ℕ
   items_size = places.items_size s w room t z T S
 
   -- ---- numbers
-  pub width_is : g.width ≡ 2
+  pub width_is : g.width.bytes ≡ 2
   width_is = L.width_is ∙ S.defines.width
 
   pub count-is : g.m.count ≡ z.m.count
@@ -96,13 +96,13 @@ module _ (s w : List ℕ) (room : Room) (t : Grammar) (z : State) (T : RoundTree
       go (inl h) = L.others i (inl (omega (arith, keys_is, tables)))
       go (inr h) = L.others i (inr (omega (arith, slots_is)))
 
-  pub items_now : Lies w₁ g.from (bytes_of_each (item_bytes g.width (texts s w₁ g.m)) T.items) g.end
+  pub items_now : Lies w₁ g.from (bytes_of_each (item_bytes g.width.bytes (texts s w₁ g.m)) T.items) g.end
   items_now =
       let l = lies_agree w w₁ z.from z.end (bytes_of_each (item_bytes 2 (round_atoms T)) T.items) L.long
       (omega (arith, places.items_before s w room t z T S, places.low_place s w room t z T S, places.low-is s w room t z T S, places.end_inside s w room t z T S)) item_same S.items_lie in
       rw (width_is, texts-now, L.from_is, L.end_is) l
 
-  pub within_now : Each (ItemWithin false g.width (texts s w₁ g.m)) T.items
+  pub within_now : Each (ItemWithin false g.width.bytes (texts s w₁ g.m)) T.items
   within_now = rw (width_is, texts-now) S.grown.within
 
   -- ---- room
@@ -115,7 +115,7 @@ module _ (s w : List ℕ) (room : Room) (t : Grammar) (z : State) (T : RoundTree
   pub items_before : g.end ≤ z.done
   items_before = omega (arith, L.end_is, places.items_before s w room t z T S, places.done_is s w room t z T S)
 
-  replaced_room : 9 * z.done + (9 + g.width) * size_in g ≤ 9 * z.low
+  replaced_room : 9 * z.done + (9 + g.width.bytes) * size_in g ≤ 9 * z.low
   unfolding size_in
   replaced_room = rw (width_is, size_is) (omega (arith, places.done_is s w room t z T S, places.low_place s w room t z T S, places.sizes-fit s w room t z T S, places.four_first s w room t z T S, S.first))
 

@@ -55,6 +55,6 @@ module _ (s w : List ℕ) (g : Ground) (to : ℕ) (r : Replaced) (w' : List ℕ)
   pub keys_last : (replaced_by is K).1.keys ≡ map (printed_at s w''' g) (down (key_at w''' g) r.pile) ++ K
   keys_last =
       (starts.round s w g to r w' is K ms G h).keys
-      ∙ ap (λ (ps : List ℕ). map (print_at false g.width (stage_in w g) (texts s w g.m)) ps ++ K) pile_last
-      ∙ sym (ap (λ (st : List ℕ). map (print_at false g.width st (texts s w g.m)) (down (key_at w''' g) r.pile) ++ K) stage_last)
-      ∙ sym (ap (λ (ts : List Text). map (print_at false g.width (stage_in w''' g) ts) (down (key_at w''' g) r.pile) ++ K) texts-last)
+      ∙ ap (λ (ps : List ℕ). map (print_at false g.width.bytes (stage_in w g) (texts s w g.m)) ps ++ K) pile_last
+      ∙ sym (ap (λ (st : List ℕ). map (print_at false g.width.bytes st (texts s w g.m)) (down (key_at w''' g) r.pile) ++ K) stage_last)
+      ∙ sym (ap (λ (ts : List Text). map (print_at false g.width.bytes (stage_in w''' g) ts) (down (key_at w''' g) r.pile) ++ K) texts-last)

@@ -108,7 +108,7 @@ module _ (s w : List ℕ) (room : Room) (t : Grammar) (z : State) (T : RoundTree
   above_x = above_lower s w z.m z.low room.x (omega (arith, low_place, sizes-fit, y_is)) S.tabled.above
 
   -- theorem: the ground can be laid
-  pub can_ground : Groundable s w z.m t.width z.from z.end room.x
+  pub can_ground : Groundable s w z.m t.width.bytes z.from z.end room.x
   can_ground = record {
     table = S.tabled.table;
     some = S.tabled.some;

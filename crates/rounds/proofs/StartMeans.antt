@@ -61,11 +61,11 @@ each_at P f k (suc n) h j l = go (eqb j n) refl (each_at P f k n h.1 j)
 module _ (s w : List ℕ) (g : Ground) (to : ℕ) (r : Replaced) (w' : List ℕ) (is : List Item) (K : List Text) (ms : List ℕ) (G : Tree) (h : Replacing s w g to r w' is K ms G) where
   -- ---- the run
   abbrev pub slots : Slots
-  slots = (replaced false g.width (stage_in w g) (texts s w g.m) ms).slots
+  slots = (replaced false g.width.bytes (stage_in w g) (texts s w g.m) ms).slots
 
-  pub round : RoundReplaced false g.width (stage_in w g) (texts s w g.m) K (replaced_by is K) (replaced false g.width (stage_in w g) (texts s w g.m) ms)
+  pub round : RoundReplaced false g.width.bytes (stage_in w g) (texts s w g.m) K (replaced_by is K) (replaced false g.width.bytes (stage_in w g) (texts s w g.m) ms)
   round =
-      round_means false g.width (stage_in w g) (texts s w g.m) h.bytes h.ground.distinct-texts K ms h.keys
+      round_means false g.width.bytes (stage_in w g) (texts s w g.m) h.bytes h.ground.distinct-texts K ms h.keys
       (each_map (λ k l. omega (arith, l, count-texts s w g)) ms h.marks.below) h.many is h.read
 
   pub held : Held s w' g r.pile r.count slots
@@ -98,8 +98,8 @@ module _ (s w : List ℕ) (g : Ground) (to : ℕ) (r : Replaced) (w' : List ℕ)
   pub named-is : named_in s w' g r.count ≡ (stage_of (texts s w g.m) (replaced_by is K).0).atoms
   named-is =
       named-held
-      ∙ sym (ap (λ (st : List ℕ). texts s w' g.m ++ map (print_at false g.width st (texts s w' g.m)) slots.news) stage_read)
-      ∙ sym (ap (λ (ts : List Text). ts ++ map (print_at false g.width (stage_in w g) ts) slots.news) texts-read)
+      ∙ sym (ap (λ (st : List ℕ). texts s w' g.m ++ map (print_at false g.width.bytes st (texts s w' g.m)) slots.news) stage_read)
+      ∙ sym (ap (λ (ts : List Text). ts ++ map (print_at false g.width.bytes (stage_in w g) ts) slots.news) texts-read)
       ∙ round.atoms
 
   -- ---- the words were cleared
@@ -126,14 +126,14 @@ module _ (s w : List ℕ) (g : Ground) (to : ℕ) (r : Replaced) (w' : List ℕ)
     bytes_now : Bytes (stage_in w'' g)
     bytes_now = subst Bytes stage_now h.bytes
 
-    noted_now : AllNoted g.width (stage_in w'' g) slots
-    noted_now = subst (λ (st : List ℕ). AllNoted g.width st slots) stage_now round.noted
+    noted_now : AllNoted g.width.bytes (stage_in w'' g) slots
+    noted_now = subst (λ (st : List ℕ). AllNoted g.width.bytes st slots) stage_now round.noted
 
     -- ---- the pile
     pending_is : map (λ p. inner (symbol_in s w'' g p)) (down (key_at w'' g) r.pile) ≡ (replaced_by is K).1.pile
     pending_is =
         ap (map (λ p. inner (symbol_in s w'' g p))) (pile_same s w' w'' g r.pile h.stages.ground m.records m.heads k ∙ sym held.pile)
-        ∙ said (λ st ts. map (λ p. inner (sym_at false g.width st ts p)) slots.pile ≡ (replaced_by is K).1.pile) round.pile
+        ∙ said (λ st ts. map (λ p. inner (sym_at false g.width.bytes st ts p)) slots.pile ≡ (replaced_by is K).1.pile) round.pile
 
     fine : (j : ℕ) → j < r.pile → Fine G (inner (symbol_in s w'' g (key_at w'' g j)))
     fine = each_at (Fine G) (λ p. inner (symbol_in s w'' g p)) (key_at w'' g) r.pile (subst (Each (Fine G)) (sym pending_is) (pushed-fine G (without_macros is) K h.sound h.calls))

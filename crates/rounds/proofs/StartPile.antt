@@ -38,23 +38,23 @@ each-among P (x ∷ xs) f = (f x (among-here x xs), each-among P xs (λ q h. f q
 -- a symbol that is expanded stands at p
 module _ (s w : List ℕ) (g : Ground) (e : Grounded s w g) (b : Bytes (stage_in w g)) (p : ℕ) (k : KeyAt s w g p) where
   pub key_own : is_key (symbol_in s w g p) ≡ true
-  key_own = sym_key false g.width (stage_in w g) (texts s w g.m) b 63 p (symbol_in s w g p) k.end k.key k.read
+  key_own = sym_key false g.width.bytes (stage_in w g) (texts s w g.m) b 63 p (symbol_in s w g p) k.end k.key k.read
 
   key_stands : StandsAt s w g false 64 p k.end (symbol_in s w g p)
   unfolding stage_in
   key_stands =
-      let f = sym_finds false g.width (stage_in w g) (texts s w g.m) b e.distinct-texts 64 p (symbol_in s w g p) k.end k.read in
+      let f = sym_finds false g.width.bytes (stage_in w g) (texts s w g.m) b e.distinct-texts 64 p (symbol_in s w g p) k.end k.read in
       record {
         within = f.within;
-        lies = lies_whole w g.from g.end e.ordered e.inside p (sym_bytes g.width (texts s w g.m) (symbol_in s w g p)) k.end f.lies;
+        lies = lies_whole w g.from g.end e.ordered e.inside p (sym_bytes g.width.bytes (texts s w g.m) (symbol_in s w g p)) k.end f.lies;
       }
 
   key_inside : k.end ≤ size_in g
   key_inside =
       let y = symbol_in s w g p in
       let ts = texts s w g.m in
-      let f = sym_finds false g.width (stage_in w g) ts b e.distinct-texts 64 p y k.end k.read in
-      let i = lies_inside (stage_in w g) p k.end (sym_bytes g.width ts y) (omega (arith, sym_length g.width ts y, node_size g.width ts y)) f.lies in
+      let f = sym_finds false g.width.bytes (stage_in w g) ts b e.distinct-texts 64 p y k.end k.read in
+      let i = lies_inside (stage_in w g) p k.end (sym_bytes g.width.bytes ts y) (omega (arith, sym_length g.width.bytes ts y, node_size g.width.bytes ts y)) f.lies in
       omega (arith, stage_length s w g e)
 
   module _ (G : Tree) (fine : Fine G (inner (symbol_in s w g p))) where
@@ -64,14 +64,14 @@ module _ (s w : List ℕ) (g : Ground) (e : Grounded s w g) (b : Bytes (stage_in
     key_other = ap (λ (t : Text). has t built_ins) (sym (print-inner (symbol_in s w g p) key_own)) ∙ fine.0
 
     -- theorem: where all inside it have references with it
-    pub key_on_pile : (x : Slots) → AllNoted g.width (stage_in w g) x → HasRef p x → OnPile s w g (map (λ (r : ℕ × Ref). r.0) x.refs) G p
+    pub key_on_pile : (x : Slots) → AllNoted g.width.bytes (stage_in w g) x → HasRef p x → OnPile s w g (map (λ (r : ℕ × Ref). r.0) x.refs) G p
     key_on_pile x noted here = record {
       end = k.end;
       stands = key_stands;
       inside = key_inside;
-      referred = each-among (λ (q : ℕ). HasRef q x) (keys_of g.width (texts s w g.m) (symbol_in s w g p) p)
-          (noted p here (keys_of g.width (texts s w g.m) (symbol_in s w g p) p) k.end
-          (sym_keys false g.width (stage_in w g) (texts s w g.m) b e.distinct-texts 64 p (symbol_in s w g p) k.end k.read));
+      referred = each-among (λ (q : ℕ). HasRef q x) (keys_of g.width.bytes (texts s w g.m) (symbol_in s w g p) p)
+          (noted p here (keys_of g.width.bytes (texts s w g.m) (symbol_in s w g p) p) k.end
+          (sym_keys false g.width.bytes (stage_in w g) (texts s w g.m) b e.distinct-texts 64 p (symbol_in s w g p) k.end k.read));
       expands = key_expands (symbol_in s w g p) key_own;
       calls = calls_inner G (symbol_in s w g p) fine.1;
     }

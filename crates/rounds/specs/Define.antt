@@ -44,11 +44,11 @@ pub record Forgot (s w : List ℕ) (m : Map) (w' : List ℕ) : Type 0 where
 pub record Items (s w : List ℕ) (m : Map) (t : Grammar) (four : Bool) (G : Tree) : Type 0 where
   pub cells : Cells s w m
   pub row : Row t (texts s w m) w 0 t.at G
-  pub within : Each (ItemWithin four t.width (texts s w m)) G
+  pub within : Each (ItemWithin four t.width.bytes (texts s w m)) G
   pub many : t.count ≡ length G
   pub few : t.count < 2147483647
-  pub narrow : 2 ≤ t.width
-  pub wide : t.width ≤ 3
+  pub narrow : 2 ≤ t.width.bytes
+  pub wide : t.width.bytes ≤ 3
   pub off : Apart t.at t.end m.base (m.base + 24 * m.count)
   pub list : t.list + 8 * t.count ≤ m.base
   pub inside : t.end ≤ length w
@@ -91,7 +91,7 @@ pub record Headable (w : List ℕ) (m : Map) (t : Grammar) (i : ℕ) : Type 0 wh
   pub list : t.list + 8 * t.count ≤ length w
   pub ordered : t.at ≤ t.end
   pub inside : item_place_in t w i < length w
-  pub head : get_or w (item_place_in t w i) 0 ≡ 16 → HeadAt w m t.width (item_place_in t w i) i
+  pub head : get_or w (item_place_in t w i) 0 ≡ 16 → HeadAt w m t.width.bytes (item_place_in t w i) i
 
 -- work, with the cell of the name of the nonterminal at p told where it is a macro
 unfoldable pub told_at : Map → ℕ → List ℕ → ℕ → ℕ → List ℕ

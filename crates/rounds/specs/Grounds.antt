@@ -32,7 +32,7 @@ pub record Groundable (s w : List ℕ) (m : Map) (width from end top : ℕ) : Ty
 
 pub record Grounds (s w : List ℕ) (m : Map) (width from end top : ℕ) (r : Ground) (w' : List ℕ) : Type 0 where
   pub map : r.m ≡ m
-  pub width_is : r.width ≡ width
+  pub width_is : r.width.bytes ≡ width
   pub from_is : r.from ≡ from
   pub end_is : r.end ≡ end
   pub slots : r.slots ≡ top - 8 * ((end - from) / 9)

@@ -55,7 +55,7 @@ replaced_stage T = stage_of (round_atoms T) (T.old ++ replaced_of T)
 -- from w to w' the ground was laid, and the items replaced
 pub record Halfway (s w : List ℕ) (room : Room) (t : Grammar) (z : State) (h : Half) (w' : List ℕ) : Type 0 where
   pub middle : List ℕ
-  pub grounds : Grounds s w z.m t.width z.from z.end room.x h.g middle
+  pub grounds : Grounds s w z.m t.width.bytes z.from z.end room.x h.g middle
   pub bytes : Bytes (stage_in middle h.g)
   pub stages : Stages s middle h.g z.done h.r w'
   pub numbers : h.expander ≡ numbers_pending z.expander h.r.pile

@@ -76,7 +76,7 @@ pub record DefinesMacros (w : List ℕ) (room : Room) (t : Grammar) (m : Map) (t
   pub row : Row t ts w 0 t.at G
   pub within : Each (ItemWithin false 2 ts) G
   pub many : t.count ≡ length G
-  pub width : t.width ≡ 2
+  pub width : t.width.bytes ≡ 2
   pub off : (t.end ≤ m.base) ⊎ ((room.x + room.cap ≤ t.at) × (t.end ≤ room.y))
   pub list : t.list + 8 * t.count ≤ m.base
   pub found : (n : Text) (D : Nonterminal) → macro_in G n ≡ some D → (i : ℕ) × (item_of G i ≡ some (item D)) × (number ts n < m.count) × (cell_at w m.base (number ts n) % 2147483648 ≡ i + 1)

@@ -34,7 +34,7 @@ pub record Replacing (s w : List ℕ) (g : Ground) (to : ℕ) (r : Replaced) (w'
   pub items : g.end ≤ to
   pub bytes : Bytes (stage_in w g)
   pub many : ℕ
-  pub read : read_items false g.width (stage_in w g) (texts s w g.m) many 0 ≡ got is (length (stage_in w g))
+  pub read : read_items false g.width.bytes (stage_in w g) (texts s w g.m) many 0 ≡ got is (length (stage_in w g))
   pub marks : MarksAre w g ms
   pub keys : (t : Text) → Key t → has t K ≡ has t (map (λ k. get_or (texts s w g.m) k []) ms)
   pub sound : Each ItemSound (without_macros is)

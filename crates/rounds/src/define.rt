@@ -3,7 +3,7 @@ ghost use Rattle.std.specs.Prelude.{◌≡◌, ◌+◌, ◌*◌, ◌≤◌, ◌<
 ghost use Rattle.resolve.specs.Items.{item_place_in};
 ghost use Rattle.rounds.specs.Define.{Cells, Forgot, SomeDeclared, Definable, Defined, HeadAt, Headable, told_at, defined_at};
 
-use octets::numbers::atom_at;
+use octets::numbers::{Width, atom_at};
 use resolve::Grammar;
 use resolve::items::place;
 use texts::Map;
@@ -20,11 +20,11 @@ pub fn forget(tape: &[u8], work: &mut [u8], m: Map)
 }
 
 // The nonterminal at p, the i-th item: a macro is told in the cell of its name.
-fn define_macro(work: &mut [u8], m: Map, width: usize, p: usize, i: usize)
-    requires { HeadAt work.old m width p i }
-    ensures { work.new ≡ told_at m width work.old p i }
+fn define_macro(work: &mut [u8], m: Map, width: Width, p: usize, i: usize)
+    requires { HeadAt work.old m width.bytes p i }
+    ensures { work.new ≡ told_at m width.bytes work.old p i }
 {
-    if work[p + 10 + width] != 0 {
+    if work[p + 10 + width.bytes] != 0 {
         let k = atom_at(work, p + 9, width) as usize;
         put_cell(work, m.base, k, (i + 1) as u32);
     }
@@ -33,7 +33,7 @@ fn define_macro(work: &mut [u8], m: Map, width: usize, p: usize, i: usize)
 // The i-th item.
 fn define_item(work: &mut [u8], m: Map, t: Grammar, i: usize)
     requires { Headable work.old m t i }
-    ensures { work.new ≡ defined_at m t.width work.old (item_place_in t work.old i) i }
+    ensures { work.new ≡ defined_at m t.width.bytes work.old (item_place_in t work.old i) i }
 {
     let p = place(work, t, i);
     if work[p] == 16 {

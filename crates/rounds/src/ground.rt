@@ -5,7 +5,7 @@ ghost use Rattle.rounds.specs.Start.{Cleared};
 ghost use Rattle.rounds.specs.Grounds.{buckets_of, Groundable, Grounds};
 
 use expander::Ground;
-use octets::numbers::store64;
+use octets::numbers::{Width, store64};
 use texts::Map;
 use texts::chain::empty;
 
@@ -21,13 +21,13 @@ pub fn ground(
     tape: &[u8],
     work: &mut [u8],
     m: Map,
-    width: usize,
+    width: Width,
     from: usize,
     end: usize,
     top: usize,
 ) -> Ground
-    requires { Groundable tape.now work.old m width from end top }
-    ensures { Grounds tape.now work.old m width from end top result work.new }
+    requires { Groundable tape.now work.old m width.bytes from end top }
+    ensures { Grounds tape.now work.old m width.bytes from end top result work.new }
 {
     let k = (end - from) / 9;
     let slots = top - 8 * k;

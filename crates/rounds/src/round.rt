@@ -9,7 +9,7 @@ use crate::ground::{clear_built, ground};
 use crate::judge::sizes;
 use crate::steps::{drained, push};
 use crate::{Expander, Progress, Room, State};
-use appending::Appended;
+use appending::{Appended, Round};
 use expander::Ground;
 use expander::stage::{Replaced, replace_items};
 use macro_expand::drain::drain;
@@ -60,7 +60,12 @@ fn expand_pile(
         count: h.r.count,
         deep: false,
     };
-    drain(tape, work, h.g, h.r.pile, lim, t, v)
+    let here = Round {
+        g: h.g,
+        n: h.r.pile,
+        lim,
+    };
+    drain(tape, work, here, t, v)
 }
 
 // The new texts settled, those of pushed symbols marked.

@@ -30,16 +30,16 @@ use Rattle.settling.proofs.CopiedStays.{copying_next, stands_next, stand_next, s
 -- ---- the first of symbols that stand in the stage, and the others
 module _ (s w : List ℕ) (g : Ground) (four : Bool) (left a e : ℕ) (y : Sym) (ys : Syms) (st : StandAt s w g four left a e (cons y ys)) where
   abbrev next : ℕ
-  next = a + length (sym_bytes g.width (texts s w g.m) y)
+  next = a + length (sym_bytes g.width.bytes (texts s w g.m) y)
 
-  next_is : g.from + next ≡ g.from + a + length (sym_bytes g.width (texts s w g.m) y)
+  next_is : g.from + next ≡ g.from + a + length (sym_bytes g.width.bytes (texts s w g.m) y)
   next_is = omega arith
 
   first_at : StandsAt s w g four left a next y
-  first_at = rw next_is (first_stands s w g.m g.width four left (g.from + a) (g.from + e) y ys st).0
+  first_at = rw next_is (first_stands s w g.m g.width.bytes four left (g.from + a) (g.from + e) y ys st).0
 
   others_at : StandAt s w g four left next e ys
-  others_at = rw next_is (first_stands s w g.m g.width four left (g.from + a) (g.from + e) y ys st).1
+  others_at = rw next_is (first_stands s w g.m g.width.bytes four left (g.from + a) (g.from + e) y ys st).1
 
   first_before : next ≤ e
   first_before = omega (arith, others_at.lies.end)
@@ -95,7 +95,7 @@ module _ (s w : List ℕ) (x : Print) (n left p code to : ℕ) where
       unfolding count keys_of_all
       first_said = go (v.some l).symbols (v.some l).many (v.some l).stand (v.some l).said
         where
-          go : (ys : Syms) → count ys ≡ k → StandAt s out g (v.some l).four left a (v.some l).end ys → Each (Said s out x) (keys_of_all g.width (texts s out g.m) ys a) → SaidSymbol s out x left a
+          go : (ys : Syms) → count ys ≡ k → StandAt s out g (v.some l).four left a (v.some l).end ys → Each (Said s out x) (keys_of_all g.width.bytes (texts s out g.m) ys a) → SaidSymbol s out x left a
           go nil c st h = absurd (omega arith)
           go (cons y ys) c st h = record {
             four = (v.some l).four;
@@ -104,7 +104,7 @@ module _ (s w : List ℕ) (x : Print) (n left p code to : ℕ) where
             levels = (v.some l).levels;
             stands = first_at s out g (v.some l).four left a (v.some l).end y ys st;
             inside = omega (arith, first_before s out g (v.some l).four left a (v.some l).end y ys st, (v.some l).inside);
-            said = (each-parts (Said s out x) (keys_of g.width (texts s out g.m) y a) (keys_of_all g.width (texts s out g.m) ys (a + length (sym_bytes g.width (texts s out g.m) y))) h).0;
+            said = (each-parts (Said s out x) (keys_of g.width.bytes (texts s out g.m) y a) (keys_of_all g.width.bytes (texts s out g.m) ys (a + length (sym_bytes g.width.bytes (texts s out g.m) y))) h).0;
           }
 
       module _ (z : ℕ) (w2 : List ℕ) (B : Puts out x.lim q (between_by code d) z w2) where
@@ -164,7 +164,7 @@ module _ (s w : List ℕ) (x : Print) (n left p code to : ℕ) where
             unfolding count keys_of_all
             next-some o = go (v.some l).symbols (v.some l).many (v.some l).stand (v.some l).said
               where
-                go : (ys : Syms) → count ys ≡ k → StandAt s out g (v.some l).four left a (v.some l).end ys → Each (Said s out x) (keys_of_all g.width (texts s out g.m) ys a) → SaidSymbols s w3 x (k - 1) left b
+                go : (ys : Syms) → count ys ≡ k → StandAt s out g (v.some l).four left a (v.some l).end ys → Each (Said s out x) (keys_of_all g.width.bytes (texts s out g.m) ys a) → SaidSymbols s w3 x (k - 1) left b
                 go nil c st h = absurd (omega arith)
                 go (cons y ys) c st h =
                     let u = end_is (v.some l).four (v.some l).end y ys (v.some l).inside st (omega arith) in
@@ -176,7 +176,7 @@ module _ (s w : List ℕ) (x : Print) (n left p code to : ℕ) where
                       levels = (v.some l).levels;
                       stand = others_at s out g (v.some l).four left a (v.some l).end y ys st;
                       inside = (v.some l).inside;
-                      said = (each-parts (Said s out x) (keys_of g.width (texts s out g.m) y a) (keys_of_all g.width (texts s out g.m) ys (a + length (sym_bytes g.width (texts s out g.m) y))) h).1;
+                      said = (each-parts (Said s out x) (keys_of g.width.bytes (texts s out g.m) y a) (keys_of_all g.width.bytes (texts s out g.m) ys (a + length (sym_bytes g.width.bytes (texts s out g.m) y))) h).1;
                     }))
 
             next_each : (four : Bool) (e : ℕ) (xs : Syms) → e ≤ size_in x.g → Onward out four e xs a k d v.bytes → Onward w3 four e xs b (k - 1) 1 (v.bytes ++ pieces)

@@ -34,7 +34,7 @@ use Rattle.settling.specs.Copied.{TextStands, Said, Copying, SaidSymbol, SaidSym
 use Rattle.settling.proofs.PutLaws.{puts_as}
 use Rattle.settling.proofs.CopiedTrees.{said_within, said_left, said_room, said_high, said_below, said_walked, said_many, here, before_on, before-inside, before-stand, inside-closing, parts_put, leaf_end, skip-end}
 
-pub copying_print : (s w : List ℕ) (x : Print) (to : ℕ) → Copying s w x to → Printable s w x.g.m x.g.width x.lim to
+pub copying_print : (s w : List ℕ) (x : Print) (to : ℕ) → Copying s w x to → Printable s w x.g.m x.g.width.bytes x.lim to
 copying_print s w x to C = C.printable
 
 -- none are printed as nothing
@@ -51,14 +51,14 @@ module _ (s w : List ℕ) (x : Print) (left p to : ℕ) (C : Copying s w x to) (
   at = x.g.from + p
 
   -- ---- put_walked
-  module _ (c : ℕ) (d : c ≡ get_or w at 0) (q : ℕ) (w1 : List ℕ) (A : Puts w x.lim to (before_by g.width (texts s w g.m) w at c) q w1) where
+  module _ (c : ℕ) (d : c ≡ get_or w at 0) (q : ℕ) (w1 : List ℕ) (A : Puts w x.lim to (before_by g.width.bytes (texts s w g.m) w at c) q w1) where
     still : Puts w1 x.lim q [] q w1
     still = puts_none w1 x.lim q (before_on s w x left p h to C c d q w1 A).printable.stop
 
-    pub leaf_closing : Closing w1 g.width at c x.lim q
+    pub leaf_closing : Closing w1 g.width.bytes at c x.lim q
     leaf_closing = inside-closing s w x left p h to C c d q w1 A [] q w1 still
 
-    pub leaf_put : (n : ℕ) → n ≡ inside_by g.width w at c → n ≡ 0 → (r : ℕ) (w2 : List ℕ) → Puts w1 x.lim q (behind_by w1 at c) r w2 → Puts w x.lim to (printed_at s w g p) r w2
+    pub leaf_put : (n : ℕ) → n ≡ inside_by g.width.bytes w at c → n ≡ 0 → (r : ℕ) (w2 : List ℕ) → Puts w1 x.lim q (behind_by w1 at c) r w2 → Puts w x.lim to (printed_at s w g p) r w2
     leaf_put n m e r w2 D = parts_put s w x left p h to C c d q w1 A [] q w1 still (none_shown (children h.symbol) (between_text h.symbol) (said_many s w x left p h c d ∙ sym m ∙ e)) r w2 D
 
   -- ---- put_one
@@ -69,15 +69,15 @@ module _ (s w : List ℕ) (x : Print) (left p to : ℕ) (C : Copying s w x to) (
   copied_stands f k K l = K.stands k l
 
   -- ---- put_symbol
-  module _ (c : ℕ) (d : c ≡ get_or w at 0) (q : ℕ) (w1 : List ℕ) (A : Puts w x.lim to (before_by g.width (texts s w g.m) w at c) q w1) where
+  module _ (c : ℕ) (d : c ≡ get_or w at 0) (q : ℕ) (w1 : List ℕ) (A : Puts w x.lim to (before_by g.width.bytes (texts s w g.m) w at c) q w1) where
     pub symbol_on : Copying s w1 x q
     symbol_on = before_on s w x left p h to C c d q w1 A
 
-    pub symbol_inside : (n l e : ℕ) → n ≡ inside_by g.width w at c → l ≡ long_of g.width c → e ≡ p + l → SaidSymbols s w1 x n (left - 1) e
+    pub symbol_inside : (n l e : ℕ) → n ≡ inside_by g.width.bytes w at c → l ≡ long_of g.width.bytes c → e ≡ p + l → SaidSymbols s w1 x n (left - 1) e
     symbol_inside n l e m f i = rw (i, f) (before-inside s w x left p h to C c d q w1 A n m)
 
-    module _ (n l e : ℕ) (m : n ≡ inside_by g.width w at c) (f : l ≡ long_of g.width c) (i : e ≡ p + l) (z : ℕ) (w2 : List ℕ) (B : PutsAll s w1 x n (left - 1) e c q z w2) where
-      pub symbol_closing : Closing w2 g.width at c x.lim z
+    module _ (n l e : ℕ) (m : n ≡ inside_by g.width.bytes w at c) (f : l ≡ long_of g.width.bytes c) (i : e ≡ p + l) (z : ℕ) (w2 : List ℕ) (B : PutsAll s w1 x n (left - 1) e c q z w2) where
+      pub symbol_closing : Closing w2 g.width.bytes at c x.lim z
       symbol_closing = inside-closing s w x left p h to C c d q w1 A B.bytes z w2 B.puts
 
       inside_is : B.bytes ≡ shown_all (children h.symbol) (between_text h.symbol) []
@@ -105,11 +105,11 @@ one_said : (s w : List ℕ) (x : Print) (left p : ℕ) → SaidSymbols s w x 1 l
 unfolding count keys_of_all
 one_said s w x left p h = go h.symbols h.many h.stand h.said
   where
-    go : (ys : Syms) → count ys ≡ 1 → StandAt s w x.g h.four left p h.end ys → Each (Said s w x) (keys_of_all x.g.width (texts s w x.g.m) ys p) → SaidSymbol s w x left p
+    go : (ys : Syms) → count ys ≡ 1 → StandAt s w x.g h.four left p h.end ys → Each (Said s w x) (keys_of_all x.g.width.bytes (texts s w x.g.m) ys p) → SaidSymbol s w x left p
     go nil m st k = absurd (omega arith)
     go (cons y nil) m st k =
-        let a = first_stands s w x.g.m x.g.width h.four left (x.g.from + p) (x.g.from + h.end) y nil st in
-        let z = none_stand s w x.g.m x.g.width h.four left _ (x.g.from + h.end) a.1 in
+        let a = first_stands s w x.g.m x.g.width.bytes h.four left (x.g.from + p) (x.g.from + h.end) y nil st in
+        let z = none_stand s w x.g.m x.g.width.bytes h.four left _ (x.g.from + h.end) a.1 in
         record {
           four = h.four;
           end = h.end;
@@ -117,7 +117,7 @@ one_said s w x left p h = go h.symbols h.many h.stand h.said
           levels = h.levels;
           stands = rw z at a.0;
           inside = h.inside;
-          said = (each-parts (Said s w x) (keys_of x.g.width (texts s w x.g.m) y p) (keys_of_all x.g.width (texts s w x.g.m) nil (p + length (sym_bytes x.g.width (texts s w x.g.m) y))) k).0;
+          said = (each-parts (Said s w x) (keys_of x.g.width.bytes (texts s w x.g.m) y p) (keys_of_all x.g.width.bytes (texts s w x.g.m) nil (p + length (sym_bytes x.g.width.bytes (texts s w x.g.m) y))) k).0;
         }
     go (cons y (cons z zs)) m st k = absurd (omega arith)
 
@@ -126,8 +126,8 @@ one_shown : (s w : List ℕ) (g : Ground) (four : Bool) (left p e : ℕ) (ys : S
 unfolding count shown_all shown_more print
 one_shown s w g four left p e nil sep G l i m st = absurd (omega arith)
 one_shown s w g four left p e (cons y nil) sep G l i m st =
-    let a = first_stands s w g.m g.width four left (g.from + p) (g.from + e) y nil st in
-    let z = none_stand s w g.m g.width four left _ (g.from + e) a.1 in
+    let a = first_stands s w g.m g.width.bytes four left (g.from + p) (g.from + e) y nil st in
+    let z = none_stand s w g.m g.width.bytes four left _ (g.from + e) a.1 in
     stands_print s w g G four left p e y (rw z at a.0) i l
 one_shown s w g four left p e (cons y (cons z zs)) sep G l i m st = absurd (omega arith)
 
@@ -135,7 +135,7 @@ module _ (s w : List ℕ) (x : Print) (left p c to : ℕ) (C : Copying s w x to)
   abbrev j : SaidSymbol s w x left p
   j = k.symbol
 
-  pub around_room : x.g.from + p + long_of x.g.width c ≤ length w
+  pub around_room : x.g.from + p + long_of x.g.width.bytes c ≤ length w
   around_room = said_room s w x left p j c k.code
 
   pub around_high : 32 ≤ c
@@ -144,26 +144,26 @@ module _ (s w : List ℕ) (x : Print) (left p c to : ℕ) (C : Copying s w x to)
   pub around_left : 1 ≤ left
   around_left = said_left s w x left p j
 
-  module _ (q : ℕ) (w1 : List ℕ) (A : Puts w x.lim to (before_by x.g.width (texts s w x.g.m) w (x.g.from + p) c) q w1) where
+  module _ (q : ℕ) (w1 : List ℕ) (A : Puts w x.lim to (before_by x.g.width.bytes (texts s w x.g.m) w (x.g.from + p) c) q w1) where
     pub around_on : Copying s w1 x q
     around_on = before_on s w x left p j to C c k.code q w1 A
 
-    one : 1 ≡ inside_by x.g.width w (x.g.from + p) c
-    one = sym (around_one x.g.width w (x.g.from + p) c k.from k.upto)
+    one : 1 ≡ inside_by x.g.width.bytes w (x.g.from + p) c
+    one = sym (around_one x.g.width.bytes w (x.g.from + p) c k.from k.upto)
 
-    pub around_inside : (l e : ℕ) → l ≡ long_of x.g.width c → e ≡ p + l → SaidSymbol s w1 x (left - 1) e
-    around_inside l e f i = rw (i, f) (one_said s w1 x (left - 1) (p + long_of x.g.width c) (before-inside s w x left p j to C c k.code q w1 A 1 one))
+    pub around_inside : (l e : ℕ) → l ≡ long_of x.g.width.bytes c → e ≡ p + l → SaidSymbol s w1 x (left - 1) e
+    around_inside l e f i = rw (i, f) (one_said s w1 x (left - 1) (p + long_of x.g.width.bytes c) (before-inside s w x left p j to C c k.code q w1 A 1 one))
 
-    module _ (l e : ℕ) (f : l ≡ long_of x.g.width c) (i : e ≡ p + l) (z : ℕ) (w2 : List ℕ) (B : Puts w1 x.lim q (printed_at s w1 x.g e) z w2) where
-      pub around_closing : Closing w2 x.g.width (x.g.from + p) c x.lim z
+    module _ (l e : ℕ) (f : l ≡ long_of x.g.width.bytes c) (i : e ≡ p + l) (z : ℕ) (w2 : List ℕ) (B : Puts w1 x.lim q (printed_at s w1 x.g e) z w2) where
+      pub around_closing : Closing w2 x.g.width.bytes (x.g.from + p) c x.lim z
       around_closing = inside-closing s w x left p j to C c k.code q w1 A (printed_at s w1 x.g e) z w2 B
 
       pub around_put : (r : ℕ) (w3 : List ℕ) → Puts w2 x.lim z (behind_by w2 (x.g.from + p) c) r w3 → Puts w x.lim to (printed_at s w x.g p) r w3
       around_put r w3 D =
           let m : count (children j.symbol) ≡ 1 = said_many s w x left p j c k.code ∙ sym one in
           let st = before-stand s w x left p j to C c k.code q w1 A in
-          let b : printed_at s w1 x.g (p + long_of x.g.width c) ≡ shown_all (children j.symbol) (between_text j.symbol) [] =
-          one_shown s w1 x.g j.four (left - 1) (p + long_of x.g.width c) j.end (children j.symbol) (between_text j.symbol) around_on.ground (omega (arith, j.levels)) j.inside m st in
+          let b : printed_at s w1 x.g (p + long_of x.g.width.bytes c) ≡ shown_all (children j.symbol) (between_text j.symbol) [] =
+          one_shown s w1 x.g j.four (left - 1) (p + long_of x.g.width.bytes c) j.end (children j.symbol) (between_text j.symbol) around_on.ground (omega (arith, j.levels)) j.inside m st in
           parts_put s w x left p j to C c k.code q w1 A (printed_at s w1 x.g e) z w2 B (ap (printed_at s w1 x.g) (i ∙ ap (λ (v : ℕ). p + v) f) ∙ b) r w3 D
 
 pub ruleset surrounding = (rules, copying_print, around_room, around_high, around_left, around_on, around_inside, around_closing, around_put)
@@ -180,14 +180,14 @@ module _ (s w : List ℕ) (x : Print) (left p k : ℕ) (G : Grounded s w x.g) (h
   unfolding Behinds
   behind_none l = λ i four e y st n. absurd (omega arith)
 
-  pub behind_leaf : (c n l : ℕ) → c ≡ get_or w (x.g.from + p) 0 → n ≡ inside_by x.g.width w (x.g.from + p) c → n ≡ 0 → l ≡ long_of x.g.width c → Behinds s w x left p k (p + l)
+  pub behind_leaf : (c n l : ℕ) → c ≡ get_or w (x.g.from + p) 0 → n ≡ inside_by x.g.width.bytes w (x.g.from + p) c → n ≡ 0 → l ≡ long_of x.g.width.bytes c → Behinds s w x left p k (p + l)
   unfolding Behinds
   behind_leaf c n l d m z f = λ i four e y st o. ap (λ (v : ℕ). p + v) f ∙ leaf_end s w x left p four e y st c d (sym m ∙ z)
 
-  pub behind_from : (r : ℕ) → r ≡ skip_out x.g.width x.g.end w (x.g.from + p) x.g.end 1 → x.g.from ≤ r
+  pub behind_from : (r : ℕ) → r ≡ skip_out x.g.width.bytes x.g.end w (x.g.from + p) x.g.end 1 → x.g.from ≤ r
   behind_from r f = omega (arith, f, skip-end s w x left p h.four h.end h.symbol h.stands G h.inside)
 
-  pub behind_skip : (r : ℕ) → r ≡ skip_out x.g.width x.g.end w (x.g.from + p) x.g.end 1 → Behinds s w x left p k (r - x.g.from)
+  pub behind_skip : (r : ℕ) → r ≡ skip_out x.g.width.bytes x.g.end w (x.g.from + p) x.g.end 1 → Behinds s w x left p k (r - x.g.from)
   unfolding Behinds
   behind_skip r f = λ i four e y st o. omega (arith, f, skip-end s w x left p four e y st G o)
 

@@ -41,7 +41,7 @@ module _ (s w : List ℕ) (x : Print) (to : ℕ) (C : Copying s w x to) (bs : Li
   g = x.g
 
   pub copied_on : to ≤ r
-  copied_on = next_on s w g.m g.width x.lim to C.printable bs r w1 p
+  copied_on = next_on s w g.m g.width.bytes x.lim to C.printable bs r w1 p
 
   placed : PlacedText g g.m.count to x.lim w w1
   placed = record { long = p.long; others = go }
@@ -61,7 +61,7 @@ module _ (s w : List ℕ) (x : Print) (to : ℕ) (C : Copying s w x to) (bs : Li
   pub copying_next : Copying s w1 x r
   copying_next = record {
     ground = placed_ground s w w1 g g.m.count to x.lim C.ground (omega arith) C.top C.items C.printable.above placed;
-    printable = printable_next s w g.m g.width x.lim to C.printable bs r w1 p;
+    printable = printable_next s w g.m g.width.bytes x.lim to C.printable bs r w1 p;
     items = omega (arith, C.items, copied_on);
     top = omega (arith, C.top, copied_on);
     behind = rw p.long C.behind;
@@ -146,10 +146,10 @@ module _ (s w : List ℕ) (x : Print) (to : ℕ) (C : Copying s w x to) (bs : Li
   stage_to e h = let o = C.ground.ordered in omega (arith, C.items)
 
   pub stands_next : (four : Bool) (left a e : ℕ) (y : Sym) → e ≤ size_in g → StandsAt s w g four left a e y → StandsAt s w1 g four left a e y
-  stands_next four left a e y h st = symbol_next s w g.m g.width x.lim to C.printable bs r w1 p four left (g.from + a) (g.from + e) y (stage_to e h) st
+  stands_next four left a e y h st = symbol_next s w g.m g.width.bytes x.lim to C.printable bs r w1 p four left (g.from + a) (g.from + e) y (stage_to e h) st
 
   pub stand_next : (four : Bool) (left a e : ℕ) (ys : Syms) → e ≤ size_in g → StandAt s w g four left a e ys → StandAt s w1 g four left a e ys
-  stand_next four left a e ys h st = symbols_next s w g.m g.width x.lim to C.printable bs r w1 p four left (g.from + a) (g.from + e) ys (stage_to e h) st
+  stand_next four left a e ys h st = symbols_next s w g.m g.width.bytes x.lim to C.printable bs r w1 p four left (g.from + a) (g.from + e) ys (stage_to e h) st
 
   pub symbol_said : (left a : ℕ) → SaidSymbol s w x left a → SaidSymbol s w1 x left a
   symbol_said left a h = record {
@@ -159,7 +159,7 @@ module _ (s w : List ℕ) (x : Print) (to : ℕ) (C : Copying s w x to) (bs : Li
     levels = h.levels;
     stands = stands_next h.four left a h.end h.symbol h.inside h.stands;
     inside = h.inside;
-    said = each_same (keys_of g.width (texts s w1 g.m) h.symbol a) said_next (subst (λ (ts : List Text). Each (Said s w x) (keys_of g.width ts h.symbol a)) (sym copied_texts) h.said);
+    said = each_same (keys_of g.width.bytes (texts s w1 g.m) h.symbol a) said_next (subst (λ (ts : List Text). Each (Said s w x) (keys_of g.width.bytes ts h.symbol a)) (sym copied_texts) h.said);
   }
 
   pub symbols_said : (n left a : ℕ) → SaidSymbols s w x n left a → SaidSymbols s w1 x n left a
@@ -171,5 +171,5 @@ module _ (s w : List ℕ) (x : Print) (to : ℕ) (C : Copying s w x to) (bs : Li
     levels = h.levels;
     stand = stand_next h.four left a h.end h.symbols h.inside h.stand;
     inside = h.inside;
-    said = each_same (keys_of_all g.width (texts s w1 g.m) h.symbols a) said_next (subst (λ (ts : List Text). Each (Said s w x) (keys_of_all g.width ts h.symbols a)) (sym copied_texts) h.said);
+    said = each_same (keys_of_all g.width.bytes (texts s w1 g.m) h.symbols a) said_next (subst (λ (ts : List Text). Each (Said s w x) (keys_of_all g.width.bytes ts h.symbols a)) (sym copied_texts) h.said);
   }

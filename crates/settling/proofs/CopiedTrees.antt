@@ -45,33 +45,33 @@ module _ (s w : List ℕ) (x : Print) (left p : ℕ) where
 
   -- where it ends
   module _ (four : Bool) (e : ℕ) (y : Sym) (st : StandsAt s w x.g four left p e y) where
-    pub known_here : Standing s w g.m g.width four left at (g.from + e) y
-    known_here = standing s w g.m g.width four left at (g.from + e) y st
+    pub known_here : Standing s w g.m g.width.bytes four left at (g.from + e) y
+    known_here = standing s w g.m g.width.bytes four left at (g.from + e) y st
 
-    pub leaf_end : (c : ℕ) → c ≡ get_or w at 0 → inside_by g.width w at c ≡ 0 → p + long_of g.width c ≡ e
+    pub leaf_end : (c : ℕ) → c ≡ get_or w at 0 → inside_by g.width.bytes w at c ≡ 0 → p + long_of g.width.bytes c ≡ e
     unfolding count
     leaf_end c d n =
         let k = known_here in
-        let m : count (children y) ≡ 0 = sym k.reads.held ∙ ap (inside_by g.width w at) (sym d) ∙ n in
-        let z = ap (long_of g.width) d in
+        let m : count (children y) ≡ 0 = sym k.reads.held ∙ ap (inside_by g.width.bytes w at) (sym d) ∙ n in
+        let z = ap (long_of g.width.bytes) d in
         omega (arith, go (children y) m k.inside, z)
       where
-        go : (ys : Syms) → count ys ≡ 0 → SymsStand s w g.m g.width four (left - 1) (at + long_of g.width (get_or w at 0)) (g.from + e) ys → at + long_of g.width (get_or w at 0) ≡ g.from + e
-        go nil m h = none_stand s w g.m g.width four (left - 1) _ (g.from + e) h
+        go : (ys : Syms) → count ys ≡ 0 → SymsStand s w g.m g.width.bytes four (left - 1) (at + long_of g.width.bytes (get_or w at 0)) (g.from + e) ys → at + long_of g.width.bytes (get_or w at 0) ≡ g.from + e
+        go nil m h = none_stand s w g.m g.width.bytes four (left - 1) _ (g.from + e) h
         go (cons z zs) m h = absurd (omega arith)
 
-    pub skip-end : Grounded s w g → e ≤ size_in g → skip_out g.width g.end w at g.end 1 ≡ g.from + e
+    pub skip-end : Grounded s w g → e ≤ size_in g → skip_out g.width.bytes g.end w at g.end 1 ≡ g.from + e
     unfolding size_in count
     skip-end G h =
-        let o = one_stands s w g.m g.width four left at (g.from + e) y st in
-        skip-means g.width (texts s w g.m) (cons y nil) (syms_fit_lem g.width (texts s w g.m) four (cons y nil) left o.within) w at (g.from + e) g.end (omega (arith, h, G.ordered)) o.lies
+        let o = one_stands s w g.m g.width.bytes four left at (g.from + e) y st in
+        skip-means g.width.bytes (texts s w g.m) (cons y nil) (syms_fit_lem g.width.bytes (texts s w g.m) four (cons y nil) left o.within) w at (g.from + e) g.end (omega (arith, h, G.ordered)) o.lies
 
   -- ---- what is asked of it
   module _ (h : SaidSymbol s w x left p) where
     abbrev y : Sym
     y = h.symbol
 
-    pub here : Standing s w g.m g.width h.four left at (g.from + h.end) y
+    pub here : Standing s w g.m g.width.bytes h.four left at (g.from + h.end) y
     here = known_here h.four h.end y h.stands
 
     pub said_within : at < length w
@@ -81,30 +81,30 @@ module _ (s w : List ℕ) (x : Print) (left p : ℕ) where
     said_left = here.deep
 
     module _ (c : ℕ) (d : c ≡ get_or w at 0) where
-      pub said_room : at + long_of g.width c ≤ length w
+      pub said_room : at + long_of g.width.bytes c ≤ length w
       said_room = rw d here.room
 
       pub said_high : 32 ≤ c
       said_high = rw d here.reads.high
 
       -- ---- what stands inside
-      pub said_many : count (children y) ≡ inside_by g.width w at c
-      said_many = sym here.reads.held ∙ ap (inside_by g.width w at) (sym d)
+      pub said_many : count (children y) ≡ inside_by g.width.bytes w at c
+      said_many = sym here.reads.held ∙ ap (inside_by g.width.bytes w at) (sym d)
 
-      place_is : g.from + (p + long_of g.width c) ≡ at + long_of g.width (get_or w at 0)
-      place_is = let z = ap (long_of g.width) d in omega (arith, z)
+      place_is : g.from + (p + long_of g.width.bytes c) ≡ at + long_of g.width.bytes (get_or w at 0)
+      place_is = let z = ap (long_of g.width.bytes) d in omega (arith, z)
 
-      pub said_stand : StandAt s w g h.four (left - 1) (p + long_of g.width c) h.end (children y)
+      pub said_stand : StandAt s w g h.four (left - 1) (p + long_of g.width.bytes c) h.end (children y)
       said_stand = let z = place_is in rw z here.inside
 
-      inside-keys : Each (Said s w x) (keys_of_all g.width (texts s w g.m) (children y) (p + long_of g.width c))
+      inside-keys : Each (Said s w x) (keys_of_all g.width.bytes (texts s w g.m) (children y) (p + long_of g.width.bytes c))
       inside-keys =
-          let z : size_of g.width (sym_node (texts s w g.m) y) ≡ long_of g.width c = sym here.reads.long ∙ ap (long_of g.width) (sym d) in
-          let k = (each-parts (Said s w x) (keys_of_all g.width (texts s w g.m) (children y) (p + size_of g.width (sym_node (texts s w g.m) y))) (own_keys (is_key y) p)
-          (subst (Each (Said s w x)) (keys_parts g.width (texts s w g.m) y p) h.said)).0 in
-          subst (λ (n : ℕ). Each (Said s w x) (keys_of_all g.width (texts s w g.m) (children y) (p + n))) z k
+          let z : size_of g.width.bytes (sym_node (texts s w g.m) y) ≡ long_of g.width.bytes c = sym here.reads.long ∙ ap (long_of g.width.bytes) (sym d) in
+          let k = (each-parts (Said s w x) (keys_of_all g.width.bytes (texts s w g.m) (children y) (p + size_of g.width.bytes (sym_node (texts s w g.m) y))) (own_keys (is_key y) p)
+          (subst (Each (Said s w x)) (keys_parts g.width.bytes (texts s w g.m) y p) h.said)).0 in
+          subst (λ (n : ℕ). Each (Said s w x) (keys_of_all g.width.bytes (texts s w g.m) (children y) (p + n))) z k
 
-      pub said_inside : (n : ℕ) → n ≡ inside_by g.width w at c → SaidSymbols s w x n (left - 1) (p + long_of g.width c)
+      pub said_inside : (n : ℕ) → n ≡ inside_by g.width.bytes w at c → SaidSymbols s w x n (left - 1) (p + long_of g.width.bytes c)
       said_inside n m = record {
         four = h.four;
         end = h.end;
@@ -127,28 +127,28 @@ module _ (s w : List ℕ) (x : Print) (left p : ℕ) where
       pub said_before : at < to
       said_before = omega (arith, said_end, here.inside.lies.end, long_some)
         where
-          long_some : 0 < long_of g.width (get_or w at 0)
-          long_some = omega (arith, here.reads.long, node_size g.width (texts s w g.m) y)
+          long_some : 0 < long_of g.width.bytes (get_or w at 0)
+          long_some = omega (arith, here.reads.long, node_size g.width.bytes (texts s w g.m) y)
 
-      pub said_below : SomeBelow s w g.m g.width 1 left at to
-      said_below = symbol_below s w g.m g.width h.four left at (g.from + h.end) to y h.stands said_end
+      pub said_below : SomeBelow s w g.m g.width.bytes 1 left at to
+      said_below = symbol_below s w g.m g.width.bytes h.four left at (g.from + h.end) to y h.stands said_end
 
-      pub said_walked : (r : ℕ) (w1 : List ℕ) → PrintsSymbol s w g.m g.width left at x.lim to r w1 → Puts w x.lim to (printed_at s w g p) r w1
+      pub said_walked : (r : ℕ) (w1 : List ℕ) → PrintsSymbol s w g.m g.width.bytes left at x.lim to r w1 → Puts w x.lim to (printed_at s w g p) r w1
       said_walked r w1 a = puts_as (sym said_print) (a.each h.four (g.from + h.end) y h.stands said_end)
 
       -- ---- what stands before is put
-      module _ (c : ℕ) (d : c ≡ get_or w at 0) (q : ℕ) (w1 : List ℕ) (A : Puts w x.lim to (before_by g.width (texts s w g.m) w at c) q w1) where
+      module _ (c : ℕ) (d : c ≡ get_or w at 0) (q : ℕ) (w1 : List ℕ) (A : Puts w x.lim to (before_by g.width.bytes (texts s w g.m) w at c) q w1) where
         pub before_on : Copying s w1 x q
-        before_on = copying_next s w x to C (before_by g.width (texts s w g.m) w at c) q w1 A
+        before_on = copying_next s w x to C (before_by g.width.bytes (texts s w g.m) w at c) q w1 A
 
-        before-is : before_by g.width (texts s w g.m) w at c ≡ before_text y
-        before-is = ap (before_by g.width (texts s w g.m) w at) d ∙ here.reads.before
+        before-is : before_by g.width.bytes (texts s w g.m) w at c ≡ before_text y
+        before-is = ap (before_by g.width.bytes (texts s w g.m) w at) d ∙ here.reads.before
 
-        pub before-inside : (n : ℕ) → n ≡ inside_by g.width w at c → SaidSymbols s w1 x n (left - 1) (p + long_of g.width c)
-        before-inside n m = symbols_said s w x to C (before_by g.width (texts s w g.m) w at c) q w1 A n (left - 1) (p + long_of g.width c) (said_inside c d n m)
+        pub before-inside : (n : ℕ) → n ≡ inside_by g.width.bytes w at c → SaidSymbols s w1 x n (left - 1) (p + long_of g.width.bytes c)
+        before-inside n m = symbols_said s w x to C (before_by g.width.bytes (texts s w g.m) w at c) q w1 A n (left - 1) (p + long_of g.width.bytes c) (said_inside c d n m)
 
-        pub before-stand : StandAt s w1 g h.four (left - 1) (p + long_of g.width c) h.end (children y)
-        before-stand = stand_next s w x to C (before_by g.width (texts s w g.m) w at c) q w1 A h.four (left - 1) (p + long_of g.width c) h.end (children y) h.inside (said_stand c d)
+        pub before-stand : StandAt s w1 g h.four (left - 1) (p + long_of g.width.bytes c) h.end (children y)
+        before-stand = stand_next s w x to C (before_by g.width.bytes (texts s w g.m) w at c) q w1 A h.four (left - 1) (p + long_of g.width.bytes c) h.end (children y) h.inside (said_stand c d)
 
         -- ---- and what stands inside
         module _ (mid : List ℕ) (z : ℕ) (w2 : List ℕ) (B : Puts w1 x.lim q mid z w2) where
@@ -158,21 +158,21 @@ module _ (s w : List ℕ) (x : Print) (left p : ℕ) where
           stands_two : StandsAt s w2 g h.four left p h.end y
           stands_two =
               stands_next s w1 x q before_on mid z w2 B h.four left p h.end y h.inside
-              (stands_next s w x to C (before_by g.width (texts s w g.m) w at c) q w1 A h.four left p h.end y h.inside h.stands)
+              (stands_next s w x to C (before_by g.width.bytes (texts s w g.m) w at c) q w1 A h.four left p h.end y h.inside h.stands)
 
           code_two : get_or w2 at 0 ≡ c
           code_two =
-              puts_beside w1 w2 x.lim q mid z B at (inl (omega (arith, said_before, copied_on s w x to C (before_by g.width (texts s w g.m) w at c) q w1 A)))
-              ∙ puts_beside w w1 x.lim to (before_by g.width (texts s w g.m) w at c) q A at (inl said_before) ∙ sym d
+              puts_beside w1 w2 x.lim q mid z B at (inl (omega (arith, said_before, copied_on s w x to C (before_by g.width.bytes (texts s w g.m) w at c) q w1 A)))
+              ∙ puts_beside w w1 x.lim to (before_by g.width.bytes (texts s w g.m) w at c) q A at (inl said_before) ∙ sym d
 
-          pub inside-closing : Closing w2 g.width at c x.lim z
+          pub inside-closing : Closing w2 g.width.bytes at c x.lim z
           inside-closing = record { room = omega (arith, said_room c d, A.long, B.long); inside = inside_on.printable.inside; stop = inside_on.printable.stop }
 
           behind_is : behind_by w2 at c ≡ behind_text y
-          behind_is = ap (behind_by w2 at) (sym code_two) ∙ (standing s w2 g.m g.width h.four left at (g.from + h.end) y stands_two).reads.behind
+          behind_is = ap (behind_by w2 at) (sym code_two) ∙ (standing s w2 g.m g.width.bytes h.four left at (g.from + h.end) y stands_two).reads.behind
 
           -- theorem: and what stands behind: its printed form
           pub parts_put : mid ≡ shown_all (children y) (between_text y) [] → (r : ℕ) (w3 : List ℕ) → Puts w2 x.lim z (behind_by w2 at c) r w3 → Puts w x.lim to (printed_at s w g p) r w3
           parts_put m r w3 D =
-              let e : before_by g.width (texts s w g.m) w at c ++ (mid ++ behind_by w2 at c) ≡ printed_at s w g p = cc (before-is, m, behind_is, print-whole y, said_print) in
+              let e : before_by g.width.bytes (texts s w g.m) w at c ++ (mid ++ behind_by w2 at c) ≡ printed_at s w g p = cc (before-is, m, behind_is, print-whole y, said_print) in
               puts_as e (then A (then B D))

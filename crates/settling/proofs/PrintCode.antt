@@ -32,12 +32,6 @@ module _ (s w : List ℕ) (m : Map) (wd lim to : ℕ) (g : Printable s w m wd li
   pub print-worded : Worded s w m
   print-worded = g.readable.worded
 
-  pub print-narrow : 2 ≤ wd
-  print-narrow = g.readable.narrow
-
-  pub print-wide : wd ≤ 3
-  print-wide = g.readable.wide
-
   pub print-inside : lim ≤ length w
   print-inside = g.inside
 
@@ -147,7 +141,7 @@ pub named_put : (s w : List ℕ) (m : Map) (wd at lim to r : ℕ) (w1 : List ℕ
     → Puts w lim to (name_text (get_or w (at + 9) 0) (source_text s w p)) r w1 → Puts w lim to (name_text (get_or w (at + 9) 0) (word_at wd (texts s w m) w (at + 10))) r w1
 named_put s w m wd at lim to r w1 p d a = puts_as (ap (name_text (get_or w (at + 9) 0)) d.text) a
 
-pub ruleset naming = (rules, print-worded, print-narrow, print-wide, print-inside, print-stop, print-fixed, named_put)
+pub ruleset naming = (rules, print-worded, print-inside, print-stop, print-fixed, named_put)
 
 -- ---- put_before
 module _ (s w : List ℕ) (m : Map) (wd at c lim to r : ℕ) (w1 : List ℕ) where
@@ -179,7 +173,7 @@ module _ (s w : List ℕ) (m : Map) (wd at c lim to r : ℕ) (w1 : List ℕ) whe
   unfolding before_by pick
   before-mark l n37 n38 n39 n40 n41 a = rw (le-ltb c 37 l, ne_eqb c 37 n37, ne_eqb c 38 n38, ne_eqb c 39 n39, ne_eqb c 40 n40, ne_eqb c 41 n41) a
 
-pub ruleset opening = (rules, print-worded, print-narrow, print-wide, print-inside, print-stop, print-fixed, named-room, macro_room, name_room, before-named, before-macro, before-repeat, before-choose, before-name, before-group, before-mark)
+pub ruleset opening = (rules, print-worded, print-inside, print-stop, print-fixed, named-room, macro_room, name_room, before-named, before-macro, before-repeat, before-choose, before-name, before-group, before-mark)
 
 -- ---- open
 module _ (s w : List ℕ) (m : Map) (wd at lim to : ℕ) (g : Printable s w m wd lim to) (h : Opening w wd at) where
@@ -193,4 +187,4 @@ module _ (s w : List ℕ) (m : Map) (wd at lim to : ℕ) (g : Printable s w m wd
 pub open_room : (w w1 : List ℕ) (wd at o : ℕ) → Opening w wd at → o ≡ get_or w at 0 → length w1 ≡ length w → at + long_of wd o ≤ length w1
 open_room w w1 wd at o h e l = omega (arith, h.room, ap (long_of wd) e)
 
-pub ruleset starting = (rules, print-narrow, print-wide, print-inside, print-stop, printable_next, open_fits, open_put, open_room)
+pub ruleset starting = (rules, print-inside, print-stop, printable_next, open_fits, open_put, open_room)

@@ -17,7 +17,8 @@ use Rattle.texts.specs.Fields.{mark_at, cell_at}
 use Rattle.texts.specs.Table.{Celled}
 use Rattle.texts.proofs.TableStays.{celled}
 use Rattle.expander.specs.declared.Ground.{Ground}
-use Rattle.expander.specs.Ground.{top_of, slot_place, slot_at, key_at, pushed_text}
+use Rattle.expander.specs.declared.slots.Noted.{Noted}
+use Rattle.expander.specs.Ground.{top_of, slot_code, slot_place, slot_at, key_at, pushed_text}
 use Rattle.expander.proofs.GroundLaws.{keys_slots, slots_top}
 use Rattle.settling.specs.Pushed.{slot_text, Markable, MarksOne}
 
@@ -64,10 +65,10 @@ module _ (s w : List ℕ) (g : Ground) (j : ℕ) (h : Markable s w g j) (p : ℕ
       others = λ i l. refl;
     }
 
-    pub odd_marked : (v % 2 ≡ 0 → ⊥) → MarksOne s w g j w
+    odd_marked : (v % 2 ≡ 0 → ⊥) → MarksOne s w g j w
     odd_marked d = none_marked (slot_odd g.m.count v d)
 
-    pub new_marked : v % 2 ≡ 0 → g.m.count ≤ v / 2 → MarksOne s w g j w
+    new_marked : v % 2 ≡ 0 → g.m.count ≤ v / 2 → MarksOne s w g j w
     new_marked d l = none_marked (slot_new g.m.count v d l)
 
     module _ (d : v % 2 ≡ 0) (l : v / 2 < g.m.count) (w1 : List ℕ) (o : w1 ≡ store w (g.m.base + 24 * (v / 2) + 20) (le 4 (cell_at w g.m.base (v / 2) % 2147483648 + 2147483648))) where
@@ -106,7 +107,7 @@ module _ (s w : List ℕ) (g : Ground) (j : ℕ) (h : Markable s w g j) (p : ℕ
       one_others i (inl q) = wrote.before i (omega arith)
       one_others i (inr q) = wrote.after i (omega arith)
 
-      pub text_done : MarksOne s w g j w1
+      text_done : MarksOne s w g j w1
       text_done = record {
         long = ap length o ∙ length_store w (g.m.base + 24 * (v / 2) + 20) (le 4 new);
         pushed = λ k q. one_pushed k ∙ ap (λ (b : Bool). pushed_text w g k || b) (sym (slot_text_lem g.m.count v d l k) ∙ ap (λ (x : ℕ). slot_text g.m.count x k) slot_is);
@@ -117,4 +118,25 @@ module _ (s w : List ℕ) (g : Ground) (j : ℕ) (h : Markable s w g j) (p : ℕ
         others = one_others;
       }
 
-pub ruleset marking = (rules, slot_there, odd_marked, new_marked, text_done)
+  -- by what the slot tells
+  module _ (x : Noted) (f : slot_code x ≡ slot_at w g p) where
+    pub pushed_marked : (i : ℕ) → x ≡ Noted.Pushed i → MarksOne s w g j w
+    pushed_marked i y = odd_marked (2 * i + 1) (sym (ap slot_code y) ∙ f) (λ z. omega arith)
+
+    module _ (k : ℕ) (y : x ≡ Noted.Text k) where
+      half : 2 * k / 2 ≡ k
+      half = omega arith
+
+      even : 2 * k ≡ slot_at w g p
+      even = sym (ap slot_code y) ∙ f
+
+      pub new_text_marked : g.m.count ≤ k → MarksOne s w g j w
+      new_text_marked l = new_marked (2 * k) even (omega arith) (omega (arith, half))
+
+      pub old_text_room : k < g.m.count → g.m.base + 24 * k + 24 ≤ length w
+      old_text_room l = let z = h.ground.table.room in omega arith
+
+      pub old_text_marked : k < g.m.count → (w1 : List ℕ) → w1 ≡ store w (g.m.base + 24 * k + 20) (le 4 (cell_at w g.m.base k % 2147483648 + 2147483648)) → MarksOne s w g j w1
+      old_text_marked l w1 o = text_done (2 * k) even (omega arith) (omega (arith, half)) w1 (rw half o)
+
+pub ruleset marking = (rules, slot_there, pushed_marked, new_text_marked, old_text_room, old_text_marked)

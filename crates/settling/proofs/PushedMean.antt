@@ -93,7 +93,7 @@ module _ (s w : List ℕ) (g : Ground) (n : ℕ) (w1 : List ℕ) (G : Grounded s
 
 -- the references of the symbols in the j-th pushed
 abbrev Referred : List ℕ → List ℕ → Ground → List ℕ → ℕ → Type 0
-Referred s w g ps j = Each (λ (q : ℕ). among q ps ≡ true) (keys_of g.width (texts s w g.m) (symbol_in s w g (key_at w g j)) (key_at w g j))
+Referred s w g ps j = Each (λ (q : ℕ). among q ps ≡ true) (keys_of g.width.bytes (texts s w g.m) (symbol_in s w g (key_at w g j)) (key_at w g j))
 
 marked_referred : (s w : List ℕ) (g : Ground) (n : ℕ) (w1 : List ℕ) → Grounded s w g → MarkedPushed s w g n w1 → (ps : List ℕ) (j : ℕ) → j < size_in g / 9 → Referred s w g ps j → Referred s w1 g ps j
 unfolding key_at mark_at

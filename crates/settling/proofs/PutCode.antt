@@ -2,17 +2,15 @@
 use mathlib.Core.Path.{◌≡◌, refl, sym, ap, ◌∙◌}
 use mathlib.Core.Logic.{inr}
 use mathlib.Core.List.{List, [], ◌∷◌, ◌++◌}
-use Prim.Native.Nat.{ℕ, ◌+◌, ◌<◌, ◌≤◌}
+use Prim.Native.Nat.{ℕ, ◌+◌, ◌-◌, ◌<◌, ◌≤◌}
 use native.Mathlib.Omega.{arith}
-use native.Mathlib.Numerals.{add-one}
 use borrow.Author.Rules.{rules}
 use borrow.Author.Tests.{ne_eqb}
-use lib.ListN.{length, set, get_or, length-set}
-use lib.Seq.{get_or-set_other}
+use lib.ListN.{length, take, drop, get_or}
 use Rattle.octets.specs.Plain.Runs.{part}
 use Rattle.octets.specs.Working.Stores.{store}
-use Rattle.octets.proofs.PartLaws.{part_none, part-one}
-use Rattle.octets.proofs.StoreLaws.{store-none}
+use Rattle.octets.proofs.PartLaws.{part_none, part-one, part_length}
+use Rattle.octets.proofs.StoreLaws.{store_is}
 use Rattle.parse_tree.specs.Plain.Tree.{Text}
 use Rattle.parse_tree.specs.Plain.Display.{escaped}
 use Rattle.display.proofs.StandsLaws.{escaped-one}
@@ -20,49 +18,11 @@ use Rattle.precedence.specs.Write.{Puts}
 use Rattle.precedence.proofs.WriteLaws.{puts_beside, puts_none}
 use Rattle.settling.proofs.PutLaws.{puts_stop, then, puts_as}
 
-store-one : (s : List ℕ) (at v : ℕ) (vs : List ℕ) → store s at (v ∷ vs) ≡ store (set s at v) (at + 1) vs
-unfolding store
-store-one s at v vs = rw add-one
-
--- ---- copy_down: what is left, from i to e, goes to q on; what is from q on is as it was
-pub record Moving (w : List ℕ) (a e to : ℕ) (out : List ℕ) (i q : ℕ) : Type 0 where
-  pub carry : store out q (part i e w) ≡ store w to (part a e w)
-  pub upto : i ≤ e
-  pub low : q ≤ i
-  pub inside : e ≤ length w
-  pub same : length out ≡ length w
-  pub kept : (k : ℕ) → q ≤ k → get_or out k 0 ≡ get_or w k 0
-
-pub moving_start : (w : List ℕ) (a e to : ℕ) → to ≤ a → a ≤ e → e ≤ length w → Moving w a e to w a to
-moving_start w a e to h k l = record { carry = refl; upto = k; low = h; inside = l; same = refl; kept = λ k h. refl }
-
-module _ (w : List ℕ) (a e to : ℕ) (out : List ℕ) (i q : ℕ) (g : Moving w a e to out i q) where
-  pub moving_room : i < e → q < length out
-  moving_room h = omega (arith, g.low, g.inside, g.same)
-
-  pub moving_inside : i < e → i < length out
-  moving_inside h = omega (arith, g.inside, g.same)
-
-  pub moving_next : i < e → Moving w a e to (set out q (get_or out i 0)) (i + 1) (q + 1)
-  moving_next h =
-      let v : get_or out i 0 ≡ get_or w i 0 = g.kept i g.low in
-      let n = length-set out q (get_or out i 0) in
-      record {
-        carry = sym (store-one out q (get_or out i 0) (part (i + 1) e w)) ∙ ap (λ (x : ℕ). store out q (x ∷ part (i + 1) e w)) v ∙ ap (store out q) (sym (part-one i e w h (omega (arith, g.inside)))) ∙ g.carry;
-        upto = omega arith;
-        low = omega (arith, g.low);
-        inside = g.inside;
-        same = n ∙ g.same;
-        kept = λ k l. get_or-set_other out q k (get_or out i 0) 0 (λ z. absurd (omega (arith, z))) ∙ g.kept k (omega arith);
-      }
-
-  pub moving_done : e ≤ i → out ≡ store w to (part a e w)
-  moving_done h = sym (store-none out q) ∙ ap (store out q) (sym (part_none i e w h)) ∙ g.carry
-
-  pub moving_same : length out ≡ length w
-  moving_same = g.same
-
-pub ruleset moving = (rules, moving_start, moving_room, moving_inside, moving_next, moving_done, moving_same)
+-- ---- copy_down
+pub pasted : (w : List ℕ) (a e to : ℕ) → to ≤ a → a ≤ e → e ≤ length w → take to w ++ part a e w ++ drop (to + (e - a)) w ≡ store w to (part a e w)
+pasted w a e to h k l =
+    let n : length (part a e w) ≡ e - a = part_length a e w l in
+    ap (λ (x : ℕ). take to w ++ part a e w ++ drop (to + x) w) (sym n) ∙ sym (store_is w to (part a e w) (omega (arith, n)))
 
 -- ---- put_two, put_inside
 pub two_put : (w w1 w2 : List ℕ) (x y lim to q r : ℕ) → Puts w lim to (x ∷ []) q w1 → Puts w1 lim q (y ∷ []) r w2 → Puts w lim to (x ∷ y ∷ []) r w2

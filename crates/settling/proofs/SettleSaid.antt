@@ -162,9 +162,9 @@ module _ (s w : List ℕ) (g : Ground) (n c end : ℕ) (h : Settling s w g n c e
       let l : list_at w g j / 2 < n = (h.names.entries j (omega (arith, r.upto))).0 (rw f at z) in
       let b : key_at w1 g (list_at w1 g j / 2) ≡ key_at w g (list_at w g j / 2) = ap (λ (d : ℕ). key_at w1 g (d / 2)) f ∙ key_old (list_at w g j / 2) (omega (arith, l, h.names.records.few)) in
       rw b (
-      subst (λ (y : Sym). Each (Said s w1 x) (keys_of g.width (texts s w1 g.m) y (key_at w g (list_at w g j / 2)))) (sym (symbol_same s w w1 g (g.m.count + i) q end h.ground (omega arith) top items h.above r.placed (key_at w g (list_at w g j / 2))))
-      (subst (λ (ts : List Text). Each (Said s w1 x) (keys_of g.width ts (symbol_in s w g (key_at w g (list_at w g j / 2))) (key_at w g (list_at w g j / 2)))) (sym texts-old)
-      (each_same (keys_of g.width (texts s w g.m) (symbol_in s w g (key_at w g (list_at w g j / 2))) (key_at w g (list_at w g j / 2))) said_one (h.referred (list_at w g j / 2) l)))
+      subst (λ (y : Sym). Each (Said s w1 x) (keys_of g.width.bytes (texts s w1 g.m) y (key_at w g (list_at w g j / 2)))) (sym (symbol_same s w w1 g (g.m.count + i) q end h.ground (omega arith) top items h.above r.placed (key_at w g (list_at w g j / 2))))
+      (subst (λ (ts : List Text). Each (Said s w1 x) (keys_of g.width.bytes ts (symbol_in s w g (key_at w g (list_at w g j / 2))) (key_at w g (list_at w g j / 2)))) (sym texts-old)
+      (each_same (keys_of g.width.bytes (texts s w g.m) (symbol_in s w g (key_at w g (list_at w g j / 2))) (key_at w g (list_at w g j / 2))) said_one (h.referred (list_at w g j / 2) l)))
       )
 
   -- theorem: it can be written

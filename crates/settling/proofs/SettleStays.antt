@@ -81,13 +81,13 @@ module _ (s w w' : List ℕ) (g : Ground) (k q e : ℕ) (G : Grounded s w g) (be
     cell_same = field_same 4 (g.keys + 24 * i + 20) (omega arith) (omega (arith, G.fits))
 
   pub print-same : (a : ℕ) → printed_at s w' g a ≡ printed_at s w g a
-  print-same a = said_wrote s w w' g q e e G top items (omega arith) above wrote (λ st ts. print_at false g.width st ts a ≡ printed_at s w g a) refl
+  print-same a = said_wrote s w w' g q e e G top items (omega arith) above wrote (λ st ts. print_at false g.width.bytes st ts a ≡ printed_at s w g a) refl
 
   pub symbol_same : (a : ℕ) → symbol_in s w' g a ≡ symbol_in s w g a
-  symbol_same a = said_wrote s w w' g q e e G top items (omega arith) above wrote (λ st ts. sym_at false g.width st ts a ≡ symbol_in s w g a) refl
+  symbol_same a = said_wrote s w w' g q e e G top items (omega arith) above wrote (λ st ts. sym_at false g.width.bytes st ts a ≡ symbol_in s w g a) refl
 
   firm_same : (a : ℕ) → KeyAt s w g a → KeyAt s w' g a
-  firm_same a f = said_wrote s w w' g q e e G top items (omega arith) above wrote (λ st ts. Firm false g.width st ts a) f
+  firm_same a f = said_wrote s w w' g q e e G top items (omega arith) above wrote (λ st ts. Firm false g.width.bytes st ts a) f
 
   key_print : (i : ℕ) → i < size_in g / 9 → printed_at s w' g (key_at w' g i) ≡ printed_at s w g (key_at w g i)
   key_print i h = ap (printed_at s w' g) (key_same i h) ∙ print-same (key_at w g i)

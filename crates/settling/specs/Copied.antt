@@ -36,12 +36,12 @@ pub record Said (s w : List ℕ) (x : Print) (p : ℕ) : Type 0 where
 
 -- this holds of each that is expanded in the symbol at p
 abbrev pub SaidIn : List ℕ → List ℕ → Print → ℕ → Type 0
-SaidIn s w x p = Each (Said s w x) (keys_of x.g.width (texts s w x.g.m) (symbol_in s w x.g p) p)
+SaidIn s w x p = Each (Said s w x) (keys_of x.g.width.bytes (texts s w x.g.m) (symbol_in s w x.g p) p)
 
 -- texts can be read, and the stage and the slots, while bytes from `to` on are written
 pub record Copying (s w : List ℕ) (x : Print) (to : ℕ) : Type 0 where
   pub ground : Grounded s w x.g
-  pub printable : Printable s w x.g.m x.g.width x.lim to
+  pub printable : Printable s w x.g.m x.g.width.bytes x.lim to
   pub items : x.g.end ≤ to
   pub top : top_of x.g ≤ to
   pub behind : x.g.end + 16 ≤ length w
@@ -54,7 +54,7 @@ pub record SaidSymbol (s w : List ℕ) (x : Print) (left p : ℕ) : Type 0 where
   pub levels : left ≤ 64
   pub stands : StandsAt s w x.g four left p end symbol
   pub inside : end ≤ size_in x.g
-  pub said : Each (Said s w x) (keys_of x.g.width (texts s w x.g.m) symbol p)
+  pub said : Each (Said s w x) (keys_of x.g.width.bytes (texts s w x.g.m) symbol p)
 
 -- n of them do
 pub record SaidSymbols (s w : List ℕ) (x : Print) (n left p : ℕ) : Type 0 where
@@ -65,7 +65,7 @@ pub record SaidSymbols (s w : List ℕ) (x : Print) (n left p : ℕ) : Type 0 wh
   pub levels : left ≤ 64
   pub stand : StandAt s w x.g four left p end symbols
   pub inside : end ≤ size_in x.g
-  pub said : Each (Said s w x) (keys_of_all x.g.width (texts s w x.g.m) symbols p)
+  pub said : Each (Said s w x) (keys_of_all x.g.width.bytes (texts s w x.g.m) symbols p)
 
 -- if r is the number of a text, that stands: the print of the symbol at p
 pub record KnownText (s w : List ℕ) (x : Print) (p : ℕ) (r : Option ℕ) : Type 0 where

@@ -54,7 +54,7 @@ pub record Settling (s w : List ℕ) (g : Ground) (n c end : ℕ) : Type 0 where
   pub above : Above s w g.m end
   pub behind : g.end + 16 ≤ length w
   -- the symbols in those that were pushed have references
-  pub referred : (j : ℕ) → j < n → Each (λ q. among q places ≡ true) (keys_of g.width (texts s w g.m) (symbol_in s w g (key_at w g j)) (key_at w g j))
+  pub referred : (j : ℕ) → j < n → Each (λ q. among q places ≡ true) (keys_of g.width.bytes (texts s w g.m) (symbol_in s w g (key_at w g j)) (key_at w g j))
 
 -- r has the table with them, and the place of the first
 pub record Settles (s w : List ℕ) (g : Ground) (c end : ℕ) (r : Settled) (w' : List ℕ) : Type 0 where

@@ -4,9 +4,8 @@ ghost use Rattle.appending.specs.Built.{built_text};
 ghost use Rattle.settling.specs.One.{TextPut};
 
 use appending::built::{bytes, of_number};
-use octets::numbers::store16;
-use octets::runs::copy;
 use texts::hash::hash;
+use texts::text::put_atom;
 
 // How many bytes the k-th has. Its number is read from work.
 pub fn built_length(k: usize) -> usize
@@ -22,9 +21,7 @@ fn put_bytes(work: &mut [u8], t: &[u8], end: usize) -> usize
     ensures { TextPut work.old t.now end result work.new }
 {
     let to = end - (t.len() + 3);
-    work[to] = 1;
-    store16(work, to + 1, t.len() as u16);
-    copy(t, 0, t.len(), work, to + 3);
+    put_atom(t, t.len() as u16, work, to);
     hash(t)
 }
 

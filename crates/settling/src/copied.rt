@@ -3,8 +3,7 @@ ghost use Rattle.std.specs.Prelude.{◌≡◌, ◌+◌, ◌≤◌, length};
 ghost use Rattle.texts.specs.Fields.{mark_at};
 ghost use Rattle.texts.specs.Texts.{marked_text};
 ghost use Rattle.precedence.specs.Write.{Puts};
-ghost use Rattle.expander.specs.Ground.{slot_at, printed_at, Grounded};
-ghost use Rattle.expander.specs.Held.{followed};
+ghost use Rattle.expander.specs.Ground.{printed_at, Grounded};
 ghost use Rattle.settling.specs.Copied.{TextStands, Said, Copying, SaidSymbol, SaidSymbols, KnownText, SaidAround, Behinds, PutsAll};
 
 use crate::print::{print_symbol, put_before, put_behind, put_between};
@@ -12,7 +11,7 @@ use crate::words::{mark_source, put_text};
 use display::follow::inside;
 use expander::Ground;
 use expander::replace::is_expanded;
-use expander::slots::slot;
+use expander::slots::{Noted, reference};
 use grades::skip::skip;
 use resolve::commands::long;
 use texts::fields::mark;
@@ -25,30 +24,14 @@ pub struct Print {
     pub lim: usize,
 }
 
-// The slot of the symbol at p, or of the pushed one that it refers to: the number that stands in fixed memory.
-fn referred(tape: &[u8], work: &[u8], x: Print, p: usize) -> usize
-    requires { Grounded tape.now work.now x.g × Said tape.now work.now x p }
-    ensures { result ≡ followed work.now x.g (slot_at work.now x.g p) }
-{
-    let v = slot(work, x.g, p);
-    if v % 2 == 0 {
-        v
-    } else {
-        slot(work, x.g, mark(work, x.g.keys, v / 2))
-    }
-}
-
 // The number of the text of the symbol at p, which is expanded, if that stands already.
 fn numbered(tape: &[u8], work: &[u8], x: Print, p: usize) -> Option<usize>
     requires { Grounded tape.now work.now x.g × Said tape.now work.now x p }
     ensures { KnownText tape.now work.now x p result }
 {
-    let v = referred(tape, work, x, p);
-    let k = v / 2;
-    if v % 2 == 0 && (k < x.g.m.count || x.first <= k) {
-        Some(k)
-    } else {
-        None
+    match reference(work, x.g, p) {
+        Noted::Text(k) if k < x.g.m.count || x.first <= k => Some(k),
+        _ => None,
     }
 }
 
@@ -82,7 +65,7 @@ fn put_walked(tape: &[u8], work: &mut [u8], x: Print, left: usize, p: usize, to:
     let c = work[at];
     if inside(work, x.g.width, at, c) == 0 {
         let q = put_before(tape, work, x.g.m, x.g.width, at, c, x.lim, to);
-        put_behind(work, x.g.width, at, c, x.lim, q)
+        put_behind(work, x.g.width.bytes, at, c, x.lim, q)
     } else {
         print_symbol(tape, work, x.g.m, x.g.width, left, at, x.lim, to)
     }
@@ -116,7 +99,7 @@ fn put_around(
     let e = p + long(c, x.g.width);
     let q = put_before(tape, work, x.g.m, x.g.width, at, c, x.lim, to);
     let z = put_one(tape, work, x, left - 1, e, q);
-    put_behind(work, x.g.width, at, c, x.lim, z)
+    put_behind(work, x.g.width.bytes, at, c, x.lim, z)
 }
 
 // Of any.
@@ -187,5 +170,5 @@ pub fn put_symbol(tape: &[u8], work: &mut [u8], x: Print, left: usize, p: usize,
     let n = inside(work, x.g.width, at, c);
     let q = put_before(tape, work, x.g.m, x.g.width, at, c, x.lim, to);
     let z = put_parts(tape, work, x, left - 1, e, n, c, q);
-    put_behind(work, x.g.width, at, c, x.lim, z)
+    put_behind(work, x.g.width.bytes, at, c, x.lim, z)
 }

@@ -10,6 +10,7 @@ use crate::Printed;
 use crate::put::{put_byte, put_two};
 use crate::words::{put_leaf, put_mark, put_name, put_open, word_source};
 use display::follow::{inside, op_byte};
+use octets::numbers::Width;
 use resolve::commands::long;
 use texts::Map;
 
@@ -41,32 +42,32 @@ fn put_named(
     tape: &[u8],
     work: &mut [u8],
     m: Map,
-    width: usize,
+    width: Width,
     at: usize,
     lim: usize,
     to: usize,
 ) -> usize
-    requires { Printable tape.now work.old m width lim to × (at + 10 + width ≤ length work.old) }
-    ensures { Puts work.old lim to (name_text (get_or work.old (at + 9) 0) (word_at width (texts tape.now work.old m) work.old (at + 10))) result work.new }
+    requires { Printable tape.now work.old m width.bytes lim to × (at + 10 + width.bytes ≤ length work.old) }
+    ensures { Puts work.old lim to (name_text (get_or work.old (at + 9) 0) (word_at width.bytes (texts tape.now work.old m) work.old (at + 10))) result work.new }
 {
     let p = word_source(tape, work, m, width, at + 10);
     let b = work[at + 9];
     put_name(tape, work, p, b, lim, to)
 }
 
-// What stands before all of them, the symbol being of the code c at a place.
+// What stands before all of them, the symbol being of the code c at a place. (No `Sink` of crate display: `run` takes a text beside the sink, and here the texts stand in the work that is written.)
 pub fn put_before(
     tape: &[u8],
     work: &mut [u8],
     m: Map,
-    width: usize,
+    width: Width,
     at: usize,
     c: u8,
     lim: usize,
     to: usize,
 ) -> usize
-    requires { Printable tape.now work.old m width lim to × (32 ≤ c) × (at + long_of width c ≤ length work.old) }
-    ensures { Puts work.old lim to (before_by width (texts tape.now work.old m) work.old at c) result work.new }
+    requires { Printable tape.now work.old m width.bytes lim to × (32 ≤ c) × (at + long_of width.bytes c ≤ length work.old) }
+    ensures { Puts work.old lim to (before_by width.bytes (texts tape.now work.old m) work.old at c) result work.new }
 {
     if c < 37 {
         let p = word_source(tape, work, m, width, at + 9);
@@ -107,15 +108,15 @@ fn open(
     tape: &[u8],
     work: &mut [u8],
     m: Map,
-    width: usize,
+    width: Width,
     at: usize,
     c: u8,
     k: usize,
     lim: usize,
     to: usize,
 ) -> Opened
-    requires { Printable tape.now work.old m width lim to × Opening work.old width at }
-    ensures { OpensPrint tape.now work.old m width at c k lim to result work.new }
+    requires { Printable tape.now work.old m width.bytes lim to × Opening work.old width.bytes at }
+    ensures { OpensPrint tape.now work.old m width.bytes at c k lim to result work.new }
 {
     let o = work[at];
     let end = at + long(o, width);
@@ -135,7 +136,7 @@ pub fn print_list(
     tape: &[u8],
     work: &mut [u8],
     m: Map,
-    width: usize,
+    width: Width,
     left: usize,
     at: usize,
     n: usize,
@@ -143,8 +144,8 @@ pub fn print_list(
     lim: usize,
     to: usize,
 ) -> Printed
-    requires { Printable tape.now work.old m width lim to × SomeBelow tape.now work.old m width n left at to }
-    ensures { PrintsList tape.now work.old m width n left at c lim to result work.new }
+    requires { Printable tape.now work.old m width.bytes lim to × SomeBelow tape.now work.old m width.bytes n left at to }
+    ensures { PrintsList tape.now work.old m width.bytes n left at c lim to result work.new }
 {
     let mut p = at;
     // 0 before the first, 1 before any other.
@@ -164,7 +165,7 @@ pub fn print_list(
             lim,
             f.to,
         );
-        q = put_behind(work, width, p, f.code, lim, z.to);
+        q = put_behind(work, width.bytes, p, f.code, lim, z.to);
         p = z.at;
         d = 1;
     }
@@ -176,14 +177,14 @@ pub fn print_symbol(
     tape: &[u8],
     work: &mut [u8],
     m: Map,
-    width: usize,
+    width: Width,
     left: usize,
     at: usize,
     lim: usize,
     to: usize,
 ) -> usize
-    requires { Printable tape.now work.old m width lim to × SomeBelow tape.now work.old m width 1 left at to }
-    ensures { PrintsSymbol tape.now work.old m width left at lim to result work.new }
+    requires { Printable tape.now work.old m width.bytes lim to × SomeBelow tape.now work.old m width.bytes 1 left at to }
+    ensures { PrintsSymbol tape.now work.old m width.bytes left at lim to result work.new }
 {
     let z = print_list(tape, work, m, width, left, at, 1, 0, lim, to);
     z.to

@@ -7,7 +7,7 @@ ghost use Rattle.settling.specs.Pushed.{Markable, MarksOne};
 ghost use Rattle.settling.specs.Settle.{SomePushed, MarkedPushed};
 
 use expander::Ground;
-use expander::slots::slot;
+use expander::slots::{Noted, tells};
 use texts::fields::{cell, mark, put_cell};
 
 // Text k of the records from base on.
@@ -24,9 +24,9 @@ fn mark_one(tape: &[u8], work: &mut [u8], g: Ground, j: usize)
     requires { Markable tape.now work.old g j }
     ensures { MarksOne tape.now work.old g j work.new }
 {
-    let v = slot(work, g, mark(work, g.keys, j));
-    if v % 2 == 0 && v / 2 < g.m.count {
-        mark_text(work, g.m.base, v / 2);
+    match tells(work, g, mark(work, g.keys, j)) {
+        Noted::Text(k) if k < g.m.count => mark_text(work, g.m.base, k),
+        _ => {}
     }
 }
 

@@ -9,16 +9,12 @@ use appending::commands::put;
 use octets::runs::copy;
 pub use precedence::write::put_byte;
 
-// The bytes from a up to e, to a place before them.
+// The bytes from a up to e, to a place before them: there the slice's own method goes forward.
 pub fn copy_down(work: &mut [u8], a: usize, e: usize, to: usize)
     requires { (to ≤ a) × (a ≤ e) × (e ≤ length work.old) }
     ensures { work.new ≡ store work.old to (part a e work.old) }
 {
-    let mut q = to;
-    for i in a..e {
-        work[q] = work[i];
-        q += 1;
-    }
+    work.copy_within(a..e, to);
 }
 
 // Two bytes.

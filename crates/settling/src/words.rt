@@ -10,7 +10,7 @@ ghost use Rattle.settling.specs.Put.{source_text, Fixed, Marked, PlacedText};
 
 use crate::Source;
 use crate::put::{escape_down, escape_from, put_byte, put_down, put_from, put_two};
-use octets::numbers::{atom_at, u16_at};
+use octets::numbers::{Width, atom_at, u16_at};
 use texts::Map;
 use texts::fields::mark;
 
@@ -31,9 +31,9 @@ pub fn mark_source(tape: &[u8], work: &[u8], x: usize) -> Source
 }
 
 // Where the text stands whose number stands at a place.
-pub fn word_source(tape: &[u8], work: &[u8], m: Map, width: usize, at: usize) -> Source
-    requires { Worded tape.now work.now m × (2 ≤ width) × (width ≤ 3) × (at + width ≤ length work.now) }
-    ensures { PlacedText tape.now work.now m (word_at width (texts tape.now work.now m) work.now at) result }
+pub fn word_source(tape: &[u8], work: &[u8], m: Map, width: Width, at: usize) -> Source
+    requires { Worded tape.now work.now m × (at + width.bytes ≤ length work.now) }
+    ensures { PlacedText tape.now work.now m (word_at width.bytes (texts tape.now work.now m) work.now at) result }
 {
     let k = atom_at(work, at, width) as usize;
     if k < m.count {

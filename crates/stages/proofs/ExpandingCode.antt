@@ -2,17 +2,16 @@
 use mathlib.Core.Path.{◌≡◌, refl, sym, ap, ◌∙◌, subst}
 use mathlib.Core.Bool.{Bool, true}
 use mathlib.Core.List.{List, [], ◌++◌, append-nil}
-use Prim.Native.Nat.{ℕ, zero, suc, ◌+◌, ◌-◌, ◌*◌, ◌/◌, ◌^◌, ◌<◌}
+use Prim.Native.Nat.{ℕ, ◌+◌, ◌-◌, ◌*◌, ◌/◌, ◌^◌, ◌<◌}
 use native.Mathlib.Omega.{arith}
 use borrow.Author.Rules.{rules}
 use lib.ListN.{length}
 use Rattle.parse_tree.specs.Plain.Tree.{Text, Stage}
-use Rattle.parse_tree.specs.Plain.References.{stage_of}
 use Rattle.parse_tree.specs.Working.Refusals.{refusal_over}
 use Rattle.parse_tree.specs.declared.refusal.Refusal.{Refusal}
 use Rattle.texts.specs.declared.Map.{Map}
 use Rattle.passes.specs.Outcome.{Tree, Outcome, yes, no}
-use Rattle.passes.specs.Macros.{replace_items, without_macros}
+use Rattle.passes.specs.Macros.{without_macros}
 use Rattle.passes.specs.Stages.{rounds, macro_stages}
 use Rattle.passes.specs.Calls.{sizes, written}
 use Rattle.resolve.specs.declared.Grammar.{Grammar}
@@ -26,17 +25,12 @@ use Rattle.rounds.specs.Define.{SomeDeclared, Defined}
 use Rattle.rounds.specs.Round.{SomeRound, Finished, RoundsTo, AllRounds}
 use Rattle.output.specs.Plain.Answers.{answer_of}
 use Rattle.std.specs.Prelude.{Result, Ok, Err}
-use Rattle.output.specs.Working.Judging.{sized}
-use Rattle.output.specs.Working.Handing.{Staged, handed}
+use Rattle.output.specs.Working.Handing.{Staged}
 use Rattle.output.specs.Working.Expanded.{LastStands, SomeLastStage, HandsLast}
 use Rattle.output.proofs.ExpandedCode.{some_last}
-use Rattle.stages.specs.declared.Resolved.{Resolved}
-use Rattle.stages.specs.Stages.{TapeResolves, resolved}
 use Rattle.stages.specs.Levelling.{SomeAdmitted}
 use Rattle.stages.specs.Expanding.{macros_room, expanded_of, first_trees, SomeFirst, FirstRounds, RoundsAnswer, SomeAnswer, AnswersRounds, RunStands, SomeRun, RunsTo}
-use Rattle.stages.proofs.StoodMean.{stage_refused, stage_stands, stage_no, said, stood_yes}
-use Rattle.stages.proofs.LevellingMeanStage.{none_of, staged_no, admitted-stood, admitted-is}
-use Rattle.stages.proofs.LevellingCode.{level_room, tape_room, resolved-admitted, admitted-inside, admitted-room, admitted-fits, some_items}
+use Rattle.stages.proofs.LevellingMeanStage.{admitted-is}
 use Rattle.stages.proofs.ExpandingFirst.{first_declared, first_stands}
 use Rattle.stages.proofs.ExpandingStart.{Start, start_stands}
 
@@ -177,7 +171,7 @@ module _ (s o w : List ℕ) (m : Map) (t : Grammar) (at n : ℕ) (room : Room) (
 
 pub ruleset running_rounds = (rules, run_first, run_answer, run_done)
 
--- ---- `expand_items`
+-- ---- the pass
 pub items_sum : (s o : List ℕ) (m : Map) (t : Grammar) (at : ℕ) (w : List ℕ) → SomeAdmitted s (length o) m t at w → length w * 1 < 2 ^ 63 → 8 * (length s + length o) < 9223372036854775808
 items_sum s o m t at w a h = omega (arith, a.enough)
 
@@ -213,42 +207,3 @@ module _ (s o : List ℕ) (m : Map) (t : Grammar) (at : ℕ) (w : List ℕ) (a :
       (subst (λ (u : Room). RunsTo s w m t at m.count u u.end limit o x o') e d true a.tree a.tape.atoms [] 0 stands))
 
 pub ruleset macros-itemizing = (rules, items_sum, items_run, items_done)
-
--- ---- `expand_admitted`: without items there are no rounds but the last
-module _ (s o : List ℕ) (m : Map) (t : Grammar) (at : ℕ) (w : List ℕ) (a : SomeAdmitted s (length o) m t at w) (limit : ℕ) where
-  none_rounds : (n : ℕ) (ts : List Text) → macro_stages (sizes 2 (length o)) n (record { atoms = ts; items = [] }) ≡ sizes 2 (length o) (stage_of ts [])
-  unfolding macro_stages rounds replace_items
-  none_rounds zero ts = refl
-  none_rounds (suc n) ts = refl
-
-  none_expanded : t.count ≡ 0 → expanded_of s limit (length o) ≡ resolved s (length o)
-  unfolding expanded_of
-  none_expanded e =
-      let z : a.tree ≡ [] = none_of a.tree (sym e ∙ a.levels.many) in
-      let d = admitted-stood s (length o) m t at w a in
-      rw (admitted-is s (length o) m t at w a)
-      (ap (λ (R : Tree). macro_stages (sizes 2 (length o)) limit (record { atoms = a.tape.atoms; items = R })) z
-      ∙ none_rounds limit a.tape.atoms
-      ∙ sym (ap (λ (R : Tree). sizes 2 (length o) (stage_of a.tape.atoms R)) z)
-      ∙ sym (said s w m t at d (length o))
-      ∙ admitted-is s (length o) m t at w a)
-
-  pub admitted-none : t.count ≡ 0 → (o' : List ℕ) → o' ≡ handed at s t.at w o → Staged (expanded_of s limit (length o)) o (Ok (length s)) o'
-  admitted-none e o' h = rw (none_expanded e) (stood_yes s w m t at (admitted-stood s (length o) m t at w a) a.few o o' a.fits h)
-
-pub ruleset macros-admitting = (rules, some_items, admitted-inside, admitted-room, admitted-fits, admitted-none)
-
--- ---- `expand_resolved`: y is what `judge` answered
-pub expand_no : (s w : List ℕ) (r : Resolved) → TapeResolves s (Ok r) w → (o : List ℕ) (y : Result ℕ Refusal) → y ≡ sized r.texts.count (length s) (length o) → (limit : ℕ) (why : Refusal)
-    → y ≡ Err why → Staged (expanded_of s limit (length o)) o (Err why) o
-unfolding expanded_of
-expand_no s w r i o y j limit why e = staged_no (resolved s (length o)) (macro_stages (sizes 2 (length o)) limit) o why (stage_no s w r i o y j why e)
-
-pub ruleset macros-resolving = (rules, expand_no, resolved-admitted)
-
--- ---- `expand_stage`
-pub expand_refused : (s : List ℕ) (x : Result Resolved Refusal) (w₁ : List ℕ) → TapeResolves s x w₁ → (o : List ℕ) (limit : ℕ) (why : Refusal) → x ≡ Err why → Staged (expanded_of s limit (length o)) o (Err why) o
-unfolding expanded_of
-expand_refused s x w₁ i o limit why e = staged_no (resolved s (length o)) (macro_stages (sizes 2 (length o)) limit) o why (stage_refused s x w₁ i o why e)
-
-pub ruleset macros-staging = (rules, tape_room, expand_refused, stage_stands, level_room)

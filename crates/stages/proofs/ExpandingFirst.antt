@@ -30,10 +30,10 @@ use Rattle.rounds.proofs.DefineMeans.{defined-items, defined-found}
 use Rattle.stages.specs.Expanding.{first_trees, FirstStands}
 
 -- ---- items at their places stand one behind another
-row_lies : (t : Grammar) (ts : List Text) (w : List ℕ) (i p : ℕ) (xs : List Item) → Row t ts w i p xs → Lies w p (bytes_of_each (item_bytes t.width ts) xs) t.end
+row_lies : (t : Grammar) (ts : List Text) (w : List ℕ) (i p : ℕ) (xs : List Item) → Row t ts w i p xs → Lies w p (bytes_of_each (item_bytes t.width.bytes ts) xs) t.end
 unfolding bytes_of_each
 row_lies t ts w i p [] h = lies_to h.1 (lies_none w p)
-row_lies t ts w i p (x ∷ xs) h = lies_append h.1 (row_lies t ts w (i + 1) (p + length (item_bytes t.width ts x)) xs h.2)
+row_lies t ts w i p (x ∷ xs) h = lies_append h.1 (row_lies t ts w (i + 1) (p + length (item_bytes t.width.bytes ts x)) xs h.2)
 
 eleven : (ts : List Text) (R : Tree) → 0 < length R → 11 ≤ length (bytes_of_each (item_bytes 2 ts) R)
 unfolding bytes_of_each

@@ -76,7 +76,7 @@ module _ (s : List ℕ) (m : Map) (t : Grammar) (room : Room) (w : List ℕ) (A 
       record {
         cells = record { table = l.table; above = l.on_tape (m.base + 24 * m.count) };
         row = subst (λ (us : List Text). Row t us w 0 t.at R) (sym l.texts-are) l.row;
-        within = subst (λ (us : List Text). Each (ItemWithin true t.width us) R) (sym l.texts-are) (subst (λ (n : ℕ). Each (ItemWithin true n ts) R) (sym l.width) l.within);
+        within = subst (λ (us : List Text). Each (ItemWithin true t.width.bytes us) R) (sym l.texts-are) (subst (λ (n : ℕ). Each (ItemWithin true n ts) R) (sym l.width) l.within);
         many = l.many;
         few = omega (arith, f, l.many, A.admitted.few, A.admitted.many);
         narrow = omega (arith, l.width);

@@ -1,98 +1,85 @@
--- The ways out of the functions that level a resolved tape. Assumes nothing.
-use mathlib.Core.Path.{◌≡◌, refl}
+-- The ways out of `level`, and of the pass of levels. Assumes nothing.
+use mathlib.Core.Path.{◌≡◌, refl, sym}
 use mathlib.Core.List.{List}
 use Prim.Native.Nat.{ℕ, ◌+◌, ◌-◌, ◌*◌, ◌^◌, ◌≤◌, ◌<◌}
 use native.Mathlib.Omega.{arith}
 use borrow.Author.Rules.{rules}
 use lib.ListN.{length}
+use Rattle.parse_tree.specs.Plain.Tree.{Stage}
+use Rattle.parse_tree.specs.Plain.WriteTape.{bytes_of_each}
+use Rattle.parse_tree.specs.Working.Encode.{atom_bytes}
 use Rattle.parse_tree.specs.declared.refusal.Refusal.{Refusal}
 use Rattle.texts.specs.declared.Map.{Map}
-use Rattle.passes.specs.Stages.{level_stage}
-use Rattle.passes.specs.Calls.{sizes}
+use Rattle.passes.specs.Outcome.{Outcome, yes, no}
+use Rattle.passes.specs.Calls.{written}
 use Rattle.resolve.specs.declared.Grammar.{Grammar}
-use Rattle.std.specs.Prelude.{Result, Ok, Err}
-use Rattle.output.specs.Working.Judging.{sized}
-use Rattle.output.specs.Working.Handing.{Staged, handed}
-use Rattle.stages.specs.declared.Resolved.{Resolved}
-use Rattle.stages.specs.Stages.{TapeResolves, resolved}
-use Rattle.stages.specs.Levelling.{levelled_of, SomeAdmitted}
-use Rattle.stages.proofs.StoodMean.{Stood, stood, stage_refused, stage_stands, stage_no, judged}
-use Rattle.stages.proofs.LevellingMeanStage.{staged_no, none_staged, some_grammar, levels-refused, levels-written}
-use Rattle.stages.proofs.LevellingMeanSize.{levels-naming, levels-from, levels-cap, levels-sum, levels-no, levels-hands, levels-yes}
+use Rattle.levels.specs.declared.Room.{Room}
+use Rattle.levels.specs.declared.Written.{Written}
+use Rattle.levels.specs.Fresh.{new_texts, fresh_of}
+use Rattle.levels.specs.Whole.{Levels}
+use Rattle.std.specs.Prelude.{Option, Result, Ok, Err}
+use Rattle.std.specs.Result.{result_ok}
+use Rattle.output.specs.Plain.Answers.{answer_of}
+use Rattle.output.specs.Working.Judging.{room_of, sized_levels}
+use Rattle.output.specs.Working.Handing.{Staged, HandsLevels, handed_levels}
+use Rattle.stages.specs.declared.levelling.Levelled.{Levelled}
+use Rattle.stages.specs.Levelling.{levelled_of, SomeAdmitted, SomeLevels, SomeFitting, LevelsTo}
+use Rattle.stages.proofs.LevellingMeanStage.{some_grammar, levels-refused, levels-written}
+use Rattle.stages.proofs.LevellingMeanSize.{levels-naming, levels-from, levels-cap, levels-sum, levels-no, levels-fitting, levels-size}
+use Rattle.stages.proofs.LevellingMeanFits.{fitting_hands, fitting_yes}
 
--- ---- `level_stage`: x is what `resolve_tape` answered, and w₁ what it left
-module _ (s : List ℕ) (x : Result Resolved Refusal) (w₁ : List ℕ) (i : TapeResolves s x w₁) where
-  pub level_refused : (o : List ℕ) (why : Refusal) → x ≡ Err why → Staged (levelled_of s (length o)) o (Err why) o
-  unfolding levelled_of
-  level_refused o why e = staged_no (resolved s (length o)) (level_stage (sizes 2 (length o))) o why (stage_refused s x w₁ i o why e)
-
-  pub level_room : (o w : List ℕ) → length w₁ ≡ length w → 8 * (length s + length o) ≤ length w → 8 * (length s + length o) ≤ length w₁
-  level_room o w l h = omega arith
-
-pub tape_room : (s o w : List ℕ) → 8 * (length s + length o) ≤ length w → 8 * length s ≤ length w
-tape_room s o w h = omega arith
-
-pub ruleset level_staging = (rules, tape_room, level_refused, stage_stands, level_room)
-
--- ---- `level_resolved`: y is what `judge` answered
-module _ (s w : List ℕ) (r : Resolved) (i : TapeResolves s (Ok r) w) (o : List ℕ) (y : Result ℕ Refusal) (j : y ≡ sized r.texts.count (length s) (length o)) where
-  pub resolved-no : (why : Refusal) → y ≡ Err why → Staged (levelled_of s (length o)) o (Err why) o
-  unfolding levelled_of
-  resolved-no why e = staged_no (resolved s (length o)) (level_stage (sizes 2 (length o))) o why (stage_no s w r i o y j why e)
-
-  pub resolved-admitted : 8 * (length s + length o) ≤ length w → (n : ℕ) → y ≡ Ok n → SomeAdmitted s (length o) r.texts r.grammar r.at w
-  resolved-admitted h n e =
-      let d : Stood s w r.texts r.grammar r.at = stood s (Ok r) w i r refl in
-      let k = judged s w r i o y j n e in
-      record {
-        tape = d.tape;
-        end = d.end;
-        tree = d.tree;
-        decoded = d.decoded;
-        is = d.is;
-        within = d.within;
-        many = d.many;
-        inside = d.inside;
-        atoms = d.atoms;
-        room = d.room;
-        items = d.items;
-        few = k.0;
-        fits = k.1;
-        enough = h;
-        levels = d.levels;
-      }
-
-pub ruleset level_resolving = (rules, resolved-no, resolved-admitted)
-
--- ---- `level_admitted` and `level_items`
-module _ (s o : List ℕ) (m : Map) (t : Grammar) (at : ℕ) (w : List ℕ) (a : SomeAdmitted s (length o) m t at w) where
-  pub admitted-inside : at ≤ length s
-  admitted-inside = a.inside
-
-  pub admitted-room : t.at + (length s - at) ≤ length w
-  admitted-room = a.room
-
-  pub admitted-fits : length s ≤ length o
-  admitted-fits = a.fits
-
-  pub admitted-none : t.count ≡ 0 → (o' : List ℕ) → o' ≡ handed at s t.at w o → Staged (levelled_of s (length o)) o (Ok (length s)) o'
-  admitted-none e o' h = none_staged s (length o) m t at w a e o o' refl h
-
-  pub room_sum : length w * 1 < 2 ^ 63 → 8 * (length s + length o) < 9223372036854775808
+-- ---- `level`
+module _ (s : List ℕ) (cap : ℕ) (m : Map) (t : Grammar) (at : ℕ) (w : List ℕ) (a : SomeAdmitted s cap m t at w) where
+  pub room_sum : length w * 1 < 2 ^ 63 → 8 * (length s + cap) < 9223372036854775808
   room_sum h = omega (arith, a.enough)
 
-  pub width_least : 2 ≤ t.width
-  width_least = omega (arith, a.levels.width)
+  pub level_inside : at ≤ length s
+  level_inside = a.inside
 
-  pub width_most : t.width ≤ 3
-  width_most = omega (arith, a.levels.width)
+  -- x is what `expand_precedence` answered
+  pub level_refused : 0 < t.count → (room : Room) → room ≡ room_of (length s) (length s - at) cap → length w * 1 < 2 ^ 63 → (x : Result Written Refusal) (w' : List ℕ) → Levels s m t room w x w' → (why : Refusal) → x ≡ Err why
+      → LevelsTo s cap m at (Err why) w'
+  unfolding LevelsTo
+  level_refused some room r narrow x w' p why e = sym (levels-refused s cap m t at w a some room r narrow x w' p w why e).answered
 
-pub some_items : (n : ℕ) → (n ≡ 0 → ⊥) → 0 < n
-some_items n h = omega arith
+pub ruleset level_beginning = (rules, room_sum, level_inside, some_grammar, level_refused, levels-written)
 
-pub ruleset level_admitting = (rules, some_items, admitted-inside, admitted-room, admitted-fits, admitted-none)
+-- f is what `count_bytes` answered, without the bytes where a name is too long, y what `judge_levels` did
+module _ (s : List ℕ) (cap : ℕ) (m : Map) (at : ℕ) (room : Room) (v : Written) (w : List ℕ) (L : SomeLevels s cap m at room v w) (f : Option ℕ) (c : f ≡ result_ok (fresh_of (new_texts s w m v.count)))
+    (y : Result ℕ Refusal) (j : y ≡ sized_levels v room at f cap) where
+  pub level_no : (why : Refusal) → y ≡ Err why → LevelsTo s cap m at (Err why) w
+  unfolding LevelsTo
+  level_no why e = sym (levels-no s cap m at room v w L f c y j w why e).answered
 
-pub ruleset level_itemizing = (rules, admitted-inside, room_sum, width_least, width_most, some_grammar, levels-refused, levels-written)
+  pub level_yes : (n : ℕ) → y ≡ Ok n → LevelsTo s cap m at (Ok (record { room = room; written = v; size = n })) w
+  unfolding LevelsTo
+  level_yes n e = (levels-fitting s cap m at room v w L f c y j n e, levels-size s cap m at room v w L f c y j n e)
 
--- ---- `admit_levels`
-pub ruleset levels-admitting = (rules, levels-naming, levels-from, levels-cap, levels-sum, levels-no, levels-hands, levels-yes)
+pub ruleset level_judging = (rules, levels-naming, levels-from, levels-cap, level_no, level_yes)
+
+-- ---- the pass: x is what `level` answered
+module _ (s o : List ℕ) (m : Map) (at : ℕ) (x : Result Levelled Refusal) (w : List ℕ) (i : LevelsTo s (length o) m at x w) where
+  pub levelled_no : (why : Refusal) → x ≡ Err why → Staged (levelled_of s (length o)) o (Err why) o
+  unfolding LevelsTo answer_of written
+  levelled_no why e = go (levelled_of s (length o)) (rw e at i)
+    where
+      go : (z : Outcome Stage) → answer_of z ≡ Err why → Staged z o (Err why) o
+      go (yes g) k = absurd (let q : ◌≡◌ {A = ℕ} 0 1 = cc in omega arith)
+      go (no q sp) k = record { answered = sym k; tree = refl }
+
+  module _ (l : Levelled) (e : x ≡ Ok l) where
+    pub levelled_fitting : SomeFitting s (length o) m at l.room l.written w
+    unfolding LevelsTo
+    levelled_fitting = (rw e at i).0
+
+    levelled_size : l.size ≡ at + length (bytes_of_each (atom_bytes 2) (new_texts s w m l.written.count)) + (l.written.to - l.room.at)
+    unfolding LevelsTo
+    levelled_size = (rw e at i).1
+
+    pub levelled_hands : HandsLevels s at w m l.room l.written (length o)
+    levelled_hands = fitting_hands s (length o) m at l.room l.written w levelled_fitting
+
+    pub levelled_yes : (o' : List ℕ) → o' ≡ handed_levels s at w m l.room l.written o → Staged (levelled_of s (length o)) o (Ok l.size) o'
+    levelled_yes o' h = fitting_yes s (length o) m at l.room l.written w levelled_fitting l.size levelled_size o o' h
+
+pub ruleset levelling_pass = (rules, levelled_no, levelled_hands, levelled_yes)

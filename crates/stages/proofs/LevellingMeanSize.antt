@@ -2,16 +2,15 @@
 use mathlib.Core.Path.{◌≡◌, refl, sym, ap, ◌∙◌}
 use mathlib.Core.Bool.{Bool, true, false, true≢false, not, ◌&&◌}
 use mathlib.Core.Logic.{◌⊎◌, inl, inr}
-use mathlib.Core.List.{List, ◌++◌, append_assoc}
+use mathlib.Core.List.{List, ◌++◌}
 use Prim.Native.Nat.{ℕ, ◌+◌, ◌-◌, ◌*◌, ◌/◌, ◌^◌, ◌≤◌, ◌<◌}
 use native.Mathlib.Omega.{arith}
 use borrow.Author.Tests.{lt-ltb, ltb-true, ltb-false, leb-true, leb-false, le-leb, lt-leb}
 use lib.Dec.{leb, ltb}
-use lib.ListN.{length, drop, length-append}
+use lib.ListN.{length, length-append}
 use Rattle.octets.specs.Plain.Runs.{part, Lies}
 use Rattle.octets.specs.Working.Choice.{pick}
 use Rattle.octets.proofs.PartLaws.{part_length}
-use Rattle.octets.proofs.LiesLaws.{lies_part}
 use Rattle.parse_tree.specs.Plain.Tree.{Text, Stage}
 use Rattle.parse_tree.specs.Plain.Texts.{with_new}
 use Rattle.parse_tree.specs.Plain.References.{texts_of_each, item_texts, stage_of}
@@ -38,7 +37,7 @@ use Rattle.output.specs.Plain.Answers.{answer_of}
 use Rattle.std.specs.Prelude.{Option, Some, None, Result, Ok, Err, IfSome}
 use Rattle.std.specs.Result.{result_ok}
 use Rattle.output.specs.Working.Judging.{sized, room_of, sized_levels}
-use Rattle.output.specs.Working.Handing.{Staged, HandsLevels, levels_tree, handed_levels}
+use Rattle.output.specs.Working.Handing.{Staged}
 use Rattle.stages.specs.Levelling.{levelled_of, SomeLevels, SomeFitting}
 use Rattle.stages.proofs.LevellingMeanTexts.{bytes_both, all_short, described_length, described_bytes}
 
@@ -104,7 +103,7 @@ module _ (s : List ℕ) (cap : ℕ) (m : Map) (at : ℕ) (room : Room) (v : Writ
   abbrev N : ℕ
   N = length (bytes_of_each (atom_bytes 2) news)
 
-  atoms_bytes : bytes_of_each (atom_bytes 2) us ≡ part 0 at s ++ bytes_of_each (atom_bytes 2) news
+  pub atoms_bytes : bytes_of_each (atom_bytes 2) us ≡ part 0 at s ++ bytes_of_each (atom_bytes 2) news
   atoms_bytes = ap (bytes_of_each (atom_bytes 2)) split ∙ bytes_both (atom_bytes 2) L.tape.atoms news ∙ ap (λ (x : List ℕ). x ++ bytes_of_each (atom_bytes 2) news) (sym L.atoms)
 
   pub size_is : length (stage_bytes 2 stage_for) ≡ at + N + B
@@ -129,7 +128,7 @@ module _ (s : List ℕ) (cap : ℕ) (m : Map) (at : ℕ) (room : Room) (v : Writ
       go true e = let z = leb-true B cap e in inl (z, L.wrote.whole (omega (arith, lim_is)))
       go false e = let z = leb-false B cap e in inr (z, L.wrote.over (omega (arith, lim_is)))
 
-  to_from : room.at ≤ v.to
+  pub to_from : room.at ≤ v.to
   to_from = elim placed [ inl x ↦ omega (arith, x.1.end) | inr x ↦ omega (arith, x.1, lim_is) ]
 
   to_upto : v.to ≤ room.lim + 1
@@ -275,35 +274,10 @@ module _ (s : List ℕ) (cap : ℕ) (m : Map) (at : ℕ) (room : Room) (v : Writ
               size = let c : Ok n ≡ Ok (at + bytes_in f + (v.to - room.at)) = sym z ∙ k in cc;
             }
 
-        items_lie : Lies w room.at (bytes_of_each (item_bytes 2 us) tree) v.to
-        items_lie = whole_bytes fitting.upto
-
         -- theorem: the stage is admitted
         pub levels-fitting : SomeFitting s cap m at room v w
         levels-fitting = record { levels = L; short = sym long_is ∙ fitting.short; upto = fitting.upto; few = fitting.few; fits = omega (arith, fitting.fits, bytes_is fitting.short) }
 
-        -- theorem: so the tree can be handed over
-        pub levels-hands : HandsLevels s at w m room v cap
-        levels-hands = record {
-          inside = L.inside;
-          naming = levels-naming;
-          short = sym long_is ∙ fitting.short;
-          from = to_from;
-          upto = omega (arith, fitting.upto, lim_is, at-is, L.enough);
-          fits = omega (arith, fitting.fits, bytes_is fitting.short);
-        }
-
-        tree_is : tape_of 2 stage_for ≡ levels_tree s at w m room v
-        unfolding stage_bytes levels_tree
-        tree_is =
-            tape_is 2 stage_for ∙ ap (λ (x : List ℕ). x ++ bytes_of_each (item_bytes 2 us) tree) atoms_bytes ∙ append_assoc (part 0 at s) (bytes_of_each (atom_bytes 2) news) (bytes_of_each (item_bytes 2 us) tree)
-            ∙ ap (λ (x : List ℕ). part 0 at s ++ (bytes_of_each (atom_bytes 2) news ++ x)) (sym (lies_part w room.at v.to (bytes_of_each (item_bytes 2 us) tree) items_lie))
-
-        -- theorem: and what is handed over is the stage's
-        pub levels-yes : (o o' : List ℕ) → o' ≡ handed_levels s at w m room v o → Staged (levelled_of s cap) o (Ok n) o'
-        unfolding sizes answer_of written handed_levels
-        levels-yes o o' h =
-            let x : length (tape_of 2 stage_for) ≡ n = ap length (tape_is 2 stage_for) ∙ omega (arith, size_is, fitting.size, bytes_is fitting.short, items_lie.end) in
-            let l : leb (length (tape_of 2 stage_for)) cap ≡ true = le-leb (length (tape_of 2 stage_for)) cap (omega (arith, x, fitting.size, fitting.fits)) in
-            rw (levelled-said, few_admitted fitting.short fitting.few, l)
-            (record { answered = ap Ok (sym x); tree = h ∙ ap (λ (u : List ℕ). u ++ drop (length u) o) (sym tree_is) })
+        -- theorem: and its size is told
+        pub levels-size : n ≡ at + length (bytes_of_each (atom_bytes 2) (new_texts s w m v.count)) + (v.to - room.at)
+        levels-size = omega (arith, fitting.size, bytes_is fitting.short)

@@ -7,8 +7,8 @@ use native.Mathlib.Omega.{arith}
 use lib.ListN.{length, length-append}
 use Rattle.octets.proofs.PartLaws.{part_length}
 use Rattle.parse_tree.specs.Plain.Tree.{Text, Item, item, terminal, Stage}
-use Rattle.parse_tree.specs.Plain.Texts.{distinct, with_new}
-use Rattle.parse_tree.specs.Plain.References.{texts_of_each, stage_of}
+use Rattle.parse_tree.specs.Plain.Texts.{distinct}
+use Rattle.parse_tree.specs.Plain.References.{stage_of}
 use Rattle.parse_tree.specs.Plain.WriteTape.{bytes_of_each}
 use Rattle.parse_tree.specs.Working.Nodes.{node_bytes, size_of}
 use Rattle.parse_tree.specs.Working.Encode.{atom_bytes, item_bytes}
@@ -32,10 +32,10 @@ use Rattle.levels.specs.Whole.{alternatives_in, GrammarStands, SomeGrammar, Leve
 use Rattle.output.specs.Plain.Answers.{answer_of}
 use Rattle.std.specs.Prelude.{Result, Ok, Err}
 use Rattle.output.specs.Working.Judging.{room_of}
-use Rattle.output.specs.Working.Handing.{Staged, handed}
+use Rattle.output.specs.Working.Handing.{Staged}
 use Rattle.stages.specs.Stages.{resolved}
 use Rattle.stages.specs.Levelling.{levelled_of, SomeAdmitted, SomeLevels}
-use Rattle.stages.proofs.StoodMean.{Stood, said, said_yes, stood_yes}
+use Rattle.stages.proofs.StoodMean.{Stood, said_yes}
 use Rattle.stages.proofs.LevellingMeanFew.{alternatives_few, names_most}
 
 -- ---- a refusal of the resolved stage is the answer
@@ -85,21 +85,6 @@ module _ (s : List ℕ) (cap : ℕ) (m : Map) (t : Grammar) (at : ℕ) (w : List
   pub levelled-is : levelled_of s cap ≡ level_stage (sizes 2 cap) (record { atoms = a.tape.atoms; items = a.tree })
   unfolding levelled_of
   levelled-is = rw admitted-is refl
-
-  -- without items both stages are one
-  pub none_levelled : t.count ≡ 0 → levelled_of s cap ≡ resolved s cap
-  unfolding level_stage levels check_levels levelled stage_of texts_of_each with_new
-  none_levelled e =
-      let z : a.tree ≡ [] = none_of a.tree (sym e ∙ a.levels.many) in
-      let x : sizes 2 cap (stage_of a.tape.atoms a.tree) ≡ sizes 2 cap (record { atoms = a.tape.atoms; items = [] }) = rw z refl in
-      let y : level_stage (sizes 2 cap) (record { atoms = a.tape.atoms; items = a.tree }) ≡ sizes 2 cap (record { atoms = a.tape.atoms; items = [] }) = rw z refl in
-      levelled-is ∙ y ∙ sym x ∙ sym (said s w m t at admitted-stood cap)
-
-  -- theorem: then it is handed over
-  pub none_staged : t.count ≡ 0 → (o o' : List ℕ) → cap ≡ length o → o' ≡ handed at s t.at w o → Staged (levelled_of s cap) o (Ok (length s)) o'
-  none_staged e o o' l h =
-      let f : length s ≤ length o = omega (arith, a.fits) in
-      rw (none_levelled e, l) (stood_yes s w m t at admitted-stood a.few o o' f h)
 
   -- ---- the room: at least 11 bytes of items and 3 of an atom
   module _ (some : 0 < t.count) (room : Room) (r : room ≡ room_of (length s) (length s - at) cap) (narrow : length w * 1 < 2 ^ 63) where

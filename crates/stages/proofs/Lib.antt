@@ -1,6 +1,6 @@
 -- Laws of the stages.
 mod ResolvingMean
-pub mod StoodMean
+mod StoodMean
 mod LevelableMean
 mod ResolvingCode
 mod ValidatingCode
@@ -8,6 +8,8 @@ mod LevellingMeanFew
 mod LevellingMeanStage
 mod LevellingMeanTexts
 mod LevellingMeanSize
+mod LevellingMeanFits
+mod PassCode
 mod LevellingCode
 mod ExpandingFirst
 mod ExpandingStart

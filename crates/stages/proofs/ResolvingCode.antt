@@ -153,8 +153,8 @@ module _ (s w : List ℕ) (a : Atoms) (at n : ℕ) (v : Valid true 2 s w a at n)
       listed = λ h. omega (arith, many_fit h, long, v.ready.inside);
       ordered = omega arith;
       inside = λ h. let z = records in omega (arith, named h, v.base);
-      narrow = v.ready.ready.narrow;
-      wide = v.ready.ready.wide;
+      narrow = a.width.narrow;
+      wide = a.width.wide;
     }
 
     -- what stands apart from the copied items is as it was
@@ -259,7 +259,7 @@ module _ (s w : List ℕ) (a : Atoms) (at n : ℕ) (v : Valid true 2 s w a at n)
             inside = v.ready.inside;
             atoms = atoms_part;
             room = omega (arith, long, k.1.long);
-            items = rw v.wide at (lies_part w₂ (7 * size) (7 * size + size) (bytes_of_each (item_bytes a.width ts) R) k.1.lies);
+            items = rw v.wide at (lies_part w₂ (7 * size) (7 * size + size) (bytes_of_each (item_bytes a.width.bytes ts) R) k.1.lies);
             levels = levelable R q k.1;
           }
           go (no q p) _ k = absurd (fine_not (sym e ∙ k))

@@ -136,12 +136,6 @@ module _ (s w : List ℕ) (r : Resolved) (i : TapeResolves s (Ok r) w) where
   abbrev d : Stood s w r.texts r.grammar r.at
   d = stood s (Ok r) w i r refl
 
-  pub hand_inside : r.at ≤ length s
-  hand_inside = d.inside
-
-  pub hand_room : r.grammar.at + (length s - r.at) ≤ length w
-  hand_room = d.room
-
   -- y is what `judge` answered
   module _ (o : List ℕ) (y : Result ℕ Refusal) (j : y ≡ sized r.texts.count (length s) (length o)) where
     -- by what is asked of the sizes
@@ -180,9 +174,3 @@ module _ (s w : List ℕ) (r : Resolved) (i : TapeResolves s (Ok r) w) where
           go true p b q k = absurd (yes_no n (refusal_at 20 0) (sym z ∙ k))
           go false p true q k = absurd (yes_no n (refusal_at 21 0) (sym z ∙ k))
           go false p false q k = (ltb-false 65536 r.texts.count p, ltb-false (length o) (length s) q, (let c : Ok n ≡ Ok (length s) = sym z ∙ k in cc))
-
-      pub hand_fits : length s ≤ length o
-      hand_fits = judged.1
-
-      pub stage_yes : (o' : List ℕ) → o' ≡ handed r.at s r.grammar.at w o → Staged (resolved s (length o)) o (Ok n) o'
-      stage_yes o' h = rw judged.2 (stood_yes s w r.texts r.grammar r.at d judged.0 o o' judged.1 h)

@@ -25,7 +25,7 @@ use Rattle.output.specs.Plain.Answers.{answer_of}
 use Rattle.std.specs.Prelude.{Result, Ok, Err}
 use Rattle.stages.specs.Stages.{Judged}
 
--- x is what `validate` answered, w₁ what it left of work, w₂ what `clear` left
+-- x is what `validate` answered, w₁ what it left of work, w₂ what `fill` left
 module _ (s w w₁ w₂ : List ℕ) (x : Result Validated Refusal) (i : Validates true 2 s x w₁) (l : length w₁ ≡ length w) (c : w₂ ≡ replicate (length w₁) 0) where
   judged : (r : Result ℕ Refusal) → r ≡ answer_of (read_as (read_tape true 2 s)) → Judged s w r w₂
   judged r e = record { answered = e; zeroed = c ∙ ap (λ (n : ℕ). replicate n 0) l }

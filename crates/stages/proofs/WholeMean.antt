@@ -57,7 +57,8 @@ use Rattle.stages.specs.Expanding.{macros_room, first_trees, FirstStands, RunSta
 use Rattle.stages.specs.Whole.{again_stages, whole_of}
 use Rattle.stages.proofs.LevellingMeanFew.{alternatives_few}
 use Rattle.stages.proofs.LevellingMeanTexts.{levelled-some}
-use Rattle.stages.proofs.LevellingMeanSize.{stage_for, split, stage_is, levelled-said, fits_is, size_is, at-is, lim_is, placed}
+use Rattle.stages.proofs.LevellingMeanSize.{stage_for, split, stage_is, levelled-said, size_is, at-is, lim_is}
+use Rattle.stages.proofs.LevellingMeanFits.{fitting_lie, fitting_fits}
 use Rattle.stages.proofs.ExpandingStart.{some_name}
 
 -- ---- 20 asks nothing new of items that are resolved
@@ -90,18 +91,13 @@ module _ (s : List ℕ) (cap : ℕ) (m : Map) (at : ℕ) (room : Room) (v : Writ
 
   -- ---- the stage
   items_lie : Lies w room.at (bytes_of_each (item_bytes 2 us) tree) v.to
-  items_lie = go (placed s cap m at room v w L)
-    where
-      go : ((length (bytes_of_each (item_bytes 2 us) tree) ≤ cap) × Lies w room.at (bytes_of_each (item_bytes 2 us) tree) v.to) ⊎ ((cap < length (bytes_of_each (item_bytes 2 us) tree)) × (v.to ≡ room.lim + 1))
-          → Lies w room.at (bytes_of_each (item_bytes 2 us) tree) v.to
-      go (inl x) = x.1
-      go (inr x) = absurd (omega (arith, x.1, F.upto))
+  items_lie = fitting_lie s cap m at room v w F
 
   stage_size : length (stage_bytes 2 (stage_for s cap m at room v w L)) ≤ cap
   stage_size = omega (arith, size_is s cap m at room v w L, items_lie.end, F.fits)
 
   stage_fits_is : stage_fits 2 (stage_for s cap m at room v w L) ≡ true
-  stage_fits_is = rw (fits_is s cap m at room v w L, F.short, le-leb v.count 65536 F.few) refl
+  stage_fits_is = fitting_fits s cap m at room v w F
 
   fine : sizes 2 cap (stage_for s cap m at room v w L) ≡ yes (stage_for s cap m at room v w L)
   unfolding sizes

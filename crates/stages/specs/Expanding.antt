@@ -47,7 +47,7 @@ pub record FirstStands (s w : List ℕ) (m : Map) (t : Grammar) (room : Room) (l
   pub texts-are : texts s w m ≡ first ++ past
   pub above : Above s w m low
   pub past_size_lem : room.end ≡ low + length (bytes_of_each (atom_bytes 2) past)
-  pub width : t.width ≡ 2
+  pub width : t.width.bytes ≡ 2
   pub some : 0 < length G
   pub off : (t.end ≤ m.base) ⊎ ((room.x + room.cap ≤ t.at) × (t.end ≤ room.y))
 

@@ -22,6 +22,10 @@ use Rattle.levels.specs.Expand.{Wrote}
 use Rattle.levels.specs.Whole.{alternatives_in}
 use Rattle.levels.specs.Fresh.{too_long, new_texts}
 use Rattle.output.specs.Working.Judging.{room_of}
+use Rattle.output.specs.Plain.Answers.{answer_of}
+use Rattle.std.specs.Prelude.{Result, Ok, Err}
+use Rattle.parse_tree.specs.declared.refusal.Refusal.{Refusal}
+use Rattle.stages.specs.declared.levelling.Levelled.{Levelled}
 use Rattle.stages.specs.Stages.{Levelable, resolved}
 
 -- behind question 1: what the call says of the tape
@@ -78,3 +82,8 @@ pub record SomeFitting (s : List ℕ) (cap : ℕ) (m : Map) (at : ℕ) (room : R
   pub upto : v.to ≤ room.lim
   pub few : v.count ≤ 65536
   pub fits : at + length (bytes_of_each (atom_bytes 2) (new_texts s w m v.count)) + (v.to - room.at) ≤ cap
+
+-- r is what levelling such a tape came to: a refusal of its levelled stage, or its levels, which are admitted, and their size
+unfoldable pub LevelsTo : List ℕ → ℕ → Map → ℕ → Result Levelled Refusal → List ℕ → Type 0
+LevelsTo s cap m at (Ok l) w = SomeFitting s cap m at l.room l.written w × (l.size ≡ at + length (bytes_of_each (atom_bytes 2) (new_texts s w m l.written.count)) + (l.written.to - l.room.at))
+LevelsTo s cap m at (Err why) w = answer_of (levelled_of s cap) ≡ Err why

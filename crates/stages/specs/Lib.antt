@@ -3,3 +3,6 @@ pub mod Stages
 pub mod Levelling
 pub mod Expanding
 pub mod Whole
+pub mod Follows
+mod FollowsLaws
+pub mod Passes

@@ -37,7 +37,7 @@ pub record Levelable (s w : List ℕ) (m : Map) (t : Grammar) (at : ℕ) (ts : L
   pub on_tape : (z : ℕ) → Above s w m z
   pub some : 0 < length R → 0 < m.buckets
   pub narrower : m.buckets ≤ m.count
-  pub width : t.width ≡ 2
+  pub width : t.width.bytes ≡ 2
   pub row : Row t ts w 0 t.at R
   pub within : Each (ItemWithin true 2 ts) R
   pub many : t.count ≡ length R

@@ -1,15 +1,11 @@
-// Questions 2 to 13 and 17 to 21 of one tape: its grammar resolved in work, then the rounds of macro expansion behind the tape's share of it.
-ghost use Rattle.std.specs.Prelude.{◌≡◌, ◌+◌, ◌*◌, ◌≤◌, ◌<◌, length};
-ghost use Rattle.output.specs.Working.Handing.{Staged};
-ghost use Rattle.stages.specs.Stages.{TapeResolves};
-ghost use Rattle.stages.specs.Levelling.{SomeAdmitted};
-ghost use Rattle.stages.specs.Expanding.{macros_room, expanded_of, SomeFirst, FirstRounds, SomeAnswer, AnswersRounds, SomeRun, RunsTo};
+// Questions 17 to 21 of a tape whose grammar stands in work resolved: the rounds of macro expansion behind the tape's share of work.
+ghost use Rattle.std.specs.Prelude.{◌≡◌, ◌+◌, ◌*◌, ◌<◌, length};
+ghost use Rattle.stages.specs.Expanding.{macros_room, SomeFirst, FirstRounds, SomeAnswer, AnswersRounds, SomeRun, RunsTo};
+ghost use Rattle.stages.specs.Passes.{expanding_stage, expanding_follows};
 
 use crate::Resolved;
-use crate::resolving::resolve_tape;
+use crate::pass::Pass;
 use output::expanded::hand_over_macros;
-use output::handing::hand_over;
-use output::room::judge;
 use parse_tree::refusal;
 use parse_tree::refusal::Refusal;
 use resolve::Grammar;
@@ -101,68 +97,36 @@ pub fn run_rounds(
     answer_rounds(tape, output, work, at, n, room, r)
 }
 
-// A grammar with items, whose resolved stage is admitted.
-fn expand_items(
-    tape: &[u8],
-    output: &mut [u8],
-    work: &mut [u8],
-    m: Map,
-    t: Grammar,
-    at: usize,
-    limit: usize,
-) -> Result<usize, Refusal>
-    requires { (0 < t.count) × SomeAdmitted tape.now (length output.old) m t at work.old }
-    ensures { Staged (expanded_of tape.now limit (length output.old)) output.old result output.new }
-{
-    let room = macros_room(tape.len(), at, output.len());
-    run_rounds(tape, output, work, m, t, at, m.count, room, room.end, limit)
+// Resolving and macro expansion, within so many rounds.
+#[derive(Clone, Copy)]
+pub struct Expanding {
+    pub limit: usize,
 }
 
-// A grammar whose resolved stage is admitted. One without items has no macros, and work may be too short for their room.
-fn expand_admitted(
-    tape: &[u8],
-    output: &mut [u8],
-    work: &mut [u8],
-    m: Map,
-    t: Grammar,
-    at: usize,
-    limit: usize,
-) -> Result<usize, Refusal>
-    requires { SomeAdmitted tape.now (length output.old) m t at work.old }
-    ensures { Staged (expanded_of tape.now limit (length output.old)) output.old result output.new }
-{
-    if t.count == 0 {
-        hand_over(tape, at, work, t.at, output);
-        return Ok(tape.len());
+impl Pass for Expanding {
+    ghost stage = { expanding_stage };
+
+    ghost follows = { expanding_follows };
+
+    fn items(
+        self,
+        tape: &[u8],
+        output: &mut [u8],
+        work: &mut [u8],
+        r: Resolved,
+    ) -> Result<usize, Refusal> {
+        let room = macros_room(tape.len(), r.at, output.len());
+        run_rounds(
+            tape,
+            output,
+            work,
+            r.texts,
+            r.grammar,
+            r.at,
+            r.texts.count,
+            room,
+            room.end,
+            self.limit,
+        )
     }
-    expand_items(tape, output, work, m, t, at, limit)
-}
-
-// A tape that was resolved: 20 and 21 of that stage, then macros.
-fn expand_resolved(
-    tape: &[u8],
-    output: &mut [u8],
-    work: &mut [u8],
-    r: Resolved,
-    limit: usize,
-) -> Result<usize, Refusal>
-    requires { TapeResolves tape.now (Ok r) work.old × (8 * (length tape.now + length output.old) ≤ length work.old) }
-    ensures { Staged (expanded_of tape.now limit (length output.old)) output.old result output.new }
-{
-    judge(r.texts.count, tape.len(), output.len())?;
-    expand_admitted(tape, output, work, r.texts, r.grammar, r.at, limit)
-}
-
-// The expanded stage of a tape; work is long enough.
-pub fn expand_stage(
-    tape: &[u8],
-    output: &mut [u8],
-    work: &mut [u8],
-    limit: usize,
-) -> Result<usize, Refusal>
-    requires { 8 * (length tape.now + length output.old) ≤ length work.old }
-    ensures { Staged (expanded_of tape.now limit (length output.old)) output.old result output.new }
-{
-    let r = resolve_tape(tape, work)?;
-    expand_resolved(tape, output, work, r, limit)
 }

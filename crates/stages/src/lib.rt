@@ -6,6 +6,7 @@ use texts::Map;
 
 pub mod expanding;
 pub mod levelling;
+pub mod pass;
 pub mod resolving;
 pub mod validating;
 pub mod whole;

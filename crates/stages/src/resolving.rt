@@ -2,9 +2,13 @@
 ghost use Rattle.std.specs.Prelude.{true, ◌*◌, ◌≤◌, length};
 ghost use Rattle.validate.specs.Whole.{Valid};
 ghost use Rattle.stages.specs.Stages.{TapeResolves};
+ghost use Rattle.stages.specs.Passes.{resolving_stage, resolving_follows};
 
 use crate::Resolved;
+use crate::pass::Pass;
+use octets::numbers::Width;
 use octets::runs::copy;
+use output::handing::hand_over;
 use parse_tree::refusal::Refusal;
 use resolve::Grammar;
 use resolve::whole::resolve;
@@ -46,6 +50,27 @@ pub fn resolve_tape(tape: &[u8], work: &mut [u8]) -> Result<Resolved, Refusal>
     requires { 8 * length tape.now ≤ length work.old }
     ensures { TapeResolves tape.now result work.new }
 {
-    let v = validate(tape, work, 2, true)?;
+    let v = validate(tape, work, Width { bytes: 2 }, true)?;
     resolve_valid(tape, work, v)
+}
+
+// Resolving.
+#[derive(Clone, Copy)]
+pub struct Resolving;
+
+impl Pass for Resolving {
+    ghost stage = { resolving_stage };
+
+    ghost follows = { resolving_follows };
+
+    fn items(
+        self,
+        tape: &[u8],
+        output: &mut [u8],
+        work: &mut [u8],
+        r: Resolved,
+    ) -> Result<usize, Refusal> {
+        hand_over(tape, r.at, work, r.grammar.at, output);
+        Ok(tape.len())
+    }
 }

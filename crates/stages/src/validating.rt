@@ -2,7 +2,7 @@
 ghost use Rattle.std.specs.Prelude.{◌*◌, ◌≤◌, length};
 ghost use Rattle.stages.specs.Stages.{Judged};
 
-use octets::runs::clear;
+use octets::numbers::Width;
 use parse_tree::refusal::Refusal;
 use validate::entry::validate;
 
@@ -11,8 +11,8 @@ pub fn validate_tape(tape: &[u8], work: &mut [u8]) -> Result<usize, Refusal>
     requires { 8 * length tape.now ≤ length work.old }
     ensures { Judged tape.now work.old result work.new }
 {
-    let v = validate(tape, work, 2, true);
-    clear(work);
+    let v = validate(tape, work, Width { bytes: 2 }, true);
+    work.fill(0);
     v?;
     Ok(tape.len())
 }

@@ -8,7 +8,9 @@ mod ScanCode
 pub mod FieldsCode
 pub mod ChainCode
 pub mod TextCode
+mod AtomPutCode
 pub mod TableStays
+pub mod SearchCode
 pub mod TableFindCode
 pub mod TableEnterCode
 pub mod TableMarks

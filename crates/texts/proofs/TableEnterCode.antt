@@ -11,7 +11,6 @@ use lib.Dec.{ltb}
 use lib.ListN.{length, get_or}
 use mir.Syntax.{w64}
 use mir.Val.{Fits}
-use Rattle.octets.proofs.ChoiceLaws.{by_pick}
 use Rattle.texts.specs.declared.Map.{Map}
 use Rattle.texts.specs.Hash.{hash_of, bucket_of}
 use Rattle.texts.specs.Fields.{mark_at, hash_at, Chained, RecordsKept, Relinking, Relinked, Linked, RecordWritten}

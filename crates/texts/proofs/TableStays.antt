@@ -14,7 +14,6 @@ use Rattle.octets.specs.Plain.Runs.{part}
 use Rattle.octets.specs.Working.Stores.{store}
 use Rattle.octets.proofs.NumbersLaws.{length-le}
 use Rattle.octets.proofs.PartLaws.{part_length}
-use Rattle.octets.proofs.ChoiceLaws.{by_pick}
 use Rattle.octets.proofs.StoreLaws.{length_store, le_at-same, get_d_store_before, get_d_store_after}
 use Rattle.texts.specs.declared.Map.{Map}
 use Rattle.texts.specs.Hash.{hash_of}

@@ -7,3 +7,4 @@ pub mod Scan
 pub mod Fields
 pub mod Texts
 pub mod Table
+pub mod Search

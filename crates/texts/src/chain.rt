@@ -1,8 +1,11 @@
 // The chains of the buckets.
-ghost use Rattle.std.specs.Prelude.{◌≡◌, ◌+◌, ◌*◌, ◌≤◌, ◌<◌, length};
+ghost use Rattle.std.specs.Prelude.{◌≡◌, ◌+◌, ◌*◌, ◌≤◌, ◌<◌, ℕ, length};
 ghost use Rattle.texts.specs.Hash.{bucket_of};
-ghost use Rattle.texts.specs.Fields.{Linked, Relinking, Relinked};
+ghost use Rattle.texts.specs.Fields.{Chained, Linked, Relinking, Relinked};
+ghost use Rattle.texts.specs.Table.{linked};
+ghost use Rattle.texts.specs.Search.{Rested, Searched};
 
+use crate::fields;
 use crate::fields::{hash, head, put_head, put_link};
 use crate::hash::bucket;
 
@@ -44,4 +47,42 @@ pub fn relink(work: &mut [u8], base: usize, n: usize, k: usize, e: usize)
         let h = hash(work, base, i);
         link(work, base, n, i, h);
     }
+}
+
+// Of n records one that is the one looked for, among those in no chain.
+fn rest<F: Fn(usize) -> bool>(n: usize, is: &F) -> Option<usize>
+    requires { (i : ℕ) → i < n → F.pre is.now i }
+    ensures { Rested (F.post is.now) n result }
+{
+    for i in 4294967295..n {
+        if is(i) {
+            return Some(i);
+        }
+    }
+    None
+}
+
+// The same, among those in bucket y and those in no chain.
+pub fn search<F: Fn(usize) -> bool>(
+    work: &[u8],
+    base: usize,
+    buckets: usize,
+    y: usize,
+    n: usize,
+    is: F,
+) -> Option<usize>
+    requires chained { Chained work.now base buckets (linked n) }
+    requires room { (y < buckets) × (base + 24 * n ≤ length work.now) × (base + 24 * buckets ≤ length work.now) }
+    requires asks { (i : ℕ) → i < n → F.pre is i }
+    ensures { Searched (F.post is) work.now base buckets y n result }
+{
+    let mut j = head(work, base, y) as usize;
+    while 0 < j {
+        let i = j - 1;
+        if is(i) {
+            return Some(i);
+        }
+        j = fields::link(work, base, i);
+    }
+    rest(n, &is)
 }

@@ -1,4 +1,4 @@
-// The fields of the k-th record, the records standing from base on.
+// The fields of the k-th record, the records standing from base on. That it lies in work is asked at each call: base and k differ from one to the next.
 ghost use Rattle.std.specs.Prelude.{◌≡◌, ◌+◌, ◌*◌, ◌≤◌, ◌<◌, length};
 ghost use Rattle.octets.specs.Plain.Numbers.{le};
 ghost use Rattle.octets.specs.Working.Stores.{store};

@@ -13,6 +13,8 @@ pub mod table;
 pub mod text;
 
 // Where the records stand, how many texts there are, and how many buckets.
+// Tape and work go beside it, and what is known of them stands in the clauses: most functions write work, and a type that holds it would be built
+// for one reading between two writes. Where functions only read and call one another there is one: `Words` (grades), `Reader` (validate).
 #[derive(Clone, Copy)]
 pub struct Map {
     pub base: usize,

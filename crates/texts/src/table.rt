@@ -1,14 +1,12 @@
 // The table: a text by its bytes, and a text more.
-ghost use Rattle.std.specs.Prelude.{◌≡◌, false, [], ◌+◌, ◌*◌, ◌≤◌, ◌<◌, length, get_or};
+ghost use Rattle.std.specs.Prelude.{◌≡◌, [], ◌+◌, ◌*◌, ◌≤◌, ◌<◌, length, get_or};
 ghost use Rattle.octets.specs.Plain.Runs.{same_as};
-ghost use Rattle.parse_tree.specs.Plain.Texts.{has};
 ghost use Rattle.texts.specs.Hash.{hash_of};
-ghost use Rattle.texts.specs.Texts.{texts_of};
-ghost use Rattle.texts.specs.Table.{Table, texts, linked, Finds, Entering, Entered, Started, Spreading, Spread, Growing, Grown};
+ghost use Rattle.texts.specs.Table.{Table, texts, Finds, Entering, Entered, Started, Spreading, Spread, Growing, Grown};
 
 use crate::Map;
-use crate::chain::{empty, link, relink};
-use crate::fields::{hash, head, write};
+use crate::chain::{empty, link, relink, search};
+use crate::fields::{hash, write};
 use crate::hash::bucket;
 use crate::text::text;
 
@@ -20,34 +18,15 @@ fn is<'a>(tape: &'a [u8], work: &'a [u8], m: Map, k: usize, t: &[u8], h: usize) 
     hash(work, m.base, k) == h && text(tape, work, m, k) == t
 }
 
-// A text among those that are in no chain.
-fn rest<'a>(tape: &'a [u8], work: &'a [u8], m: Map, t: &[u8], h: usize) -> Option<usize>
-    requires { Table tape.now work.now m × (h ≡ hash_of t.now) × (has t.now (texts_of tape.now work.now m.base (linked m.count)) ≡ false) }
-    ensures { Finds (texts tape.now work.now m) t.now result }
-{
-    for i in 4294967295..m.count {
-        if is(tape, work, m, i, t, h) {
-            return Some(i);
-        }
-    }
-    None
-}
-
 // The number of a text by its bytes and their hash.
 pub fn find<'a>(tape: &'a [u8], work: &'a [u8], m: Map, t: &[u8], h: usize) -> Option<usize>
     requires { Table tape.now work.now m × (0 < m.buckets) × (h ≡ hash_of t.now) }
     ensures { Finds (texts tape.now work.now m) t.now result }
 {
     let y = bucket(h, m.buckets);
-    let mut j = head(work, m.base, y) as usize;
-    while 0 < j {
-        let i = j - 1;
-        if is(tape, work, m, i, t, h) {
-            return Some(i);
-        }
-        j = crate::fields::link(work, m.base, i);
-    }
-    rest(tape, work, m, t, h)
+    search(work, m.base, m.buckets, y, m.count, |i| {
+        is(tape, work, m, i, t, h)
+    })
 }
 
 // The text of a mark, with its hash and its cell, as the next one.

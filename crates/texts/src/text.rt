@@ -1,12 +1,15 @@
-// The text of a mark, as a part of the tape or of work.
-ghost use Rattle.std.specs.Prelude.{◌≡◌, [], ◌≤◌, ◌<◌, length, get_or};
+// The text of a mark, as a part of the tape or of work; and a text written.
+ghost use Rattle.std.specs.Prelude.{◌≡◌, [], ◌∷◌, ◌++◌, ◌+◌, ◌≤◌, ◌<◌, length, get_or};
+ghost use Rattle.octets.specs.Plain.Numbers.{le};
+ghost use Rattle.octets.specs.Working.Stores.{store};
 ghost use Rattle.texts.specs.Atoms.{atom_end, atom_text};
 ghost use Rattle.texts.specs.Texts.{marked_text, Whole};
 ghost use Rattle.texts.specs.Table.{Table, texts};
 
 use crate::Map;
 use crate::fields::mark;
-use octets::numbers::u16_at;
+use octets::numbers::{store16, u16_at};
+use octets::runs::copy;
 
 // The text of the command 01 at a place.
 pub fn atom(s: &[u8], at: usize) -> &[u8]
@@ -38,4 +41,14 @@ pub fn text<'a>(tape: &'a [u8], work: &'a [u8], m: Map, k: usize) -> &'a [u8]
 {
     let x = mark(work, m.base, k);
     text_at(tape, work, x)
+}
+
+// The command of an atom of n bytes, and t, which is its text or begins it.
+pub fn put_atom(t: &[u8], n: u16, out: &mut [u8], to: usize)
+    requires { to + 3 + length t.now ≤ length out.old }
+    ensures { out.new ≡ store out.old to ((1 ∷ le 2 n) ++ t.now) }
+{
+    out[to] = 1;
+    store16(out, to + 1, n);
+    copy(t, 0, t.len(), out, to + 3);
 }

@@ -89,15 +89,15 @@ module _ (four : Bool) (s : List ℕ) (w atoms at : ℕ) (r : Result (Node × �
 
 -- a is what the quick look found
 module _ (s : List ℕ) (m : Atoms) (at : ℕ) (a : AlternativeNode) (g : PassedAlternative s m at a) where
-  pub alternative_fits_lem : (z : ℕ) → z ≡ 14 + m.width → length s < 2 ^ 64 → Fits w64 (at + z)
+  pub alternative_fits_lem : (z : ℕ) → z ≡ 14 + m.width.bytes → length s < 2 ^ 64 → Fits w64 (at + z)
   alternative_fits_lem z e l = record { fits = omega (arith, g.room) }
 
-  pub alternative_quick : (y : Result ℕ Refusal) → y ≡ step_of (alternative_parts m.four m.width s (atoms_of s m.count) a (at + (14 + m.width)))
-      → y ≡ step_of (read_alternative m.four m.width s (atoms_of s m.count) at)
+  pub alternative_quick : (y : Result ℕ Refusal) → y ≡ step_of (alternative_parts m.four m.width.bytes s (atoms_of s m.count) a (at + (14 + m.width.bytes)))
+      → y ≡ step_of (read_alternative m.four m.width.bytes s (atoms_of s m.count) at)
   unfolding asked_of
   alternative_quick y p =
-      let e : ℕ = at + (14 + m.width) in
-      alternative_whole m.four s m.width m.count at (Ok (Node.Alternative a, e)) (sym (ap asked_of g.asked)) (Node.Alternative a) e refl a y refl p
+      let e : ℕ = at + (14 + m.width.bytes) in
+      alternative_whole m.four s m.width.bytes m.count at (Ok (Node.Alternative a, e)) (sym (ap asked_of g.asked)) (Node.Alternative a) e refl a y refl p
 
 pub ruleset alternative = (rules, alternative_refused, alternative_other, alternative_whole, alternative_fits_lem, alternative_quick)
 

@@ -1,14 +1,13 @@
 -- The ways out of `command`, its answers taken apart, and the loop of `commands`. Assumes nothing.
 use mathlib.Core.Path.{◌≡◌, refl, sym, ap, subst, ◌∙◌}
-use mathlib.Core.Bool.{Bool, true, false, not}
+use mathlib.Core.Bool.{Bool, true, false, not, false≢true}
 use mathlib.Core.List.{List, ◌∷◌}
-use Prim.Native.Nat.{ℕ, ◌+◌, ◌^◌, ◌<◌, ◌≤◌, zero, suc, ◌-◌}
+use Prim.Native.Nat.{ℕ, ◌+◌, ◌<◌, ◌≤◌, zero, suc, ◌-◌}
 use native.Mathlib.Omega.{arith}
 use borrow.Author.Rules.{rules}
-use borrow.Author.Tests.{le-leb, lt-leb, not-true, not-false}
-use lib.ListN.{length, get_or}
-use mir.Syntax.{w8, w64}
-use mir.Val.{Fits}
+use borrow.Author.Tests.{le-leb, lt-leb, leb-false, not-true, not-false}
+use lib.Dec.{leb}
+use lib.ListN.{length}
 use Rattle.octets.specs.Working.Choice.{pick}
 use Rattle.parse_tree.specs.Working.Nodes.{node_at, size_of}
 use Rattle.parse_tree.specs.Working.Places.{class_of, allowed_at}
@@ -24,7 +23,6 @@ use Rattle.validate.specs.Steps.{asked_of, step_of, Refuses}
 use Rattle.validate.specs.Quick.{PassedCommand}
 use Rattle.validate.specs.declared.Atoms.{Atoms}
 use Rattle.std.specs.Prelude.{Result, Ok, Err}
-use Rattle.validate.proofs.CommandInside.{node_inside}
 
 -- ---- n is the command, c its class, o whether it may stand there
 module _ (four : Bool) (s : List ℕ) (w atoms place left at : ℕ) (n : Node) (p : n ≡ node_at w s at) (c : ℕ) (q : c ≡ class_of n) (o : Bool) (r : o ≡ allowed_at place c) where
@@ -67,10 +65,16 @@ module _ (four : Bool) (s : List ℕ) (w atoms place left at : ℕ) (n : Node) (
       unfolding asked_of
       asked_is z f e = rw (e, ask_is f)
 
--- a command that is defined lies inside
-pub asked_fits : (s : List ℕ) (w atoms at : ℕ) (n : Node) → n ≡ node_at w s at → (d : Bool) → d ≡ defined atoms n → not d ≡ false → (z : ℕ) → z ≡ size_of w n
-    → ((i : ℕ) → Fits w8 (get_or s i 0)) → length s < 2 ^ 64 → Fits w64 (at + z)
-asked_fits s w atoms at n p d x g z e b l = record { fits = omega (arith, node_inside w s (λ i. (b i).fits) atoms at n p (sym x ∙ not-false d g)) }
+-- a command that is defined begins inside
+pub asked_inside : (s : List ℕ) (w atoms at : ℕ) (n : Node) → n ≡ node_at w s at → (d : Bool) → d ≡ defined atoms n → d ≡ true → at < length s
+unfolding node_at pick defined
+asked_inside s w atoms at n p d x g = go (leb (length s) at) refl
+  where
+    go : (b : Bool) → leb (length s) at ≡ b → at < length s
+    go true e =
+        let u : n ≡ Node.Unknown = p ∙ simp e in
+        absurd (false≢true (ap (defined atoms) (sym u) ∙ sym x ∙ g))
+    go false e = omega (arith, leb-false (length s) at e)
 
 pub ruleset commanding = (rules, not_allowed, not_defined, too_deep, not_suited, asked_is)
 
@@ -170,9 +174,9 @@ pub commands_none : (four : Bool) (s : List ℕ) (w atoms place k p : ℕ) (x : 
 commands_none four s w atoms place k p x inv h = times_none (ask four w s (atoms_of s atoms) place 1) k p x inv h
 
 -- f is what the quick look answered
-pub commands_quick : (s : List ℕ) (m : Atoms) (place k p f : ℕ) (x : Result ℕ Refusal) → step_of (times (ask m.four m.width s (atoms_of s m.count) place 1) k p) ≡ x → PassedCommand s m place p f → (j : ℕ) → k ≡ j + 1
-    → step_of (times (ask m.four m.width s (atoms_of s m.count) place 1) j f) ≡ x
+pub commands_quick : (s : List ℕ) (m : Atoms) (place k p f : ℕ) (x : Result ℕ Refusal) → step_of (times (ask m.four m.width.bytes s (atoms_of s m.count) place 1) k p) ≡ x → PassedCommand s m place p f → (j : ℕ) → k ≡ j + 1
+    → step_of (times (ask m.four m.width.bytes s (atoms_of s m.count) place 1) j f) ≡ x
 unfolding step_of
-commands_quick s m place k p f x inv g j l = times-next (ask m.four m.width s (atoms_of s m.count) place 1) k p x inv f j (rw g.asked) l
+commands_quick s m place k p f x inv g j l = times-next (ask m.four m.width.bytes s (atoms_of s m.count) place 1) k p x inv f j (rw g.asked) l
 
 pub ruleset commands = (rules, commands_next, commands_stop, commands_none, commands_quick)

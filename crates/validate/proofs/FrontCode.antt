@@ -17,26 +17,26 @@ use Rattle.octets.proofs.ChoiceLaws.{by_pick}
 use Rattle.texts.specs.Atoms.{atom_end, place_of}
 use Rattle.std.specs.Prelude.{Option, Some, None}
 use Rattle.std.specs.Bool.{then_some}
-use Rattle.validate.specs.Front.{next_at, Behind, Counted}
+use Rattle.validate.specs.Front.{next_at, AtomEnds, Counted}
 
 module _ (s : List ℕ) (at : ℕ) where
-  pub behind_end : length s ≤ at → Behind s at None
-  unfolding Behind
+  pub behind_end : length s ≤ at → AtomEnds s at None
+  unfolding AtomEnds
   behind_end h = λ l. absurd (omega arith)
 
-  pub behind_code : (get_or s at 0 ≡ 1 → ⊥) → Behind s at None
-  unfolding Behind next_at pick
+  pub behind_code : (get_or s at 0 ≡ 1 → ⊥) → AtomEnds s at None
+  unfolding AtomEnds next_at pick
   behind_code n = λ _. cc (ne_eqb (get_or s at 0) 1 n)
 
   module _ (o : get_or s at 0 ≡ 1) where
-    pub behind_short : length s - at < 3 → Behind s at None
-    unfolding Behind next_at pick
+    pub behind_short : length s - at < 3 → AtomEnds s at None
+    unfolding AtomEnds next_at pick
     behind_short h = λ _. cc (eq-eqb (get_or s at 0) 1 o, lt-ltb (length s - at) 3 h)
 
     module _ (h : 3 ≤ length s - at) (n : ℕ) (p : n ≡ le_at 2 s (at + 1)) where
       -- b is whether its text is whole
-      pub behind_whole : (b : Bool) (r : Option ℕ) → b ≡ leb (3 + n) (length s - at) → r ≡ then_some b (at + 3 + n) → at < length s → Behind s at r
-      unfolding Behind next_at pick atom_end
+      pub behind_whole : (b : Bool) (r : Option ℕ) → b ≡ leb (3 + n) (length s - at) → r ≡ then_some b (at + 3 + n) → at < length s → AtomEnds s at r
+      unfolding AtomEnds next_at pick atom_end
       behind_whole true r q e l =
           let k : 3 + n ≤ length s - at = leb-true (3 + n) (length s - at) (sym q) in
           let z : at + 3 + n ≡ next_at s at = cc (eq-eqb (get_or s at 0) 1 o, le-ltb (length s - at) 3 h, le-ltb (length s - at) (3 + le_at 2 s (at + 1)) (omega arith)) in
@@ -46,10 +46,6 @@ module _ (s : List ℕ) (at : ℕ) where
           rw e (λ _. cc (eq-eqb (get_or s at 0) 1 o, le-ltb (length s - at) 3 h, lt-ltb (length s - at) (3 + le_at 2 s (at + 1)) (omega arith)))
 
 pub ruleset behinding = (rules, behind_end, behind_code, behind_short, behind_whole)
-
-pub next_ge : (s : List ℕ) (at : ℕ) → at ≤ next_at s at
-unfolding next_at atom_end
-next_ge s at = by_pick (λ r. at ≤ r) (eqb (get_or s at 0) 1) (λ _. by_pick (λ r. at ≤ r) (ltb (length s - at) 3) (λ _. omega arith) (λ _. by_pick (λ r. at ≤ r) (ltb (length s - at) (3 + le_at 2 s (at + 1))) (λ _. omega arith) (λ _. omega arith))) (λ _. omega arith)
 
 abbrev Moves : List ℕ → ℕ → ℕ → Type 0
 Moves s at r = at < r → (r ≡ atom_end s at) × (atom_end s at ≤ length s)
@@ -79,10 +75,10 @@ unfolding place_of
 count-start s = record { here = refl; inside = omega arith; each = λ i h. absurd (omega arith) }
 
 -- r is what `behind` answered
-module _ (s : List ℕ) (at k : ℕ) (g : Counting s at k) (r : Option ℕ) (b : Behind s at r) where
+module _ (s : List ℕ) (at k : ℕ) (g : Counting s at k) (r : Option ℕ) (b : AtomEnds s at r) where
   module _ (e : ℕ) (q : r ≡ Some e) where
     moves : (at < length s) × (e ≡ next_at s at) × (at < e)
-    unfolding Behind
+    unfolding AtomEnds
     moves = rw q at b
 
     pub count_fits : length s < 2 ^ 64 → Fits w64 (k + 1)
@@ -108,7 +104,7 @@ module _ (s : List ℕ) (at k : ℕ) (g : Counting s at k) (r : Option ℕ) (b :
             ap (next_at s) y ∙ (next_is s at l (rw p at h)).0 ∙ ap (atom_end s) (sym y)
 
   pub count-done : r ≡ None → Counted s at k
-  unfolding Behind
+  unfolding AtomEnds
   count-done q = record { here = g.here; inside = g.inside; each = g.each; stop = rw q at b }
 
 pub ruleset counting = (rules, count-start, count_fits, count_less, count_next, count-done)

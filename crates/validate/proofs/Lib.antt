@@ -1,7 +1,6 @@
 -- What the proofs of several functions, and of the crates above, use.
 mod QuestionsCode
 mod SuitsCode
-pub mod CommandInside
 pub mod CommandCode
 mod SymbolsCode
 mod QuickCode

@@ -60,8 +60,6 @@ module _ (s w w1 : List ℕ) (m : Atoms) (at to : ℕ) (vs : List ℕ) (g : List
             same = t.same ∙ g.ready.ready.same;
             classes = λ i k. ap (λ (n : ℕ). n % 4) (t.marks i k) ∙ g.ready.ready.classes i k;
             blank = λ i k. t.cells i k ∙ g.ready.ready.blank i k;
-            narrow = g.ready.ready.narrow;
-            wide = g.ready.ready.wide;
           };
           apart = g.ready.apart;
           inside = g.ready.inside;
@@ -87,13 +85,13 @@ pub record Left (s : List ℕ) (m : Atoms) (at : ℕ) (w₀ w : List ℕ) (p k :
   pub done : List Item
   pub fuel : ℕ
   pub enough : length s ≤ p + fuel
-  pub rest : read_items m.four m.width s (atoms_of s m.count) (length s) at ≡ then (read_items m.four m.width s (atoms_of s m.count) fuel p) (λ ys d. got (done ++ ys) d)
+  pub rest : read_items m.four m.width.bytes s (atoms_of s m.count) (length s) at ≡ then (read_items m.four m.width.bytes s (atoms_of s m.count) fuel p) (λ ys d. got (done ++ ys) d)
   pub inside : p ≤ length s
   pub tabled : Listing s w m at
   pub many : k ≡ length done
-  pub here : p ≡ at + length (bytes_of_each (item_bytes m.width (atoms_of s m.count)) done)
+  pub here : p ≡ at + length (bytes_of_each (item_bytes m.width.bytes (atoms_of s m.count)) done)
   pub few : at + 11 * k ≤ p
-  pub noted : (i : ℕ) → i < k → le_at 8 w (48 + 8 * i) ≡ length (bytes_of_each (item_bytes m.width (atoms_of s m.count)) (take i done))
+  pub noted : (i : ℕ) → i < k → le_at 8 w (48 + 8 * i) ≡ length (bytes_of_each (item_bytes m.width.bytes (atoms_of s m.count)) (take i done))
 
 then-all : (r : Reading (List Item)) → r ≡ then r (λ ys d. got ([] ++ ys) d)
 unfolding then
@@ -126,9 +124,9 @@ module _ (s : List ℕ) (m : Atoms) (at : ℕ) (w₀ w : List ℕ) (p k : ℕ) (
   ts = atoms_of s m.count
 
   abbrev bytes : List Item → List ℕ
-  bytes = bytes_of_each (item_bytes m.width ts)
+  bytes = bytes_of_each (item_bytes m.width.bytes ts)
 
-  read_none : (n : ℕ) → length s ≤ p → read_items m.four m.width s ts n p ≡ got [] p
+  read_none : (n : ℕ) → length s ≤ p → read_items m.four m.width.bytes s ts n p ≡ got [] p
   unfolding read_items
   read_none zero h = refl
   read_none (suc n) h = cc (le-leb (length s) p h)
@@ -139,7 +137,7 @@ module _ (s : List ℕ) (m : Atoms) (at : ℕ) (w₀ w : List ℕ) (p k : ℕ) (
     items = inv.done;
     end = p;
     tabled = inv.tabled;
-    read = inv.rest ∙ then_is (read_items m.four m.width s ts inv.fuel p) _ [] p (read_none inv.fuel h) ∙ ap (λ (l : List Item). got l p) (append-nil inv.done);
+    read = inv.rest ∙ then_is (read_items m.four m.width.bytes s ts inv.fuel p) _ [] p (read_none inv.fuel h) ∙ ap (λ (l : List Item). got l p) (append-nil inv.done);
     many = inv.many;
     noted = inv.noted;
   }
@@ -148,37 +146,37 @@ module _ (s : List ℕ) (m : Atoms) (at : ℕ) (w₀ w : List ℕ) (p k : ℕ) (
   items_behind = omega (arith, inv.few)
 
   -- r is the step over the next item
-  module _ (h : p < length s) (r : Result ℕ Refusal) (i : r ≡ step_of (read_item m.four m.width s (atoms_of s m.count) p)) where
-    opened : read_items m.four m.width s ts inv.fuel p ≡ then (read_item m.four m.width s ts p) (λ y e. then (read_items m.four m.width s ts (inv.fuel - 1) e) (λ ys d. got (y ∷ ys) d))
+  module _ (h : p < length s) (r : Result ℕ Refusal) (i : r ≡ step_of (read_item m.four m.width.bytes s (atoms_of s m.count) p)) where
+    opened : read_items m.four m.width.bytes s ts inv.fuel p ≡ then (read_item m.four m.width.bytes s ts p) (λ y e. then (read_items m.four m.width.bytes s ts (inv.fuel - 1) e) (λ ys d. got (y ∷ ys) d))
     unfolding read_items
     opened = go inv.fuel inv.enough
       where
-        go : (n : ℕ) → length s ≤ p + n → read_items m.four m.width s ts n p ≡ then (read_item m.four m.width s ts p) (λ y e. then (read_items m.four m.width s ts (n - 1) e) (λ ys d. got (y ∷ ys) d))
+        go : (n : ℕ) → length s ≤ p + n → read_items m.four m.width.bytes s ts n p ≡ then (read_item m.four m.width.bytes s ts p) (λ y e. then (read_items m.four m.width.bytes s ts (n - 1) e) (λ ys d. got (y ∷ ys) d))
         go zero z = absurd (omega arith)
         go (suc n) z = let q : suc n - 1 ≡ n = omega arith in rw q (cc (lt-leb (length s) p h))
 
     pub items_stop : (z : Refusal) → r ≡ Err z → Lists s m at (Err z) w
     unfolding Lists
     items_stop z u =
-        let a = refuses_then (read_item m.four m.width s ts p) (λ y e. then (read_items m.four m.width s ts (inv.fuel - 1) e) (λ ys d. got (y ∷ ys) d)) z (step-refused (read_item m.four m.width s ts p) z (sym u ∙ i)) in
-        let b = refuses_then (read_items m.four m.width s ts inv.fuel p) (λ ys d. got (inv.done ++ ys) d) z (record { is = opened ∙ a.is; twice = a.twice }) in
+        let a = refuses_then (read_item m.four m.width.bytes s ts p) (λ y e. then (read_items m.four m.width.bytes s ts (inv.fuel - 1) e) (λ ys d. got (y ∷ ys) d)) z (step-refused (read_item m.four m.width.bytes s ts p) z (sym u ∙ i)) in
+        let b = refuses_then (read_items m.four m.width.bytes s ts inv.fuel p) (λ ys d. got (inv.done ++ ys) d) z (record { is = opened ∙ a.is; twice = a.twice }) in
         record { is = inv.rest ∙ b.is; twice = b.twice }
 
     module _ (b : (j : ℕ) → Fits w8 (get_or s j 0)) (e : ℕ) (u : r ≡ Ok e) where
       -- the item that was read
       pub record Turn : Type 0 where
         pub next : Item
-        pub is : read_item m.four m.width s ts p ≡ got next e
-        pub end : e ≡ p + length (item_bytes m.width ts next)
-        pub long : 11 ≤ length (item_bytes m.width ts next)
+        pub is : read_item m.four m.width.bytes s ts p ≡ got next e
+        pub end : e ≡ p + length (item_bytes m.width.bytes ts next)
+        pub long : 11 ≤ length (item_bytes m.width.bytes ts next)
         pub inside : e ≤ length s
 
       turn : Turn
       turn =
-          let y = step-got (read_item m.four m.width s ts p) e (sym u ∙ i) in
-          let f = item_finds m.four m.width s ts (λ j. (b j).fits) inv.tabled.ready.apart p y.value e y.is in
-          let l = item_long m.width ts y.value inv.tabled.ready.ready.narrow in
-          record { next = y.value; is = y.is; end = f.lies.end; long = l; inside = lies_inside s p e (item_bytes m.width ts y.value) (omega arith) f.lies }
+          let y = step-got (read_item m.four m.width.bytes s ts p) e (sym u ∙ i) in
+          let f = item_finds m.four m.width.bytes s ts (λ j. (b j).fits) inv.tabled.ready.apart p y.value e y.is in
+          let l = item_long m.width.bytes ts y.value m.width.narrow in
+          record { next = y.value; is = y.is; end = f.lies.end; long = l; inside = lies_inside s p e (item_bytes m.width.bytes ts y.value) (omega arith) f.lies }
 
       below : 48 + 8 * k + 8 ≤ m.base
       below = omega (arith, inv.few, turn.end, turn.long, turn.inside, inv.tabled.base)
@@ -193,11 +191,11 @@ module _ (s : List ℕ) (m : Atoms) (at : ℕ) (w₀ w : List ℕ) (p k : ℕ) (
       pub items_less : length s - e < length s - p
       items_less = omega (arith, turn.end, turn.long, turn.inside)
 
-      onward : read_items m.four m.width s ts (length s) at ≡ then (read_items m.four m.width s ts (inv.fuel - 1) e) (λ ys d. got ((inv.done ++ (turn.next ∷ [])) ++ ys) d)
+      onward : read_items m.four m.width.bytes s ts (length s) at ≡ then (read_items m.four m.width.bytes s ts (inv.fuel - 1) e) (λ ys d. got ((inv.done ++ (turn.next ∷ [])) ++ ys) d)
       onward =
           inv.rest
-          ∙ ap (λ (x : Reading (List Item)). then x (λ ys d. got (inv.done ++ ys) d)) (opened ∙ then_is (read_item m.four m.width s ts p) _ turn.next e turn.is)
-          ∙ then-behind turn.next inv.done (read_items m.four m.width s ts (inv.fuel - 1) e)
+          ∙ ap (λ (x : Reading (List Item)). then x (λ ys d. got (inv.done ++ ys) d)) (opened ∙ then_is (read_item m.four m.width.bytes s ts p) _ turn.next e turn.is)
+          ∙ then-behind turn.next inv.done (read_items m.four m.width.bytes s ts (inv.fuel - 1) e)
 
       -- the place is noted
       module _ (v : ℕ) (q : v ≡ p - at) (w1 : List ℕ) (o : w1 ≡ store w (48 + 8 * k) (le 8 v)) where
@@ -226,7 +224,7 @@ module _ (s : List ℕ) (m : Atoms) (at : ℕ) (w₀ w : List ℕ) (p k : ℕ) (
           inside = turn.inside;
           tabled = listing_stays s w w1 m at (48 + 8 * k) (le 8 v) inv.tabled o (omega (arith, below, length-le 8 v));
           many = ap (λ (n : ℕ). n + 1) inv.many ∙ sym (length-append inv.done (turn.next ∷ []));
-          here = omega (arith, inv.here, turn.end, ap length (bytes_more (item_bytes m.width ts) inv.done turn.next), length-append (bytes inv.done) (item_bytes m.width ts turn.next));
+          here = omega (arith, inv.here, turn.end, ap length (bytes_more (item_bytes m.width.bytes ts) inv.done turn.next), length-append (bytes inv.done) (item_bytes m.width.bytes ts turn.next));
           few = omega (arith, inv.few, turn.end, turn.long);
           noted = noted_now l;
         }

@@ -13,7 +13,7 @@ use Rattle.parse_tree.specs.Working.Questions.{leaf_defined, leaf_suits}
 use Rattle.parse_tree.specs.Plain.Reading.{times}
 use Rattle.parse_tree.specs.Working.Decode.{read_sym}
 use Rattle.texts.specs.Atoms.{atoms_of}
-use Rattle.validate.specs.Steps.{Ready, step_of}
+use Rattle.validate.specs.Steps.{step_of}
 use Rattle.validate.specs.Quick.{QuickPassed, QuickInside}
 use Rattle.validate.specs.declared.Atoms.{Atoms}
 use Rattle.std.specs.Prelude.{Option, Some, IfSome, Ok}
@@ -24,19 +24,19 @@ pub inside-none : (s : List ℕ) (m : Atoms) (left n at : ℕ) → n ≡ 0 → Q
 unfolding times step_of
 inside-none s m left n at e = record { passed = rw e }
 
-module _ (s v : List ℕ) (m : Atoms) (left n at c : ℕ) (g : Ready s v m) (e : c ≡ get_or s at 0) where
+module _ (s : List ℕ) (m : Atoms) (left n at c : ℕ) (e : c ≡ get_or s at 0) where
   -- one leaf is read
-  one_leaf : (k : ℕ) → (left ≡ 0 → ⊥) → at < length s → 10 + m.width ≤ length s - at → 32 ≤ c → c ≤ 36 → k ≡ le_at m.width s (at + 9)
+  one_leaf : (k : ℕ) → (left ≡ 0 → ⊥) → at < length s → 10 + m.width.bytes ≤ length s - at → 32 ≤ c → c ≤ 36 → k ≡ le_at m.width.bytes s (at + 9)
       → true ≡ (leaf_defined m.count (named_leaf c k) && pick m.four (leaf_suits (atoms_of s m.count) (named_leaf c k)) true)
-      → Ok (at + (9 + m.width)) ≡ step_of (times (read_sym m.four m.width s (atoms_of s m.count) left) 1 at)
+      → Ok (at + (9 + m.width.bytes)) ≡ step_of (times (read_sym m.four m.width.bytes s (atoms_of s m.count) left) 1 at)
   unfolding pick times step_of
   one_leaf k d h room l u i p =
-      let inside : at + (10 + m.width) ≤ length s = omega arith in
-      let q : QuickPassed s m left at (at + (9 + m.width)) = quick_yes s m left at c (9 + m.width) e (passes-named s v m c at g inside k (Some (9 + m.width)) true (omega arith) i p refl) d h room l (omega arith) in
-      quick_next s m left at (at + (9 + m.width)) q 0 (held-named m.width s c at e g.narrow inside (omega arith)) 1 _ refl refl 0 (omega arith)
+      let inside : at + (10 + m.width.bytes) ≤ length s = omega arith in
+      let q : QuickPassed s m left at (at + (9 + m.width.bytes)) = quick_yes s m left at c (9 + m.width.bytes) e (passes-named s m c at inside k (Some (9 + m.width.bytes)) true (omega arith) i p refl) d h room l (omega arith) in
+      quick_next s m left at (at + (9 + m.width.bytes)) q 0 (held-named m.width.bytes s c at e m.width.narrow inside (omega arith)) 1 _ refl refl 0 (omega arith)
 
-  pub inside-leaf : (k : ℕ) (r : Option ℕ) (b : Bool) → (n ≡ 0 → ⊥) → n ≤ 1 → (left ≡ 0 → ⊥) → at < length s → 10 + m.width ≤ length s - at → 32 ≤ c → c ≤ 36 → k ≡ le_at m.width s (at + 9)
-      → b ≡ (leaf_defined m.count (named_leaf c k) && pick m.four (leaf_suits (atoms_of s m.count) (named_leaf c k)) true) → r ≡ then_some b (at + (9 + m.width)) → IfSome r (QuickInside s m left n at)
+  pub inside-leaf : (k : ℕ) (r : Option ℕ) (b : Bool) → (n ≡ 0 → ⊥) → n ≤ 1 → (left ≡ 0 → ⊥) → at < length s → 10 + m.width.bytes ≤ length s - at → 32 ≤ c → c ≤ 36 → k ≡ le_at m.width.bytes s (at + 9)
+      → b ≡ (leaf_defined m.count (named_leaf c k) && pick m.four (leaf_suits (atoms_of s m.count) (named_leaf c k)) true) → r ≡ then_some b (at + (9 + m.width.bytes)) → IfSome r (QuickInside s m left n at)
   inside-leaf k r true f o d h room l u i p q =
       let one : n ≡ 1 = omega arith in
       rw (one, q) (record { passed = sym (one_leaf k d h room l u i p) })

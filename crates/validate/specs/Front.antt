@@ -16,9 +16,9 @@ unfoldable pub next_at : List ℕ → ℕ → ℕ
 next_at s at = pick (eqb (get_or s at 0) 1) (pick (ltb (length s - at) 3) at (pick (ltb (length s - at) (3 + le_at 2 s (at + 1))) at (atom_end s at))) at
 
 -- what `behind` says: where the whole atom at a place ends, or that none stands there
-unfoldable pub Behind : List ℕ → ℕ → Option ℕ → Type 0
-Behind s at (Some e) = (at < length s) × (e ≡ next_at s at) × (at < e)
-Behind s at None = at < length s → next_at s at ≡ at
+unfoldable pub AtomEnds : List ℕ → ℕ → Option ℕ → Type 0
+AtomEnds s at (Some e) = (at < length s) × (e ≡ next_at s at) × (at < e)
+AtomEnds s at None = at < length s → next_at s at ≡ at
 
 -- `front`: n atoms stand one behind another, and no whole one behind them
 pub record Counted (s : List ℕ) (at n : ℕ) : Type 0 where

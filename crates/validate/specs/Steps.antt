@@ -22,14 +22,12 @@ use Rattle.std.specs.Prelude.{Result, Ok, Err}
 unfoldable pub map_of : Atoms → Map
 map_of m = record { base = m.base; count = m.count; buckets = m.buckets }
 
--- w holds the table of the first atoms of s with the classes of their texts and blank cells; their numbers have two or three bytes
+-- w holds the table of the first atoms of s with the classes of their texts and blank cells
 pub record Ready (s w : List ℕ) (m : Atoms) : Type 0 where
   pub table : Table s w (map_of m)
   pub same : texts s w (map_of m) ≡ atoms_of s m.count
   pub classes : (i : ℕ) → i < m.count → class_at w m.base i ≡ text_class (atom_text s (place_of s i))
   pub blank : (i : ℕ) → i < m.count → cell_at w m.base i ≡ 0
-  pub narrow : 2 ≤ m.width
-  pub wide : m.width ≤ 3
 
 -- a reading's answer, without what was read
 unfoldable pub step_of : {A : Type 0} → Reading A → Result ℕ Refusal
@@ -62,10 +60,10 @@ pub record Noted (s w : List ℕ) (m : Atoms) (at n : ℕ) : Type 0 where
   pub items : List Item
   pub end : ℕ
   pub tabled : Listing s w m at
-  pub read : read_items m.four m.width s (atoms_of s m.count) (length s) at ≡ got items end
+  pub read : read_items m.four m.width.bytes s (atoms_of s m.count) (length s) at ≡ got items end
   pub many : n ≡ length items
-  pub noted : (i : ℕ) → i < n → le_at 8 w (48 + 8 * i) ≡ length (bytes_of_each (item_bytes m.width (atoms_of s m.count)) (take i items))
+  pub noted : (i : ℕ) → i < n → le_at 8 w (48 + 8 * i) ≡ length (bytes_of_each (item_bytes m.width.bytes (atoms_of s m.count)) (take i items))
 
 unfoldable pub Lists : List ℕ → Atoms → ℕ → Result ℕ Refusal → List ℕ → Type 0
 Lists s m at (Ok n) w = Noted s w m at n
-Lists s m at (Err z) w = Refuses (read_items m.four m.width s (atoms_of s m.count) (length s) at) z
+Lists s m at (Err z) w = Refuses (read_items m.four m.width.bytes s (atoms_of s m.count) (length s) at) z

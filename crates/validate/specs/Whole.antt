@@ -18,13 +18,13 @@ pub record Fronts (s w : List ℕ) (m : Atoms) (at : ℕ) : Type 0 where
   pub listing : Listing s w m at
   pub here : at ≡ place_of s m.count
   pub buckets : m.buckets ≡ linked m.count
-  pub read : read_atoms m.four m.width s (length s) [] 0 ≡ got (atoms_of s m.count) at
+  pub read : read_atoms m.four m.width.bytes s (length s) [] 0 ≡ got (atoms_of s m.count) at
 
 -- the tape holds these atoms, and n items from a place on; the table stands from eight bytes for each of the items' bytes on, and from 48
 -- on the places of the items, counted from the first
 pub record Valid (four : Bool) (width : ℕ) (s w : List ℕ) (m : Atoms) (at n : ℕ) : Type 0 where
   pub items : List Item
-  pub wide : m.width ≡ width
+  pub wide : m.width.bytes ≡ width
   pub here : at ≡ place_of s m.count
   pub base : m.base ≡ 8 * (length s - at)
   pub buckets : m.buckets ≡ linked m.count

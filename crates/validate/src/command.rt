@@ -4,11 +4,11 @@ ghost use Rattle.parse_tree.specs.Working.Decode.{ask};
 ghost use Rattle.parse_tree.specs.Working.Places.{row};
 ghost use Rattle.parse_tree.specs.Plain.Reading.{times};
 ghost use Rattle.texts.specs.Atoms.{atoms_of};
-ghost use Rattle.validate.specs.Steps.{Ready, asked_of, step_of};
+ghost use Rattle.validate.specs.Steps.{asked_of, step_of};
 
-use crate::Atoms;
 use crate::questions::is_defined;
 use crate::quick::quick_command;
+use crate::reader::Reader;
 use crate::suits::is_apt;
 use parse_tree::node::node;
 use parse_tree::places::{Place, allowed, class_of};
@@ -18,47 +18,31 @@ use parse_tree::size::size;
 use parse_tree::syntax::Node;
 
 // The command at a place, with `left` levels of nesting left.
-pub fn command(
-    tape: &[u8],
-    work: &[u8],
-    m: Atoms,
-    place: Place,
-    left: usize,
-    at: usize,
-) -> Result<(Node, usize), Refusal>
-    requires { Ready tape.now work.now m }
-    ensures { result ≡ asked_of (ask m.four m.width tape.now (atoms_of tape.now m.count) (row place) left at) }
+pub fn command(r: &Reader, place: Place, left: usize, at: usize) -> Result<(Node, usize), Refusal>
+    ensures { result ≡ asked_of (ask r.now.atoms.four r.now.atoms.width.bytes r.now.tape.now (atoms_of r.now.tape.now r.now.atoms.count) (row place) left at) }
 {
-    let n = node(tape, at, m.width);
+    let n = node(r.tape, at, r.atoms.width);
     if !allowed(place, class_of(n)) {
         return Err(refusal::at(2, at));
     }
-    if !is_defined(n, m.count) || left < 1 {
+    if !is_defined(n, r.atoms.count) || left < 1 {
         return Err(refusal::at(3, at));
     }
-    if !is_apt(tape, work, m, n) {
+    if !is_apt(r, n) {
         return Err(refusal::at(4, at));
     }
-    Ok((n, at + size(n, m.width)))
+    Ok((n, at + size(n, r.atoms.width)))
 }
 
 // n commands at a place, one behind another.
-pub fn commands(
-    tape: &[u8],
-    work: &[u8],
-    m: Atoms,
-    place: Place,
-    n: usize,
-    at: usize,
-) -> Result<usize, Refusal>
-    requires { Ready tape.now work.now m }
-    ensures { result ≡ step_of (times (ask m.four m.width tape.now (atoms_of tape.now m.count) (row place) 1) n at) }
+pub fn commands(r: &Reader, place: Place, n: usize, at: usize) -> Result<usize, Refusal>
+    ensures { result ≡ step_of (times (ask r.now.atoms.four r.now.atoms.width.bytes r.now.tape.now (atoms_of r.now.tape.now r.now.atoms.count) (row place) 1) n at) }
 {
     let mut p = at;
     for _ in 0..n {
-        p = match quick_command(tape, work, m, place, p) {
+        p = match quick_command(r, place, p) {
             Some(f) => f,
-            None => command(tape, work, m, place, 1, p)?.1,
+            None => command(r, place, 1, p)?.1,
         };
     }
     Ok(p)

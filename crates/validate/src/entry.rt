@@ -5,12 +5,13 @@ ghost use Rattle.validate.specs.Whole.{Fronts, Validates};
 use crate::front::{atoms, front};
 use crate::items::items;
 use crate::{Atoms, Validated};
+use octets::numbers::Width;
 use parse_tree::refusal::Refusal;
 
 // The items behind the atoms, whose table stands.
 fn validate_items(tape: &[u8], work: &mut [u8], m: Atoms, at: usize) -> Result<Validated, Refusal>
     requires { Fronts tape.now work.old m at }
-    ensures { Validates m.four m.width tape.now result work.new }
+    ensures { Validates m.four m.width.bytes tape.now result work.new }
 {
     let n = items(tape, work, m, at)?;
     Ok(Validated {
@@ -24,11 +25,11 @@ fn validate_items(tape: &[u8], work: &mut [u8], m: Atoms, at: usize) -> Result<V
 pub fn validate(
     tape: &[u8],
     work: &mut [u8],
-    width: usize,
+    width: Width,
     four: bool,
 ) -> Result<Validated, Refusal>
-    requires { (8 * length tape.now ≤ length work.old) × (2 ≤ width) × (width ≤ 3) }
-    ensures { Validates four width tape.now result work.new }
+    requires { 8 * length tape.now ≤ length work.old }
+    ensures { Validates four width.bytes tape.now result work.new }
 {
     let f = front(tape);
     let t = atoms(tape, work, f.at, f.count)?;

@@ -1,6 +1,6 @@
 // The atoms at the front of a tape, counted, then entered in the table, each new.
 ghost use Rattle.std.specs.Prelude.{◌≡◌, ◌<◌, length};
-ghost use Rattle.validate.specs.Front.{Behind, Counted, Going, Nexts, Starts, Fronted};
+ghost use Rattle.validate.specs.Front.{AtomEnds, Counted, Going, Nexts, Starts, Fronted};
 
 use crate::Count;
 use crate::regions::layout;
@@ -15,7 +15,7 @@ use texts::text::atom;
 
 // The place behind the atom at a place; None where no whole one stands.
 fn behind(tape: &[u8], at: usize) -> Option<usize>
-    ensures { Behind tape.now at result }
+    ensures { AtomEnds tape.now at result }
 {
     if tape.len() <= at || tape[at] != 1 {
         return None;

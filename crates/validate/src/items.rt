@@ -5,11 +5,12 @@ ghost use Rattle.octets.specs.Working.Stores.{store};
 ghost use Rattle.parse_tree.specs.Working.Decode.{alternative_parts, nonterminal_parts, read_alternative, read_item};
 ghost use Rattle.parse_tree.specs.Plain.Reading.{times};
 ghost use Rattle.texts.specs.Atoms.{atoms_of};
-ghost use Rattle.validate.specs.Steps.{Listing, Lists, Ready, step_of};
+ghost use Rattle.validate.specs.Steps.{Listing, Lists, step_of};
 
 use crate::Atoms;
 use crate::command::{command, commands};
 use crate::quick::{quick_alternative, quick_nonterminal, quick_terminal};
+use crate::reader::Reader;
 use crate::regions::LIST;
 use crate::symbols::symbols;
 use octets::numbers::store64;
@@ -19,92 +20,61 @@ use parse_tree::refusal::Refusal;
 use parse_tree::syntax::{Alternative, Node, NonterminalData};
 
 // What stands behind the command of an alternative: attributes, condition, symbols.
-fn alternative_parts(
-    tape: &[u8],
-    work: &[u8],
-    m: Atoms,
-    a: Alternative,
-    at: usize,
-) -> Result<usize, Refusal>
-    requires { Ready tape.now work.now m }
-    ensures { result ≡ step_of (alternative_parts m.four m.width tape.now (atoms_of tape.now m.count) a at) }
+fn alternative_parts(r: &Reader, a: Alternative, at: usize) -> Result<usize, Refusal>
+    ensures { result ≡ step_of (alternative_parts r.now.atoms.four r.now.atoms.width.bytes r.now.tape.now (atoms_of r.now.tape.now r.now.atoms.count) a at) }
 {
-    let e = commands(
-        tape,
-        work,
-        m,
-        Place::Attributes,
-        usize::from(a.attributes),
-        at,
-    )?;
-    let d = commands(
-        tape,
-        work,
-        m,
-        Place::Conditions,
-        usize::from(a.conditions),
-        e,
-    )?;
-    symbols(tape, work, m, d, usize::from(a.symbols), 64)
+    let e = commands(r, Place::Attributes, usize::from(a.attributes), at)?;
+    let d = commands(r, Place::Conditions, usize::from(a.conditions), e)?;
+    symbols(r, d, usize::from(a.symbols), 64)
 }
 
 // The alternative at a place.
-fn alternative(tape: &[u8], work: &[u8], m: Atoms, at: usize) -> Result<usize, Refusal>
-    requires { Ready tape.now work.now m }
-    ensures { result ≡ step_of (read_alternative m.four m.width tape.now (atoms_of tape.now m.count) at) }
+fn alternative(r: &Reader, at: usize) -> Result<usize, Refusal>
+    ensures { result ≡ step_of (read_alternative r.now.atoms.four r.now.atoms.width.bytes r.now.tape.now (atoms_of r.now.tape.now r.now.atoms.count) at) }
 {
-    if let Some(a) = quick_alternative(tape, work, m, at) {
-        return alternative_parts(tape, work, m, a, at + (14 + m.width));
+    if let Some(a) = quick_alternative(r, at) {
+        return alternative_parts(r, a, at + (14 + r.atoms.width.bytes));
     }
-    let (n, e) = command(tape, work, m, Place::Alternatives, 1, at)?;
+    let (n, e) = command(r, Place::Alternatives, 1, at)?;
     let Node::Alternative(a) = n else {
         return Err(refusal::at(2, at));
     };
-    alternative_parts(tape, work, m, a, e)
+    alternative_parts(r, a, e)
 }
 
 // n alternatives, one behind another.
-fn alternatives(tape: &[u8], work: &[u8], m: Atoms, n: usize, at: usize) -> Result<usize, Refusal>
-    requires { Ready tape.now work.now m }
-    ensures { result ≡ step_of (times (read_alternative m.four m.width tape.now (atoms_of tape.now m.count)) n at) }
+fn alternatives(r: &Reader, n: usize, at: usize) -> Result<usize, Refusal>
+    ensures { result ≡ step_of (times (read_alternative r.now.atoms.four r.now.atoms.width.bytes r.now.tape.now (atoms_of r.now.tape.now r.now.atoms.count)) n at) }
 {
     let mut p = at;
     for _ in 0..n {
-        p = alternative(tape, work, m, p)?;
+        p = alternative(r, p)?;
     }
     Ok(p)
 }
 
 // What stands behind the command of a nonterminal: arguments, alternatives.
-fn nonterminal_parts(
-    tape: &[u8],
-    work: &[u8],
-    m: Atoms,
-    d: NonterminalData,
-    at: usize,
-) -> Result<usize, Refusal>
-    requires { Ready tape.now work.now m }
-    ensures { result ≡ step_of (nonterminal_parts m.four m.width tape.now (atoms_of tape.now m.count) d at) }
+fn nonterminal_parts(r: &Reader, d: NonterminalData, at: usize) -> Result<usize, Refusal>
+    ensures { result ≡ step_of (nonterminal_parts r.now.atoms.four r.now.atoms.width.bytes r.now.tape.now (atoms_of r.now.tape.now r.now.atoms.count) d at) }
 {
-    let e = commands(tape, work, m, Place::Arguments, usize::from(d.args), at)?;
-    alternatives(tape, work, m, usize::from(d.alternatives), e)
+    let e = commands(r, Place::Arguments, usize::from(d.args), at)?;
+    alternatives(r, usize::from(d.alternatives), e)
 }
 
 // The item at a place.
-fn item(tape: &[u8], work: &[u8], m: Atoms, at: usize) -> Result<usize, Refusal>
-    requires { Ready tape.now work.now m }
-    ensures { result ≡ step_of (read_item m.four m.width tape.now (atoms_of tape.now m.count) at) }
+fn item(r: &Reader, at: usize) -> Result<usize, Refusal>
+    ensures { result ≡ step_of (read_item r.now.atoms.four r.now.atoms.width.bytes r.now.tape.now (atoms_of r.now.tape.now r.now.atoms.count) at) }
 {
-    if let Some(d) = quick_nonterminal(tape, work, m, at) {
-        return nonterminal_parts(tape, work, m, d, at + (13 + m.width));
+    if let Some(d) = quick_nonterminal(r, at) {
+        return nonterminal_parts(r, d, at + (13 + r.atoms.width.bytes));
     }
-    if let Some(e) = quick_terminal(tape, work, m, at) {
+    if let Some(e) = quick_terminal(r, at) {
         return Ok(e);
     }
-    let (n, e) = command(tape, work, m, Place::Items, 1, at)?;
+    let (n, e) = command(r, Place::Items, 1, at)?;
     match n {
         Node::Terminal(_) => Ok(e),
-        Node::Nonterminal(d) => nonterminal_parts(tape, work, m, d, e),
+        Node::Nonterminal(d) => nonterminal_parts(r, d, e),
         _ => Err(refusal::at(2, at)),
     }
 }
@@ -125,7 +95,12 @@ pub fn items(tape: &[u8], work: &mut [u8], m: Atoms, at: usize) -> Result<usize,
     let mut p = at;
     let mut k = 0;
     while p < tape.len() {
-        let e = item(tape, work, m, p)?;
+        let r = Reader {
+            tape,
+            work,
+            atoms: m,
+        };
+        let e = item(&r, p)?;
         note(work, k, p - at);
         p = e;
         k += 1;

@@ -8,9 +8,12 @@ pub mod front;
 pub mod items;
 pub mod questions;
 pub mod quick;
+pub mod reader;
 pub mod regions;
 pub mod suits;
 pub mod symbols;
+
+use octets::numbers::Width;
 
 // The table of a tape's atoms: where their records stand, how many there are, and how many buckets; then the width of their numbers in
 // bytes. `four` says whether question 4 is asked.
@@ -19,7 +22,7 @@ pub struct Atoms {
     pub base: usize,
     pub count: usize,
     pub buckets: usize,
-    pub width: usize,
+    pub width: Width,
     pub four: bool,
 }
 

@@ -4,8 +4,8 @@ use Rattle.appending.proofs.symbols.put_reference.Goals as goal
 pub u64_at-span-requires : goal.u64_at-span-requires
 u64_at-span-requires c = search referring_one
 
-pub number-x-requires : goal.number-x-requires
-number-x-requires c = search referring_one
+pub put_named-out-requires : goal.put_named-out-requires
+put_named-out-requires c = search referring_one
 
 pub overflow_sub-result : goal.overflow_sub-result
 overflow_sub-result c = search referring_one

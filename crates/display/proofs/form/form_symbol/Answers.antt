@@ -1,4 +1,4 @@
-use Rattle.display.proofs.FormListCode.{symboling}
+use Rattle.display.proofs.SinksLaws.{symboling}
 use Rattle.display.proofs.form.form_symbol.Goals as goal
 
 pub form_list-requires : goal.form_list-requires

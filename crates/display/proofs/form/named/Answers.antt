@@ -1,8 +1,8 @@
 use Rattle.display.proofs.FormCode.{naming}
 use Rattle.display.proofs.form.named.Goals as goal
 
-pub returns-then-m-k : goal.returns-then-m-k
-returns-then-m-k c = search naming
+pub returns-then-words-k : goal.returns-then-words-k
+returns-then-words-k c = search naming
 
 pub join-requires : goal.join-requires
 join-requires c = search naming

@@ -4,7 +4,7 @@ use Rattle.display.proofs.WindowSame.{Comparing}
 use Rattle.display.proofs.window.same_in.Given as goal
 
 abbrev pub invariant-loop-skip : goal.invariant-loop-skip
-invariant-loop-skip l = Comparing l.tape l.work l.m l.width l.left l.a l.b l.skip (length l.x) (length l.y) (length l.initial.x) (length l.initial.y)
+invariant-loop-skip l = Comparing l.words.tape.now l.words.work.now l.words.m l.words.width.bytes l.left l.a l.b l.skip
 
 abbrev pub decreases-loop-skip : goal.decreases-loop-skip
-decreases-loop-skip l = 2 ^ 64 * length l.work - l.skip
+decreases-loop-skip l = 2 ^ 64 * length l.words.work.now - l.skip

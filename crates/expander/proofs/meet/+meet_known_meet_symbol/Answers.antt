@@ -1,5 +1,6 @@
-use Rattle.std.proofs.Common.{rules}
-use Rattle.expander.proofs.MeetCode.{meeting_between, meeting_inside, meeting_next}
+use Rattle.std.proofs.Common.{◌≡◌, ◌+◌, ◌-◌, ◌*◌, ◌<◌, rules, refl, arith}
+use Rattle.display.proofs.SinksLaws.{holding_met, holding_next}
+use Rattle.expander.proofs.MeetCode.{meeting_start, meeting_known, meeting_between, meeting_inside, meeting_next}
 use Rattle.expander.proofs.MeetCode.{known_meeting, symbol_meeting}
 use Rattle.expander.proofs.meet.+meet_known_meet_symbol.Goals as goal
 
@@ -27,30 +28,46 @@ meet_symbol-inside-n-requires t c = search symbol_meeting
 pub meet_symbol-before-requires : goal.meet_symbol-before-requires
 meet_symbol-before-requires t c = search symbol_meeting
 
-pub meet_symbol-returns-in_err-b : goal.meet_symbol-returns-in_err-b
-meet_symbol-returns-in_err-b t c = rw c.from_residual.ensures (search (symbol_meeting, c.in_err-b.was))
+pub meet_symbol-returns-in_err-held : goal.meet_symbol-returns-in_err-held
+meet_symbol-returns-in_err-held t c = let d = holding_met (record { text = refl; at = refl }) c.before-2.ensures in rw c.from_residual.ensures (search (symbol_meeting, d, c.in_err-held.was))
 
 pub meet_symbol-loop-k-init : goal.meet_symbol-loop-k-init
-meet_symbol-loop-k-init t c = search (symbol_meeting, c.in_ok-b.was)
+meet_symbol-loop-k-init t c =
+    let d = holding_met (record { text = refl; at = refl }) c.before-2.ensures in
+    record {
+      meeting = meeting_start _ _ _ _ _ _ _ _ _ _ _ c.requires.0 c.requires.1 refl c.inside-n.ensures c.long.ensures.0 d c.in_ok-held.was;
+      held = holding_next (record { text = refl; at = refl }) c.before-2.ensures _ _ c.in_ok-held.was;
+    }
 
 pub meet_symbol-returns-in_err-i : goal.meet_symbol-returns-in_err-i
-meet_symbol-returns-in_err-i t c = rw c.from_residual-in_err-i.ensures (meeting_between _ _ _ _ _ _ _ _ _ _ c.loop-k.invariant _ (search rules) c.between.ensures c.in_err-i.was)
+meet_symbol-returns-in_err-i t c =
+    let inv = c.loop-k.invariant in
+    rw c.from_residual-in_err-i.ensures (meeting_between _ _ _ _ _ _ _ _ _ _ inv.meeting _ (search rules) (holding_met inv.held c.between.ensures) c.in_err-i.was)
 
 pub meet_symbol-meet_known-requires : goal.meet_symbol-meet_known-requires
-meet_symbol-meet_known-requires t c = search symbol_meeting
+meet_symbol-meet_known-requires t c =
+    let deep = c.loop-k.invariant.meeting.going.deep in
+    let measure : 2 * c.args.left ≡ t = c.decreases in
+    (let less : 2 * (c.args.left - 1) + 1 < t = omega arith in less, (c.requires.0, meeting_known _ _ _ _ _ _ _ _ _ _ c.loop-k.invariant.meeting c.loop-k-test.true))
 
 pub meet_symbol-returns-in_err-q : goal.meet_symbol-returns-in_err-q
 meet_symbol-returns-in_err-q t c =
-    rw c.from_residual-in_err-q.ensures (meeting_inside _ _ _ _ _ _ _ _ _ _ c.loop-k.invariant _ _ _ (search rules) c.between.ensures c.in_ok-i.was c.meet_known.ensures c.in_err-q.was)
+    let inv = c.loop-k.invariant in
+    rw c.from_residual-in_err-q.ensures (meeting_inside _ _ _ _ _ _ _ _ _ _ inv.meeting _ _ _ (search rules) (holding_met inv.held c.between.ensures) c.in_ok-i.was c.meet_known.ensures c.in_err-q.was)
 
 pub meet_symbol-loop-k-preserved : goal.meet_symbol-loop-k-preserved
-meet_symbol-loop-k-preserved t c = meeting_next _ _ _ _ _ _ _ _ _ _ c.loop-k.invariant _ _ _ _ (search rules) c.between.ensures c.in_ok-i.was c.meet_known.ensures c.in_ok-q.was
+meet_symbol-loop-k-preserved t c =
+    let inv = c.loop-k.invariant in
+    record {
+      meeting = meeting_next _ _ _ _ _ _ _ _ _ _ inv.meeting _ _ _ _ (search rules) (holding_met inv.held c.between.ensures) c.in_ok-i.was c.meet_known.ensures c.in_ok-q.was;
+      held = holding_next inv.held c.between.ensures _ _ refl;
+    }
 
 pub meet_symbol-behind-requires : goal.meet_symbol-behind-requires
 meet_symbol-behind-requires t c = search symbol_meeting
 
 pub meet_symbol-returns-in_err-e : goal.meet_symbol-returns-in_err-e
-meet_symbol-returns-in_err-e t c = rw c.from_residual-in_err-e.ensures (search (symbol_meeting, c.in_err-e.was))
+meet_symbol-returns-in_err-e t c = let d = holding_met c.loop-k.invariant.held c.behind.ensures in rw c.from_residual-in_err-e.ensures (search (symbol_meeting, d, c.in_err-e.was))
 
 pub meet_symbol-returns : goal.meet_symbol-returns
-meet_symbol-returns t c = search (symbol_meeting, c.in_ok-e.was)
+meet_symbol-returns t c = let d = holding_met c.loop-k.invariant.held c.behind.ensures in search (symbol_meeting, d, c.in_ok-e.was)

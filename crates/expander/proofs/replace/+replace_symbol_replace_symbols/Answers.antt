@@ -1,4 +1,5 @@
 use mathlib.Core.Path.{refl}
+use Rattle.display.proofs.SinksLaws.{taken_from}
 use Rattle.expander.proofs.ReplaceCode.{meeting, symbol_inside, symbol_behind_room, symbol_note, symbol_noted, symbol_plain}
 use Rattle.expander.proofs.ReplaceListCode.{looping}
 use Rattle.expander.proofs.replace.+replace_symbol_replace_symbols.Goals as goal
@@ -6,8 +7,8 @@ use Rattle.expander.proofs.replace.+replace_symbol_replace_symbols.Goals as goal
 pub replace_symbol-bounds-work-at : goal.replace_symbol-bounds-work-at
 replace_symbol-bounds-work-at t c = search meeting
 
-pub replace_symbol-before-b-requires : goal.replace_symbol-before-b-requires
-replace_symbol-before-b-requires t c = search meeting
+pub replace_symbol-before-requires : goal.replace_symbol-before-requires
+replace_symbol-before-requires t c = search meeting
 
 pub replace_symbol-inside-k-requires : goal.replace_symbol-inside-k-requires
 replace_symbol-inside-k-requires t c = search meeting
@@ -16,24 +17,24 @@ pub replace_symbol-overflow_sub-left : goal.replace_symbol-overflow_sub-left
 replace_symbol-overflow_sub-left t c = search meeting
 
 pub replace_symbol-replace_symbols-q-requires : goal.replace_symbol-replace_symbols-q-requires
-replace_symbol-replace_symbols-q-requires t c = (search meeting, (c.requires.0, symbol_inside _ _ _ _ _ _ c.requires.0 c.requires.1 _ _ _ refl c.long.ensures.0 c.inside-k.ensures, c.before-b.ensures.form))
+replace_symbol-replace_symbols-q-requires t c = (search meeting, (c.requires.0, symbol_inside _ _ _ _ _ _ c.requires.0 c.requires.1 _ _ _ refl c.long.ensures.0 c.inside-k.ensures, (taken_from c.before-2.ensures).form))
 
-pub replace_symbol-behind-f-requires : goal.replace_symbol-behind-f-requires
-replace_symbol-behind-f-requires t c = (symbol_behind_room _ _ _ _ _ _ c.requires.0 c.requires.1 _ _ _ refl c.long.ensures.0 c.inside-k.ensures _ _ c.none.ensures.0 c.before-b.ensures _ _ c.replace_symbols-q.ensures.0, c.replace_symbols-q.ensures.1)
+pub replace_symbol-behind-requires : goal.replace_symbol-behind-requires
+replace_symbol-behind-requires t c = (c.replace_symbols-q.ensures.1, symbol_behind_room _ _ _ _ _ _ c.requires.0 c.requires.1 _ _ _ refl c.long.ensures.0 c.inside-k.ensures _ _ c.none-b.ensures.0 (taken_from c.before-2.ensures) _ _ c.replace_symbols-q.ensures.0)
 
 pub replace_symbol-note-requires : goal.replace_symbol-note-requires
-replace_symbol-note-requires t c = symbol_note _ _ _ _ _ _ c.requires.0 c.requires.1 _ _ _ refl c.long.ensures.0 c.inside-k.ensures _ _ c.none.ensures.0 c.before-b.ensures _ _ c.replace_symbols-q.ensures.0 c.replace_symbols-q.ensures.1 _ c.behind-f.ensures _ c.is_expanded.ensures c.if-is_expanded.true
+replace_symbol-note-requires t c = symbol_note _ _ _ _ _ _ c.requires.0 c.requires.1 _ _ _ refl c.long.ensures.0 c.inside-k.ensures _ _ c.none-b.ensures.0 (taken_from c.before-2.ensures) _ _ c.replace_symbols-q.ensures.0 c.replace_symbols-q.ensures.1 _ (taken_from c.behind.ensures) _ c.is_expanded.ensures c.if-is_expanded.true
 
 pub replace_symbol-returns-then-is_expanded : goal.replace_symbol-returns-then-is_expanded
 replace_symbol-returns-then-is_expanded t c = (
-  symbol_noted _ _ _ _ _ _ c.requires.0 c.requires.1 _ _ _ refl c.long.ensures.0 c.inside-k.ensures _ _ c.none.ensures.0 c.before-b.ensures _ _ c.replace_symbols-q.ensures.0 c.replace_symbols-q.ensures.1 _ c.behind-f.ensures _ c.is_expanded.ensures c.if-is_expanded.true _ _ c.note.ensures,
-  c.behind-f.ensures.form,
+  symbol_noted _ _ _ _ _ _ c.requires.0 c.requires.1 _ _ _ refl c.long.ensures.0 c.inside-k.ensures _ _ c.none-b.ensures.0 (taken_from c.before-2.ensures) _ _ c.replace_symbols-q.ensures.0 c.replace_symbols-q.ensures.1 _ (taken_from c.behind.ensures) _ c.is_expanded.ensures c.if-is_expanded.true _ _ c.note.ensures,
+  c.behind.ensures.takes,
 )
 
 pub replace_symbol-returns : goal.replace_symbol-returns
 replace_symbol-returns t c = (
-  symbol_plain _ _ _ _ _ _ c.requires.0 c.requires.1 _ _ _ refl c.long.ensures.0 c.inside-k.ensures _ _ c.none.ensures.0 c.before-b.ensures _ _ c.replace_symbols-q.ensures.0 c.replace_symbols-q.ensures.1 _ c.behind-f.ensures _ c.is_expanded.ensures c.if-is_expanded.false,
-  c.behind-f.ensures.form,
+  symbol_plain _ _ _ _ _ _ c.requires.0 c.requires.1 _ _ _ refl c.long.ensures.0 c.inside-k.ensures _ _ c.none-b.ensures.0 (taken_from c.before-2.ensures) _ _ c.replace_symbols-q.ensures.0 c.replace_symbols-q.ensures.1 _ (taken_from c.behind.ensures) _ c.is_expanded.ensures c.if-is_expanded.false,
+  c.behind.ensures.takes,
 )
 
 pub replace_symbols-loop-i-init : goal.replace_symbols-loop-i-init
@@ -43,7 +44,7 @@ pub replace_symbols-replace_symbol-x-requires : goal.replace_symbols-replace_sym
 replace_symbols-replace_symbol-x-requires t c = search looping
 
 pub replace_symbols-loop-i-preserved : goal.replace_symbols-loop-i-preserved
-replace_symbols-loop-i-preserved t c = search looping
+replace_symbols-loop-i-preserved t c = search (looping, taken_from)
 
 pub replace_symbols-returns : goal.replace_symbols-returns
 replace_symbols-returns t c = search looping

@@ -18,3 +18,6 @@ overflow_add-result-in-Pushed c = search numbering
 
 pub returns-in-Pushed : goal.returns-in-Pushed
 returns-in-Pushed c = search numbering
+
+pub reference-requires : goal.reference-requires
+reference-requires c = search numbering

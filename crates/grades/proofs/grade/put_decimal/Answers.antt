@@ -1,11 +1,8 @@
-use Rattle.grades.proofs.DecimalCode.{putting}
+use Rattle.grades.proofs.DecimalLaws.{level_number}
 use Rattle.grades.proofs.grade.put_decimal.Goals as goal
 
-pub loop-at-init : goal.loop-at-init
-loop-at-init c = search putting
-
-pub loop-at-preserved : goal.loop-at-preserved
-loop-at-preserved c = search putting
+pub put_digits-requires : goal.put_digits-requires
+put_digits-requires c = rw (← level_number c.args.v c.requires.0) c.requires.1
 
 pub returns : goal.returns
-returns c = search putting
+returns c = let e = level_number c.args.v c.requires.0 in record { bytes = rw e c.put_digits.ensures.0; after = rw e c.put_digits.ensures.1 }

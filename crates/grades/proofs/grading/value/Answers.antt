@@ -4,8 +4,8 @@ use Rattle.grades.proofs.grading.value.Goals as goal
 pub returns-then-kind-eq0 : goal.returns-then-kind-eq0
 returns-then-kind-eq0 c = search valuing
 
-pub returns-then-m-k : goal.returns-then-m-k
-returns-then-m-k c = search valuing
+pub returns-then-t-k : goal.returns-then-t-k
+returns-then-t-k c = search valuing
 
-pub returns-else-m-k : goal.returns-else-m-k
-returns-else-m-k c = search valuing
+pub returns-else-t-k : goal.returns-else-t-k
+returns-else-t-k c = search valuing

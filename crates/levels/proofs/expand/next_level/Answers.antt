@@ -1,21 +1,18 @@
 use mathlib.Core.Path.{refl}
 use Rattle.std.proofs.Common.{rules}
-use Rattle.levels.proofs.StepCode.{describing_next, Below_next, naming-next, next_inside, next_steps}
+use Rattle.levels.proofs.StepCode.{describing_next, naming-next, next_inside, next_steps}
 use Rattle.levels.proofs.expand.next_level.Goals as goal
 
 pub name_level-x-requires : goal.name_level-x-requires
-name_level-x-requires c = λ f. search (describing_next, c.requires.3)
+name_level-x-requires c = λ f. search (describing_next, c.requires.1)
 
-pub level_of-l-requires : goal.level_of-l-requires
-level_of-l-requires c = (search naming-next, search Below_next)
+pub overflow_cast-name : goal.overflow_cast-name
+overflow_cast-name c = search naming-next
 
 pub write_level-to-requires : goal.write_level-to-requires
-write_level-to-requires c = (
-  search rules,
-  search rules,
-  next_inside _ _ _ _ _ _ _ _ _ _ _ _ _ _ c.requires.3 c.requires.2 _ c.group_end-j.ensures _ _ _ c.atom_at-base.ensures refl c.u64_at.ensures _ _ c.name_level-x.ensures (search rules) (search rules) _ c.level_of-l.ensures,
-)
+write_level-to-requires c =
+    next_inside _ _ _ _ _ _ _ _ _ _ _ _ _ _ c.requires.1 c.requires.0 _ c.group_end-j.ensures _ _ _ c.atom_at-base.ensures refl c.u64_at.ensures _ _ c.name_level-x.ensures (search rules) (search rules)
 
 pub returns : goal.returns
 returns c =
-    next_steps _ _ _ _ _ _ _ _ _ _ _ _ _ _ c.requires.3 c.requires.2 _ c.group_end-j.ensures _ _ _ c.atom_at-base.ensures refl c.u64_at.ensures _ _ c.name_level-x.ensures (search rules) (search rules) _ c.level_of-l.ensures c.requires.1 _ _ c.write_level-to.ensures
+    next_steps _ _ _ _ _ _ _ _ _ _ _ _ _ _ c.requires.1 c.requires.0 _ c.group_end-j.ensures _ _ _ c.atom_at-base.ensures refl c.u64_at.ensures _ _ c.name_level-x.ensures (search rules) (search rules) c.args.width.wide _ _ c.write_level-to.ensures

@@ -6,4 +6,4 @@ use Rattle.listing.proofs.WalkLaws.{Going}
 use Rattle.listing.proofs.items.list_items.Given as goal
 
 abbrev pub invariant-loop : goal.invariant-loop
-invariant-loop l = Going (ItemGood l.width) (item_bytes l.width) listed_item l.tape l.initial.work l.m l.width l.n l.at l.lim l.to l.work l.p (l.n - l.counter) l.q
+invariant-loop l = Going (ItemGood l.width.bytes) (item_bytes l.width.bytes) listed_item l.tape l.initial.work l.m l.width.bytes l.n l.at l.lim l.to l.work l.p (l.n - l.counter) l.q

@@ -7,8 +7,8 @@ mark-q-requires c = search expanding
 pub overflow_add-c : goal.overflow_add-c
 overflow_add-c c = search expanding
 
-pub bounds-work-g : goal.bounds-work-g
-bounds-work-g c = search expanding
+pub bounds-work-round : goal.bounds-work-round
+bounds-work-round c = search expanding
 
 pub definition-d-requires : goal.definition-d-requires
 definition-d-requires c = search expanding

@@ -1,8 +1,8 @@
 use Rattle.precedence.proofs.LevelWholeCode.{counting_level}
 use Rattle.precedence.proofs.level.count_of.Goals as goal
 
-pub returns-then-l : goal.returns-then-l
-returns-then-l c = search counting_level
+pub returns-in-Some : goal.returns-in-Some
+returns-in-Some c = search counting_level
 
-pub returns : goal.returns
-returns c = search counting_level
+pub returns-in-None : goal.returns-in-None
+returns-in-None c = search counting_level

@@ -1,26 +1,21 @@
-use Rattle.precedence.proofs.NamesFindCode.{tracing}
+use borrow.Author.Rules.{rules}
+use Rattle.precedence.specs.Names.{level_text}
+use Rattle.precedence.proofs.NamesFindCode.{tracing, name_is}
 use Rattle.precedence.proofs.names.find_name.Goals as goal
 
 pub bucket-y-requires : goal.bucket-y-requires
 bucket-y-requires c = search tracing
 
-pub head-j-requires : goal.head-j-requires
-head-j-requires c = search tracing
+pub search-requires-clause-chained : goal.search-requires-clause-chained
+search-requires-clause-chained c = search tracing
 
-pub loop-j-init : goal.loop-j-init
-loop-j-init c = search tracing
+pub search-requires-clause-room : goal.search-requires-clause-room
+search-requires-clause-room c = search tracing
 
-pub matches-requires : goal.matches-requires
-matches-requires c = search tracing
-
-pub returns-then-matches : goal.returns-then-matches
-returns-then-matches c = search tracing
-
-pub loop-j-smaller : goal.loop-j-smaller
-loop-j-smaller c = search tracing
-
-pub loop-j-preserved : goal.loop-j-preserved
-loop-j-preserved c = search tracing
+pub search-requires-clause-asks : goal.search-requires-clause-asks
+search-requires-clause-asks c = search tracing
 
 pub returns : goal.returns
-returns c = search tracing
+returns c =
+    name_is c.args.tape.now c.args.work.now c.args.m c.args.n (level_text c.args.tape.now c.args.work.now c.args.m c.args.base c.args.level) c.args.h c.requires.0 c.requires.3 _ c.bucket-y.result
+    c.search.result c.bucket-y.ensures c.search.ensures (λ i a k. search rules)

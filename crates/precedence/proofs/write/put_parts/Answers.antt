@@ -1,5 +1,4 @@
 use Rattle.precedence.proofs.WriteWholeCode.{attributing, conditioning, parting, rooming, standing_behind, stopping}
-use borrow.Author.Rules.{rules}
 use Rattle.precedence.proofs.write.put_parts.Goals as goal
 
 pub overflow_add-m : goal.overflow_add-m
@@ -15,7 +14,7 @@ pub put_head-q-requires : goal.put_head-q-requires
 put_head-q-requires c = search parting
 
 pub put_attributes-r-requires : goal.put_attributes-r-requires
-put_attributes-r-requires c = (search rules, search rules, search attributing, search stopping, search rooming)
+put_attributes-r-requires c = (search attributing, search stopping, search rooming)
 
 pub overflow_add-a-3 : goal.overflow_add-a-3
 overflow_add-a-3 c = first_of (search parting, search attributing, search stopping, search rooming, search conditioning, search standing_behind)

@@ -1,8 +1,8 @@
-use Rattle.settling.proofs.PutCode.{moving}
+use Rattle.std.proofs.Common.{◌∙◌}
+use Rattle.octets.specs.Plain.Runs.{part}
+use Rattle.settling.proofs.PutCode.{pasted}
 use Rattle.settling.proofs.put.copy_down.Goals as goal
 
-pub loop-i-preserved : goal.loop-i-preserved
-loop-i-preserved c = search moving
-
 pub returns : goal.returns
-returns c = search moving
+unfolding part
+returns c = c.copy_within.ensures.after ∙ pasted c.args.work.now c.args.a c.args.e c.args.to c.requires.0 c.requires.1 c.requires.2

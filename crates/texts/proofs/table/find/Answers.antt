@@ -1,29 +1,14 @@
-use Rattle.texts.proofs.TableFindCode.{chasing}
+use borrow.Author.Rules.{rules}
+use Rattle.texts.proofs.TableFindCode.{finding, find_is}
 use Rattle.texts.proofs.table.find.Goals as goal
 
 pub bucket-y-requires : goal.bucket-y-requires
-bucket-y-requires c = search chasing
+bucket-y-requires c = search finding
 
-pub head-j-requires : goal.head-j-requires
-head-j-requires c = search chasing
+pub search-requires-clause-room : goal.search-requires-clause-room
+search-requires-clause-room c = search finding
 
-pub loop-j-init : goal.loop-j-init
-loop-j-init c = search chasing
-
-pub is-requires : goal.is-requires
-is-requires c = search chasing
-
-pub returns-then-is : goal.returns-then-is
-returns-then-is c = search chasing
-
-pub link-j-requires : goal.link-j-requires
-link-j-requires c = search chasing
-
-pub loop-j-smaller : goal.loop-j-smaller
-loop-j-smaller c = search chasing
-
-pub loop-j-preserved : goal.loop-j-preserved
-loop-j-preserved c = search chasing
-
-pub rest-requires : goal.rest-requires
-rest-requires c = search chasing
+pub returns : goal.returns
+returns c =
+    find_is c.args.tape.now c.args.work.now c.args.m c.args.t.now c.args.h c.requires.0 c.requires.2 _ c.bucket-y.result c.search.result c.bucket-y.ensures c.search.ensures
+    (λ i a k. search rules)

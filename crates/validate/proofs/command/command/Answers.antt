@@ -1,4 +1,5 @@
-use Rattle.validate.proofs.CommandCode.{asked_fits, commanding}
+use Rattle.std.proofs.Common.{arith}
+use Rattle.validate.proofs.CommandCode.{asked_inside, commanding}
 use Rattle.validate.proofs.command.command.Goals.{then-not-is_defined-via-then-not-is_defined, then-not-is_defined-via-else-not-is_defined+then-left-lt1}
 use Rattle.validate.proofs.command.command.Goals as goal
 
@@ -12,7 +13,7 @@ pub returns-then-not-is_apt : goal.returns-then-not-is_apt
 returns-then-not-is_apt c = search commanding
 
 pub overflow_add-result : goal.overflow_add-result
-overflow_add-result c = search asked_fits
+overflow_add-result c = record { fits = omega (arith, asked_inside c.args.r.now.tape.now _ _ c.args.at c.node-n.result c.node-n.ensures c.is_defined.result c.is_defined.ensures c.if-not-is_defined.false) }
 
 pub returns : goal.returns
 returns c = search commanding

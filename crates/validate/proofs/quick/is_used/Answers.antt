@@ -1,8 +1,8 @@
 use Rattle.validate.proofs.QuickCode.{naming}
 use Rattle.validate.proofs.quick.is_used.Goals as goal
 
-pub returns-then-not-m : goal.returns-then-not-m
-returns-then-not-m c = search naming
+pub returns-then-not-r : goal.returns-then-not-r
+returns-then-not-r c = search naming
 
-pub returns-else-not-m : goal.returns-else-not-m
-returns-else-not-m c = search naming
+pub returns-else-not-r : goal.returns-else-not-r
+returns-else-not-r c = search naming

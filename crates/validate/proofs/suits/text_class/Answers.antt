@@ -1,8 +1,8 @@
 use Rattle.validate.proofs.SuitsCode.{holding}
 use Rattle.validate.proofs.suits.text_class.Goals as goal
 
-pub returns-then-m-k : goal.returns-then-m-k
-returns-then-m-k c = search holding
+pub returns-then-r-k : goal.returns-then-r-k
+returns-then-r-k c = search holding
 
 pub class-requires : goal.class-requires
 class-requires c = search holding

@@ -1,8 +1,0 @@
-use Rattle.display.proofs.WindowCode.{quoting}
-use Rattle.display.proofs.emit.emit_inside.Goals as goal
-
-pub returns-then-b-eq92 : goal.returns-then-b-eq92
-returns-then-b-eq92 c = search quoting
-
-pub returns-else-b-eq92 : goal.returns-else-b-eq92
-returns-else-b-eq92 c = search quoting

@@ -1,6 +1,0 @@
-use Rattle.std.proofs.lemmas.Result.{err_from_is_err_and}
-use Rattle.stages.proofs.LevellingCode.{level_staging}
-use Rattle.stages.proofs.levelling.level_stage.Goals as goal
-
-pub returns-in_err-r : goal.returns-in_err-r
-returns-in_err-r c = let p = err_from_is_err_and c.from_residual.result c.from_residual.ensures.1 in rw (p.1, p.2) (search (level_staging, c.in_err-r.was))

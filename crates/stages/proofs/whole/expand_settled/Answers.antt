@@ -1,0 +1,15 @@
+use Rattle.std.proofs.lemmas.Result.{err_from_is_err_and}
+use Rattle.stages.proofs.WholeCode.{expanding_settled}
+use Rattle.stages.proofs.whole.expand_settled.Goals as goal
+
+pub resolve_again-requires : goal.resolve_again-requires
+resolve_again-requires c = search expanding_settled
+
+pub run_rounds-requires : goal.run_rounds-requires
+run_rounds-requires c = search (expanding_settled, c.in_ok-t.was)
+
+pub returns-in_err-t : goal.returns-in_err-t
+returns-in_err-t c = let p = err_from_is_err_and c.from_residual.result c.from_residual.ensures.1 in rw (p.1, p.2) (search (expanding_settled, c.in_err-t.was))
+
+pub returns : goal.returns
+returns c = search (expanding_settled, c.in_ok-t.was)

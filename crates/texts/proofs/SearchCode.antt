@@ -1,0 +1,149 @@
+-- `search`: from a bucket's head the links pass every record of the bucket. Assumes nothing.
+use mathlib.Core.Path.{◌≡◌, refl, sym, ap, subst, ◌∙◌}
+use mathlib.Core.Bool.{Bool, true, false}
+use mathlib.Core.List.{List}
+use Prim.Native.Nat.{ℕ, zero, suc, ◌+◌, ◌-◌, ◌<◌, ◌≤◌}
+use native.Mathlib.Omega.{arith}
+use borrow.Author.Rules.{rules}
+use borrow.Author.Tests.{ltb-true, ltb-false, eqb-true, eqb-false}
+use lib.Dec.{eqb, ltb}
+use mathlib.Core.Logic.{◌⊎◌, inl, inr}
+use Rattle.std.specs.Prelude.{Option, Some, None}
+use Rattle.octets.specs.Working.Choice.{pick}
+use Rattle.texts.specs.Fields.{link_at, head_at, bucket_at, last, Chained}
+use Rattle.texts.specs.Table.{linked}
+use Rattle.texts.specs.Search.{Rested, Searched}
+use Rattle.texts.proofs.TableStays.{linked-le}
+
+-- ---- `last`
+module _ (f : ℕ → ℕ) (y : ℕ) where
+  pub last-le : (k : ℕ) → last f y k ≤ k
+  unfolding last pick
+  last-le zero = omega arith
+  last-le (suc k) = go (eqb (f k) y) (last-le k)
+    where
+      go : (b : Bool) → last f y k ≤ k → pick b (suc k) (last f y k) ≤ suc k
+      go true i = omega arith
+      go false i = omega arith
+
+  -- the record before it is of the bucket
+  last_of : (k i : ℕ) → last f y k ≡ suc i → f i ≡ y
+  unfolding last pick
+  last_of zero i e = absurd (omega (arith, e))
+  last_of (suc k) i e = go (eqb (f k) y) refl e (last_of k i)
+    where
+      go : (t : Bool) → eqb (f k) y ≡ t → pick t (suc k) (last f y k) ≡ suc i → (last f y k ≡ suc i → f i ≡ y) → f i ≡ y
+      go true a c h = let z : i ≡ k = omega arith in rw z (eqb-true (f k) y a)
+      go false a c h = h c
+
+  -- and none behind it
+  last_none : (k i : ℕ) → last f y k ≤ i → i < k → f i ≡ y → ⊥
+  unfolding last pick
+  last_none zero i a b e = omega arith
+  last_none (suc k) i a b e = go (eqb (f k) y) refl a (last_none k i)
+    where
+      go : (t : Bool) → eqb (f k) y ≡ t → pick t (suc k) (last f y k) ≤ i → (last f y k ≤ i → i < k → f i ≡ y → ⊥) → ⊥
+      go true c d h = omega arith
+      go false c d h = step (ltb i k) refl
+        where
+          step : (u : Bool) → ltb i k ≡ u → ⊥
+          step true l = h d (ltb-true i k l) e
+          step false l = let z : i ≡ k = omega (arith, ltb-false i k l) in eqb-false (f k) y c (rw z at e)
+
+-- ---- the walk: j is a record to look at, and one
+pub record Asking (A : ℕ → Bool → Type 0) (w : List ℕ) (b m y n j : ℕ) : Type 0 where
+  pub no : (i : ℕ) → j ≤ i → i < linked n → bucket_at w b m i ≡ y → A i false
+  pub chain : (i : ℕ) → j ≡ suc i → bucket_at w b m i ≡ y
+  pub upto : j ≤ linked n
+
+module _ (A : ℕ → Bool → Type 0) (w : List ℕ) (b m y n : ℕ) where
+  -- the last of the bucket before k comes next
+  ask_last : (k j : ℕ) → k ≤ linked n → ((i : ℕ) → k ≤ i → i < linked n → bucket_at w b m i ≡ y → A i false) → j ≡ last (bucket_at w b m) y k → Asking A w b m y n j
+  ask_last k j l h e = record {
+    no = λ i p q r. go i q r (ltb i k) refl (rw e at p);
+    chain = λ i z. last_of (bucket_at w b m) y k i (sym e ∙ z);
+    upto = omega (arith, last-le (bucket_at w b m) y k);
+  }
+    where
+      go : (i : ℕ) → i < linked n → bucket_at w b m i ≡ y → (t : Bool) → ltb i k ≡ t → last (bucket_at w b m) y k ≤ i → A i false
+      go i q r true c p = absurd (last_none (bucket_at w b m) y k i p (ltb-true i k c) r)
+      go i q r false c p = h i (ltb-false i k c) q r
+
+  module _ (g : Chained w b m (linked n)) where
+    pub ask_start : (v j : ℕ) → y < m → v ≡ head_at w b y → j ≡ v → Asking A w b m y n j
+    ask_start v j l q r = ask_last (linked n) j (omega arith) (λ i p s e. absurd (omega arith)) (r ∙ q ∙ g.heads y l)
+
+    module _ (j : ℕ) (c : Asking A w b m y n j) (l : 0 < j) where
+      pub ask_below : j - 1 < n
+      ask_below = omega (arith, c.upto, linked-le n)
+
+      link_is : link_at w b (j - 1) ≡ last (bucket_at w b m) y (j - 1)
+      link_is = g.links (j - 1) (omega (arith, c.upto)) ∙ ap (λ (v : ℕ). last (bucket_at w b m) v (j - 1)) (c.chain (j - 1) (omega arith))
+
+      pub ask_next : (r : Bool) (k : ℕ) → A (j - 1) r → r ≡ false → k ≡ link_at w b (j - 1) → Asking A w b m y n k
+      ask_next r k a u q = ask_last (j - 1) k (omega (arith, c.upto)) (λ i p s e. go i s e (ltb i j) refl p) (q ∙ link_is)
+        where
+          go : (i : ℕ) → i < linked n → bucket_at w b m i ≡ y → (t : Bool) → ltb i j ≡ t → j - 1 ≤ i → A i false
+          go i s e true d p = let z : j - 1 ≡ i = omega (arith, ltb-true i j d) in subst (λ (v : ℕ). A v false) z (subst (A (j - 1)) u a)
+          go i s e false d p = c.no i (ltb-false i j d) s e
+
+      pub ask_less : (k : ℕ) → k ≡ link_at w b (j - 1) → k < j
+      ask_less k q = omega (arith, link_is, last-le (bucket_at w b m) y (j - 1))
+
+      pub ask_found : (r : Bool) → A (j - 1) r → r ≡ true → Searched A w b m y n (Some (j - 1))
+      unfolding Searched
+      ask_found r a u = (ask_below, subst (A (j - 1)) u a)
+
+  pub ask_rest : (j : ℕ) (r : Option ℕ) → Asking A w b m y n j → j ≤ 0 → Rested A n r → Searched A w b m y n r
+  unfolding Searched Rested
+  ask_rest j (Some i) c l a = a
+  ask_rest j None c l a = λ i k s. go i k s (ltb i (linked n)) refl
+    where
+      go : (i : ℕ) → i < n → (bucket_at w b m i ≡ y) ⊎ (linked n ≤ i) → (t : Bool) → ltb i (linked n) ≡ t → A i false
+      go i k (inl e) true d = c.no i (omega arith) (ltb-true i (linked n) d) e
+      go i k (inr e) true d = absurd (omega (arith, ltb-true i (linked n) d))
+      go i k s false d = a i (ltb-false i (linked n) d) k
+
+pub ruleset asking = (rules, ask_start, ask_below, ask_next, ask_less, ask_found, ask_rest)
+
+-- ---- `rest`: none below k is the one
+pub record Resting (A : ℕ → Bool → Type 0) (n k : ℕ) : Type 0 where
+  pub no : (i : ℕ) → linked n ≤ i → i < k → i < n → A i false
+
+module _ (A : ℕ → Bool → Type 0) (n : ℕ) where
+  pub rest_start : Resting A n 4294967295
+  unfolding linked
+  rest_start = record { no = λ i a b c. absurd (omega arith) }
+
+  module _ (k : ℕ) (c : Resting A n k) where
+    pub rest_next : (r : Bool) → A k r → r ≡ false → Resting A n (k + 1)
+    rest_next r a u = record { no = λ i p q s. go i p q s (ltb i k) refl }
+      where
+        go : (i : ℕ) → linked n ≤ i → i < k + 1 → i < n → (t : Bool) → ltb i k ≡ t → A i false
+        go i p q s true d = c.no i p (ltb-true i k d) s
+        go i p q s false d = let z : k ≡ i = omega (arith, ltb-false i k d) in subst (λ (v : ℕ). A v false) z (subst (A k) u a)
+
+    pub rest_found : (r : Bool) → k < n → A k r → r ≡ true → Rested A n (Some k)
+    unfolding Rested
+    rest_found r l a u = (l, subst (A k) u a)
+
+    pub rest_none : n ≤ k → Rested A n None
+    unfolding Rested
+    rest_none l = λ i p q. c.no i p (omega arith) q
+
+pub ruleset resting = (rules, rest_start, rest_next, rest_found, rest_none)
+
+-- ---- what callers conclude, each answer being what `says` tells of its record: one of n, or none
+unfoldable pub Picks : (ℕ → Bool) → ℕ → Option ℕ → Type 0
+Picks says n (Some k) = (k < n) × (says k ≡ true)
+Picks says n None = (i : ℕ) → i < n → says i ≡ false
+
+module _ (says : ℕ → Bool) (A : ℕ → Bool → Type 0) (w : List ℕ) (b m y n : ℕ) where
+  pub picked : (r : Option ℕ) → Searched A w b m y n r → ((i : ℕ) (a : Bool) → A i a → a ≡ says i) → ((i : ℕ) → i < n → says i ≡ true → bucket_at w b m i ≡ y) → Picks says n r
+  unfolding Picks Searched
+  picked (Some k) g same of = (g.0, sym (same k true g.1))
+  picked None g same of = λ i l. go i l (says i) refl
+    where
+      go : (i : ℕ) → i < n → (t : Bool) → says i ≡ t → t ≡ false
+      go i l true e = sym e ∙ sym (same i false (g i l (inl (of i l e))))
+      go i l false e = refl
