@@ -49,12 +49,12 @@ tag_small Assoc.FullyAssoc = omega arith
 
 -- ---- next_grade
 module _ (wd : ℕ) (ids : Ids) (ts : List Text) (w : List ℕ) (at e level : ℕ) (side : Assoc) where
-  pub next-none : e ≤ at → ReadsGrade (next_grade wd ids ts w at e level side) (Err None)
+  pub next-none : e ≤ at → ReadsGrade (next_grade wd ids ts w at e level side) (Err (record { question = None; at = at }))
   unfolding next_grade pick
   next-none h = record { answered = cc (le-leb e at h); small = tt }
 
   module _ (h : at < e) (x : ℕ) (q : x ≡ symbols_from wd w at) where
-    pub next_short : e < x → ReadsGrade (next_grade wd ids ts w at e level side) (Err None)
+    pub next_short : e < x → ReadsGrade (next_grade wd ids ts w at e level side) (Err (record { question = None; at = at }))
     unfolding next_grade pick
     next_short l = record { answered = cc (lt-leb e at h, lt-ltb e x l); small = tt }
 
@@ -67,7 +67,7 @@ module _ (wd : ℕ) (ids : Ids) (ts : List Text) (w : List ℕ) (at e level : �
       unfolding graded_there
       next_there k z = record { answered = sym (there l ∙ cc (g.answered, z)); small = rw z at g.small }
 
-      pub next_fails : (q : ℕ) → r ≡ Err q → ReadsGrade (next_grade wd ids ts w at e level side) (Err (Some (record { question = q; at = at })))
+      pub next_fails : (q : ℕ) → r ≡ Err q → ReadsGrade (next_grade wd ids ts w at e level side) (Err (record { question = Some q; at = at }))
       unfolding graded_there
       next_fails q z = record { answered = sym (there l ∙ cc (g.answered, z)); small = tt }
 
@@ -165,22 +165,22 @@ pub walk_start : (s w : List ℕ) (m : Map) (wd : ℕ) (ids : Ids) (places keys 
     → Walking s w m wd ids places keys n at e w at 0 0 Assoc.FullyAssoc true
 walk_start s w m wd ids places keys n at e h k g = record { narrow = h; wide = k; gradable = g; small = omega arith; left = n; many = omega arith; same = refl; carry = refl }
 
-pub read_small : (x r : Result Graded (Option Ungraded)) → ReadsGrade x r → (k : Graded) → r ≡ Ok k → k.level < 4294967296
+pub read_small : (x r : Result Graded Ungraded) → ReadsGrade x r → (k : Graded) → r ≡ Ok k → k.level < 4294967296
 read_small x r f k q = let z = f.small in rw q at z
 
 -- what was read stands before e
-abbrev IsBefore : ℕ → ℕ → Result Graded (Option Ungraded) → Type 0
+abbrev IsBefore : ℕ → ℕ → Result Graded Ungraded → Type 0
 IsBefore p e (Ok k) = p < e
 IsBefore p e (Err q) = Unit {0}
 
-any_before : (p e : ℕ) (r : Result Graded (Option Ungraded)) → p < e → IsBefore p e r
+any_before : (p e : ℕ) (r : Result Graded Ungraded) → p < e → IsBefore p e r
 any_before p e (Ok k) h = h
 any_before p e (Err q) h = tt
 
-module _ (wd : ℕ) (ids : Ids) (ts : List Text) (w : List ℕ) (p e level : ℕ) (side : Assoc) (r : Result Graded (Option Ungraded)) (f : ReadsGrade (next_grade wd ids ts w p e level side) r) (k : Graded) (q : r ≡ Ok k) where
+module _ (wd : ℕ) (ids : Ids) (ts : List Text) (w : List ℕ) (p e level : ℕ) (side : Assoc) (r : Result Graded Ungraded) (f : ReadsGrade (next_grade wd ids ts w p e level side) r) (k : Graded) (q : r ≡ Ok k) where
   next_before : IsBefore p e (next_grade wd ids ts w p e level side)
   unfolding next_grade
-  next_before = by_pick (IsBefore p e) (leb e p) (λ h. tt) (λ h. any_before p e (pick (ltb e (symbols_from wd w p)) (Err None) (graded_there p (graded_at wd ids ts w p level side))) (leb-false e p h))
+  next_before = by_pick (IsBefore p e) (leb e p) (λ h. tt) (λ h. any_before p e (pick (ltb e (symbols_from wd w p)) (Err (record { question = None; at = p })) (graded_there p (graded_at wd ids ts w p level side))) (leb-false e p h))
 
   pub read_before : p < e
   read_before = let z : IsBefore p e r = rw f.answered next_before in rw q at z
@@ -213,8 +213,8 @@ module _ (s w₀ : List ℕ) (m : Map) (wd : ℕ) (ids : Ids) (places keys n at 
     one : g.left ≡ suc (g.left - 1)
     one = omega (arith, g.many)
 
-    module _ (r : Result Graded (Option Ungraded)) (f : ReadsGrade (next_grade wd ids (texts s w m) w p e level side) r) where
-      pub walk_refused : (u : Option Ungraded) → r ≡ Err u → Grades (grade_from wd ids s m e places keys n 0 at 0 Assoc.FullyAssoc true w₀) (Err u) w
+    module _ (r : Result Graded Ungraded) (f : ReadsGrade (next_grade wd ids (texts s w m) w p e level side) r) where
+      pub walk_refused : (u : Ungraded) → r ≡ Err u → Grades (grade_from wd ids s m e places keys n 0 at 0 Assoc.FullyAssoc true w₀) (Err u) w
       unfolding grade_from grade_then
       walk_refused u z = record { is = sym g.carry ∙ cc (one, f.answered, z) }
 

@@ -7,7 +7,7 @@ use Prim.Native.Nat.{ℕ, suc, ◌+◌, ◌*◌, ◌^◌, ◌≤◌, ◌<◌}
 use native.Mathlib.Omega.{arith}
 use borrow.Author.Tests.{lt-leb, le-ltb}
 use lib.ListN.{length, get_or}
-use Rattle.std.specs.Prelude.{Option, Some, Result, Ok, Err}
+use Rattle.std.specs.Prelude.{Some, Result, Ok, Err}
 use Rattle.octets.specs.Plain.Numbers.{le_at, le}
 use Rattle.octets.specs.Plain.Runs.{Lies}
 use Rattle.octets.specs.Working.Choice.{pick}
@@ -65,7 +65,7 @@ module _ (four : Bool) (wd : ℕ) (ts : List Text) (s : List ℕ) (m : Map) (pla
   places_from p [] = p ∷ []
   places_from p (a ∷ rest) = p ∷ places_from (p + length (alternative_bytes wd ts a)) rest
 
-  abbrev pub answer_of : GradesOut → Result Bool (Option Ungraded)
+  abbrev pub answer_of : GradesOut → Result Bool Ungraded
   answer_of (grades_out r w) = r
 
   abbrev pub work_of : GradesOut → List ℕ
@@ -168,7 +168,7 @@ module _ (four : Bool) (wd : ℕ) (ts : List Text) (s : List ℕ) (m : Map) (pla
     unfolding grade_from grade_then
     stepped z = cc (z, end_is)
 
-    refused_is : (q : ℕ) → next_grade wd (ids_in ts) (texts s w m) w p e level (assoc_of side) ≡ Err (Some (record { question = q; at = p }))
+    refused_is : (q : ℕ) → next_grade wd (ids_in ts) (texts s w m) w p e level (assoc_of side) ≡ Err (record { question = Some q; at = p })
         → grade_from wd (ids_in ts) s m e places keys (suc (length rest)) i p level (assoc_of side) b w ≡ grades_out (ungraded_as q p) w
     unfolding grade_from grade_then
     refused_is q z = cc z
@@ -301,18 +301,18 @@ module _ (four : Bool) (wd : ℕ) (ts : List Text) (s : List ℕ) (m : Map) (pla
       (still_ascends b level (v w i p level side b a rest r)) (ready w i p level side b a rest r))
 
   -- the same, of all alternatives: what `grade` answers and leaves
-  pub record Keyed (w : List ℕ) (at : ℕ) (cs : List Alternative) (r : Result Bool (Option Ungraded)) (w' : List ℕ) : Type 0 where
+  pub record Keyed (w : List ℕ) (at : ℕ) (cs : List Alternative) (r : Result Bool Ungraded) (w' : List ℕ) : Type 0 where
     pub answer : r ≡ Ok (ascends_from true 0 (with_levels 0 cs))
     pub keys_are : keys_at w' keys n ≡ keys_from code_of 0 (with_sides all (with_levels 0 cs))
     pub places-are : keys_at w' places (n + 1) ≡ places_from at cs
     pub long : length w' ≡ length w
     pub others : Others w 0 w'
 
-  abbrev pub GradeMeans : List ℕ → ℕ → List Alternative → Result Bool (Option Ungraded) → List ℕ → Outcome (Unit {0}) → Type 0
+  abbrev pub GradeMeans : List ℕ → ℕ → List Alternative → Result Bool Ungraded → List ℕ → Outcome (Unit {0}) → Type 0
   GradeMeans w at cs r w' (yes u) = Keyed w at cs r w'
   GradeMeans w at cs r w' (no q sp) = OneRefused w 0 q sp (grades_out r w')
 
-  keyed : (cs : List Alternative) (w : List ℕ) (at : ℕ) → length cs ≡ n → (r : Result Bool (Option Ungraded)) (w' : List ℕ) (o : Outcome (Unit {0})) → GradesMean w 0 at 0 all true cs (grades_out r w') o → GradeMeans w at cs r w' o
+  keyed : (cs : List Alternative) (w : List ℕ) (at : ℕ) → length cs ≡ n → (r : Result Bool Ungraded) (w' : List ℕ) (o : Outcome (Unit {0})) → GradesMean w 0 at 0 all true cs (grades_out r w') o → GradeMeans w at cs r w' o
   keyed cs w at h r w' (yes u) f = record {
     answer = f.answer;
     keys_are = let y : keys + 8 * 0 ≡ keys = omega arith in let z : n ≡ length cs = sym h in ap (keys_at w' keys) z ∙ (rw y at f.keys_are);
@@ -323,7 +323,7 @@ module _ (four : Bool) (wd : ℕ) (ts : List Text) (s : List ℕ) (m : Map) (pla
   keyed cs w at h r w' (no q sp) f = f
 
   -- theorem: `grade`, whose contract is Grades, refuses as check_attributes does, else the keys and the places are stored
-  pub grade_means : (cs : List Alternative) (w : List ℕ) (at : ℕ) → Ready w 0 at 0 cs → (r : Result Bool (Option Ungraded)) (w' : List ℕ) → Grades (grade_from wd (ids_in ts) s m e places keys n 0 at 0 Assoc.FullyAssoc true w) r w'
+  pub grade_means : (cs : List Alternative) (w : List ℕ) (at : ℕ) → Ready w 0 at 0 cs → (r : Result Bool Ungraded) (w' : List ℕ) → Grades (grade_from wd (ids_in ts) s m e places keys n 0 at 0 Assoc.FullyAssoc true w) r w'
       → GradeMeans w at cs r w' (check_attributes cs)
   grade_means cs w at h r w' g =
       let k : length cs ≡ n = omega (arith, h.many) in

@@ -27,15 +27,15 @@ side_number Assoc.FullyAssoc = 3
 unfoldable pub grade_key : ℕ → ℕ → Assoc → ℕ
 grade_key level i side = (level * 65536 + i) * 4 + side_number side
 
--- a level and a side, or the question that fails, of the alternative at a place
-unfoldable pub graded_there : ℕ → Result Graded ℕ → Result Graded (Option Ungraded)
+-- a level and a side, or the question that fails, with the place of the alternative
+unfoldable pub graded_there : ℕ → Result Graded ℕ → Result Graded Ungraded
 graded_there at (Ok g) = Ok g
-graded_there at (Err q) = Err (Some (record { question = q; at = at }))
+graded_there at (Err q) = Err (record { question = Some q; at = at })
 
 -- those of the alternative at a place, if one stands there before e
-unfoldable pub next_grade : ℕ → Ids → List Text → List ℕ → ℕ → ℕ → ℕ → Assoc → Result Graded (Option Ungraded)
+unfoldable pub next_grade : ℕ → Ids → List Text → List ℕ → ℕ → ℕ → ℕ → Assoc → Result Graded Ungraded
 next_grade wd ids ts w at e level side =
-    pick (leb e at) (Err None) (pick (ltb e (symbols_from wd w at)) (Err None) (graded_there at (graded_at wd ids ts w at level side)))
+    pick (leb e at) (Err (record { question = None; at = at })) (pick (ltb e (symbols_from wd w at)) (Err (record { question = None; at = at })) (graded_there at (graded_at wd ids ts w at level side)))
 
 -- its place and its key stored
 unfoldable pub stored_grade : List ℕ → ℕ → ℕ → ℕ → ℕ → ℕ → Assoc → List ℕ
@@ -58,19 +58,19 @@ pub record Gradable (s w : List ℕ) (m : Map) (places keys n e : ℕ) : Type 0 
   pub keys_off : OffTable m (length w) texts-from keys (keys + 8 * n)
 
 -- the question that fails and the alternative's place, as the code's answer
-abbrev pub ungraded_as : ℕ → ℕ → Result Bool (Option Ungraded)
-ungraded_as q p = Err (Some (record { question = q; at = p }))
+abbrev pub ungraded_as : ℕ → ℕ → Result Bool Ungraded
+ungraded_as q p = Err (record { question = Some q; at = p })
 
 -- the answer, and what work becomes
 pub data GradesOut : Type 0 where
-  grades_out : Result Bool (Option Ungraded) → List ℕ → GradesOut
+  grades_out : Result Bool Ungraded → List ℕ → GradesOut
 
 -- whether the levels still ascend
 unfoldable pub still_ascends : Bool → ℕ → ℕ → Bool
 still_ascends b level v = pick (ltb v level) false b
 
 -- go on where a level and a side were read
-unfoldable pub grade_then : (ℕ → Assoc → GradesOut) → List ℕ → Result Graded (Option Ungraded) → GradesOut
+unfoldable pub grade_then : (ℕ → Assoc → GradesOut) → List ℕ → Result Graded Ungraded → GradesOut
 grade_then f w (Ok g) = f g.level g.side
 grade_then f w (Err u) = grades_out (Err u) w
 
@@ -82,7 +82,7 @@ grade_from wd ids s m e places keys (suc n) i p level side b w =
     w (next_grade wd ids (texts s w m) w p e level side)
 
 -- the answer r and work w' are those
-pub record Grades (x : GradesOut) (r : Result Bool (Option Ungraded)) (w' : List ℕ) : Type 0 where
+pub record Grades (x : GradesOut) (r : Result Bool Ungraded) (w' : List ℕ) : Type 0 where
   pub is : x ≡ grades_out r w'
 
 -- the place of the alternative of a key, if it is one of n

@@ -15,22 +15,25 @@ use crate::{Assoc, Graded, Ids, Ungraded};
 use octets::numbers::{Width, store64, u64_at};
 use texts::Map;
 
-// Level and side of the alternative at a place, behind one of those before; the error is None where none stands there before e.
+// Level and side of the alternative at a place, behind one of those before; the question is None where none stands there before e.
 fn next_grade<'a>(
     t: Words<'a>,
     at: usize,
     e: usize,
     ids: Ids,
     before: Graded,
-) -> Result<Graded, Option<Ungraded>>
+) -> Result<Graded, Ungraded>
     requires { (before.level < 4294967296) × (e + 16 ≤ length t.work.now) }
     ensures { ReadsGrade (next_grade t.entry.width.bytes ids (texts t.entry.tape.now t.entry.work.now t.entry.m) t.entry.work.now at e before.level before.side) result }
 {
     if e <= at || e < symbols(t.work, at, t.width) {
-        return Err(None);
+        return Err(Ungraded { question: None, at });
     }
     let read = graded(t, at, ids, before);
-    read.map_err(|question| Some(Ungraded { question, at }))
+    read.map_err(|q| Ungraded {
+        question: Some(q),
+        at,
+    })
 }
 
 // Place and key of the i-th alternative.
@@ -50,7 +53,7 @@ fn ascends(before: bool, level: usize, next: usize) -> bool
     before && level <= next
 }
 
-// n alternatives from a place on, before e: whether their levels ascend. The error is None where one does not stand there.
+// n alternatives from a place on, before e: whether their levels ascend. The error has the place where one can't be graded or doesn't stand.
 pub fn grade(
     tape: &[u8],
     work: &mut [u8],
@@ -62,7 +65,7 @@ pub fn grade(
     n: usize,
     at: usize,
     e: usize,
-) -> Result<bool, Option<Ungraded>>
+) -> Result<bool, Ungraded>
     requires { Gradable tape.now work.old m places keys n e }
     ensures { Grades (grade_from width.bytes ids tape.now m e places keys n 0 at 0 Assoc.FullyAssoc true work.old) result work.new }
 {

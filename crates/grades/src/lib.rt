@@ -34,9 +34,9 @@ pub struct Graded {
     pub side: Assoc,
 }
 
-// The question that an alternative's attributes fail, and its place.
+// A place where an alternative can't be graded: the question that its attributes fail; None where no alternative stands there.
 #[derive(Clone, Copy)]
 pub struct Ungraded {
-    pub question: usize,
+    pub question: Option<usize>,
     pub at: usize,
 }

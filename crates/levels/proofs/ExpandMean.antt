@@ -31,19 +31,21 @@ use Rattle.levels.specs.declared.Written.{Written}
 use Rattle.levels.specs.Expand.{Expandable, ExpandedBy, alternatives_at}
 
 -- what a refusal says
-abbrev question_said : Result Bool (Option Ungraded) → ℕ
-question_said (Ok b) = 0
-question_said (Err (Some u)) = u.question
-question_said (Err None) = 0
+abbrev question_said : Result Bool Ungraded → Option ℕ
+question_said (Ok b) = None
+question_said (Err u) = u.question
 
-abbrev place_said : Result Bool (Option Ungraded) → ℕ
+abbrev place_said : Result Bool Ungraded → ℕ
 place_said (Ok b) = 0
-place_said (Err (Some u)) = u.at
-place_said (Err None) = 0
+place_said (Err u) = u.at
 
 -- an answer is not a refusal
 pub is_not : {b : Bool} {q a : ℕ} → Ok b ≡ ungraded_as q a → ⊥
 is_not {b} {q} {a} e = let z : ◌≡◌ {A = ℕ} 0 1 = cc in omega arith
+
+-- nor is a refusal without a question one with it
+pub unasked-not : {q a b : ℕ} → ◌≡◌ {A = Result Bool Ungraded} (Err (record { question = None; at = b })) (ungraded_as q a) → ⊥
+unasked-not {q} {a} {b} e = let t : None ≡ Some q = ap question_said e in let z : ◌≡◌ {A = ℕ} 0 1 = cc in omega arith
 
 -- where the keys stand: behind the places of n alternatives and of what is behind them
 abbrev pub keys_place : Room → ℕ → ℕ
@@ -111,7 +113,7 @@ module _ (s : List ℕ) (m : Map) (room : Room) (wd : ℕ) (ids : Ids) (p e : �
         stands_at = first ∙ first_means four wd (texts s w m) w p e d stands_headed
 
         -- theorem: `grade` says what check_attributes says, and leaves the keys and the places
-        pub stands_graded : (g : Result Bool (Option Ungraded)) (w1 : List ℕ) → Grades (grade_from wd ids s m e room.arrays (keys_place room n) n 0 at 0 Assoc.FullyAssoc true w) g w1
+        pub stands_graded : (g : Result Bool Ungraded) (w1 : List ℕ) → Grades (grade_from wd ids s m e room.arrays (keys_place room n) n 0 at 0 Assoc.FullyAssoc true w) g w1
             → GradeMeans four wd (texts s w m) s m room.arrays (keys_place room n) n e w (alternatives_at wd (texts s w m) p d) d.alternatives g w1 (check_attributes d.alternatives)
         stands_graded g w1 x =
             let i = S.names.ids_table in
@@ -140,4 +142,4 @@ module _ (s : List ℕ) (m : Map) (room : Room) (wd : ℕ) (ids : Ids) (p e : �
     refused_means (no r sp) f k why z = go k.place k.answer k.span
       where
         go : (x : ℕ) → ungraded_as q a ≡ ungraded_as r x → span_in w1 (x + 1) ≡ sp → ◌≡◌ {A = Result Written Refusal} (Err why) (Err (refusal_over r sp))
-        go x i j = let y : a ≡ x = ap place_said i in let t : q ≡ r = ap question_said i in cc (z, y, t, j)
+        go x i j = let y : a ≡ x = ap place_said i in let t : Some q ≡ Some r = ap question_said i in cc (z, y, t, j)

@@ -1,5 +1,5 @@
 -- The ways out of `expand_nonterm`: refused by `grade`, refused by `lowest`, or written level by level. Assumes nothing.
-use mathlib.Core.Path.{◌≡◌, refl, sym, ◌∙◌}
+use mathlib.Core.Path.{ap, ◌≡◌, refl, sym, ◌∙◌}
 use mathlib.Core.Bool.{Bool, true}
 use mathlib.Core.Logic.{inl}
 use mathlib.Core.List.{List}
@@ -7,7 +7,6 @@ use mathlib.Core.Option.{none}
 use Prim.Native.Nat.{ℕ, ◌+◌, ◌*◌, ◌≤◌}
 use native.Mathlib.Omega.{arith}
 use borrow.Author.Rules.{rules}
-use Rattle.std.specs.Prelude.{None}
 use lib.ListN.{length}
 use Rattle.std.specs.Prelude.{Option as Maybe, Some, None, Result, Ok, Err}
 use Rattle.octets.specs.Plain.Numbers.{le_at}
@@ -30,7 +29,7 @@ use Rattle.grades.proofs.AlternativesWholeMean.{Keyed, GradeMeans}
 use Rattle.levels.specs.declared.Room.{Room}
 use Rattle.levels.specs.declared.Written.{Written}
 use Rattle.levels.specs.Expand.{SortsKeys, SomeLeft, Finishes, Expandable, SomeExpandable, ExpandedBy, ExpandsOne, alternatives_at}
-use Rattle.levels.proofs.ExpandMean.{keys_place, is_not, stands_before, stands_many, stands_roomy, stands_gradable, stands_graded, refused_inside, refused_means}
+use Rattle.levels.proofs.ExpandMean.{keys_place, is_not, unasked-not, stands_before, stands_many, stands_roomy, stands_gradable, stands_graded, refused_inside, refused_means}
 use Rattle.levels.proofs.ExpandMeanSorted.{Ordered, keys_ordered, lowest_says, low_inside, low_means, low_none}
 use Rattle.levels.proofs.ExpandMeanLeft.{all_left, all_written}
 
@@ -91,37 +90,39 @@ module _ {s : List ℕ} {m : Map} {room : Room} {wd : ℕ} {ids : Ids} {p e : �
     pub expand_gradable : Gradable s w m room.arrays (room.arrays + 8 * n + 8) n e
     expand_gradable = stands_gradable s m room wd ids p e v w four d S n many
 
-    module _ {at : ℕ} (first : at ≡ first_alternative wd w p) {g : Result Bool (Maybe Ungraded)} {w1 : List ℕ}
+    module _ {at : ℕ} (first : at ≡ first_alternative wd w p) {g : Result Bool Ungraded} {w1 : List ℕ}
         (x : Grades (grade_from wd ids s m e room.arrays (room.arrays + 8 * n + 8) n 0 at 0 Assoc.FullyAssoc true w) g w1) where
       -- ---- `grade` refuses
-      module _ {u : Ungraded} (z : g ≡ Err (Some u)) where
-        abbrev q : ℕ
-        q = u.question
-
+      module _ {u : Ungraded} (z : g ≡ Err u) where
         abbrev a : ℕ
         a = u.at
 
-        says : (four' : Bool) (d' : Nonterminal) → Expandable s m room wd ids p e v w four' d'
-            → GradeMeans four' wd (texts s w m) s m room.arrays (keys_place room n) n e w (alternatives_at wd (texts s w m) p d') d'.alternatives (ungraded_as q a) w1 (check_attributes d'.alternatives)
-        says four' d' S' = stands_graded s m room wd ids p e v w four' d' S' n many wide at first (ungraded_as q a) w1 (rw z at x)
+        -- what `grade` answers, by its question
+        by-question : {o : Maybe ℕ} → u.question ≡ o → g ≡ Err (record { question = o; at = a })
+        by-question t = z ∙ ap (λ (o : Maybe ℕ). Err (record { question = o; at = a })) t
 
-        -- theorem: the place that it answers lies in work
-        pub expand_refused_inside : a + 9 ≤ length w1
-        expand_refused_inside = refused_inside s m room wd ids p e v w four d S n _ w1 q a (check_attributes d.alternatives) (says four d S)
+        module _ {q : ℕ} (t : u.question ≡ Some q) where
+          says : (four' : Bool) (d' : Nonterminal) → Expandable s m room wd ids p e v w four' d'
+              → GradeMeans four' wd (texts s w m) s m room.arrays (keys_place room n) n e w (alternatives_at wd (texts s w m) p d') d'.alternatives (ungraded_as q a) w1 (check_attributes d'.alternatives)
+          says four' d' S' = stands_graded s m room wd ids p e v w four' d' S' n many wide at first (ungraded_as q a) w1 (rw (by-question t) at x)
 
-        -- theorem: each nonterminal that stands there is refused so
-        pub expand_refused : {why : Refusal} → why ≡ refusal_over q (span_in w1 (a + 1)) → ExpandsOne s m room wd ids p e v w (Err why) w1
-        unfolding ExpandsOne
-        expand_refused {why} y four' d' S' =
-            refused_means s m room wd ids p e v w four' d' S' n _ w1 q a (check_attributes d'.alternatives) (λ u. check_lowest (grouped d'.name (graded d'))) (says four' d' S') why y
+          -- theorem: the place that it answers lies in work
+          pub expand_refused_inside : a + 9 ≤ length w1
+          expand_refused_inside = refused_inside s m room wd ids p e v w four d S n _ w1 q a (check_attributes d.alternatives) (says four d S)
 
-      -- theorem: and never because an alternative doesn't stand there
-      pub expand_none_missing : g ≡ Err None → ⊥
-      expand_none_missing z = go (check_attributes d.alternatives) (stands_graded s m room wd ids p e v w four d S n many wide at first (Err None) w1 (rw z at x))
-        where
-          go : (o : Outcome (Unit {0})) → GradeMeans four wd (texts s w m) s m room.arrays (keys_place room n) n e w (alternatives_at wd (texts s w m) p d) d.alternatives (Err None) w1 o → ⊥
-          go (yes u) f = let i = f.answer in cc
-          go (no q sp) f = let i = f.answer in cc
+          -- theorem: each nonterminal that stands there is refused so
+          pub expand_refused : {why : Refusal} → why ≡ refusal_over q (span_in w1 (a + 1)) → ExpandsOne s m room wd ids p e v w (Err why) w1
+          unfolding ExpandsOne
+          expand_refused {why} y four' d' S' =
+              refused_means s m room wd ids p e v w four' d' S' n _ w1 q a (check_attributes d'.alternatives) (λ u. check_lowest (grouped d'.name (graded d'))) (says four' d' S') why y
+
+        -- theorem: and never because an alternative doesn't stand there
+        pub expand_none_missing : u.question ≡ None → ⊥
+        expand_none_missing t = go (check_attributes d.alternatives) (stands_graded s m room wd ids p e v w four d S n many wide at first (Err (record { question = None; at = a })) w1 (rw (by-question t) at x))
+          where
+            go : (o : Outcome (Unit {0})) → GradeMeans four wd (texts s w m) s m room.arrays (keys_place room n) n e w (alternatives_at wd (texts s w m) p d) d.alternatives (Err (record { question = None; at = a })) w1 o → ⊥
+            go (yes y) f = let i = f.answer in cc
+            go (no q sp) f = absurd (unasked-not f.answer)
 
       -- ---- or answers
       module _ {b : Bool} (z : g ≡ Ok b) where

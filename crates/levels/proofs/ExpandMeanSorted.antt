@@ -76,7 +76,7 @@ module _ (s : List ℕ) (m : Map) (room : Room) (wd p e : ℕ) (w : List ℕ) (f
     ascending : b ≡ true → ascends_from true 0 (with_levels 0 d.alternatives) ≡ true
     ascending z = go K.answer
       where
-        go : {c : Bool} → ◌≡◌ {A = Result Bool (Option Ungraded)} (Ok b) (Ok c) → c ≡ true
+        go : {c : Bool} → ◌≡◌ {A = Result Bool Ungraded} (Ok b) (Ok c) → c ≡ true
         go q = cc
 
     -- what ascends stays

@@ -7,14 +7,12 @@ use native.Mathlib.Omega.{arith}
 use borrow.Author.Rules.{rules}
 use borrow.Author.Tests.{ltb-true, ltb-false, lt-ltb, le-ltb}
 use lib.Dec.{ltb}
-use lib.ListN.{length, get_or, set, length-set, length-append}
-use lib.Seq.{take_all}
+use lib.ListN.{length, get_or, length-append}
 use mir.Syntax.{w64}
 use mir.Val.{Fits}
 use Rattle.std.specs.Prelude.{Ok, Err}
 use Rattle.octets.specs.Working.Choice.{pick}
 use Rattle.octets.specs.Plain.Numbers.{le}
-use Rattle.octets.specs.Plain.Runs.{part}
 use Rattle.octets.specs.Working.Stores.{store}
 use Rattle.octets.proofs.NumbersLaws.{length-le}
 use Rattle.octets.proofs.StoreLaws.{store-none, store-append, length_store}

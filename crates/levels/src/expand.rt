@@ -165,8 +165,10 @@ pub fn expand_nonterm(
     let keys = places + 8 * n + 8;
     let at = first_alternative(work, p, width);
     match grade(tape, work, m, width, ids, places, keys, n, at, e) {
-        Err(Some(why)) => Err(refused(work, why.question, why.at)),
-        Err(None) => unreachable!(),
+        Err(why) => match why.question {
+            Some(q) => Err(refused(work, q, why.at)),
+            None => unreachable!(),
+        },
         Ok(ascending) => {
             let k = sorted(work, keys, keys + 8 * n, n, ascending);
             match lowest(work, k, n, places) {

@@ -19,21 +19,21 @@ use Rattle.settling.proofs.PutLaws.{then, puts_as}
 use Rattle.settling.proofs.WordsLaws.{fixed_same, source_next}
 use Rattle.listing.specs.Tree.{arrow_text, side_text, action_by, action_at}
 
--- ---- put_arrow, put_side
-module _ (w : List ℕ) (c lim to r : ℕ) (w1 : List ℕ) where
-  pub arrow_fallible : c ≡ 2 → Puts w lim to (32 ∷ 61 ∷ 62 ∷ 63 ∷ 32 ∷ []) r w1 → Puts w lim to (arrow_text c) r w1
+-- ---- put_arrow, put_side: t is what stands for the code
+module _ (c : ℕ) (t : Text) where
+  pub arrow_fallible : c ≡ 2 → t ≡ (32 ∷ 61 ∷ 62 ∷ 63 ∷ 32 ∷ []) → t ≡ arrow_text c
   unfolding arrow_text pick
   arrow_fallible e p = rw e p
 
-  pub arrow_user : (c ≡ 2 → ⊥) → Puts w lim to (32 ∷ 61 ∷ 62 ∷ 32 ∷ []) r w1 → Puts w lim to (arrow_text c) r w1
+  pub arrow_user : (c ≡ 2 → ⊥) → t ≡ (32 ∷ 61 ∷ 62 ∷ 32 ∷ []) → t ≡ arrow_text c
   unfolding arrow_text pick
   arrow_user a p = rw (ne_eqb c 2 a) p
 
-  pub side_left : c ≡ 3 → Puts w lim to (32 ∷ 61 ∷ 62 ∷ 32 ∷ 64 ∷ 76 ∷ []) r w1 → Puts w lim to (side_text c) r w1
+  pub side_left : c ≡ 3 → t ≡ (32 ∷ 61 ∷ 62 ∷ 32 ∷ 64 ∷ 76 ∷ []) → t ≡ side_text c
   unfolding side_text pick
   side_left e p = rw e p
 
-  pub side_right : (c ≡ 3 → ⊥) → Puts w lim to (32 ∷ 61 ∷ 62 ∷ 32 ∷ 64 ∷ 82 ∷ []) r w1 → Puts w lim to (side_text c) r w1
+  pub side_right : (c ≡ 3 → ⊥) → t ≡ (32 ∷ 61 ∷ 62 ∷ 32 ∷ 64 ∷ 82 ∷ []) → t ≡ side_text c
   unfolding side_text pick
   side_right a p = rw (ne_eqb c 3 a) p
 

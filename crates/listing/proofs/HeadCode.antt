@@ -21,21 +21,21 @@ use Rattle.listing.specs.Listing.{shown_number}
 use Rattle.listing.specs.Tree.{flags_line, line_text, head_text}
 use Rattle.listing.specs.Walk.{PutsHead}
 
--- ---- put_flags
-module _ (w : List ℕ) (f lim to r : ℕ) (w1 : List ℕ) where
-  pub flags_none : f ≡ 0 → Puts w lim to (10 ∷ []) r w1 → Puts w lim to (flags_line f) r w1
+-- ---- put_flags: t is what stands for the flags
+module _ (f : ℕ) (t : Text) where
+  pub flags_none : f ≡ 0 → t ≡ (10 ∷ []) → t ≡ flags_line f
   unfolding flags_line pick
   flags_none e p = rw e p
 
-  pub flags_inline : f ≡ 1 → Puts w lim to (32 ∷ 105 ∷ 110 ∷ 108 ∷ 105 ∷ 110 ∷ 101 ∷ 10 ∷ []) r w1 → Puts w lim to (flags_line f) r w1
+  pub flags_inline : f ≡ 1 → t ≡ (32 ∷ 105 ∷ 110 ∷ 108 ∷ 105 ∷ 110 ∷ 101 ∷ 10 ∷ []) → t ≡ flags_line f
   unfolding flags_line pick
   flags_inline e p = rw e p
 
-  pub flags_public : f ≡ 2 → Puts w lim to (32 ∷ 112 ∷ 117 ∷ 98 ∷ 10 ∷ []) r w1 → Puts w lim to (flags_line f) r w1
+  pub flags_public : f ≡ 2 → t ≡ (32 ∷ 112 ∷ 117 ∷ 98 ∷ 10 ∷ []) → t ≡ flags_line f
   unfolding flags_line pick
   flags_public e p = rw e p
 
-  pub flags_both : (f ≡ 0 → ⊥) → (f ≡ 1 → ⊥) → (f ≡ 2 → ⊥) → Puts w lim to (32 ∷ 112 ∷ 117 ∷ 98 ∷ 32 ∷ 105 ∷ 110 ∷ 108 ∷ 105 ∷ 110 ∷ 101 ∷ 10 ∷ []) r w1 → Puts w lim to (flags_line f) r w1
+  pub flags_both : (f ≡ 0 → ⊥) → (f ≡ 1 → ⊥) → (f ≡ 2 → ⊥) → t ≡ (32 ∷ 112 ∷ 117 ∷ 98 ∷ 32 ∷ 105 ∷ 110 ∷ 108 ∷ 105 ∷ 110 ∷ 101 ∷ 10 ∷ []) → t ≡ flags_line f
   unfolding flags_line pick
   flags_both a b c p = rw (ne_eqb f 0 a, ne_eqb f 1 b, ne_eqb f 2 c) p
 

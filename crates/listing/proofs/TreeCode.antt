@@ -29,11 +29,10 @@ use Rattle.parse_tree.proofs.Written.{written}
 use Rattle.parse_tree.proofs.ReadingLaws.{then-got, got_as}
 use Rattle.parse_tree.proofs.ItemFound.{item_finds}
 use Rattle.texts.specs.Atoms.{atoms_of}
-use Rattle.texts.specs.declared.Map.{Map}
 use Rattle.texts.specs.Table.{Stays, texts}
 use Rattle.texts.proofs.AtomsLaws.{length_atoms}
 use Rattle.texts.proofs.TableStays.{stays_below, above_stays}
-use Rattle.validate.specs.Steps.{Refuses, map_of}
+use Rattle.validate.specs.Steps.{Refuses}
 use Rattle.validate.specs.Regions.{regions_of}
 use Rattle.validate.specs.Whole.{Valid, Validates}
 use Rattle.validate.specs.declared.Atoms.{Atoms}
@@ -57,10 +56,10 @@ atoms_long (t ∷ ts) =
 -- ---- a tape that was validated
 module _ (s w : List ℕ) (a : Atoms) (at n : ℕ) (v : Valid false 2 s w a at n) (b : (j : ℕ) → Bound.Fits w8 (get_or s j 0)) where
   abbrev ts : List Text
-  ts = atoms_of s a.count
+  ts = atoms_of s a.texts.count
 
   abbrev tape : Stage
-  tape = record { atoms = atoms_of s a.count; items = v.items }
+  tape = record { atoms = atoms_of s a.texts.count; items = v.items }
 
   abbrev atoms : List ℕ
   atoms = bytes_of_each (atom_bytes 2) ts
@@ -107,9 +106,6 @@ module _ (s w : List ℕ) (a : Atoms) (at n : ℕ) (v : Valid false 2 s w a at n
       ∙ ap (take (length s - at)) (drop-append_seam atoms (each v.items)) ∙ take_all (length s - at) (each v.items) (omega (arith, ends))
 
   -- ---- w₁ is work with the items
-  abbrev table : Map
-  table = record { base = a.base; count = a.count; buckets = a.buckets }
-
   module _ (room : 8 * length s ≤ length w) (w₁ : List ℕ) (copied : w₁ ≡ store w (7 * size) (part at (length s) s)) where
     long : length w₁ ≡ length w
     long = ap length copied ∙ length_store w (7 * size) (part at (length s) s)
@@ -117,39 +113,36 @@ module _ (s w : List ℕ) (a : Atoms) (at n : ℕ) (v : Valid false 2 s w a at n
     copied_long : length (part at (length s) s) ≡ size
     copied_long = part_length at (length s) s (omega arith)
 
-    stays : Stays s w table w₁ table
-    unfolding map_of
-    stays = stays_below s w w₁ table (length w) (7 * size) (part at (length s) s) v.ready.ready.table v.above copied (omega (arith, copied_long)) (omega (arith, copied_long, v.base))
+    stays : Stays s w a.texts w₁ a.texts
+    stays = stays_below s w w₁ a.texts (length w) (7 * size) (part at (length s) s) v.ready.ready.table v.above copied (omega (arith, copied_long)) (omega (arith, copied_long, v.base))
 
-    texts-are : texts s w₁ table ≡ ts
-    unfolding map_of
+    texts-are : texts s w₁ a.texts ≡ ts
     texts-are = stays.same ∙ v.ready.ready.same
 
-    printable : Printable s w₁ table 2 (length w₁) (8 * length s)
-    unfolding map_of
+    printable : Printable s w₁ a.texts 2 (length w₁) (8 * length s)
     printable = record {
       readable = record {
         worded = record { room = stays.table.room; whole = stays.table.whole };
         narrow = omega arith;
         wide = omega arith;
       };
-      above = rw long (above_stays s w table w₁ table (length w) stays v.above);
-      records = omega (arith, v.base, begins, atoms_long ts, length_atoms s a.count, v.ready.inside);
+      above = rw long (above_stays s w a.texts w₁ a.texts (length w) stays v.above);
+      records = omega (arith, v.base, begins, atoms_long ts, length_atoms s a.texts.count, v.ready.inside);
       inside = omega arith;
       stop = omega (arith, long);
     }
 
-    stand : AllStand (ItemGood 2) (item_bytes 2) s w₁ table (7 * size) (7 * size + size) v.items
+    stand : AllStand (ItemGood 2) (item_bytes 2) s w₁ a.texts (7 * size) (7 * size + size) v.items
     unfolding ItemGood
     stand =
         let y : 7 * size + length (part at (length s) s) ≡ 7 * size + size = omega (arith, copied_long) in
         let l : Lies (store w (7 * size) (part at (length s) s)) (7 * size) (part at (length s) s) (7 * size + size) = lies_to y (lies_store w (7 * size) (part at (length s) s) (omega (arith, copied_long))) in
         record { within = rw texts-are within.items; lies = rw (texts-are, ← items_part, copied) l }
 
-    some : SomeAll (ItemGood 2) (item_bytes 2) s w₁ table n (7 * size) (8 * length s)
+    some : SomeAll (ItemGood 2) (item_bytes 2) s w₁ a.texts n (7 * size) (8 * length s)
     some = record { end = 7 * size + size; elements = v.items; many = sym v.many; stand = stand; below = omega arith }
 
-    shown : (r : Printed) (w₂ : List ℕ) → ShowsAll (ItemGood 2) (item_bytes 2) s w₁ table listed_item n (7 * size) (length w₁) (8 * length s) r w₂ → ListsTree s (length w) r.to w₂
+    shown : (r : Printed) (w₂ : List ℕ) → ShowsAll (ItemGood 2) (item_bytes 2) s w₁ a.texts listed_item n (7 * size) (length w₁) (8 * length s) r w₂ → ListsTree s (length w) r.to w₂
     unfolding ListsTree ListsRead listed
     shown r w₂ h =
         let told = (h.each (7 * size + size) v.items (sym v.many) stand (omega arith)).1 in
@@ -176,13 +169,13 @@ module _ (s w : List ℕ) (a : Atoms) (at n : ℕ) (v : Valid false 2 s w a at n
         there : w₁ ≡ store w (7 * size) (part at (length s) s)
         there = copied ∙ ap (λ (p : ℕ). store w p (part at (length s) s)) items_there
 
-        pub layout_printable : Printable s w₁ table a.width.bytes (length w₁) (8 * length s)
+        pub layout_printable : Printable s w₁ a.texts a.width.bytes (length w₁) (8 * length s)
         layout_printable = rw v.wide (printable room w₁ there)
 
-        pub layout_some : SomeAll (ItemGood a.width.bytes) (item_bytes a.width.bytes) s w₁ table n g.items (8 * length s)
+        pub layout_some : SomeAll (ItemGood a.width.bytes) (item_bytes a.width.bytes) s w₁ a.texts n g.items (8 * length s)
         layout_some = rw (v.wide, items_there) (some room w₁ there)
 
-        pub layout_shown : (r : Printed) (w₂ : List ℕ) → ShowsAll (ItemGood a.width.bytes) (item_bytes a.width.bytes) s w₁ table listed_item n g.items (length w₁) (8 * length s) r w₂ → ListsTree s (length w) r.to w₂
+        pub layout_shown : (r : Printed) (w₂ : List ℕ) → ShowsAll (ItemGood a.width.bytes) (item_bytes a.width.bytes) s w₁ a.texts listed_item n g.items (length w₁) (8 * length s) r w₂ → ListsTree s (length w) r.to w₂
         layout_shown r w₂ h = shown room w₁ there r w₂ (rw (v.wide, items_there) at h)
 
 pub ruleset validated = (rules, layout_fits, copy_inside, copy_room, layout_printable, layout_some, layout_shown)

@@ -7,11 +7,11 @@ ghost use Rattle.settling.specs.Print.{Printable};
 ghost use Rattle.listing.specs.Listing.{listed_alternative, listed_item};
 ghost use Rattle.listing.specs.Walk.{AlternativeGood, ItemGood, SomeOne, SomeAll, ShowsOne, ShowsAll};
 
+use crate::Page;
 use crate::alternatives::list_alternatives;
 use crate::head::put_head;
 use octets::numbers::{Width, u16_at};
 use settling::Printed;
-use texts::Map;
 
 // Where the first alternative of the nonterminal at a place stands, also where work ends close behind its command.
 fn first_behind(work: &[u8], at: usize, width: Width) -> usize
@@ -23,65 +23,40 @@ fn first_behind(work: &[u8], at: usize, width: Width) -> usize
 }
 
 // The lines of the alternatives of the nonterminal at a place.
-fn list_rest(
-    tape: &[u8],
-    work: &mut [u8],
-    m: Map,
-    width: Width,
-    at: usize,
-    lim: usize,
-    to: usize,
-) -> Printed
-    requires { Printable tape.now work.old m width.bytes lim to × (at + 13 + width.bytes ≤ length work.old) × SomeAll (AlternativeGood width.bytes) (alternative_bytes width.bytes) tape.now work.old m (le_at 2 work.old (at + 11 + width.bytes)) (first_alternative width.bytes work.old at) to }
-    ensures { ShowsAll (AlternativeGood width.bytes) (alternative_bytes width.bytes) tape.now work.old m listed_alternative (le_at 2 work.old (at + 11 + width.bytes)) (first_alternative width.bytes work.old at) lim to result work.new }
+fn list_rest(page: Page, work: &mut [u8], at: usize, to: usize) -> Printed
+    requires { Printable page.tape.now work.old page.m page.width.bytes page.lim to × (at + 13 + page.width.bytes ≤ length work.old) × SomeAll (AlternativeGood page.width.bytes) (alternative_bytes page.width.bytes) page.tape.now work.old page.m (le_at 2 work.old (at + 11 + page.width.bytes)) (first_alternative page.width.bytes work.old at) to }
+    ensures { ShowsAll (AlternativeGood page.entry.width.bytes) (alternative_bytes page.entry.width.bytes) page.entry.tape.now work.old page.entry.m listed_alternative (le_at 2 work.old (at + 11 + page.entry.width.bytes)) (first_alternative page.entry.width.bytes work.old at) page.entry.lim to result work.new }
 {
-    let n = usize::from(u16_at(work, at + 11 + width.bytes));
-    let a = first_behind(work, at, width);
-    list_alternatives(tape, work, m, width, a, n, lim, to)
+    let n = usize::from(u16_at(work, at + 11 + page.width.bytes));
+    let a = first_behind(work, at, page.width);
+    list_alternatives(page, work, a, n, to)
 }
 
 // The lines of the item at a place: none, if it is a terminal.
-fn list_item(
-    tape: &[u8],
-    work: &mut [u8],
-    m: Map,
-    width: Width,
-    at: usize,
-    lim: usize,
-    to: usize,
-) -> Printed
-    requires { Printable tape.now work.old m width.bytes lim to × SomeOne (ItemGood width.bytes) (item_bytes width.bytes) tape.now work.old m at to }
-    ensures { ShowsOne (ItemGood width.bytes) (item_bytes width.bytes) tape.now work.old m listed_item at lim to result work.new }
+fn list_item(page: Page, work: &mut [u8], at: usize, to: usize) -> Printed
+    requires { Printable page.tape.now work.old page.m page.width.bytes page.lim to × SomeOne (ItemGood page.width.bytes) (item_bytes page.width.bytes) page.tape.now work.old page.m at to }
+    ensures { ShowsOne (ItemGood page.entry.width.bytes) (item_bytes page.entry.width.bytes) page.entry.tape.now work.old page.entry.m listed_item at page.entry.lim to result work.new }
 {
     let c = work[at];
     if c == 16 {
-        let q = put_head(tape, work, m, width, at, lim, to);
-        return list_rest(tape, work, m, width, at, lim, q);
+        let q = put_head(page, work, at, to);
+        return list_rest(page, work, at, q);
     }
     Printed {
-        at: at + 9 + width.bytes,
+        at: at + 9 + page.width.bytes,
         to: to,
     }
 }
 
-// Those of n items.
-pub fn list_items(
-    tape: &[u8],
-    work: &mut [u8],
-    m: Map,
-    width: Width,
-    at: usize,
-    n: usize,
-    lim: usize,
-    to: usize,
-) -> Printed
-    requires { Printable tape.now work.old m width.bytes lim to × SomeAll (ItemGood width.bytes) (item_bytes width.bytes) tape.now work.old m n at to }
-    ensures { ShowsAll (ItemGood width.bytes) (item_bytes width.bytes) tape.now work.old m listed_item n at lim to result work.new }
+// Those of n items. The loop is that of list_alternatives; the clauses for a closure that changes work would be longer than it.
+pub fn list_items(page: Page, work: &mut [u8], at: usize, n: usize, to: usize) -> Printed
+    requires { Printable page.tape.now work.old page.m page.width.bytes page.lim to × SomeAll (ItemGood page.width.bytes) (item_bytes page.width.bytes) page.tape.now work.old page.m n at to }
+    ensures { ShowsAll (ItemGood page.entry.width.bytes) (item_bytes page.entry.width.bytes) page.entry.tape.now work.old page.entry.m listed_item n at page.entry.lim to result work.new }
 {
     let mut p = at;
     let mut q = to;
     for _ in 0..n {
-        let z = list_item(tape, work, m, width, p, lim, q);
+        let z = list_item(page, work, p, q);
         p = z.at;
         q = z.to;
     }

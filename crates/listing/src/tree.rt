@@ -3,10 +3,10 @@ ghost use Rattle.std.specs.Prelude.{false, ◌*◌, ◌≤◌, length};
 ghost use Rattle.validate.specs.Whole.{Valid};
 ghost use Rattle.listing.specs.Walk.{ListsTree};
 
+use crate::Page;
 use crate::items::list_items;
 use octets::numbers::Width;
 use octets::runs::copy;
-use texts::Map;
 use validate::Validated;
 use validate::entry::validate;
 use validate::regions::layout;
@@ -19,22 +19,15 @@ fn list_valid(tree: &[u8], work: &mut [u8], v: Validated) -> usize
     let size = tree.len() - v.at;
     let g = layout(size);
     copy(tree, v.at, tree.len(), work, g.items);
-    let m = Map {
-        base: v.atoms.base,
-        count: v.atoms.count,
-        buckets: v.atoms.buckets,
-    };
+    let m = v.atoms.texts;
     let lim = work.len();
-    let z = list_items(
-        tree,
-        work,
+    let page = Page {
+        tape: tree,
         m,
-        v.atoms.width,
-        g.items,
-        v.items,
+        width: v.atoms.width,
         lim,
-        8 * tree.len(),
-    );
+    };
+    let z = list_items(page, work, g.items, v.items, 8 * tree.len());
     z.to
 }
 

@@ -1,17 +1,15 @@
 -- Texts of a table put to an output, one behind the other: put_text, put_texts. Assumes nothing.
 use mathlib.Core.Path.{◌≡◌, refl, sym, ap, subst, ◌∙◌}
 use mathlib.Core.List.{List, [], ◌∷◌, ◌++◌}
-use Prim.Native.Nat.{ℕ, suc, ◌+◌, ◌-◌, ◌≤◌, ◌<◌}
+use Prim.Native.Nat.{ℕ, suc, ◌+◌, ◌≤◌, ◌<◌}
 use native.Mathlib.Omega.{arith}
 use borrow.Author.Rules.{rules}
-use lib.ListN.{length, drop, set, length-set, length-append, drop_of_length-le}
-use lib.Seq.{take_all, drop-cons}
+use lib.ListN.{length, drop, length-append, drop_of_length-le}
+use lib.Seq.{drop-cons}
 use mir.Syntax.{w16}
 use mir.Val.{Fits}
 use Rattle.octets.specs.Plain.Numbers.{le}
-use Rattle.octets.specs.Plain.Runs.{part}
 use Rattle.octets.specs.Working.Stores.{store}
-use Rattle.octets.proofs.NumbersLaws.{length-le}
 use Rattle.octets.proofs.StoreLaws.{store-none, store-append, length_store}
 use Rattle.parse_tree.specs.Plain.Tree.{Text}
 use Rattle.parse_tree.specs.Plain.WriteTape.{bytes_of_each}

@@ -5,7 +5,7 @@ use Prim.Native.Nat.{ℕ, ◌+◌, ◌-◌, ◌*◌, ◌/◌, ◌<◌, ◌≤◌
 use native.Mathlib.Omega.{arith}
 use borrow.Author.Rules.{rules}
 use borrow.Author.Tests.{lt-leb, le-leb, leb-true, leb-false, lt-ltb, le-ltb}
-use lib.Dec.{leb}
+use lib.Dec.{leb, ltb}
 use Rattle.octets.specs.Working.Choice.{pick}
 use Rattle.parse_tree.specs.Working.Refusals.{refusal_at}
 use Rattle.parse_tree.specs.declared.refusal.Refusal.{Refusal}
@@ -54,12 +54,21 @@ module _ (v : Written) (room : Room) (at : ℕ) (f : Option ℕ) (cap : ℕ) whe
   unfolding sized_levels
   levels-long why o h = rw (h, o) refl
 
-  pub levels-over : (r : Result ℕ Refusal) (bytes : ℕ) → f ≡ Some bytes → room.lim < v.to → r ≡ sized v.count (cap + 1) cap → r ≡ sized_levels v room at f cap
+  pub levels-over : (why : Refusal) (bytes : ℕ) → why ≡ refusal_at 21 0 → f ≡ Some bytes → room.lim < v.to → v.count ≤ 65536 → Err why ≡ sized_levels v room at f cap
   unfolding sized_levels pick
-  levels-over r bytes h l e = rw (h, lt-ltb room.lim v.to l) e
+  levels-over why bytes o h l k = rw (h, lt-ltb room.lim v.to l, le-ltb 65536 v.count k, o) refl
+
+  -- where the items don't fit, atoms that are too many come first
+  pub levels-many : (r : Result ℕ Refusal) (bytes : ℕ) → f ≡ Some bytes → 65536 < v.count → r ≡ sized v.count (at + bytes + (v.to - room.at)) cap → r ≡ sized_levels v room at f cap
+  unfolding sized_levels sized pick
+  levels-many r bytes h l e = let z = lt-ltb 65536 v.count l in rw (h, z) (go (ltb room.lim v.to) (rw z at e))
+    where
+      go : (b : Bool) → r ≡ Err (refusal_at 20 0) → r ≡ pick b (Err (refusal_at 20 0)) (Err (refusal_at 20 0))
+      go true k = k
+      go false k = k
 
   pub levels-fit : (r : Result ℕ Refusal) (bytes : ℕ) → f ≡ Some bytes → v.to ≤ room.lim → r ≡ sized v.count (at + bytes + (v.to - room.at)) cap → r ≡ sized_levels v room at f cap
   unfolding sized_levels pick
   levels-fit r bytes h l e = rw (h, le-ltb room.lim v.to l) e
 
-pub ruleset judging_levels = (rules, levels-long, levels-over, levels-fit)
+pub ruleset judging_levels = (rules, levels-long, levels-over, levels-many, levels-fit)

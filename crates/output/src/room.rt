@@ -49,14 +49,15 @@ pub fn judge_levels(
     fresh: Option<usize>,
     output: usize,
 ) -> Result<usize, Refusal>
-    requires { (room.at ≤ v.to) × (output < 9223372036854775808) × IfSome fresh (λ bytes. at + bytes + v.to < 18446744073709551616) }
+    requires { (room.at ≤ v.to) × IfSome fresh (λ bytes. at + bytes + v.to < 18446744073709551616) }
     ensures { result ≡ sized_levels v room at fresh output }
 {
     match fresh {
         None => Err(refusal::at(20, 0)),
         Some(bytes) => {
-            if room.lim < v.to {
-                judge(v.count, output + 1, output)
+            // Atoms that are too many come first: `judge` says so of them.
+            if room.lim < v.to && v.count <= 65536 {
+                Err(refusal::at(21, 0))
             } else {
                 judge(v.count, at + bytes + (v.to - room.at), output)
             }

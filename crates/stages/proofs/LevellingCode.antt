@@ -25,7 +25,7 @@ use Rattle.output.specs.Working.Handing.{Staged, HandsLevels, handed_levels}
 use Rattle.stages.specs.declared.levelling.Levelled.{Levelled}
 use Rattle.stages.specs.Levelling.{levelled_of, SomeAdmitted, SomeLevels, SomeFitting, LevelsTo}
 use Rattle.stages.proofs.LevellingMeanStage.{some_grammar, levels-refused, levels-written}
-use Rattle.stages.proofs.LevellingMeanSize.{levels-naming, levels-from, levels-cap, levels-sum, levels-no, levels-fitting, levels-size}
+use Rattle.stages.proofs.LevellingMeanSize.{levels-naming, levels-from, levels-sum, levels-no, levels-fitting, levels-size}
 use Rattle.stages.proofs.LevellingMeanFits.{fitting_hands, fitting_yes}
 
 -- ---- `level`
@@ -55,7 +55,7 @@ module _ (s : List ℕ) (cap : ℕ) (m : Map) (at : ℕ) (room : Room) (v : Writ
   unfolding LevelsTo
   level_yes n e = (levels-fitting s cap m at room v w L f c y j n e, levels-size s cap m at room v w L f c y j n e)
 
-pub ruleset level_judging = (rules, levels-naming, levels-from, levels-cap, level_no, level_yes)
+pub ruleset level_judging = (rules, levels-naming, levels-from, level_no, level_yes)
 
 -- ---- the pass: x is what `level` answered
 module _ (s o : List ℕ) (m : Map) (at : ℕ) (x : Result Levelled Refusal) (w : List ℕ) (i : LevelsTo s (length o) m at x w) where

@@ -5,7 +5,7 @@ use mathlib.Core.Logic.{◌⊎◌, inl, inr}
 use mathlib.Core.List.{List, ◌++◌}
 use Prim.Native.Nat.{ℕ, ◌+◌, ◌-◌, ◌*◌, ◌/◌, ◌^◌, ◌≤◌, ◌<◌}
 use native.Mathlib.Omega.{arith}
-use borrow.Author.Tests.{lt-ltb, ltb-true, ltb-false, leb-true, leb-false, le-leb, lt-leb}
+use borrow.Author.Tests.{ltb-true, ltb-false, leb-true, leb-false, le-leb, lt-leb}
 use lib.Dec.{leb, ltb}
 use lib.ListN.{length, length-append}
 use Rattle.octets.specs.Plain.Runs.{part, Lies}
@@ -157,9 +157,6 @@ module _ (s : List ℕ) (cap : ℕ) (m : Map) (at : ℕ) (room : Room) (v : Writ
     pub levels-from : room.at ≤ v.to
     levels-from = to_from
 
-    pub levels-cap : length w * 1 < 2 ^ 63 → cap < 9223372036854775808
-    levels-cap h = omega (arith, L.enough)
-
     -- theorem: the sum doesn't wrap
     pub levels-sum : length w * 1 < 2 ^ 63 → IfSome f (λ bytes. at + bytes + v.to < 18446744073709551616)
     levels-sum h = go f bytes_is
@@ -193,7 +190,7 @@ module _ (s : List ℕ) (cap : ℕ) (m : Map) (at : ℕ) (room : Room) (v : Writ
               (pick (ltb room.lim v.to) (pick (ltb 65536 v.count) (Err (refusal_at 20 0)) (Err (refusal_at 21 0)))
               (pick (ltb 65536 v.count) (Err (refusal_at 20 0)) (pick (ltb cap (at + bytes_in g + (v.to - room.at))) (Err (refusal_at 21 0)) (Ok (at + bytes_in g + (v.to - room.at))))))
           go None k = k
-          go (Some b) k = let z : ltb cap (cap + 1) ≡ true = lt-ltb cap (cap + 1) (omega arith) in rw z at k
+          go (Some b) k = k
 
       yes_no : (n : ℕ) (why : Refusal) → Ok n ≡ Err why → ⊥
       yes_no n why z = let q : ◌≡◌ {A = ℕ} 0 1 = cc in omega arith

@@ -31,10 +31,9 @@ use Rattle.parse_tree.proofs.ReadingLaws.{then-got, got_as}
 use Rattle.parse_tree.proofs.ItemFound.{item_finds}
 use Rattle.texts.specs.Atoms.{atoms_of}
 use Rattle.texts.specs.Fields.{cell_at}
-use Rattle.texts.specs.declared.Map.{Map}
 use Rattle.texts.proofs.AtomsLaws.{length_atoms}
 use Rattle.texts.proofs.TableStays.{le_at-agree, linked-le}
-use Rattle.validate.specs.Steps.{Refuses, map_of}
+use Rattle.validate.specs.Steps.{Refuses}
 use Rattle.validate.specs.Regions.{regions_of}
 use Rattle.validate.specs.Whole.{Valid, Validates}
 use Rattle.validate.specs.declared.Atoms.{Atoms}
@@ -68,10 +67,10 @@ items_named ts (terminal s o x ∷ is) w h = omega (arith, number-below ts x w.0
 -- ---- a tape that was validated
 module _ (s w : List ℕ) (a : Atoms) (at n : ℕ) (v : Valid true 2 s w a at n) (b : (j : ℕ) → Bound.Fits w8 (get_or s j 0)) where
   abbrev ts : List Text
-  ts = atoms_of s a.count
+  ts = atoms_of s a.texts.count
 
   abbrev tape : Stage
-  tape = record { atoms = atoms_of s a.count; items = v.items }
+  tape = record { atoms = atoms_of s a.texts.count; items = v.items }
 
   abbrev atoms : List ℕ
   atoms = bytes_of_each (atom_bytes 2) ts
@@ -124,9 +123,6 @@ module _ (s w : List ℕ) (a : Atoms) (at n : ℕ) (v : Valid true 2 s w a at n)
       ∙ ap (take (length s - at)) (drop-append_seam atoms (each v.items)) ∙ take_all (length s - at) (each v.items) (omega (arith, ends))
 
   -- ---- the grammar in work: w₁ is work with the items
-  abbrev table : Map
-  table = record { base = a.base; count = a.count; buckets = a.buckets }
-
   abbrev grammar : Grammar
   grammar = record { at = 7 * size; end = 7 * size + size; list = 48; count = n; width = a.width }
 
@@ -137,17 +133,16 @@ module _ (s w : List ℕ) (a : Atoms) (at n : ℕ) (v : Valid true 2 s w a at n)
     copied_long : length (part at (length s) s) ≡ size
     copied_long = part_length at (length s) s (omega arith)
 
-    records : a.base + 24 * a.count ≤ length w₁
-    unfolding map_of
+    records : a.texts.base + 24 * a.texts.count ≤ length w₁
     records = let z = v.ready.ready.table.room in omega (arith, long)
 
     many_fit : 0 < n → 48 + 8 * n ≤ 7 * size
     many_fit h = omega (arith, items_long ts v.items, v.many, ends)
 
-    named : 0 < n → 0 < a.count
-    named h = omega (arith, items_named ts v.items within.items (omega (arith, v.many)), length_atoms s a.count)
+    named : 0 < n → 0 < a.texts.count
+    named h = omega (arith, items_named ts v.items within.items (omega (arith, v.many)), length_atoms s a.texts.count)
 
-    valid_standing : Standing table grammar (length w₁)
+    valid_standing : Standing a.texts grammar (length w₁)
     valid_standing = record {
       records = records;
       listed = λ h. omega (arith, many_fit h, long, v.ready.inside);
@@ -164,7 +159,7 @@ module _ (s w : List ℕ) (a : Atoms) (at n : ℕ) (v : Valid true 2 s w a at n)
     behind_same : (k x : ℕ) → 7 * size + size ≤ x → le_at k w₁ x ≡ le_at k w x
     behind_same k x h = ap (λ (u : List ℕ). le_at k u x) copied ∙ le_at-other k w (7 * size) (part at (length s) s) x (inr (omega (arith, copied_long)))
 
-    holds : ((j : ℕ) → Bound.Fits w8 (get_or w₁ j 0)) → Holds w₁ table grammar ts v.items
+    holds : ((j : ℕ) → Bound.Fits w8 (get_or w₁ j 0)) → Holds w₁ a.texts grammar ts v.items
     unfolding cell_at
     holds f =
         let y : 7 * size + length (part at (length s) s) ≡ 7 * size + size = omega (arith, copied_long) in
@@ -178,16 +173,16 @@ module _ (s w : List ℕ) (a : Atoms) (at n : ℕ) (v : Valid true 2 s w a at n)
           many = v.many;
           places = λ i h. rw v.wide (before_same 8 (48 + 8 * i) (omega (arith, many_fit (omega arith))) ∙ v.noted i h);
           distinct = v.ready.apart;
-          texts = sym (length_atoms s a.count);
-          blank = λ k h. behind_same 4 (a.base + 24 * k + 20) (omega (arith, v.base)) ∙ v.ready.ready.blank k h;
+          texts = sym (length_atoms s a.texts.count);
+          blank = λ k h. behind_same 4 (a.texts.base + 24 * k + 20) (omega (arith, v.base)) ∙ v.ready.ready.blank k h;
           items_apart = inl (omega (arith, v.base));
           list_apart = λ h. inl (omega (arith, many_fit h, v.base));
           apart = λ h. inr (omega (arith, many_fit h));
         }
 
     -- r is what the pass answered, and w₂ what it left
-    module _ (f : (j : ℕ) → Bound.Fits w8 (get_or w₁ j 0)) (r : Result (Unit {0}) Refusal) (w₂ : List ℕ) (i : Resolves table grammar w₁ r w₂) where
-      answers : Answers table grammar ts (resolve v.items) w₁ r w₂
+    module _ (f : (j : ℕ) → Bound.Fits w8 (get_or w₁ j 0)) (r : Result (Unit {0}) Refusal) (w₂ : List ℕ) (i : Resolves a.texts grammar w₁ r w₂) where
+      answers : Answers a.texts grammar ts (resolve v.items) w₁ r w₂
       unfolding Resolves
       answers = i ts v.items (holds f)
 
@@ -199,42 +194,41 @@ module _ (s w : List ℕ) (a : Atoms) (at n : ℕ) (v : Valid true 2 s w a at n)
       unfolding Answers StandsBy
       valid_refused why e = reads (Err why) (go (resolve v.items) answers)
         where
-          go : (o : Outcome Tree) → Answers table grammar ts o w₁ r w₂ → StandsBy s tape o (Err why) w₂
+          go : (o : Outcome Tree) → Answers a.texts grammar ts o w₁ r w₂ → StandsBy s tape o (Err why) w₂
           go (yes R) k = absurd (fine_not (sym k.0 ∙ e))
           go (no q p) k = let z : why ≡ refusal_over q p = cc in rw z refl
 
       -- the items resolved stand where the items stood, the table stands but for its cells
-      module _ (R : Tree) (yes-is : resolve v.items ≡ yes R) (k : Became table grammar ts R w₁ w₂) where
+      module _ (R : Tree) (yes-is : resolve v.items ≡ yes R) (k : Became a.texts grammar ts R w₁ w₂) where
         alike : KeptItems true 2 ts v.items R
         alike = resolve-alike true 2 ts v.items R yes-is
 
-        few : a.buckets ≤ a.count
-        few = omega (arith, v.buckets, linked-le a.count)
+        few : a.texts.buckets ≤ a.texts.count
+        few = omega (arith, v.buckets, linked-le a.texts.count)
 
-        record_kept : (j x : ℕ) → j < a.count → a.base + 24 * j ≤ x → x < a.base + 24 * j + 20 → get_or w₂ x 0 ≡ get_or w x 0
+        record_kept : (j x : ℕ) → j < a.texts.count → a.texts.base + 24 * j ≤ x → x < a.texts.base + 24 * j + 20 → get_or w₂ x 0 ≡ get_or w x 0
         record_kept j x h l u =
-            k.others x (record_free table grammar j x (omega (arith, v.base)) l u) ∙ ap (λ (y : List ℕ). get_or y x 0) copied
+            k.others x (record_free a.texts grammar j x (omega (arith, v.base)) l u) ∙ ap (λ (y : List ℕ). get_or y x 0) copied
             ∙ get_d_store_after w (7 * size) (part at (length s) s) x (omega (arith, copied_long, v.base))
 
         listed : (j : ℕ) → j < n → le_at 8 w₂ (48 + 8 * j) ≡ length (bytes_of_each (item_bytes 2 ts) (take j R))
         listed j h =
             let l = many_fit (omega arith) in
-            le_at-agree 8 w₁ w₂ (48 + 8 * j) (λ x p q. k.others x (before-free table grammar x (omega arith) (omega (arith, v.base))))
+            le_at-agree 8 w₁ w₂ (48 + 8 * j) (λ x p q. k.others x (before-free a.texts grammar x (omega arith) (omega (arith, v.base))))
             ∙ before_same 8 (48 + 8 * j) (omega arith) ∙ v.noted j h ∙ sym (alike.sizes j)
 
-        levelable : Levelable s w₂ table grammar at ts R
-        unfolding map_of
+        levelable : Levelable s w₂ a.texts grammar at ts R
         levelable =
             let g = v.ready.ready.table in
             let l = k.long ∙ long in
             let c = atoms_long ts in
-            let z = length_atoms s a.count in
+            let z = length_atoms s a.texts.count in
             let m = v.many ∙ sym alike.many in
             record {
-              table = table-but_cells s w w₂ table g v.above l few record_kept;
-              texts-are = texts-but_cells s w w₂ table g v.above l few record_kept ∙ v.ready.ready.same;
-              on_tape = above_but_cells s w w₂ table g v.above l few record_kept;
-              some = λ h. rw v.buckets (some_linked a.count (named (omega (arith, m))));
+              table = table-but_cells s w w₂ a.texts g v.above l few record_kept;
+              texts-are = texts-but_cells s w w₂ a.texts g v.above l few record_kept ∙ v.ready.ready.same;
+              on_tape = above_but_cells s w w₂ a.texts g v.above l few record_kept;
+              some = λ h. rw v.buckets (some_linked a.texts.count (named (omega (arith, m))));
               narrower = few;
               width = v.wide;
               row = row_start grammar ts w₂ R m (λ j h. rw v.wide (listed j h)) k.lies;
@@ -246,16 +240,16 @@ module _ (s w : List ℕ) (a : Atoms) (at n : ℕ) (v : Valid true 2 s w a at n)
               heads = omega (arith, v.base, begins, v.ready.inside, few);
             }
 
-      valid_fine : r ≡ Ok tt → TapeResolves s (Ok (record { texts = table; grammar = grammar; at = at })) w₂
+      valid_fine : r ≡ Ok tt → TapeResolves s (Ok (record { texts = a.texts; grammar = grammar; at = at })) w₂
       unfolding Answers StandsBy
-      valid_fine e = reads (Ok (record { texts = table; grammar = grammar; at = at })) (go (resolve v.items) refl answers)
+      valid_fine e = reads (Ok (record { texts = a.texts; grammar = grammar; at = at })) (go (resolve v.items) refl answers)
         where
-          go : (o : Outcome Tree) → resolve v.items ≡ o → Answers table grammar ts o w₁ r w₂ → StandsBy s tape o (Ok (record { texts = table; grammar = grammar; at = at })) w₂
+          go : (o : Outcome Tree) → resolve v.items ≡ o → Answers a.texts grammar ts o w₁ r w₂ → StandsBy s tape o (Ok (record { texts = a.texts; grammar = grammar; at = at })) w₂
           go (yes R) q k = record {
-            found = record { texts = table; grammar = grammar; at = at };
+            found = record { texts = a.texts; grammar = grammar; at = at };
             is = refl;
             within = within;
-            many = sym (length_atoms s a.count);
+            many = sym (length_atoms s a.texts.count);
             inside = v.ready.inside;
             atoms = atoms_part;
             room = omega (arith, long, k.1.long);
@@ -294,14 +288,14 @@ module _ (s w : List ℕ) (a : Atoms) (at n : ℕ) (v : Valid true 2 s w a at n)
         there : w₁ ≡ store w (7 * size) (part at (length s) s)
         there = copied ∙ ap (λ (p : ℕ). store w p (part at (length s) s)) items_there
 
-        pub layout_standing : Standing table (grammar_of g) (length w₁)
+        pub layout_standing : Standing a.texts (grammar_of g) (length w₁)
         layout_standing = rw (items_there, list_there) (valid_standing room w₁ there)
 
-        module _ (f : (j : ℕ) → Bound.Fits w8 (get_or w₁ j 0)) (r : Result (Unit {0}) Refusal) (w₂ : List ℕ) (i : Resolves table (grammar_of g) w₁ r w₂) where
+        module _ (f : (j : ℕ) → Bound.Fits w8 (get_or w₁ j 0)) (r : Result (Unit {0}) Refusal) (w₂ : List ℕ) (i : Resolves a.texts (grammar_of g) w₁ r w₂) where
           pub layout_refused : (why : Refusal) → r ≡ Err why → TapeResolves s (Err why) w₂
           layout_refused why k = valid_refused room w₁ there f r w₂ (rw (items_there, list_there) at i) why k
 
-          pub layout_fine : r ≡ Ok tt → TapeResolves s (Ok (record { texts = table; grammar = grammar_of g; at = at })) w₂
+          pub layout_fine : r ≡ Ok tt → TapeResolves s (Ok (record { texts = a.texts; grammar = grammar_of g; at = at })) w₂
           layout_fine k = rw (items_there, list_there) (valid_fine room w₁ there f r w₂ (rw (items_there, list_there) at i) k)
 
 pub ruleset validated = (rules, layout_fits, copy_inside, copy_room, grammar_fits, layout_standing, layout_refused, layout_fine)

@@ -41,7 +41,7 @@ module _ (s w w₁ w₂ : List ℕ) (x : Result Validated Refusal) (i : Validate
   unfolding Validates answer_of
   tape_valid u e b =
       let v : Valid true 2 s w₁ u.atoms u.at u.items = rw e at i in
-      let g : Stage = record { atoms = atoms_of s u.atoms.count; items = v.items } in
+      let g : Stage = record { atoms = atoms_of s u.atoms.texts.count; items = v.items } in
       let t : tape_of 2 g ≡ s = tape_is 2 g ∙ (written true 2 s g (length s) (λ j. (b j).fits) v.decoded).bytes in
       judged (Ok (length s)) (ap (λ (y : List ℕ). Ok (length y)) (sym t) ∙ sym (ap (λ (r : Reading Stage). answer_of (read_as r)) (read_is true 2 s ∙ v.decoded)))
 

@@ -12,7 +12,6 @@ use output::handing::hand_over;
 use parse_tree::refusal::Refusal;
 use resolve::Grammar;
 use resolve::whole::resolve;
-use texts::Map;
 use validate::Validated;
 use validate::entry::validate;
 use validate::regions::layout;
@@ -25,11 +24,7 @@ fn resolve_valid(tape: &[u8], work: &mut [u8], v: Validated) -> Result<Resolved,
     let size = tape.len() - v.at;
     let g = layout(size);
     copy(tape, v.at, tape.len(), work, g.items);
-    let m = Map {
-        base: v.atoms.base,
-        count: v.atoms.count,
-        buckets: v.atoms.buckets,
-    };
+    let m = v.atoms.texts;
     let t = Grammar {
         at: g.items,
         end: g.items + size,

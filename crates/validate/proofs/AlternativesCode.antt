@@ -92,12 +92,12 @@ module _ (s : List ℕ) (m : Atoms) (at : ℕ) (a : AlternativeNode) (g : Passed
   pub alternative_fits_lem : (z : ℕ) → z ≡ 14 + m.width.bytes → length s < 2 ^ 64 → Fits w64 (at + z)
   alternative_fits_lem z e l = record { fits = omega (arith, g.room) }
 
-  pub alternative_quick : (y : Result ℕ Refusal) → y ≡ step_of (alternative_parts m.four m.width.bytes s (atoms_of s m.count) a (at + (14 + m.width.bytes)))
-      → y ≡ step_of (read_alternative m.four m.width.bytes s (atoms_of s m.count) at)
+  pub alternative_quick : (y : Result ℕ Refusal) → y ≡ step_of (alternative_parts m.four m.width.bytes s (atoms_of s m.texts.count) a (at + (14 + m.width.bytes)))
+      → y ≡ step_of (read_alternative m.four m.width.bytes s (atoms_of s m.texts.count) at)
   unfolding asked_of
   alternative_quick y p =
       let e : ℕ = at + (14 + m.width.bytes) in
-      alternative_whole m.four s m.width.bytes m.count at (Ok (Node.Alternative a, e)) (sym (ap asked_of g.asked)) (Node.Alternative a) e refl a y refl p
+      alternative_whole m.four s m.width.bytes m.texts.count at (Ok (Node.Alternative a, e)) (sym (ap asked_of g.asked)) (Node.Alternative a) e refl a y refl p
 
 pub ruleset alternative = (rules, alternative_refused, alternative_other, alternative_whole, alternative_fits_lem, alternative_quick)
 

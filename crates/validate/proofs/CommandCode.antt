@@ -174,9 +174,9 @@ pub commands_none : (four : Bool) (s : List ℕ) (w atoms place k p : ℕ) (x : 
 commands_none four s w atoms place k p x inv h = times_none (ask four w s (atoms_of s atoms) place 1) k p x inv h
 
 -- f is what the quick look answered
-pub commands_quick : (s : List ℕ) (m : Atoms) (place k p f : ℕ) (x : Result ℕ Refusal) → step_of (times (ask m.four m.width.bytes s (atoms_of s m.count) place 1) k p) ≡ x → PassedCommand s m place p f → (j : ℕ) → k ≡ j + 1
-    → step_of (times (ask m.four m.width.bytes s (atoms_of s m.count) place 1) j f) ≡ x
+pub commands_quick : (s : List ℕ) (m : Atoms) (place k p f : ℕ) (x : Result ℕ Refusal) → step_of (times (ask m.four m.width.bytes s (atoms_of s m.texts.count) place 1) k p) ≡ x → PassedCommand s m place p f → (j : ℕ) → k ≡ j + 1
+    → step_of (times (ask m.four m.width.bytes s (atoms_of s m.texts.count) place 1) j f) ≡ x
 unfolding step_of
-commands_quick s m place k p f x inv g j l = times-next (ask m.four m.width.bytes s (atoms_of s m.count) place 1) k p x inv f j (rw g.asked) l
+commands_quick s m place k p f x inv g j l = times-next (ask m.four m.width.bytes s (atoms_of s m.texts.count) place 1) k p x inv f j (rw g.asked) l
 
 pub ruleset commands = (rules, commands_next, commands_stop, commands_none, commands_quick)

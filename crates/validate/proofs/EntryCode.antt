@@ -19,7 +19,7 @@ use Rattle.parse_tree.specs.Plain.Texts.{distinct}
 use Rattle.texts.specs.Atoms.{atoms_of, place_of}
 use Rattle.texts.specs.declared.Map.{Map}
 use Rattle.texts.specs.Table.{linked}
-use Rattle.validate.specs.Steps.{map_of, Refuses, Noted, Lists}
+use Rattle.validate.specs.Steps.{Refuses, Noted, Lists}
 use Rattle.validate.specs.Front.{Counted, Starts, All, Twice, Fronted}
 use Rattle.validate.specs.Whole.{Fronts, Validates}
 use Rattle.validate.specs.declared.Atoms.{Atoms}
@@ -28,7 +28,7 @@ use Rattle.validate.proofs.FrontReads.{reads_all, reads_again}
 
 -- the table of the atoms with the width of their numbers
 abbrev table_of : Bool → Width → Map → Atoms
-table_of four width t = record { base = t.base; count = t.count; buckets = t.buckets; width = width; four = four }
+table_of four width t = record { texts = t; width = width; four = four }
 
 pub front_starts : (s w : List ℕ) (at n : ℕ) → Counted s at n → 8 * length s ≤ length w → Starts s w at n
 front_starts s w at n g h = record { here = g.here; inside = g.inside; small = h }
@@ -50,7 +50,6 @@ module _ (four : Bool) (width : Width) (s w : List ℕ) (at n : ℕ) (g : Counte
     apart_now = ap (λ (k : ℕ). distinct (atoms_of s k)) all.count ∙ all.apart
 
     pub items_ready : ((j : ℕ) → Fits w8 (get_or s j 0)) → Fronts s w (table_of four width t) at
-    unfolding map_of
     items_ready b = record {
       listing = record {
         ready = record {
@@ -75,23 +74,23 @@ pub ruleset wholes = (rules, front_starts, atoms_refused, items_ready)
 
 -- ---- `validate_items`: y is what `items` answered, w1 what it left
 module _ (s w : List ℕ) (m : Atoms) (at : ℕ) (g : Fronts s w m at) (y : Result ℕ Refusal) (w1 : List ℕ) (j : Lists s m at y w1) where
-  behind : decode_by m.four m.width.bytes s ≡ then (read_items m.four m.width.bytes s (atoms_of s m.count) (length s) at) (λ is d. got (record { atoms = atoms_of s m.count; items = is }) d)
+  behind : decode_by m.four m.width.bytes s ≡ then (read_items m.four m.width.bytes s (atoms_of s m.texts.count) (length s) at) (λ is d. got (record { atoms = atoms_of s m.texts.count; items = is }) d)
   unfolding decode_by
-  behind = then_is (read_atoms m.four m.width.bytes s (length s) [] 0) _ (atoms_of s m.count) at g.read
+  behind = then_is (read_atoms m.four m.width.bytes s (length s) [] 0) _ (atoms_of s m.texts.count) at g.read
 
   pub items_refused : (z : Refusal) → y ≡ Err z → Validates m.four m.width.bytes s (Err z) w1
   unfolding Lists Validates
   items_refused z f =
-      let q : Refuses (read_items m.four m.width.bytes s (atoms_of s m.count) (length s) at) z = rw f at j in
-      let n = refuses_then (read_items m.four m.width.bytes s (atoms_of s m.count) (length s) at) _ z q in
+      let q : Refuses (read_items m.four m.width.bytes s (atoms_of s m.texts.count) (length s) at) z = rw f at j in
+      let n = refuses_then (read_items m.four m.width.bytes s (atoms_of s m.texts.count) (length s) at) _ z q in
       record { is = behind ∙ n.is; twice = n.twice }
 
   pub items_valid : (k : ℕ) → y ≡ Ok k → ((i : ℕ) → Fits w8 (get_or s i 0)) → Validates m.four m.width.bytes s (Ok (record { atoms = m; at = at; items = k })) w1
   unfolding Lists Validates
   items_valid k f b =
       let x : Noted s w1 m at k = rw f at j in
-      let tree : Stage = record { atoms = atoms_of s m.count; items = x.items } in
-      let z : decode_by m.four m.width.bytes s ≡ got tree x.end = behind ∙ then_is (read_items m.four m.width.bytes s (atoms_of s m.count) (length s) at) _ x.items x.end x.read in
+      let tree : Stage = record { atoms = atoms_of s m.texts.count; items = x.items } in
+      let z : decode_by m.four m.width.bytes s ≡ got tree x.end = behind ∙ then_is (read_items m.four m.width.bytes s (atoms_of s m.texts.count) (length s) at) _ x.items x.end x.read in
       let l : x.end ≡ length s = (written m.four m.width.bytes s tree x.end (λ n. (b n).fits) z).end in
       record {
         items = x.items;

@@ -78,18 +78,18 @@ module _ (s : List ℕ) (m : Atoms) (at : ℕ) (d : NonterminalData) (g : Passed
   pub nonterminal_fits : (z : ℕ) → z ≡ 13 + m.width.bytes → length s < 2 ^ 64 → Fits w64 (at + z)
   nonterminal_fits z e l = record { fits = omega (arith, g.room) }
 
-  pub nonterminal_quick : (y : Result ℕ Refusal) → y ≡ step_of (nonterminal_parts m.four m.width.bytes s (atoms_of s m.count) d (at + (13 + m.width.bytes)))
-      → y ≡ step_of (read_item m.four m.width.bytes s (atoms_of s m.count) at)
+  pub nonterminal_quick : (y : Result ℕ Refusal) → y ≡ step_of (nonterminal_parts m.four m.width.bytes s (atoms_of s m.texts.count) d (at + (13 + m.width.bytes)))
+      → y ≡ step_of (read_item m.four m.width.bytes s (atoms_of s m.texts.count) at)
   unfolding asked_of
   nonterminal_quick y p =
       let e : ℕ = at + (13 + m.width.bytes) in
-      item_whole m.four s m.width.bytes m.count at (Ok (Node.Nonterminal d, e)) (sym (ap asked_of g.asked)) (Node.Nonterminal d) e refl d y refl p
+      item_whole m.four s m.width.bytes m.texts.count at (Ok (Node.Nonterminal d, e)) (sym (ap asked_of g.asked)) (Node.Nonterminal d) e refl d y refl p
 
 -- e is the place behind what the look at a terminal found
-pub terminal_quick : (s : List ℕ) (m : Atoms) (at e : ℕ) → PassedTerminal s m at e → Ok e ≡ step_of (read_item m.four m.width.bytes s (atoms_of s m.count) at)
+pub terminal_quick : (s : List ℕ) (m : Atoms) (at e : ℕ) → PassedTerminal s m at e → Ok e ≡ step_of (read_item m.four m.width.bytes s (atoms_of s m.texts.count) at)
 unfolding asked_of
 terminal_quick s m at e g =
-    item_terminal m.four s m.width.bytes m.count at (Ok (Node.Terminal (terminal_here m.width.bytes s at), e))
+    item_terminal m.four s m.width.bytes m.texts.count at (Ok (Node.Terminal (terminal_here m.width.bytes s at), e))
     (sym (ap asked_of g.asked)) (Node.Terminal (terminal_here m.width.bytes s at)) e refl (terminal_here m.width.bytes s at) refl
 
 pub ruleset item = (rules, item_refused, item_other, item_terminal, item_whole, nonterminal_fits, nonterminal_quick, terminal_quick)

@@ -34,25 +34,24 @@ use Rattle.texts.specs.Atoms.{atoms_of}
 use Rattle.texts.specs.Fields.{class_at}
 use Rattle.texts.specs.Table.{Above, Stays}
 use Rattle.texts.proofs.TableStays.{stays_below, above_stays}
-use Rattle.validate.specs.Steps.{map_of, step_of, Listing, Lists}
+use Rattle.validate.specs.Steps.{step_of, Listing, Lists}
 use Rattle.validate.specs.declared.Atoms.{Atoms}
 use Rattle.std.specs.Prelude.{Result, Ok, Err}
 use Rattle.validate.proofs.CommandCode.{step-got, step-refused, then_is, refuses_then}
 
 -- ---- the table stays where what is written ends before it
-module _ (s w w1 : List ℕ) (m : Atoms) (at to : ℕ) (vs : List ℕ) (g : Listing s w m at) (o : w1 ≡ store w to vs) (h : to + length vs ≤ m.base) where
-  unchanged : Stays s w (map_of m) w1 (map_of m)
-  unfolding map_of
+module _ (s w w1 : List ℕ) (m : Atoms) (at to : ℕ) (vs : List ℕ) (g : Listing s w m at) (o : w1 ≡ store w to vs) (h : to + length vs ≤ m.texts.base) where
+  unchanged : Stays s w m.texts w1 m.texts
   unchanged =
-      let r : m.base ≤ length w = omega (arith, g.ready.ready.table.room) in
-      stays_below s w w1 (map_of m) (length w) to vs g.ready.ready.table g.above o (omega arith) h
+      let r : m.texts.base ≤ length w = omega (arith, g.ready.ready.table.room) in
+      stays_below s w w1 m.texts (length w) to vs g.ready.ready.table g.above o (omega arith) h
 
   listing_stays : Listing s w1 m at
-  unfolding map_of class_at
+  unfolding class_at
   listing_stays =
       let t = unchanged in
       let l : length w1 ≡ length w = ap length o ∙ length_store w to vs in
-      let a : Above s w1 (map_of m) (length w) = above_stays s w (map_of m) w1 (map_of m) (length w) t g.above in
+      let a : Above s w1 m.texts (length w) = above_stays s w m.texts w1 m.texts (length w) t g.above in
       record {
         ready = record {
           ready = record {
@@ -85,13 +84,13 @@ pub record Left (s : List ℕ) (m : Atoms) (at : ℕ) (w₀ w : List ℕ) (p k :
   pub done : List Item
   pub fuel : ℕ
   pub enough : length s ≤ p + fuel
-  pub rest : read_items m.four m.width.bytes s (atoms_of s m.count) (length s) at ≡ then (read_items m.four m.width.bytes s (atoms_of s m.count) fuel p) (λ ys d. got (done ++ ys) d)
+  pub rest : read_items m.four m.width.bytes s (atoms_of s m.texts.count) (length s) at ≡ then (read_items m.four m.width.bytes s (atoms_of s m.texts.count) fuel p) (λ ys d. got (done ++ ys) d)
   pub inside : p ≤ length s
   pub tabled : Listing s w m at
   pub many : k ≡ length done
-  pub here : p ≡ at + length (bytes_of_each (item_bytes m.width.bytes (atoms_of s m.count)) done)
+  pub here : p ≡ at + length (bytes_of_each (item_bytes m.width.bytes (atoms_of s m.texts.count)) done)
   pub few : at + 11 * k ≤ p
-  pub noted : (i : ℕ) → i < k → le_at 8 w (48 + 8 * i) ≡ length (bytes_of_each (item_bytes m.width.bytes (atoms_of s m.count)) (take i done))
+  pub noted : (i : ℕ) → i < k → le_at 8 w (48 + 8 * i) ≡ length (bytes_of_each (item_bytes m.width.bytes (atoms_of s m.texts.count)) (take i done))
 
 then-all : (r : Reading (List Item)) → r ≡ then r (λ ys d. got ([] ++ ys) d)
 unfolding then
@@ -121,7 +120,7 @@ items_start s w m at g = record {
 
 module _ (s : List ℕ) (m : Atoms) (at : ℕ) (w₀ w : List ℕ) (p k : ℕ) (inv : Left s m at w₀ w p k) where
   abbrev ts : List Text
-  ts = atoms_of s m.count
+  ts = atoms_of s m.texts.count
 
   abbrev bytes : List Item → List ℕ
   bytes = bytes_of_each (item_bytes m.width.bytes ts)
@@ -146,7 +145,7 @@ module _ (s : List ℕ) (m : Atoms) (at : ℕ) (w₀ w : List ℕ) (p k : ℕ) (
   items_behind = omega (arith, inv.few)
 
   -- r is the step over the next item
-  module _ (h : p < length s) (r : Result ℕ Refusal) (i : r ≡ step_of (read_item m.four m.width.bytes s (atoms_of s m.count) p)) where
+  module _ (h : p < length s) (r : Result ℕ Refusal) (i : r ≡ step_of (read_item m.four m.width.bytes s (atoms_of s m.texts.count) p)) where
     opened : read_items m.four m.width.bytes s ts inv.fuel p ≡ then (read_item m.four m.width.bytes s ts p) (λ y e. then (read_items m.four m.width.bytes s ts (inv.fuel - 1) e) (λ ys d. got (y ∷ ys) d))
     unfolding read_items
     opened = go inv.fuel inv.enough
@@ -178,11 +177,10 @@ module _ (s : List ℕ) (m : Atoms) (at : ℕ) (w₀ w : List ℕ) (p k : ℕ) (
           let l = item_long m.width.bytes ts y.value m.width.narrow in
           record { next = y.value; is = y.is; end = f.lies.end; long = l; inside = lies_inside s p e (item_bytes m.width.bytes ts y.value) (omega arith) f.lies }
 
-      below : 48 + 8 * k + 8 ≤ m.base
+      below : 48 + 8 * k + 8 ≤ m.texts.base
       below = omega (arith, inv.few, turn.end, turn.long, turn.inside, inv.tabled.base)
 
       pub note_room : 48 + 8 * k + 8 ≤ length w
-      unfolding map_of
       note_room = omega (arith, below, inv.tabled.ready.ready.table.room)
 
       pub count_fits : length s < 2 ^ 64 → Fits w64 (k + 1)

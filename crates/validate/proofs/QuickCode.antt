@@ -80,13 +80,13 @@ some_if P x false o g q = rw q tt
 -- ---- `passes`
 -- a kind that passes where b holds
 module _ (s : List ℕ) (m : Atoms) (c at : ℕ) (k : SymbolKind) (i : symbol_node_at m.width.bytes c s at ≡ Node.Symbol (span_in s (at + 1)) k) where
-  kinded : (z : ℕ) → true ≡ (symbol_defined m.count k && pick m.four (symbol_suits (atoms_of s m.count) k) true) → z ≡ size_of m.width.bytes (Node.Symbol (span_in s (at + 1)) k)
+  kinded : (z : ℕ) → true ≡ (symbol_defined m.texts.count k && pick m.four (symbol_suits (atoms_of s m.texts.count) k) true) → z ≡ size_of m.width.bytes (Node.Symbol (span_in s (at + 1)) k)
       → z ≤ 10 + m.width.bytes → Kinded s m c at z
   kinded z p q l =
-      let h = both (symbol_defined m.count k) (pick m.four (symbol_suits (atoms_of s m.count) k) true) (sym p) in
+      let h = both (symbol_defined m.texts.count k) (pick m.four (symbol_suits (atoms_of s m.texts.count) k) true) (sym p) in
       record { kind = k; is = i; defined = h.0; suited = h.1; long = q; small = l }
 
-  kinded_if : (b : Bool) (r : Option ℕ) (z : ℕ) → b ≡ (symbol_defined m.count k && pick m.four (symbol_suits (atoms_of s m.count) k) true) → z ≡ size_of m.width.bytes (Node.Symbol (span_in s (at + 1)) k)
+  kinded_if : (b : Bool) (r : Option ℕ) (z : ℕ) → b ≡ (symbol_defined m.texts.count k && pick m.four (symbol_suits (atoms_of s m.texts.count) k) true) → z ≡ size_of m.width.bytes (Node.Symbol (span_in s (at + 1)) k)
       → z ≤ 10 + m.width.bytes → r ≡ then_some b z → IfSome r (Kinded s m c at)
   kinded_if b r z p q l e = some_if (Kinded s m c at) z b r (λ t. kinded z (sym t ∙ p) q l) e
 
@@ -149,19 +149,19 @@ module _ (w : ℕ) (s : List ℕ) (c at : ℕ) (room : at + (10 + w) ≤ length 
   at_bare h f37 f38 f39 f40 f41 = simp (le-ltb c 37 h, ne_eqb c 37 f37, ne_eqb c 38 f38, ne_eqb c 39 f39, ne_eqb c 40 f40, ne_eqb c 41 f41) (wholly s at 9 _ (omega arith))
 
 module _ (s : List ℕ) (m : Atoms) (c at : ℕ) (room : at + (10 + m.width.bytes) ≤ length s) where
-  pub passes-named : (k : ℕ) (r : Option ℕ) (b : Bool) → c < 37 → k ≡ le_at m.width.bytes s (at + 9) → b ≡ (leaf_defined m.count (named_leaf c k) && pick m.four (leaf_suits (atoms_of s m.count) (named_leaf c k)) true)
+  pub passes-named : (k : ℕ) (r : Option ℕ) (b : Bool) → c < 37 → k ≡ le_at m.width.bytes s (at + 9) → b ≡ (leaf_defined m.texts.count (named_leaf c k) && pick m.four (leaf_suits (atoms_of s m.texts.count) (named_leaf c k)) true)
       → r ≡ then_some b (9 + m.width.bytes) → IfSome r (Kinded s m c at)
   unfolding symbol_defined symbol_suits
   passes-named k r b h e p q =
       kinded_if s m c at (SymbolKind.Leaf (named_leaf c k)) (at_named m.width.bytes s c at room m.width.narrow h ∙ ap (λ (x : ℕ). Node.Symbol (span_in s (at + 1)) (SymbolKind.Leaf (named_leaf c x))) (sym e)) b r (9 + m.width.bytes) p
       (leaf_size m.width.bytes _ (span_in s (at + 1)) _ refl (named_leaf c k) m.width.bytes refl (named-size m.width.bytes c k)) (omega arith) q
 
-  pub passes-macro : (k x : ℕ) (r : Option ℕ) (b : Bool) → c ≡ 37 → x ≡ get_or s (at + 9 + m.width.bytes) 0 → 1 ≤ x → k ≡ le_at m.width.bytes s (at + 9) → b ≡ (ltb k m.count && pick m.four (is_name (get_or (atoms_of s m.count) k [])) true)
+  pub passes-macro : (k x : ℕ) (r : Option ℕ) (b : Bool) → c ≡ 37 → x ≡ get_or s (at + 9 + m.width.bytes) 0 → 1 ≤ x → k ≡ le_at m.width.bytes s (at + 9) → b ≡ (ltb k m.texts.count && pick m.four (is_name (get_or (atoms_of s m.texts.count) k [])) true)
       → r ≡ then_some b (10 + m.width.bytes) → IfSome r (Kinded s m c at)
   unfolding symbol_defined symbol_suits
   passes-macro k x r b h y f e p q =
       let z : leb 1 (get_or s (at + 9 + m.width.bytes) 0) ≡ true = le-leb 1 (get_or s (at + 9 + m.width.bytes) 0) (omega arith) in
-      kinded_if s m c at _ (at-macro m.width.bytes s c at room m.width.narrow h) b r (10 + m.width.bytes) (simp (← e, z, ← and-true (ltb k m.count)) p)
+      kinded_if s m c at _ (at-macro m.width.bytes s c at room m.width.narrow h) b r (10 + m.width.bytes) (simp (← e, z, ← and-true (ltb k m.texts.count)) p)
       (macro_size m.width.bytes _ (span_in s (at + 1)) _ refl _ _ _ refl refl) (omega arith) q
 
   pub passes-repeat : (x : ℕ) (r : Option ℕ) (b : Bool) → c ≡ 38 → x ≡ get_or s (at + 9) 0 → b ≡ leb x 2 → r ≡ then_some b 10 → IfSome r (Kinded s m c at)
@@ -175,7 +175,7 @@ module _ (s : List ℕ) (m : Atoms) (c at : ℕ) (room : at + (10 + m.width.byte
   passes-choose h =
       kinded s m c at _ (at-choose m.width.bytes s c at room m.width.narrow h) 9 (sym (pick_same m.four true)) (choose_size m.width.bytes _ (span_in s (at + 1)) _ refl _ refl refl) (omega arith)
 
-  pub passes-name : (k x : ℕ) (r : Option ℕ) (b : Bool) → c ≡ 40 → x ≡ get_or s (at + 9) 0 → x ≤ 1 → k ≡ le_at m.width.bytes s (at + 10) → b ≡ (ltb k m.count && pick m.four (is_name (get_or (atoms_of s m.count) k [])) true)
+  pub passes-name : (k x : ℕ) (r : Option ℕ) (b : Bool) → c ≡ 40 → x ≡ get_or s (at + 9) 0 → x ≤ 1 → k ≡ le_at m.width.bytes s (at + 10) → b ≡ (ltb k m.texts.count && pick m.four (is_name (get_or (atoms_of s m.texts.count) k [])) true)
       → r ≡ then_some b (10 + m.width.bytes) → IfSome r (Kinded s m c at)
   unfolding symbol_defined symbol_suits
   passes-name k x r b h y f e p q =
@@ -191,7 +191,7 @@ module _ (s : List ℕ) (m : Atoms) (c at : ℕ) (room : at + (10 + m.width.byte
   pub passes-bare : 37 ≤ c → (c ≡ 37 → ⊥) → (c ≡ 38 → ⊥) → (c ≡ 39 → ⊥) → (c ≡ 40 → ⊥) → (c ≡ 41 → ⊥) → Kinded s m c at 9
   unfolding symbol_defined symbol_suits pick
   passes-bare h f37 f38 f39 f40 f41 =
-      kinded s m c at (SymbolKind.Leaf (bare_leaf c)) (at_bare m.width.bytes s c at room m.width.narrow h f37 f38 f39 f40 f41) 9 (bare_passes m.count s c m.four)
+      kinded s m c at (SymbolKind.Leaf (bare_leaf c)) (at_bare m.width.bytes s c at room m.width.narrow h f37 f38 f39 f40 f41) 9 (bare_passes m.texts.count s c m.four)
       (leaf_size m.width.bytes _ (span_in s (at + 1)) _ refl (bare_leaf c) 0 refl (bare_size m.width.bytes c)) (omega arith)
 
 pub ruleset passing = (rules, passes-named, passes-macro, passes-repeat, passes-choose, passes-name, passes-group, passes-bare)
@@ -208,8 +208,8 @@ module _ (s : List ℕ) (m : Atoms) (left at c r : ℕ) (e : c ≡ get_or s at 0
       record {
         kind = q.kind;
         is = rw (← e) q.is;
-        asked = asked_got (ask m.four m.width.bytes s (atoms_of s m.count) symbols_place left at) (Node.Symbol (span_in s (at + 1)) q.kind) (at + r)
-            (asked_is m.four s m.width.bytes m.count symbols_place left at (Node.Symbol (span_in s (at + 1)) q.kind) (sym i) 7 refl true refl refl true (sym q.defined) refl (omega arith) true (sym q.suited) r refl q.long);
+        asked = asked_got (ask m.four m.width.bytes s (atoms_of s m.texts.count) symbols_place left at) (Node.Symbol (span_in s (at + 1)) q.kind) (at + r)
+            (asked_is m.four s m.width.bytes m.texts.count symbols_place left at (Node.Symbol (span_in s (at + 1)) q.kind) (sym i) 7 refl true refl refl true (sym q.defined) refl (omega arith) true (sym q.suited) r refl q.long);
         room = omega arith;
         deep = omega arith;
       }
@@ -257,23 +257,23 @@ times-one {A = A} f e = go (f e) refl
 
 -- what stands inside says what the symbol says
 module _ (s : List ℕ) (m : Atoms) (left at f : ℕ) (p : QuickPassed s m left at f) where
-  asked : Ok (Node.Symbol (span_in s (at + 1)) p.kind, f) ≡ asked_of (ask m.four m.width.bytes s (atoms_of s m.count) symbols_place left at)
+  asked : Ok (Node.Symbol (span_in s (at + 1)) p.kind, f) ≡ asked_of (ask m.four m.width.bytes s (atoms_of s m.texts.count) symbols_place left at)
   unfolding asked_of
   asked = rw p.asked
 
   deeper : left ≡ 0 → ⊥
   deeper z = absurd (omega (arith, p.deep))
 
-  inner : (k : SymbolKind) → p.kind ≡ k → (i : ℕ) → i ≡ held_in k → (y : Result ℕ Refusal) → y ≡ step_of (times (read_sym m.four m.width.bytes s (atoms_of s m.count) (left - 1)) i f)
-      → y ≡ step_of (read_sym m.four m.width.bytes s (atoms_of s m.count) left at)
+  inner : (k : SymbolKind) → p.kind ≡ k → (i : ℕ) → i ≡ held_in k → (y : Result ℕ Refusal) → y ≡ step_of (times (read_sym m.four m.width.bytes s (atoms_of s m.texts.count) (left - 1)) i f)
+      → y ≡ step_of (read_sym m.four m.width.bytes s (atoms_of s m.texts.count) left at)
   unfolding held_in times step_of
   inner (SymbolKind.Leaf l) v i e y o =
-      (rw e at o) ∙ symbol_leaf m.four s m.width.bytes m.count left at _ asked (Node.Symbol (span_in s (at + 1)) p.kind) f refl deeper (span_in s (at + 1)) p.kind refl l v
+      (rw e at o) ∙ symbol_leaf m.four s m.width.bytes m.texts.count left at _ asked (Node.Symbol (span_in s (at + 1)) p.kind) f refl deeper (span_in s (at + 1)) p.kind refl l v
   inner (SymbolKind.Around a) v i e y o =
-      symbol_around m.four s m.width.bytes m.count left at _ asked (Node.Symbol (span_in s (at + 1)) p.kind) f refl deeper (span_in s (at + 1)) p.kind refl a y v
-      ((rw e at o) ∙ times-one (read_sym m.four m.width.bytes s (atoms_of s m.count) (left - 1)) f)
+      symbol_around m.four s m.width.bytes m.texts.count left at _ asked (Node.Symbol (span_in s (at + 1)) p.kind) f refl deeper (span_in s (at + 1)) p.kind refl a y v
+      ((rw e at o) ∙ times-one (read_sym m.four m.width.bytes s (atoms_of s m.texts.count) (left - 1)) f)
   inner (SymbolKind.Over x) v i e y o =
-      symbol_over m.four s m.width.bytes m.count left at _ asked (Node.Symbol (span_in s (at + 1)) p.kind) f refl deeper (span_in s (at + 1)) p.kind refl x i y v e o
+      symbol_over m.four s m.width.bytes m.texts.count left at _ asked (Node.Symbol (span_in s (at + 1)) p.kind) f refl deeper (span_in s (at + 1)) p.kind refl x i y v e o
 
 module _ (s : List ℕ) (m : Atoms) (left at f : ℕ) (q : QuickPassed s m left at f) where
   pub quick_room : at + (10 + m.width.bytes) ≤ length s
@@ -286,25 +286,25 @@ module _ (s : List ℕ) (m : Atoms) (left at f : ℕ) (q : QuickPassed s m left 
   quick_falls t e = omega (arith, q.deep)
 
   module _ (i : ℕ) (e : i ≡ held_of (symbol_node_at m.width.bytes (get_or s at 0) s at)) where
-    said : (y : Result ℕ Refusal) → y ≡ step_of (times (read_sym m.four m.width.bytes s (atoms_of s m.count) (left - 1)) i f) → y ≡ step_of (read_sym m.four m.width.bytes s (atoms_of s m.count) left at)
+    said : (y : Result ℕ Refusal) → y ≡ step_of (times (read_sym m.four m.width.bytes s (atoms_of s m.texts.count) (left - 1)) i f) → y ≡ step_of (read_sym m.four m.width.bytes s (atoms_of s m.texts.count) left at)
     unfolding held_of
     said y o = inner s m left at f q q.kind refl i (e ∙ ap held_of q.is) y o
 
     -- k are to come from `at` on, and x is what all of them say
-    module _ (k : ℕ) (x : Result ℕ Refusal) (inv : step_of (times (read_sym m.four m.width.bytes s (atoms_of s m.count) left) k at) ≡ x) where
-      pub quick_next : i ≡ 0 → (j : ℕ) → k ≡ j + 1 → step_of (times (read_sym m.four m.width.bytes s (atoms_of s m.count) left) j f) ≡ x
+    module _ (k : ℕ) (x : Result ℕ Refusal) (inv : step_of (times (read_sym m.four m.width.bytes s (atoms_of s m.texts.count) left) k at) ≡ x) where
+      pub quick_next : i ≡ 0 → (j : ℕ) → k ≡ j + 1 → step_of (times (read_sym m.four m.width.bytes s (atoms_of s m.texts.count) left) j f) ≡ x
       unfolding times step_of
-      quick_next z j l = symbols_next m.four s m.width.bytes m.count left k at x inv (Ok f) (said (Ok f) (rw z)) f j refl l
+      quick_next z j l = symbols_next m.four s m.width.bytes m.texts.count left k at x inv (Ok f) (said (Ok f) (rw z)) f j refl l
 
-      pub quick_behind : (d : ℕ) → QuickInside s m (left - 1) i f d → (j : ℕ) → k ≡ j + 1 → step_of (times (read_sym m.four m.width.bytes s (atoms_of s m.count) left) j d) ≡ x
-      quick_behind d g j l = symbols_next m.four s m.width.bytes m.count left k at x inv (Ok d) (said (Ok d) (sym g.passed)) d j refl l
+      pub quick_behind : (d : ℕ) → QuickInside s m (left - 1) i f d → (j : ℕ) → k ≡ j + 1 → step_of (times (read_sym m.four m.width.bytes s (atoms_of s m.texts.count) left) j d) ≡ x
+      quick_behind d g j l = symbols_next m.four s m.width.bytes m.texts.count left k at x inv (Ok d) (said (Ok d) (sym g.passed)) d j refl l
 
-      module _ (y : Result ℕ Refusal) (o : y ≡ step_of (times (read_sym m.four m.width.bytes s (atoms_of s m.count) (left - 1)) i f)) where
-        pub quick_on : (d j : ℕ) → y ≡ Ok d → k ≡ j + 1 → step_of (times (read_sym m.four m.width.bytes s (atoms_of s m.count) left) j d) ≡ x
-        quick_on d j z l = symbols_next m.four s m.width.bytes m.count left k at x inv y (said y o) d j z l
+      module _ (y : Result ℕ Refusal) (o : y ≡ step_of (times (read_sym m.four m.width.bytes s (atoms_of s m.texts.count) (left - 1)) i f)) where
+        pub quick_on : (d j : ℕ) → y ≡ Ok d → k ≡ j + 1 → step_of (times (read_sym m.four m.width.bytes s (atoms_of s m.texts.count) left) j d) ≡ x
+        quick_on d j z l = symbols_next m.four s m.width.bytes m.texts.count left k at x inv y (said y o) d j z l
 
         pub quick_stop : (z : Refusal) → y ≡ Err z → 0 < k → Err z ≡ x
-        quick_stop z u l = symbols_stop m.four s m.width.bytes m.count left k at x inv y (said y o) z u l
+        quick_stop z u l = symbols_stop m.four s m.width.bytes m.texts.count left k at x inv y (said y o) z u l
 
 pub ruleset stepping = (walking, quick_room, quick_deep, quick_falls, quick_behind, quick_on, quick_stop)
 

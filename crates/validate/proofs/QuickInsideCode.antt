@@ -27,8 +27,8 @@ inside-none s m left n at e = record { passed = rw e }
 module _ (s : List ℕ) (m : Atoms) (left n at c : ℕ) (e : c ≡ get_or s at 0) where
   -- one leaf is read
   one_leaf : (k : ℕ) → (left ≡ 0 → ⊥) → at < length s → 10 + m.width.bytes ≤ length s - at → 32 ≤ c → c ≤ 36 → k ≡ le_at m.width.bytes s (at + 9)
-      → true ≡ (leaf_defined m.count (named_leaf c k) && pick m.four (leaf_suits (atoms_of s m.count) (named_leaf c k)) true)
-      → Ok (at + (9 + m.width.bytes)) ≡ step_of (times (read_sym m.four m.width.bytes s (atoms_of s m.count) left) 1 at)
+      → true ≡ (leaf_defined m.texts.count (named_leaf c k) && pick m.four (leaf_suits (atoms_of s m.texts.count) (named_leaf c k)) true)
+      → Ok (at + (9 + m.width.bytes)) ≡ step_of (times (read_sym m.four m.width.bytes s (atoms_of s m.texts.count) left) 1 at)
   unfolding pick times step_of
   one_leaf k d h room l u i p =
       let inside : at + (10 + m.width.bytes) ≤ length s = omega arith in
@@ -36,7 +36,7 @@ module _ (s : List ℕ) (m : Atoms) (left n at c : ℕ) (e : c ≡ get_or s at 0
       quick_next s m left at (at + (9 + m.width.bytes)) q 0 (held-named m.width.bytes s c at e m.width.narrow inside (omega arith)) 1 _ refl refl 0 (omega arith)
 
   pub inside-leaf : (k : ℕ) (r : Option ℕ) (b : Bool) → (n ≡ 0 → ⊥) → n ≤ 1 → (left ≡ 0 → ⊥) → at < length s → 10 + m.width.bytes ≤ length s - at → 32 ≤ c → c ≤ 36 → k ≡ le_at m.width.bytes s (at + 9)
-      → b ≡ (leaf_defined m.count (named_leaf c k) && pick m.four (leaf_suits (atoms_of s m.count) (named_leaf c k)) true) → r ≡ then_some b (at + (9 + m.width.bytes)) → IfSome r (QuickInside s m left n at)
+      → b ≡ (leaf_defined m.texts.count (named_leaf c k) && pick m.four (leaf_suits (atoms_of s m.texts.count) (named_leaf c k)) true) → r ≡ then_some b (at + (9 + m.width.bytes)) → IfSome r (QuickInside s m left n at)
   inside-leaf k r true f o d h room l u i p q =
       let one : n ≡ 1 = omega arith in
       rw (one, q) (record { passed = sym (one_leaf k d h room l u i p) })

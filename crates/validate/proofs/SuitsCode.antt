@@ -32,20 +32,19 @@ use Rattle.texts.specs.Classes.{text_class}
 use Rattle.texts.specs.Fields.{class_at}
 use Rattle.texts.proofs.AtomsLaws.{atoms_at_lem, class_beyond, class_small}
 use Rattle.texts.proofs.ClassByCode.{class_is_name, class_is_literal, class_is_ascii}
-use Rattle.validate.specs.Steps.{map_of, Ready}
+use Rattle.validate.specs.Steps.{Ready}
 use Rattle.validate.specs.declared.Atoms.{Atoms}
 use Rattle.validate.specs.declared.suits.Use.{Use}
 use Rattle.validate.specs.contracts.suits.Use.{the_type}
 use Rattle.validate.specs.Uses.{fits}
 
 -- ---- the class that a record holds
-module _ (s w : List ℕ) (m : Atoms) (k : ℕ) (g : Ready s w m) (h : k < m.count) where
-  pub class_room : m.base + 24 * k + 24 ≤ length w
-  unfolding map_of
+module _ (s w : List ℕ) (m : Atoms) (k : ℕ) (g : Ready s w m) (h : k < m.texts.count) where
+  pub class_room : m.texts.base + 24 * k + 24 ≤ length w
   class_room = omega (arith, g.table.room)
 
-  pub class_held : (r : ℕ) → r ≡ class_at w m.base k → r ≡ text_class (get_or (atoms_of s m.count) k [])
-  class_held r e = e ∙ g.classes k h ∙ ap text_class (sym (atoms_at_lem s m.count k h))
+  pub class_held : (r : ℕ) → r ≡ class_at w m.texts.base k → r ≡ text_class (get_or (atoms_of s m.texts.count) k [])
+  class_held r e = e ∙ g.classes k h ∙ ap text_class (sym (atoms_at_lem s m.texts.count k h))
 
 pub ruleset holding = (rules, class_room, class_held, class_beyond)
 

@@ -22,8 +22,8 @@ use Rattle.std.specs.Prelude.{Ok}
 pub record Kinded (s : List ℕ) (m : Atoms) (c at r : ℕ) : Type 0 where
   pub kind : SymbolKind
   pub is : symbol_node_at m.width.bytes c s at ≡ Node.Symbol (span_in s (at + 1)) kind
-  pub defined : symbol_defined m.count kind ≡ true
-  pub suited : pick m.four (symbol_suits (atoms_of s m.count) kind) true ≡ true
+  pub defined : symbol_defined m.texts.count kind ≡ true
+  pub suited : pick m.four (symbol_suits (atoms_of s m.texts.count) kind) true ≡ true
   pub long : r ≡ size_of m.width.bytes (Node.Symbol (span_in s (at + 1)) kind)
   pub small : r ≤ 10 + m.width.bytes
 
@@ -31,13 +31,13 @@ pub record Kinded (s : List ℕ) (m : Atoms) (c at r : ℕ) : Type 0 where
 pub record QuickPassed (s : List ℕ) (m : Atoms) (left at r : ℕ) : Type 0 where
   pub kind : SymbolKind
   pub is : symbol_node_at m.width.bytes (get_or s at 0) s at ≡ Node.Symbol (span_in s (at + 1)) kind
-  pub asked : ask m.four m.width.bytes s (atoms_of s m.count) symbols_place left at ≡ got (Node.Symbol (span_in s (at + 1)) kind) r
+  pub asked : ask m.four m.width.bytes s (atoms_of s m.texts.count) symbols_place left at ≡ got (Node.Symbol (span_in s (at + 1)) kind) r
   pub room : at + (10 + m.width.bytes) ≤ length s
   pub deep : 0 < left
 
 -- the n symbols from a place on are read and end at r
 pub record QuickInside (s : List ℕ) (m : Atoms) (left n at r : ℕ) : Type 0 where
-  pub passed : step_of (times (read_sym m.four m.width.bytes s (atoms_of s m.count) left) n at) ≡ Ok r
+  pub passed : step_of (times (read_sym m.four m.width.bytes s (atoms_of s m.texts.count) left) n at) ≡ Ok r
 
 -- how many symbols stand inside one
 unfoldable pub held_in : SymbolKind → ℕ
@@ -59,13 +59,13 @@ held_of Node.Unknown = 0
 -- the alternative at a place, which is a, passes 2, 3 and 4
 pub record PassedAlternative (s : List ℕ) (m : Atoms) (at : ℕ) (a : Alternative) : Type 0 where
   pub here : a ≡ alternative_here m.width.bytes s at
-  pub asked : ask m.four m.width.bytes s (atoms_of s m.count) alternatives_place 1 at ≡ got (Node.Alternative a) (at + (14 + m.width.bytes))
+  pub asked : ask m.four m.width.bytes s (atoms_of s m.texts.count) alternatives_place 1 at ≡ got (Node.Alternative a) (at + (14 + m.width.bytes))
   pub room : at + (14 + m.width.bytes) ≤ length s
 
 -- the command of a nonterminal at a place, which is d, passes 2, 3 and 4
 pub record PassedNonterminal (s : List ℕ) (m : Atoms) (at : ℕ) (d : NonterminalData) : Type 0 where
   pub here : d ≡ nonterminal_here m.width.bytes s at
-  pub asked : ask m.four m.width.bytes s (atoms_of s m.count) items_place 1 at ≡ got (Node.Nonterminal d) (at + (13 + m.width.bytes))
+  pub asked : ask m.four m.width.bytes s (atoms_of s m.texts.count) items_place 1 at ≡ got (Node.Nonterminal d) (at + (13 + m.width.bytes))
   pub room : at + (13 + m.width.bytes) ≤ length s
 
 -- the terminal that the bytes at a place say
@@ -74,11 +74,11 @@ terminal_here w s at = record { span = span_in s (at + 1); name = record { 0 = l
 
 -- the terminal at a place passes 2, 3 and 4, and ends at r
 pub record PassedTerminal (s : List ℕ) (m : Atoms) (at r : ℕ) : Type 0 where
-  pub asked : ask m.four m.width.bytes s (atoms_of s m.count) items_place 1 at ≡ got (Node.Terminal (terminal_here m.width.bytes s at)) r
+  pub asked : ask m.four m.width.bytes s (atoms_of s m.texts.count) items_place 1 at ≡ got (Node.Terminal (terminal_here m.width.bytes s at)) r
   pub long : r ≡ at + (9 + m.width.bytes)
   pub room : at + (9 + m.width.bytes) ≤ length s
 
 -- a command stands at a place that passes 2, 3 and 4, and ends at r
 pub record PassedCommand (s : List ℕ) (m : Atoms) (place at r : ℕ) : Type 0 where
   pub command : Node
-  pub asked : ask m.four m.width.bytes s (atoms_of s m.count) place 1 at ≡ got command r
+  pub asked : ask m.four m.width.bytes s (atoms_of s m.texts.count) place 1 at ≡ got command r

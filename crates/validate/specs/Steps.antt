@@ -12,22 +12,17 @@ use Rattle.parse_tree.specs.declared.refusal.Refusal.{Refusal}
 use Rattle.parse_tree.specs.declared.syntax.Node.{Node}
 use Rattle.texts.specs.Atoms.{atom_text, atoms_of, place_of}
 use Rattle.texts.specs.Classes.{text_class}
-use Rattle.texts.specs.declared.Map.{Map}
 use Rattle.texts.specs.Fields.{class_at, cell_at}
 use Rattle.texts.specs.Table.{Table, Above, texts}
 use Rattle.validate.specs.declared.Atoms.{Atoms}
 use Rattle.std.specs.Prelude.{Result, Ok, Err}
 
--- the table of the atoms
-unfoldable pub map_of : Atoms → Map
-map_of m = record { base = m.base; count = m.count; buckets = m.buckets }
-
 -- w holds the table of the first atoms of s with the classes of their texts and blank cells
 pub record Ready (s w : List ℕ) (m : Atoms) : Type 0 where
-  pub table : Table s w (map_of m)
-  pub same : texts s w (map_of m) ≡ atoms_of s m.count
-  pub classes : (i : ℕ) → i < m.count → class_at w m.base i ≡ text_class (atom_text s (place_of s i))
-  pub blank : (i : ℕ) → i < m.count → cell_at w m.base i ≡ 0
+  pub table : Table s w m.texts
+  pub same : texts s w m.texts ≡ atoms_of s m.texts.count
+  pub classes : (i : ℕ) → i < m.texts.count → class_at w m.texts.base i ≡ text_class (atom_text s (place_of s i))
+  pub blank : (i : ℕ) → i < m.texts.count → cell_at w m.texts.base i ≡ 0
 
 -- a reading's answer, without what was read
 unfoldable pub step_of : {A : Type 0} → Reading A → Result ℕ Refusal
@@ -46,24 +41,24 @@ pub record Refuses {A : Type 0} (r : Reading A) (z : Refusal) : Type 0 where
 -- where the items are read from: behind atoms of which no two are equal
 pub record Itemed (s w : List ℕ) (m : Atoms) (at : ℕ) : Type 0 where
   pub ready : Ready s w m
-  pub apart : distinct (atoms_of s m.count) ≡ true
+  pub apart : distinct (atoms_of s m.texts.count) ≡ true
   pub inside : at ≤ length s
 
 -- what `items` asks: the table stands from eight bytes for each of the items' bytes on, and no text stands in work
 pub record Listing (s w : List ℕ) (m : Atoms) (at : ℕ) : Type 0 where
   pub ready : Itemed s w m at
-  pub above : Above s w (map_of m) (length w)
-  pub base : m.base ≡ 8 * (length s - at)
+  pub above : Above s w m.texts (length w)
+  pub base : m.texts.base ≡ 8 * (length s - at)
 
 -- and what it leaves: n items were read, and the place of each is noted
 pub record Noted (s w : List ℕ) (m : Atoms) (at n : ℕ) : Type 0 where
   pub items : List Item
   pub end : ℕ
   pub tabled : Listing s w m at
-  pub read : read_items m.four m.width.bytes s (atoms_of s m.count) (length s) at ≡ got items end
+  pub read : read_items m.four m.width.bytes s (atoms_of s m.texts.count) (length s) at ≡ got items end
   pub many : n ≡ length items
-  pub noted : (i : ℕ) → i < n → le_at 8 w (48 + 8 * i) ≡ length (bytes_of_each (item_bytes m.width.bytes (atoms_of s m.count)) (take i items))
+  pub noted : (i : ℕ) → i < n → le_at 8 w (48 + 8 * i) ≡ length (bytes_of_each (item_bytes m.width.bytes (atoms_of s m.texts.count)) (take i items))
 
 unfoldable pub Lists : List ℕ → Atoms → ℕ → Result ℕ Refusal → List ℕ → Type 0
 Lists s m at (Ok n) w = Noted s w m at n
-Lists s m at (Err z) w = Refuses (read_items m.four m.width.bytes s (atoms_of s m.count) (length s) at) z
+Lists s m at (Err z) w = Refuses (read_items m.four m.width.bytes s (atoms_of s m.texts.count) (length s) at) z

@@ -9,31 +9,31 @@ use Rattle.parse_tree.specs.Working.Encode.{item_bytes}
 use Rattle.parse_tree.specs.declared.refusal.Refusal.{Refusal}
 use Rattle.texts.specs.Atoms.{atoms_of, place_of}
 use Rattle.texts.specs.Table.{Above, linked}
-use Rattle.validate.specs.Steps.{Refuses, Itemed, Listing, map_of}
+use Rattle.validate.specs.Steps.{Refuses, Itemed, Listing}
 use Rattle.validate.specs.declared.Atoms.{Atoms}
 use Rattle.validate.specs.declared.Validated.{Validated}
 
 -- the tape's atoms were read, and stand before `at`; their table stands where the items are read from
 pub record Fronts (s w : List ℕ) (m : Atoms) (at : ℕ) : Type 0 where
   pub listing : Listing s w m at
-  pub here : at ≡ place_of s m.count
-  pub buckets : m.buckets ≡ linked m.count
-  pub read : read_atoms m.four m.width.bytes s (length s) [] 0 ≡ got (atoms_of s m.count) at
+  pub here : at ≡ place_of s m.texts.count
+  pub buckets : m.texts.buckets ≡ linked m.texts.count
+  pub read : read_atoms m.four m.width.bytes s (length s) [] 0 ≡ got (atoms_of s m.texts.count) at
 
 -- the tape holds these atoms, and n items from a place on; the table stands from eight bytes for each of the items' bytes on, and from 48
 -- on the places of the items, counted from the first
 pub record Valid (four : Bool) (width : ℕ) (s w : List ℕ) (m : Atoms) (at n : ℕ) : Type 0 where
   pub items : List Item
   pub wide : m.width.bytes ≡ width
-  pub here : at ≡ place_of s m.count
-  pub base : m.base ≡ 8 * (length s - at)
-  pub buckets : m.buckets ≡ linked m.count
-  pub above : Above s w (map_of m) (length w)
+  pub here : at ≡ place_of s m.texts.count
+  pub base : m.texts.base ≡ 8 * (length s - at)
+  pub buckets : m.texts.buckets ≡ linked m.texts.count
+  pub above : Above s w m.texts (length w)
   pub ready : Itemed s w m at
-  pub read : read_items four width s (atoms_of s m.count) (length s) at ≡ got items (length s)
-  pub decoded : decode_by four width s ≡ got (record { atoms = atoms_of s m.count; items = items }) (length s)
+  pub read : read_items four width s (atoms_of s m.texts.count) (length s) at ≡ got items (length s)
+  pub decoded : decode_by four width s ≡ got (record { atoms = atoms_of s m.texts.count; items = items }) (length s)
   pub many : n ≡ length items
-  pub noted : (i : ℕ) → i < n → le_at 8 w (48 + 8 * i) ≡ length (bytes_of_each (item_bytes width (atoms_of s m.count)) (take i items))
+  pub noted : (i : ℕ) → i < n → le_at 8 w (48 + 8 * i) ≡ length (bytes_of_each (item_bytes width (atoms_of s m.texts.count)) (take i items))
 
 unfoldable pub Validates : Bool → ℕ → List ℕ → Result Validated Refusal → List ℕ → Type 0
 Validates four width s (Ok v) w = Valid four width s w v.atoms v.at v.items

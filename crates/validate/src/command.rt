@@ -19,13 +19,13 @@ use parse_tree::syntax::Node;
 
 // The command at a place, with `left` levels of nesting left.
 pub fn command(r: &Reader, place: Place, left: usize, at: usize) -> Result<(Node, usize), Refusal>
-    ensures { result ≡ asked_of (ask r.now.atoms.four r.now.atoms.width.bytes r.now.tape.now (atoms_of r.now.tape.now r.now.atoms.count) (row place) left at) }
+    ensures { result ≡ asked_of (ask r.now.atoms.four r.now.atoms.width.bytes r.now.tape.now (atoms_of r.now.tape.now r.now.atoms.texts.count) (row place) left at) }
 {
     let n = node(r.tape, at, r.atoms.width);
     if !allowed(place, class_of(n)) {
         return Err(refusal::at(2, at));
     }
-    if !is_defined(n, r.atoms.count) || left < 1 {
+    if !is_defined(n, r.atoms.texts.count) || left < 1 {
         return Err(refusal::at(3, at));
     }
     if !is_apt(r, n) {
@@ -36,7 +36,7 @@ pub fn command(r: &Reader, place: Place, left: usize, at: usize) -> Result<(Node
 
 // n commands at a place, one behind another.
 pub fn commands(r: &Reader, place: Place, n: usize, at: usize) -> Result<usize, Refusal>
-    ensures { result ≡ step_of (times (ask r.now.atoms.four r.now.atoms.width.bytes r.now.tape.now (atoms_of r.now.tape.now r.now.atoms.count) (row place) 1) n at) }
+    ensures { result ≡ step_of (times (ask r.now.atoms.four r.now.atoms.width.bytes r.now.tape.now (atoms_of r.now.tape.now r.now.atoms.texts.count) (row place) 1) n at) }
 {
     let mut p = at;
     for _ in 0..n {

@@ -34,9 +34,7 @@ pub fn validate(
     let f = front(tape);
     let t = atoms(tape, work, f.at, f.count)?;
     let m = Atoms {
-        base: t.base,
-        count: t.count,
-        buckets: t.buckets,
+        texts: t,
         width,
         four,
     };

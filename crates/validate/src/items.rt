@@ -21,7 +21,7 @@ use parse_tree::syntax::{Alternative, Node, NonterminalData};
 
 // What stands behind the command of an alternative: attributes, condition, symbols.
 fn alternative_parts(r: &Reader, a: Alternative, at: usize) -> Result<usize, Refusal>
-    ensures { result ≡ step_of (alternative_parts r.now.atoms.four r.now.atoms.width.bytes r.now.tape.now (atoms_of r.now.tape.now r.now.atoms.count) a at) }
+    ensures { result ≡ step_of (alternative_parts r.now.atoms.four r.now.atoms.width.bytes r.now.tape.now (atoms_of r.now.tape.now r.now.atoms.texts.count) a at) }
 {
     let e = commands(r, Place::Attributes, usize::from(a.attributes), at)?;
     let d = commands(r, Place::Conditions, usize::from(a.conditions), e)?;
@@ -30,7 +30,7 @@ fn alternative_parts(r: &Reader, a: Alternative, at: usize) -> Result<usize, Ref
 
 // The alternative at a place.
 fn alternative(r: &Reader, at: usize) -> Result<usize, Refusal>
-    ensures { result ≡ step_of (read_alternative r.now.atoms.four r.now.atoms.width.bytes r.now.tape.now (atoms_of r.now.tape.now r.now.atoms.count) at) }
+    ensures { result ≡ step_of (read_alternative r.now.atoms.four r.now.atoms.width.bytes r.now.tape.now (atoms_of r.now.tape.now r.now.atoms.texts.count) at) }
 {
     if let Some(a) = quick_alternative(r, at) {
         return alternative_parts(r, a, at + (14 + r.atoms.width.bytes));
@@ -44,7 +44,7 @@ fn alternative(r: &Reader, at: usize) -> Result<usize, Refusal>
 
 // n alternatives, one behind another.
 fn alternatives(r: &Reader, n: usize, at: usize) -> Result<usize, Refusal>
-    ensures { result ≡ step_of (times (read_alternative r.now.atoms.four r.now.atoms.width.bytes r.now.tape.now (atoms_of r.now.tape.now r.now.atoms.count)) n at) }
+    ensures { result ≡ step_of (times (read_alternative r.now.atoms.four r.now.atoms.width.bytes r.now.tape.now (atoms_of r.now.tape.now r.now.atoms.texts.count)) n at) }
 {
     let mut p = at;
     for _ in 0..n {
@@ -55,7 +55,7 @@ fn alternatives(r: &Reader, n: usize, at: usize) -> Result<usize, Refusal>
 
 // What stands behind the command of a nonterminal: arguments, alternatives.
 fn nonterminal_parts(r: &Reader, d: NonterminalData, at: usize) -> Result<usize, Refusal>
-    ensures { result ≡ step_of (nonterminal_parts r.now.atoms.four r.now.atoms.width.bytes r.now.tape.now (atoms_of r.now.tape.now r.now.atoms.count) d at) }
+    ensures { result ≡ step_of (nonterminal_parts r.now.atoms.four r.now.atoms.width.bytes r.now.tape.now (atoms_of r.now.tape.now r.now.atoms.texts.count) d at) }
 {
     let e = commands(r, Place::Arguments, usize::from(d.args), at)?;
     alternatives(r, usize::from(d.alternatives), e)
@@ -63,7 +63,7 @@ fn nonterminal_parts(r: &Reader, d: NonterminalData, at: usize) -> Result<usize,
 
 // The item at a place.
 fn item(r: &Reader, at: usize) -> Result<usize, Refusal>
-    ensures { result ≡ step_of (read_item r.now.atoms.four r.now.atoms.width.bytes r.now.tape.now (atoms_of r.now.tape.now r.now.atoms.count) at) }
+    ensures { result ≡ step_of (read_item r.now.atoms.four r.now.atoms.width.bytes r.now.tape.now (atoms_of r.now.tape.now r.now.atoms.texts.count) at) }
 {
     if let Some(d) = quick_nonterminal(r, at) {
         return nonterminal_parts(r, d, at + (13 + r.atoms.width.bytes));

@@ -14,14 +14,12 @@ pub mod suits;
 pub mod symbols;
 
 use octets::numbers::Width;
+use texts::Map;
 
-// The table of a tape's atoms: where their records stand, how many there are, and how many buckets; then the width of their numbers in
-// bytes. `four` says whether question 4 is asked.
+// The table of a tape's atoms; then the width of their numbers in bytes. `four` says whether question 4 is asked.
 #[derive(Clone, Copy)]
 pub struct Atoms {
-    pub base: usize,
-    pub count: usize,
-    pub buckets: usize,
+    pub texts: Map,
     pub width: Width,
     pub four: bool,
 }

@@ -19,14 +19,14 @@ use parse_tree::syntax::{Alternative, Attribute, NonterminalData};
 
 // Whether there is such an atom and, where question 4 is asked, its text suits its use.
 fn is_used(r: &Reader, k: u32, used: Use) -> bool
-    ensures { result ≡ (ltb k r.now.atoms.count && pick r.now.atoms.four (fits used (get_or (atoms_of r.now.tape.now r.now.atoms.count) k [])) true) }
+    ensures { result ≡ (ltb k r.now.atoms.texts.count && pick r.now.atoms.four (fits used (get_or (atoms_of r.now.tape.now r.now.atoms.texts.count) k [])) true) }
 {
-    (k as usize) < r.atoms.count && (!r.atoms.four || is_fit(r, k, used))
+    (k as usize) < r.atoms.texts.count && (!r.atoms.four || is_fit(r, k, used))
 }
 
 // 20 to 24.
 fn named(r: &Reader, c: u8, k: u32) -> bool
-    ensures { result ≡ (leaf_defined r.now.atoms.count (named_leaf c k) && pick r.now.atoms.four (leaf_suits (atoms_of r.now.tape.now r.now.atoms.count) (named_leaf c k)) true) }
+    ensures { result ≡ (leaf_defined r.now.atoms.texts.count (named_leaf c k) && pick r.now.atoms.four (leaf_suits (atoms_of r.now.tape.now r.now.atoms.texts.count) (named_leaf c k)) true) }
 {
     match c {
         34 | 35 => is_used(r, k, Use::Literal),
@@ -112,9 +112,9 @@ pub fn quick_inside(r: &Reader, at: usize, n: usize, left: usize) -> Option<usiz
 
 // Whether an alternative passes 3 and 4. `attribute_passes` asks the same of other fields: one function for both would have to build a node.
 fn alternative_passes(r: &Reader, a: Alternative) -> bool
-    ensures { result ≡ (alternative_defined r.now.atoms.count a && pick r.now.atoms.four (suits (atoms_of r.now.tape.now r.now.atoms.count) (Node.Alternative a)) true) }
+    ensures { result ≡ (alternative_defined r.now.atoms.texts.count a && pick r.now.atoms.four (suits (atoms_of r.now.tape.now r.now.atoms.texts.count) (Node.Alternative a)) true) }
 {
-    alternative_defined(a, r.atoms.count) && (!r.atoms.four || alternative_suits(r, a))
+    alternative_defined(a, r.atoms.texts.count) && (!r.atoms.four || alternative_suits(r, a))
 }
 
 // The alternative at a place where one stands that passes 2, 3 and 4; None where that is not found out here.
@@ -159,9 +159,9 @@ pub fn quick_terminal(r: &Reader, at: usize) -> Option<usize>
 
 // Whether an attribute passes 3 and 4.
 fn attribute_passes(r: &Reader, a: Attribute) -> bool
-    ensures { result ≡ (attribute_defined r.now.atoms.count a && pick r.now.atoms.four (suits (atoms_of r.now.tape.now r.now.atoms.count) (Node.Attribute a)) true) }
+    ensures { result ≡ (attribute_defined r.now.atoms.texts.count a && pick r.now.atoms.four (suits (atoms_of r.now.tape.now r.now.atoms.texts.count) (Node.Attribute a)) true) }
 {
-    attribute_defined(a, r.atoms.count) && (!r.atoms.four || attribute_suits(r, a))
+    attribute_defined(a, r.atoms.texts.count) && (!r.atoms.four || attribute_suits(r, a))
 }
 
 // The place behind an attribute that passes 2, 3 and 4; None where that is not found out here.

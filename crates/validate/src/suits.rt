@@ -12,12 +12,12 @@ use texts::fields::class;
 
 // The class of the k-th atom's text; of the empty text where there is no such atom.
 fn text_class(r: &Reader, k: usize) -> usize
-    ensures { result ≡ text_class (get_or (atoms_of r.now.tape.now r.now.atoms.count) k []) }
+    ensures { result ≡ text_class (get_or (atoms_of r.now.tape.now r.now.atoms.texts.count) k []) }
 {
-    if r.atoms.count <= k {
+    if r.atoms.texts.count <= k {
         return 2;
     }
-    class(r.work, r.atoms.base, k)
+    class(r.work, r.atoms.texts.base, k)
 }
 
 // What a text is used as; its number is the least class that suits.
@@ -30,13 +30,13 @@ pub enum Use {
 
 // Whether the k-th atom's text suits a use.
 pub fn is_fit(r: &Reader, k: u32, used: Use) -> bool
-    ensures { result ≡ fits used (get_or (atoms_of r.now.tape.now r.now.atoms.count) k []) }
+    ensures { result ≡ fits used (get_or (atoms_of r.now.tape.now r.now.atoms.texts.count) k []) }
 {
     used as usize <= text_class(r, k as usize)
 }
 
 fn leaf_suits(r: &Reader, l: Leaf) -> bool
-    ensures { result ≡ leaf_suits (atoms_of r.now.tape.now r.now.atoms.count) l }
+    ensures { result ≡ leaf_suits (atoms_of r.now.tape.now r.now.atoms.texts.count) l }
 {
     match l {
         Leaf::AmbiguousId(a) => is_fit(r, a.0, Use::Name),
@@ -48,7 +48,7 @@ fn leaf_suits(r: &Reader, l: Leaf) -> bool
 }
 
 fn symbol_suits(r: &Reader, k: SymbolKind) -> bool
-    ensures { result ≡ symbol_suits (atoms_of r.now.tape.now r.now.atoms.count) k }
+    ensures { result ≡ symbol_suits (atoms_of r.now.tape.now r.now.atoms.texts.count) k }
 {
     match k {
         SymbolKind::Leaf(l) => leaf_suits(r, l),
@@ -61,7 +61,7 @@ fn symbol_suits(r: &Reader, k: SymbolKind) -> bool
 
 // Apart from `attribute_suits`, which asks of other fields: one function for both would have to build a node.
 pub fn alternative_suits(r: &Reader, a: Alternative) -> bool
-    ensures { result ≡ suits (atoms_of r.now.tape.now r.now.atoms.count) (Node.Alternative a) }
+    ensures { result ≡ suits (atoms_of r.now.tape.now r.now.atoms.texts.count) (Node.Alternative a) }
 {
     match a.action {
         1 | 2 => is_fit(r, a.text.0, Use::Ascii),
@@ -70,7 +70,7 @@ pub fn alternative_suits(r: &Reader, a: Alternative) -> bool
 }
 
 pub fn attribute_suits(r: &Reader, a: Attribute) -> bool
-    ensures { result ≡ suits (atoms_of r.now.tape.now r.now.atoms.count) (Node.Attribute a) }
+    ensures { result ≡ suits (atoms_of r.now.tape.now r.now.atoms.texts.count) (Node.Attribute a) }
 {
     if !is_fit(r, a.id.0, Use::Name) {
         return false;
@@ -79,14 +79,14 @@ pub fn attribute_suits(r: &Reader, a: Attribute) -> bool
 }
 
 fn condition_suits(r: &Reader, c: Condition) -> bool
-    ensures { result ≡ suits (atoms_of r.now.tape.now r.now.atoms.count) (Node.Condition c) }
+    ensures { result ≡ suits (atoms_of r.now.tape.now r.now.atoms.texts.count) (Node.Condition c) }
 {
     is_fit(r, c.lhs.0, Use::Name) && is_fit(r, c.rhs.0, Use::Literal)
 }
 
 // Whether every text that a command uses suits its use.
 fn is_suited(r: &Reader, n: Node) -> bool
-    ensures { result ≡ suits (atoms_of r.now.tape.now r.now.atoms.count) n }
+    ensures { result ≡ suits (atoms_of r.now.tape.now r.now.atoms.texts.count) n }
 {
     match n {
         Node::Text(_) | Node::Unknown => true,
@@ -102,7 +102,7 @@ fn is_suited(r: &Reader, n: Node) -> bool
 
 // The same where question 4 is asked; else all suits.
 pub fn is_apt(r: &Reader, n: Node) -> bool
-    ensures { result ≡ pick r.now.atoms.four (suits (atoms_of r.now.tape.now r.now.atoms.count) n) true }
+    ensures { result ≡ pick r.now.atoms.four (suits (atoms_of r.now.tape.now r.now.atoms.texts.count) n) true }
 {
     !r.atoms.four || is_suited(r, n)
 }

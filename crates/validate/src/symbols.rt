@@ -27,7 +27,7 @@ pub fn inside(o: Over) -> usize
 // The symbol at a place, with `left` levels of nesting left.
 #[cycle(symbol_symbols)]
 pub fn symbol(r: &Reader, at: usize, left: usize) -> Result<usize, Refusal>
-    ensures { result ≡ step_of (read_sym r.now.atoms.four r.now.atoms.width.bytes r.now.tape.now (atoms_of r.now.tape.now r.now.atoms.count) left at) }
+    ensures { result ≡ step_of (read_sym r.now.atoms.four r.now.atoms.width.bytes r.now.tape.now (atoms_of r.now.tape.now r.now.atoms.texts.count) left at) }
 {
     let (n, e) = command(r, Place::Symbols, left, at)?;
     if left == 0 {
@@ -46,7 +46,7 @@ pub fn symbol(r: &Reader, at: usize, left: usize) -> Result<usize, Refusal>
 // n symbols, one behind another. What stands behind a quick look is a list: mostly none, or one leaf.
 #[cycle(symbol_symbols)]
 pub fn symbols(r: &Reader, at: usize, n: usize, left: usize) -> Result<usize, Refusal>
-    ensures { result ≡ step_of (times (read_sym r.now.atoms.four r.now.atoms.width.bytes r.now.tape.now (atoms_of r.now.tape.now r.now.atoms.count) left) n at) }
+    ensures { result ≡ step_of (times (read_sym r.now.atoms.four r.now.atoms.width.bytes r.now.tape.now (atoms_of r.now.tape.now r.now.atoms.texts.count) left) n at) }
 {
     let mut p = at;
     for _ in 0..n {

@@ -18,4 +18,4 @@ room_of T n W = record { arrays = 8 * T + 2 * n; at = 8 * T + 6 * W - 2 * (W / 9
 -- 20 and 21 of the levelled stage, of which v is written; the tape's atoms have `at` bytes, the new ones so many, or one of them is too long
 unfoldable pub sized_levels : Written → Room → ℕ → Option ℕ → ℕ → Result ℕ Refusal
 sized_levels v room at None output = Err (refusal_at 20 0)
-sized_levels v room at (Some bytes) output = pick (ltb room.lim v.to) (sized v.count (output + 1) output) (sized v.count (at + bytes + (v.to - room.at)) output)
+sized_levels v room at (Some bytes) output = pick (ltb room.lim v.to) (pick (ltb 65536 v.count) (Err (refusal_at 20 0)) (Err (refusal_at 21 0))) (sized v.count (at + bytes + (v.to - room.at)) output)

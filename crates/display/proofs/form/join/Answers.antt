@@ -2,16 +2,16 @@ use Rattle.display.proofs.FormCode.{fitting, joining}
 use Rattle.display.proofs.form.join.Goals as goal
 
 pub overflow_mul-result : goal.overflow_mul-result
-overflow_mul-result c = first_of (search joining, search fitting)
+overflow_mul-result c = search joining
 
 pub overflow_add-result : goal.overflow_add-result
-overflow_add-result c = first_of (search joining, search fitting)
+overflow_add-result c = search joining
 
 pub times-requires : goal.times-requires
-times-requires c = first_of (search joining, search fitting)
+times-requires c = search fitting
 
 pub overflow_add-x : goal.overflow_add-x
-overflow_add-x c = first_of (search joining, search fitting)
+overflow_add-x c = search joining
 
 pub returns : goal.returns
-returns c = first_of (search joining, search fitting)
+returns c = search joining

@@ -1,5 +1,4 @@
-use mathlib.Core.Path.{◌∙◌, ap}
-use Rattle.std.specs.Prelude.{Err}
+use mathlib.Core.Path.{◌∙◌}
 use Rattle.levels.proofs.ExpandMeanCode.{expand_gradable, expand_refused_inside, expand_none_missing, expand_arrays, expand_keys, expand_places, expand_low_inside, expand_left, expand_refused, expand_low, expand_written}
 use Rattle.levels.proofs.expand.expand_nonterm.Goals as goal
 
@@ -7,8 +6,7 @@ pub grade-requires : goal.grade-requires
 grade-requires c = expand_gradable c.args.width.narrow c.args.width.wide c.requires (c.from-n.ensures ∙ c.u16_at.ensures)
 
 pub refused-requires : goal.refused-requires
-refused-requires c =
-    rw c.in-Err-Some.field-0-is (expand_refused_inside c.args.width.narrow c.args.width.wide c.requires (c.from-n.ensures ∙ c.u16_at.ensures) c.first_alternative-at.ensures c.grade.ensures (c.in-Err-Some.is ∙ ap Err c.in-Err-Some.field-0-is))
+refused-requires c = expand_refused_inside c.args.width.narrow c.args.width.wide c.requires (c.from-n.ensures ∙ c.u16_at.ensures) c.first_alternative-at.ensures c.grade.ensures c.in-Err.is c.in-Some.is
 
 pub sorted-k-requires : goal.sorted-k-requires
 sorted-k-requires c = expand_arrays c.args.width.narrow c.args.width.wide c.requires (c.from-n.ensures ∙ c.u16_at.ensures) c.first_alternative-at.ensures c.grade.ensures c.in-Ok.is
@@ -19,26 +17,24 @@ lowest-requires c = (
   expand_places c.args.width.narrow c.args.width.wide c.requires (c.from-n.ensures ∙ c.u16_at.ensures) c.first_alternative-at.ensures c.grade.ensures c.in-Ok.is _ _ c.sorted-k.ensures,
 )
 
-pub refused-requires-in-Some : goal.refused-requires-in-Some
-refused-requires-in-Some c =
-    expand_low_inside c.args.width.narrow c.args.width.wide c.requires (c.from-n.ensures ∙ c.u16_at.ensures) c.first_alternative-at.ensures c.grade.ensures c.in-Ok.is _ _ c.sorted-k.ensures c.lowest.ensures c.in-Some.is
+pub refused-requires-in-Some-lowest : goal.refused-requires-in-Some-lowest
+refused-requires-in-Some-lowest c =
+    expand_low_inside c.args.width.narrow c.args.width.wide c.requires (c.from-n.ensures ∙ c.u16_at.ensures) c.first_alternative-at.ensures c.grade.ensures c.in-Ok.is _ _ c.sorted-k.ensures c.lowest.ensures c.in-Some-lowest.is
 
 pub write_levels-requires : goal.write_levels-requires
 write_levels-requires c =
-    expand_left c.args.width.narrow c.args.width.wide c.requires (c.from-n.ensures ∙ c.u16_at.ensures) c.first_alternative-at.ensures c.grade.ensures c.in-Ok.is _ _ c.sorted-k.ensures c.lowest.ensures c.in-None.is
-
-pub returns-in-Err-Some : goal.returns-in-Err-Some
-returns-in-Err-Some c =
-    expand_refused c.args.width.narrow c.args.width.wide c.requires (c.from-n.ensures ∙ c.u16_at.ensures) c.first_alternative-at.ensures c.grade.ensures (c.in-Err-Some.is ∙ ap Err c.in-Err-Some.field-0-is) (rw c.in-Err-Some.field-0-is at c.refused.ensures)
+    expand_left c.args.width.narrow c.args.width.wide c.requires (c.from-n.ensures ∙ c.u16_at.ensures) c.first_alternative-at.ensures c.grade.ensures c.in-Ok.is _ _ c.sorted-k.ensures c.lowest.ensures c.in-None-lowest.is
 
 pub returns-in-Some : goal.returns-in-Some
-returns-in-Some c =
-    expand_low c.args.width.narrow c.args.width.wide c.requires (c.from-n.ensures ∙ c.u16_at.ensures) c.first_alternative-at.ensures c.grade.ensures c.in-Ok.is _ _ c.sorted-k.ensures c.lowest.ensures c.in-Some.is c.refused-in-Some.ensures
+returns-in-Some c = expand_refused c.args.width.narrow c.args.width.wide c.requires (c.from-n.ensures ∙ c.u16_at.ensures) c.first_alternative-at.ensures c.grade.ensures c.in-Err.is c.in-Some.is c.refused.ensures
 
-pub returns-in-None : goal.returns-in-None
-returns-in-None c =
-    expand_written c.args.width.narrow c.args.width.wide c.requires (c.from-n.ensures ∙ c.u16_at.ensures) c.first_alternative-at.ensures c.grade.ensures c.in-Ok.is _ _ c.sorted-k.ensures c.lowest.ensures c.in-None.is _ _ c.write_levels.ensures
+pub returns-in-Some-lowest : goal.returns-in-Some-lowest
+returns-in-Some-lowest c =
+    expand_low c.args.width.narrow c.args.width.wide c.requires (c.from-n.ensures ∙ c.u16_at.ensures) c.first_alternative-at.ensures c.grade.ensures c.in-Ok.is _ _ c.sorted-k.ensures c.lowest.ensures c.in-Some-lowest.is c.refused-in-Some-lowest.ensures
+
+pub returns-in-None-lowest : goal.returns-in-None-lowest
+returns-in-None-lowest c =
+    expand_written c.args.width.narrow c.args.width.wide c.requires (c.from-n.ensures ∙ c.u16_at.ensures) c.first_alternative-at.ensures c.grade.ensures c.in-Ok.is _ _ c.sorted-k.ensures c.lowest.ensures c.in-None-lowest.is _ _ c.write_levels.ensures
 
 pub unreachable-requires : goal.unreachable-requires
-unreachable-requires c =
-    expand_none_missing c.args.width.narrow c.args.width.wide c.requires (c.from-n.ensures ∙ c.u16_at.ensures) c.first_alternative-at.ensures c.grade.ensures (c.in-Err-None.is ∙ ap Err c.in-Err-None.field-0-is)
+unreachable-requires c = expand_none_missing c.args.width.narrow c.args.width.wide c.requires (c.from-n.ensures ∙ c.u16_at.ensures) c.first_alternative-at.ensures c.grade.ensures c.in-Err.is c.in-None.is

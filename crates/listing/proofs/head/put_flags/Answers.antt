@@ -1,14 +1,11 @@
+use Rattle.std.proofs.Common.{◌≡◌}
+use Rattle.settling.proofs.PutLaws.{puts_as}
+use Rattle.listing.specs.Tree.{flags_line}
 use Rattle.listing.proofs.HeadCode.{flagging}
 use Rattle.listing.proofs.head.put_flags.Goals as goal
-
-pub returns-then-f-eq0 : goal.returns-then-f-eq0
-returns-then-f-eq0 c = search flagging
-
-pub returns-then-f-eq1 : goal.returns-then-f-eq1
-returns-then-f-eq1 c = search flagging
-
-pub returns-then-f-eq2 : goal.returns-then-f-eq2
-returns-then-f-eq2 c = search flagging
+use Rattle.listing.proofs.head.put_flags.Goals.{in-0, in-1, in-2, in_default}
 
 pub returns : goal.returns
-returns c = search flagging
+returns c =
+    let e : c.match-f.t.now ≡ flags_line c.args.f = elim c.match-f.branch [ in-0 w ↦ search flagging | in-1 w ↦ search flagging | in-2 w ↦ search flagging | in_default w ↦ search flagging ] in
+    puts_as e c.put_run.ensures

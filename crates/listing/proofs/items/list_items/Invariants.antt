@@ -6,4 +6,4 @@ use Rattle.listing.proofs.WalkLaws.{Going}
 use Rattle.listing.proofs.items.list_items.Given as goal
 
 abbrev pub invariant-loop : goal.invariant-loop
-invariant-loop l = Going (ItemGood l.width.bytes) (item_bytes l.width.bytes) listed_item l.tape l.initial.work l.m l.width.bytes l.n l.at l.lim l.to l.work l.p (l.n - l.counter) l.q
+invariant-loop l = Going (ItemGood l.page.width.bytes) (item_bytes l.page.width.bytes) listed_item l.page.tape.now l.initial.work l.page.m l.page.width.bytes l.n l.at l.page.lim l.to l.work l.p (l.n - l.counter) l.q

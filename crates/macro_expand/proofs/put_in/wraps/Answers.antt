@@ -6,7 +6,7 @@ use Rattle.macro_expand.proofs.put_in.wraps.Goals as goal
 
 pub returns-in-39 : goal.returns-in-39
 unfolding wrapping pick
-returns-in-39 c = first_of (search wrapped, search ne_eqb)
+returns-in-39 c = search wrapped
 
 pub returns-in_default-2 : goal.returns-in_default-2
 unfolding wrapping pick

@@ -2,19 +2,19 @@ use Rattle.precedence.proofs.LevelKeyCode.{key_annotated, keyed}
 use Rattle.precedence.proofs.level.put_key.Goals as goal
 
 pub overflow_add-p : goal.overflow_add-p
-overflow_add-p c = first_of (search keyed, search key_annotated)
+overflow_add-p c = search keyed
 
 pub bounds-work-p : goal.bounds-work-p
-bounds-work-p c = first_of (search keyed, search key_annotated)
+bounds-work-p c = search keyed
 
 pub overflow_add-p-2 : goal.overflow_add-p-2
-overflow_add-p-2 c = first_of (search keyed, search key_annotated)
+overflow_add-p-2 c = search keyed
 
 pub annotations-f-requires : goal.annotations-f-requires
-annotations-f-requires c = first_of (search keyed, search key_annotated)
+annotations-f-requires c = search key_annotated
 
 pub put_alternative-requires : goal.put_alternative-requires
-put_alternative-requires c = first_of (search keyed, search key_annotated)
+put_alternative-requires c = search keyed
 
 pub returns : goal.returns
-returns c = first_of (search keyed, search key_annotated)
+returns c = search keyed

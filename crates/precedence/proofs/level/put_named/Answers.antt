@@ -3,4 +3,4 @@ use Rattle.precedence.proofs.WriteWholeCode.{rooming, standing_behind}
 use Rattle.precedence.proofs.level.put_named.Goals as goal
 
 pub returns : goal.returns
-returns c = first_of (search naming-put, search standing_behind, search rooming)
+returns c = search naming-put

@@ -9,13 +9,13 @@ pub put_named-q-requires : goal.put_named-q-requires
 put_named-q-requires c = search heading_level
 
 pub overflow_add-p : goal.overflow_add-p
-overflow_add-p c = first_of (search heading_level, search beginning, search ending, search rooming)
+overflow_add-p c = search heading_level
 
 pub overflow_add-p-2 : goal.overflow_add-p-2
-overflow_add-p-2 c = first_of (search heading_level, search beginning, search ending, search rooming)
+overflow_add-p-2 c = search heading_level
 
 pub put_run-requires : goal.put_run-requires
 put_run-requires c = (search beginning, search ending, search rooming)
 
 pub returns : goal.returns
-returns c = first_of (search heading_level, search beginning, search ending, search rooming)
+returns c = search heading_level

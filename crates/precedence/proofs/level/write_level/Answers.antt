@@ -5,7 +5,7 @@ pub put_alternatives-r-requires : goal.put_alternatives-r-requires
 put_alternatives-r-requires c = (search level_read, search level_upto, search level_roomy)
 
 pub returns-in-None : goal.returns-in-None
-returns-in-None c = first_of (search level_read, search level_upto, search level_roomy, search levelled-put)
+returns-in-None c = search levelled-put
 
 pub returns-in-Some : goal.returns-in-Some
-returns-in-Some c = first_of (search levelled-put, search level_read, search level_upto, search level_roomy)
+returns-in-Some c = search levelled-put

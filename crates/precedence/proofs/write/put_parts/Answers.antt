@@ -2,13 +2,13 @@ use Rattle.precedence.proofs.WriteWholeCode.{attributing, conditioning, parting,
 use Rattle.precedence.proofs.write.put_parts.Goals as goal
 
 pub overflow_add-m : goal.overflow_add-m
-overflow_add-m c = first_of (search parting, search attributing, search stopping, search rooming, search conditioning, search standing_behind)
+overflow_add-m c = search parting
 
 pub bounds-work-p : goal.bounds-work-p
-bounds-work-p c = first_of (search parting, search attributing, search stopping, search rooming, search conditioning, search standing_behind)
+bounds-work-p c = search parting
 
 pub overflow_add-a-2 : goal.overflow_add-a-2
-overflow_add-a-2 c = first_of (search parting, search attributing, search stopping, search rooming, search conditioning, search standing_behind)
+overflow_add-a-2 c = search parting
 
 pub put_head-q-requires : goal.put_head-q-requires
 put_head-q-requires c = search parting
@@ -17,10 +17,10 @@ pub put_attributes-r-requires : goal.put_attributes-r-requires
 put_attributes-r-requires c = (search attributing, search stopping, search rooming)
 
 pub overflow_add-a-3 : goal.overflow_add-a-3
-overflow_add-a-3 c = first_of (search parting, search attributing, search stopping, search rooming, search conditioning, search standing_behind)
+overflow_add-a-3 c = search parting
 
 pub put_run-requires : goal.put_run-requires
 put_run-requires c = (search conditioning, search standing_behind, search rooming)
 
 pub returns : goal.returns
-returns c = first_of (search parting, search attributing, search stopping, search rooming, search conditioning, search standing_behind)
+returns c = search parting

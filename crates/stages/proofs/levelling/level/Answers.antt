@@ -4,7 +4,7 @@ use Rattle.std.proofs.Common.{rules}
 use Rattle.std.proofs.lemmas.Result.{err_from_is_err_and}
 use Rattle.stages.specs.Levelling.{SomeLevels}
 use Rattle.stages.proofs.LevellingCode.{level_beginning, level_judging}
-use Rattle.stages.proofs.LevellingMeanSize.{levels-naming, levels-from, levels-cap, levels-sum}
+use Rattle.stages.proofs.LevellingMeanSize.{levels-naming, levels-from, levels-sum}
 use Rattle.stages.proofs.levelling.level.Goals as goal
 
 pub expand_precedence-requires : goal.expand_precedence-requires
@@ -22,7 +22,7 @@ pub judge_levels-requires : goal.judge_levels-requires
 judge_levels-requires c =
     let L : SomeLevels c.args.tape.now c.args.output c.args.r.texts c.args.r.at c.levels_room-room.result c.in_ok-written.written c.expand_precedence.new.work = search (level_beginning, c.in_ok-written.was) in
     let f = c.ok-bytes.ensures.value ∙ ap result_ok c.count_bytes.ensures in
-    (levels-from _ _ _ _ _ _ _ L _ f, levels-cap _ _ _ _ _ _ _ L _ f (search rules), levels-sum _ _ _ _ _ _ _ L _ f (search rules))
+    (levels-from _ _ _ _ _ _ _ L _ f, levels-sum _ _ _ _ _ _ _ L _ f (search rules))
 
 pub returns-in_err-size : goal.returns-in_err-size
 returns-in_err-size c =

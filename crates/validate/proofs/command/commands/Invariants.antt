@@ -8,4 +8,4 @@ use Prim.Native.Nat.{◌-◌}
 use Rattle.validate.proofs.command.commands.Given as goal
 
 abbrev pub invariant-loop : goal.invariant-loop
-invariant-loop l = step_of (times (ask l.r.atoms.four l.r.atoms.width.bytes l.r.tape.now (atoms_of l.r.tape.now l.r.atoms.count) (row l.place) 1) (l.n - l.counter) l.p) ≡ step_of (times (ask l.r.atoms.four l.r.atoms.width.bytes l.r.tape.now (atoms_of l.r.tape.now l.r.atoms.count) (row l.place) 1) l.n l.at)
+invariant-loop l = step_of (times (ask l.r.atoms.four l.r.atoms.width.bytes l.r.tape.now (atoms_of l.r.tape.now l.r.atoms.texts.count) (row l.place) 1) (l.n - l.counter) l.p) ≡ step_of (times (ask l.r.atoms.four l.r.atoms.width.bytes l.r.tape.now (atoms_of l.r.tape.now l.r.atoms.texts.count) (row l.place) 1) l.n l.at)

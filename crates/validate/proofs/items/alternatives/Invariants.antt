@@ -7,4 +7,4 @@ use Prim.Native.Nat.{◌-◌}
 use Rattle.validate.proofs.items.alternatives.Given as goal
 
 abbrev pub invariant-loop : goal.invariant-loop
-invariant-loop l = step_of (times (read_alternative l.r.atoms.four l.r.atoms.width.bytes l.r.tape.now (atoms_of l.r.tape.now l.r.atoms.count)) (l.n - l.counter) l.p) ≡ step_of (times (read_alternative l.r.atoms.four l.r.atoms.width.bytes l.r.tape.now (atoms_of l.r.tape.now l.r.atoms.count)) l.n l.at)
+invariant-loop l = step_of (times (read_alternative l.r.atoms.four l.r.atoms.width.bytes l.r.tape.now (atoms_of l.r.tape.now l.r.atoms.texts.count)) (l.n - l.counter) l.p) ≡ step_of (times (read_alternative l.r.atoms.four l.r.atoms.width.bytes l.r.tape.now (atoms_of l.r.tape.now l.r.atoms.texts.count)) l.n l.at)

@@ -13,4 +13,4 @@ abbrev pub decreases-symbols : goal.decreases-symbols
 decreases-symbols l = 2 * l.left + 1
 
 abbrev pub invariant-symbols-loop : goal.invariant-symbols-loop
-invariant-symbols-loop l = step_of (times (read_sym l.fn.r.atoms.four l.fn.r.atoms.width.bytes l.fn.r.tape.now (atoms_of l.fn.r.tape.now l.fn.r.atoms.count) l.left) (l.n - l.counter) l.p) ≡ step_of (times (read_sym l.fn.r.atoms.four l.fn.r.atoms.width.bytes l.fn.r.tape.now (atoms_of l.fn.r.tape.now l.fn.r.atoms.count) l.left) l.n l.at)
+invariant-symbols-loop l = step_of (times (read_sym l.fn.r.atoms.four l.fn.r.atoms.width.bytes l.fn.r.tape.now (atoms_of l.fn.r.tape.now l.fn.r.atoms.texts.count) l.left) (l.n - l.counter) l.p) ≡ step_of (times (read_sym l.fn.r.atoms.four l.fn.r.atoms.width.bytes l.fn.r.tape.now (atoms_of l.fn.r.tape.now l.fn.r.atoms.texts.count) l.left) l.n l.at)
