@@ -1,4 +1,4 @@
--- The ways out of referred, numbered, known and put_known: the text of a symbol that stands already. Assumes nothing.
+-- The ways out of numbered, known and put_known: the text of a symbol that stands already. Assumes nothing.
 use mathlib.Core.Path.{◌≡◌, sym, ap, ◌∙◌, subst}
 use mathlib.Core.Bool.{Bool, true}
 use mathlib.Core.Logic.{inl, inr}
