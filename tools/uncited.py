@@ -33,7 +33,8 @@ def uncited_lemmas(paths, trust):
     counts = {}
     texts = {path: without_comments(open(path).read()) for path in paths}
     for path, text in texts.items():
-        for name in TOKEN.findall(text):
+        # a function's attribute names a lemma by its path
+        for name in (part for token in TOKEN.findall(text) for part in token.split("::")):
             counts.setdefault(name, {}).setdefault(path, 0)
             counts[name][path] += 1
     for path in paths:

@@ -16,7 +16,8 @@ use Rattle.octets.specs.Working.Stores.{store}
 use Rattle.octets.proofs.NumbersLaws.{length-le}
 use Rattle.octets.proofs.StoreLaws.{length_store, le_at-same, le_at-other, get_d_store_before, get_d_store_after}
 use Rattle.parse_tree.specs.Plain.Tree.{Text, Item}
-use Rattle.expander.specs.Stage.{command_long, item_code}
+use Rattle.parse_tree.specs.Working.Nodes.{code_size}
+use Rattle.expander.specs.Stage.{item_code}
 use Rattle.again.specs.List.{Listable, SomeListed, ListsItems}
 use Rattle.again.proofs.ListRun.{items_from, from_end, from_item, from_other}
 use Rattle.again.proofs.ListMean.{run_means, places-many, place_is}
@@ -99,7 +100,7 @@ module _ (w₀ : List ℕ) (wd at end list : ℕ) where
 
         module _ (b : Bool) (e : b ≡ item_code c) where
           -- no item begins there
-          pub list_other : b ≡ false → (w' : List ℕ) → w' ≡ w → (n' : ℕ) → n' ≡ n → (k : ℕ) → k ≡ command_long wd c → Listing w' (p + k) n'
+          pub list_other : b ≡ false → (w' : List ℕ) → w' ≡ w → (n' : ℕ) → n' ≡ n → (k : ℕ) → k ≡ code_size wd c → Listing w' (p + k) n'
           list_other f w' x n' y k q =
               let z : from p ≡ from (p + k) = from_other wd w₀ end p c l code (sym e ∙ f) ∙ ap (λ (j : ℕ). from (p + j)) (sym q) in
               rw (x, y) (record {
@@ -114,7 +115,7 @@ module _ (w₀ : List ℕ) (wd at end list : ℕ) where
 
           -- an item does
           module _ (f : b ≡ true) where
-            step : from p ≡ p ∷ from (p + command_long wd c)
+            step : from p ≡ p ∷ from (p + code_size wd c)
             step = from_item wd w₀ end p c l code (sym e ∙ f)
 
             room : list + 8 * n + 8 ≤ at
@@ -159,7 +160,7 @@ module _ (w₀ : List ℕ) (wd at end list : ℕ) where
               stays i (inr h) =
                   ap (λ (x : List ℕ). get_or x i 0) o ∙ get_d_store_after w (list + 8 * n) (le 8 (p - at)) i (omega (arith, length-le 8 (p - at))) ∙ g.others i (inr (omega arith))
 
-              pub list_item : (w' : List ℕ) → w' ≡ w₁ → (n' : ℕ) → n' ≡ n + 1 → (k : ℕ) → k ≡ command_long wd c → Listing w' (p + k) n'
+              pub list_item : (w' : List ℕ) → w' ≡ w₁ → (n' : ℕ) → n' ≡ n + 1 → (k : ℕ) → k ≡ code_size wd c → Listing w' (p + k) n'
               list_item w' x n' y k q =
                   let z : from p ≡ p ∷ from (p + k) = step ∙ ap (λ (j : ℕ). p ∷ from (p + j)) (sym q) in
                   rw (x, y) (record {

@@ -14,7 +14,7 @@ use Rattle.octets.proofs.LiesLaws.{lies_first, lies_split}
 use Rattle.parse_tree.specs.Plain.Tree.{Text, Sym, Syms, Attribute, Condition, Alternative, Source, Item, leaf, around, over, nil, cons, extern, match, item, terminal, conditions}
 use Rattle.parse_tree.specs.Plain.Texts.{number}
 use Rattle.parse_tree.specs.Plain.WriteTape.{bytes_of_each, bit}
-use Rattle.parse_tree.specs.Working.Nodes.{span_bytes, leaf_code, leaf_operand, symbol_bytes, node_bytes}
+use Rattle.parse_tree.specs.Working.Nodes.{code_size, span_bytes, leaf_code, leaf_operand, symbol_bytes, node_bytes, long_of}
 use Rattle.parse_tree.specs.Working.Encode.{alternative_node, attribute_node, condition_node, nonterminal_node, sym_bytes, syms_bytes, argument_bytes, attribute_bytes, condition_bytes, alternative_bytes, item_bytes}
 use Rattle.parse_tree.specs.declared.syntax.Span.{Span}
 use Rattle.parse_tree.specs.declared.syntax.Leaf.{Leaf}
@@ -25,8 +25,7 @@ use Rattle.parse_tree.specs.declared.syntax.Alternative.{Alternative as Alternat
 use Rattle.parse_tree.specs.declared.syntax.Attribute.{Attribute as AttributeNode}
 use Rattle.parse_tree.specs.declared.syntax.Node.{Node}
 use Rattle.parse_tree.proofs.SizeLaws.{length_span}
-use Rattle.resolve.specs.Commands.{long_of}
-use Rattle.expander.specs.Stage.{command_long, item_code}
+use Rattle.expander.specs.Stage.{item_code}
 use Rattle.again.proofs.ListRun.{items_from, from_end, from_item, from_other}
 
 module _ (wd : ℕ) (w : List ℕ) (e : ℕ) where
@@ -48,12 +47,12 @@ module _ (wd : ℕ) (w : List ℕ) (e : ℕ) where
   silent_each f g (x ∷ xs) = silent_append (f x) (bytes_of_each f xs) (g x) (silent_each f g xs)
 
   -- one command
-  silent : (c : ℕ) (ys : List ℕ) → item_code c ≡ false → command_long wd c ≡ 1 + length ys → Silent (c ∷ ys)
+  silent : (c : ℕ) (ys : List ℕ) → item_code c ≡ false → code_size wd c ≡ 1 + length ys → Silent (c ∷ ys)
   silent c ys i j p d h l =
       from_other wd w e p c (omega (arith, l.end)) (lies_first w p c ys d l).1 i ∙ ap (items_from wd w e) (omega (arith, l.end))
 
   leaf_silent : (s : Span) (l : Leaf) → Silent (symbol_bytes wd s (SymbolKind.Leaf l))
-  unfolding symbol_bytes leaf_code leaf_operand item_code command_long long_of pick
+  unfolding symbol_bytes leaf_code leaf_operand item_code code_size long_of pick
   leaf_silent s (Leaf.AmbiguousId a) = silent 32 _ refl (simp (length-append, length_span, length-le) (omega arith))
   leaf_silent s (Leaf.Bare a) = silent 33 _ refl (simp (length-append, length_span, length-le) (omega arith))
   leaf_silent s (Leaf.Quoted a) = silent 34 _ refl (simp (length-append, length_span, length-le) (omega arith))
@@ -64,7 +63,7 @@ module _ (wd : ℕ) (w : List ℕ) (e : ℕ) where
   leaf_silent s Leaf.Error = silent 44 _ refl (simp (length-append, length_span) (omega arith))
 
   symbol_silent : (s : Span) (k : SymbolKind) → Silent (node_bytes wd (Node.Symbol s k))
-  unfolding node_bytes symbol_bytes item_code command_long long_of pick
+  unfolding node_bytes symbol_bytes item_code code_size long_of pick
   symbol_silent s (SymbolKind.Leaf l) = leaf_silent s l
   symbol_silent s (SymbolKind.Around (Around.Repeat op)) = silent 38 _ refl (simp (length-append, length_span) (omega arith))
   symbol_silent s (SymbolKind.Around Around.Choose) = silent 39 _ refl (simp length_span (omega arith))
@@ -73,11 +72,11 @@ module _ (wd : ℕ) (w : List ℕ) (e : ℕ) where
   symbol_silent s (SymbolKind.Over (Over.Group n)) = silent 41 _ refl (simp (length-append, length_span, length-le) (omega arith))
 
   attribute_node_silent : (x : AttributeNode) → Silent (node_bytes wd (Node.Attribute x))
-  unfolding node_bytes item_code command_long long_of pick
+  unfolding node_bytes item_code code_size long_of pick
   attribute_node_silent x = silent 19 _ refl (simp (length-append, length-le) (omega arith))
 
   alternative_node_silent : (x : AlternativeNode) → Silent (node_bytes wd (Node.Alternative x))
-  unfolding node_bytes item_code command_long long_of pick
+  unfolding node_bytes item_code code_size long_of pick
   alternative_node_silent x = silent 18 _ refl (simp (length-append, length_span, length-le) (omega arith))
 
   -- ---- what stands inside an item; ts are the atoms
@@ -95,7 +94,7 @@ module _ (wd : ℕ) (w : List ℕ) (e : ℕ) where
       syms_silent (cons x xs) = silent_append (sym_bytes wd ts x) (syms_bytes wd ts xs) (sym_silent x) (syms_silent xs)
 
     argument-silent : (x : Text) → Silent (argument_bytes wd ts x)
-    unfolding argument_bytes node_bytes item_code command_long pick
+    unfolding argument_bytes node_bytes item_code code_size pick
     argument-silent x = silent 17 _ refl (simp length-le (omega arith))
 
     attribute_of_lem : (i : Text) (o : Option (Text × Text)) → Silent (attribute_bytes wd ts (record { id = i; argument = o }))
@@ -107,7 +106,7 @@ module _ (wd : ℕ) (w : List ℕ) (e : ℕ) where
     attribute_silent a = attribute_of_lem a.id a.argument
 
     condition_silent : (c : Condition) → Silent (condition_bytes wd ts c)
-    unfolding condition_bytes condition_node node_bytes item_code command_long long_of pick
+    unfolding condition_bytes condition_node node_bytes item_code code_size long_of pick
     condition_silent c = silent 20 _ refl (simp (length-append, length_span, length-le) (omega arith))
 
     alternative_silent : (a : Alternative) → Silent (alternative_bytes wd ts a)
@@ -121,15 +120,15 @@ module _ (wd : ℕ) (w : List ℕ) (e : ℕ) where
         (silent_append c y (silent_each (condition_bytes wd ts) condition_silent (conditions a.condition)) (syms_silent a.symbols)))
 
     -- ---- an item: its first command begins it, and no other does
-    begun : (c : ℕ) (ys zs : List ℕ) (p d : ℕ) → d ≤ e → Lies w p ((c ∷ ys) ++ zs) d → item_code c ≡ true → command_long wd c ≡ 1 + length ys → Silent zs → items_from wd w e p ≡ p ∷ items_from wd w e d
+    begun : (c : ℕ) (ys zs : List ℕ) (p d : ℕ) → d ≤ e → Lies w p ((c ∷ ys) ++ zs) d → item_code c ≡ true → code_size wd c ≡ 1 + length ys → Silent zs → items_from wd w e p ≡ p ∷ items_from wd w e d
     begun c ys zs p d h l i j f =
         let s = lies_split w p d (c ∷ ys) zs l in
-        let z : p + command_long wd c ≡ p + length (c ∷ ys) = omega (arith, j) in
+        let z : p + code_size wd c ≡ p + length (c ∷ ys) = omega (arith, j) in
         from_item wd w e p c (omega (arith, s.1.end)) (lies_first w p c ys _ s.0).1 i
         ∙ ap (λ (q : ℕ). p ∷ items_from wd w e q) z ∙ ap (λ (r : List ℕ). p ∷ r) (f (p + length (c ∷ ys)) d h s.1)
 
     source_begins : (s : Span) (o : Source) (x : Text) (p d : ℕ) → d ≤ e → Lies w p (item_bytes wd ts (terminal s o x)) d → items_from wd w e p ≡ p ∷ items_from wd w e d
-    unfolding item_bytes node_bytes item_code command_long pick
+    unfolding item_bytes node_bytes item_code code_size pick
     source_begins s extern x p d h l =
         let y = span_bytes s ++ le wd (number ts x) in
         begun 48 y [] p d h (rw (append-nil y) l) refl (simp (length-append, length_span, length-le) (omega arith)) silent_none
@@ -138,7 +137,7 @@ module _ (wd : ℕ) (w : List ℕ) (e : ℕ) where
         begun 49 y [] p d h (rw (append-nil y) l) refl (simp (length-append, length_span, length-le) (omega arith)) silent_none
 
     item_begins : (x : Item) (p d : ℕ) → d ≤ e → Lies w p (item_bytes wd ts x) d → items_from wd w e p ≡ p ∷ items_from wd w e d
-    unfolding item_bytes nonterminal_node node_bytes item_code command_long pick
+    unfolding item_bytes nonterminal_node node_bytes item_code code_size pick
     item_begins (item n) p d h l =
         let a = bytes_of_each (argument_bytes wd ts) n.args in
         let b = bytes_of_each (alternative_bytes wd ts) n.alternatives in

@@ -8,14 +8,14 @@ use borrow.Author.Tests.{lt-leb, le-leb}
 use lib.Dec.{leb}
 use lib.ListN.{get_or}
 use Rattle.octets.specs.Working.Choice.{pick}
-use Rattle.resolve.specs.Commands.{long_of}
-use Rattle.expander.specs.Stage.{command_long, item_code}
+use Rattle.parse_tree.specs.Working.Nodes.{code_size, long_of}
+use Rattle.expander.specs.Stage.{item_code}
 
 -- the places of the items from p up to e, of at most so many commands
 unfoldable pub places_out : ℕ → List ℕ → ℕ → ℕ → ℕ → List ℕ
 places_out wd w e zero p = []
 places_out wd w e (suc f) p =
-    let rest = places_out wd w e f (p + command_long wd (get_or w p 0)) in
+    let rest = places_out wd w e f (p + code_size wd (get_or w p 0)) in
     pick (leb e p) [] (pick (item_code (get_or w p 0)) (p ∷ rest) rest)
 
 -- ---- each command gets on: so the run is the same however many are allowed, if they are enough
@@ -24,8 +24,8 @@ unfolding pick
 large true x y h k = h
 large false x y h k = k
 
-long_some : (wd c : ℕ) → 0 < command_long wd c
-unfolding command_long long_of
+long_some : (wd c : ℕ) → 0 < code_size wd c
+unfolding code_size long_of
 long_some wd c =
     large _ _ _ (omega arith) (large _ _ _ (omega arith) (large _ _ _ (omega arith) (large _ _ _ (omega arith)
     (large _ _ _ (omega arith) (large _ _ _ (omega arith) (large _ _ _ (omega arith) (large _ _ _ (omega arith) (large _ _ _ (omega arith) (large _ _ _ (omega arith)
@@ -46,7 +46,7 @@ module _ (wd : ℕ) (w : List ℕ) (e : ℕ) where
   enough (suc f) zero p h k = ends (suc f) p (omega arith)
   enough (suc f) (suc g) p h k =
       let l = long_some wd (get_or w p 0) in
-      same_turn (leb e p) (item_code (get_or w p 0)) p _ _ (enough f g (p + command_long wd (get_or w p 0)) (omega arith) (omega arith))
+      same_turn (leb e p) (item_code (get_or w p 0)) p _ _ (enough f g (p + code_size wd (get_or w p 0)) (omega arith) (omega arith))
 
   -- ---- the run up to e
   unfoldable pub items_from : ℕ → List ℕ
@@ -56,10 +56,10 @@ module _ (wd : ℕ) (w : List ℕ) (e : ℕ) where
   unfolding items_from
   from_end p h = ends e p h
 
-  pub from_item : (p c : ℕ) → p < e → get_or w p 0 ≡ c → item_code c ≡ true → items_from p ≡ p ∷ items_from (p + command_long wd c)
+  pub from_item : (p c : ℕ) → p < e → get_or w p 0 ≡ c → item_code c ≡ true → items_from p ≡ p ∷ items_from (p + code_size wd c)
   unfolding items_from places_out pick
   from_item p c h i j = enough e (suc e) p (omega arith) (omega arith) ∙ simp (lt-leb e p h, i, j)
 
-  pub from_other : (p c : ℕ) → p < e → get_or w p 0 ≡ c → item_code c ≡ false → items_from p ≡ items_from (p + command_long wd c)
+  pub from_other : (p c : ℕ) → p < e → get_or w p 0 ≡ c → item_code c ≡ false → items_from p ≡ items_from (p + code_size wd c)
   unfolding items_from places_out pick
   from_other p c h i j = enough e (suc e) p (omega arith) (omega arith) ∙ simp (lt-leb e p h, i, j)

@@ -1,15 +1,15 @@
 -- What the proofs of `built` and its helpers use. Assumes nothing.
-use mathlib.Core.Path.{◌≡◌, sym, ap, ◌∙◌}
+use mathlib.Core.Path.{◌≡◌, ap, ◌∙◌}
 use mathlib.Core.Bool.{false}
 use mathlib.Core.Logic.{◌⊎◌, inl, inr}
 use mathlib.Core.List.{List}
-use Prim.Native.Nat.{ℕ, ◌+◌, ◌-◌, ◌*◌, ◌^◌, ◌<◌, ◌≤◌}
+use Prim.Native.Nat.{ℕ, ◌+◌, ◌*◌, ◌^◌, ◌<◌, ◌≤◌}
 use native.Mathlib.Omega.{arith}
 use mir.Syntax.{w64}
 use mir.Val.{Fits}
 use borrow.Author.Rules.{rules}
 use lib.ListN.{length}
-use Rattle.octets.specs.Plain.Numbers.{le_at, le}
+use Rattle.octets.specs.Plain.Numbers.{le}
 use Rattle.octets.specs.Working.Stores.{store}
 use Rattle.parse_tree.specs.Plain.Texts.{has}
 use Rattle.std.specs.Prelude.{Option, Some, None}
@@ -21,78 +21,6 @@ use Rattle.appending.specs.declared.built.BuiltIn.{BuiltIn}
 use Rattle.appending.specs.Built.{number_of, word_of, built_text, built_place, built_at, BuiltIs, BuiltNot, Built, Gives, SomeBuilt, GivesBuilt}
 use Rattle.appending.proofs.BuiltRoom.{built_room}
 use Rattle.appending.proofs.BuiltMeans.{length_found, given, word_inside, found_gives, next_gives}
-
--- ---- `word` and `put_word`
-module _ (w : List ℕ) (g : Ground) (i : ℕ) where
-  pub word_fits : built_place g i + 8 ≤ length w → length w < 2 ^ 64 → Fits w64 (g.slots - 72 + 8 * i)
-  unfolding built_place
-  word_fits h l = record { fits = omega arith }
-
-  pub eight_fits : built_place g i + 8 ≤ length w → length w < 2 ^ 64 → Fits w64 (8 * i)
-  unfolding built_place
-  eight_fits h l = record { fits = omega arith }
-
-  pub word_room : built_place g i + 8 ≤ length w → g.slots - 72 + 8 * i + 8 ≤ length w
-  unfolding built_place
-  word_room h = h
-
-  pub word_none : (x : ℕ) → x ≡ le_at 8 w (g.slots - 72 + 8 * i) → x ≡ 0 → built_at w g i ≡ 0
-  unfolding built_at built_place
-  word_none x e z = sym e ∙ z
-
-  pub word_some : (x : ℕ) → x ≡ le_at 8 w (g.slots - 72 + 8 * i) → (x ≡ 0 → ⊥) → built_at w g i ≡ x - 1 + 1
-  unfolding built_at built_place
-  word_some x e z = omega (arith, e)
-
-  pub word_stored : (v : ℕ) (w' : List ℕ) → w' ≡ store w (g.slots - 72 + 8 * i) (le 8 v) → w' ≡ store w (built_place g i) (le 8 v)
-  unfolding built_place
-  word_stored v w' e = e
-
-pub ruleset wording = (rules, word_fits, eight_fits, word_room, word_none, word_some, word_stored)
-
--- ---- `put_next`
-module _ (w : List ℕ) (g : Ground) (c i : ℕ) (h : list_place g c + 8 ≤ length w) where
-  pub entry_place : g.m.base + 24 * g.m.count + 8 * c + 8 ≤ length w
-  unfolding list_place
-  entry_place = h
-
-  module _ (l : length w < 2 ^ 64) where
-    pub counts_fit : Fits w64 (24 * g.m.count)
-    counts_fit = record { fits = omega (arith, entry_place) }
-
-    pub base_fits : Fits w64 (g.m.base + 24 * g.m.count)
-    base_fits = record { fits = omega (arith, entry_place) }
-
-    pub entries_fit : Fits w64 (8 * c)
-    entries_fit = record { fits = omega (arith, entry_place) }
-
-    pub entry_fits : Fits w64 (g.m.base + 24 * g.m.count + 8 * c)
-    entry_fits = record { fits = omega (arith, entry_place) }
-
-    pub number_fits : Fits w64 (g.m.count + c)
-    number_fits = record { fits = omega (arith, entry_place) }
-
-    pub number-more_fits : Fits w64 (g.m.count + c + 1)
-    number-more_fits = record { fits = omega (arith, entry_place) }
-
-    pub count_fits : Fits w64 (c + 1)
-    count_fits = record { fits = omega (arith, entry_place) }
-
-module _ (w : List ℕ) (g : Ground) (i : ℕ) (h : built_place g i + 8 ≤ length w) (l : length w < 2 ^ 64) where
-  pub twice_fits : Fits w64 (2 * i)
-  unfolding built_place
-  twice_fits = record { fits = omega arith }
-
-  pub odd-fits : Fits w64 (2 * i + 1)
-  unfolding built_place
-  odd-fits = record { fits = omega arith }
-
-pub next_stored : (w w1 w2 : List ℕ) (g : Ground) (c i : ℕ) → w1 ≡ store w (g.m.base + 24 * g.m.count + 8 * c) (le 8 (2 * i + 1)) → w2 ≡ store w1 (built_place g i) (le 8 (g.m.count + c + 1))
-    → w2 ≡ store (store w (list_place g c) (le 8 (2 * i + 1))) (built_place g i) (le 8 (g.m.count + c + 1))
-unfolding list_place
-next_stored w w1 w2 g c i e f = f ∙ ap (λ (u : List ℕ). store u (built_place g i) (le 8 (g.m.count + c + 1))) e
-
-pub ruleset putting = (rules, entry_place, counts_fit, base_fits, entries_fit, entry_fits, number_fits, number-more_fits, twice_fits, odd-fits, next_stored)
 
 -- ---- `first` and `built`
 pub number_less : (t : BuiltIn) → number_of t < 9
@@ -129,8 +57,8 @@ module _ (s w : List ℕ) (g : Ground) (n c i : ℕ) (e : Grounded s w g) (k : S
     unfolding Finds
     not_found y = rw y at d
 
-    pub found_fits : (q : ℕ) → r ≡ Some q → Fits w64 (q + 1)
-    found_fits q y = record { fits = omega (arith, (is_found q y).below, length_found s w g, e.records, keys_slots s w g e, slots_top s w g e, e.top, e.short) }
+    pub found_less : (q : ℕ) → r ≡ Some q → q + 1 < 2 ^ 64
+    found_less q y = omega (arith, (is_found q y).below, length_found s w g, e.records, keys_slots s w g e, slots_top s w g e, e.top, e.short)
 
     pub found_done : (q : ℕ) → r ≡ Some q → (w' : List ℕ) → w' ≡ store w (built_place g i) (le 8 (q + 1)) → GivesBuilt s w g n c i (record { number = q; count = c }) w'
     unfolding GivesBuilt
@@ -140,17 +68,19 @@ module _ (s w : List ℕ) (g : Ground) (n c i : ℕ) (e : Grounded s w g) (k : S
     next_room y = omega (arith, built_room s w g n c i (unasked k.built) (not_found y) k.places k.names k.built l, keys_slots s w g e, slots_top s w g e, e.top)
 
     pub next_number_fits : r ≡ None → Fits w64 (g.m.count + c)
-    next_number_fits y = number_fits w g c i (next_room y) (omega (arith, e.short))
+    unfolding list_place
+    next_number_fits y = record { fits = omega (arith, next_room y, e.short) }
 
     pub next_count_fits : r ≡ None → Fits w64 (c + 1)
-    next_count_fits y = count_fits w g c i (next_room y) (omega (arith, e.short))
+    unfolding list_place
+    next_count_fits y = record { fits = omega (arith, next_room y, e.short) }
 
     pub next_done : r ≡ None → (w' : List ℕ) → w' ≡ store (store w (list_place g c) (le 8 (2 * i + 1))) (built_place g i) (le 8 (g.m.count + c + 1))
         → GivesBuilt s w g n c i (record { number = g.m.count + c; count = c + 1 }) w'
     unfolding GivesBuilt
     next_done y w' m ps h b = next_gives s w g n c ps e h b i l (unasked b) (not_found y) w' m
 
-pub ruleset asking = (rules, number_less, words_there, word_there, found_fits, found_done, next_room, next_number_fits, next_count_fits, next_done)
+pub ruleset asking = (rules, number_less, words_there, word_there, found_less, found_done, next_room, next_number_fits, next_count_fits, next_done)
 
 -- ---- `built`
 module _ (s w : List ℕ) (g : Ground) (n c i : ℕ) (o : Option ℕ) (f : built_at w g i ≡ word_of o) where

@@ -8,7 +8,6 @@ mod BuiltMeans
 mod BuiltCode
 pub mod BuiltAround
 pub mod PiecesLaws
-pub mod SymbolsBytes
 mod SymbolsNamedCode
 pub mod SymbolsTrees
 pub mod SymbolsStays

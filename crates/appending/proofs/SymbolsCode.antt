@@ -25,22 +25,22 @@ none_appended : (s w : List ℕ) (g : Ground) (n lim : ℕ) (ps : List ℕ) (v :
 unfolding renamed_all syms_texts syms_bytes
 none_appended s w g n lim ps v A = appends_is s g n lim ps w v (plainly []) v w (appends-none s g n lim ps w v A) (symbols_piece g.width.bytes nil) refl refl refl
 
--- w₀ is work before; of k symbols from p on, x.left are to come
+-- w₀ is work before; of k symbols from p on, x.many are to come
 module _ (s w₀ : List ℕ) (g : Ground) (n lim p k : ℕ) (v : Appended) where
   -- of the symbols ys
   pub record Sofar (ps : List ℕ) (four : Bool) (left e : ℕ) (ys : Syms) (w : List ℕ) (x : Coming) : Type 0 where
     pub zs : Syms
-    pub many : count zs ≡ x.left
+    pub many : count zs ≡ x.many
     pub going : Appending s g n lim ps w x.run.out
     pub referring : Referring s w g ps four left x.run.at e zs
     pub carry : (v' : Appended) (w' : List ℕ) → Appends s g n lim ps w x.run.out (symbols_piece g.width.bytes zs) v' w' → Appends s g n lim ps w₀ v (symbols_piece g.width.bytes ys) v' w'
 
   pub record Copying (w : List ℕ) (x : Coming) : Type 0 where
-    pub some : SomeReferring s w g n lim x.run.at x.left x.run.out
+    pub some : SomeReferring s w g n lim x.run.at x.many x.run.out
     pub long : length w ≡ length w₀
     pub each : (ps : List ℕ) (four : Bool) (left e : ℕ) (ys : Syms) → count ys ≡ k → Appending s g n lim ps w₀ v → Referring s w₀ g ps four left p e ys → Sofar ps four left e ys w x
 
-  pub copying_start : SomeReferring s w₀ g n lim p k v → Copying w₀ (record { left = k; run = record { at = p; out = v } })
+  pub copying_start : SomeReferring s w₀ g n lim p k v → Copying w₀ (record { many = k; run = record { at = p; out = v } })
   copying_start K = record {
     some = K;
     long = refl;
@@ -48,7 +48,7 @@ module _ (s w₀ : List ℕ) (g : Ground) (n lim p k : ℕ) (v : Appended) where
   }
 
   module _ (w : List ℕ) (x : Coming) (c : Copying w x) where
-    pub copying_some : SomeReferring s w g n lim x.run.at x.left x.run.out
+    pub copying_some : SomeReferring s w g n lim x.run.at x.many x.run.out
     copying_some = c.some
 
     pub copying_long : length w ≡ length w₀
@@ -61,7 +61,7 @@ module _ (s w₀ : List ℕ) (g : Ground) (n lim p k : ℕ) (v : Appended) where
           let o = N.each ps four left e f.zs f.many f.going f.referring in
           record { zs = o.zs; many = o.many; going = o.going; referring = o.referring; carry = λ v' w'' a. f.carry v' w'' (o.carry v' w'' a) }
 
-      some_more : SomeReferring s w' g n lim r.run.at r.left r.run.out
+      some_more : SomeReferring s w' g n lim r.run.at r.many r.run.out
       some_more =
           let K = c.some in
           let o = N.each K.places K.four K.left K.end K.symbols K.many K.going K.referring in
@@ -70,11 +70,11 @@ module _ (s w₀ : List ℕ) (g : Ground) (n lim p k : ℕ) (v : Appended) where
       pub copying_next : Copying w' r
       copying_next = record { some = some_more; long = N.long ∙ c.long; each = λ ps four left e ys m A R. more ps four left e ys (c.each ps four left e ys m A R) }
 
-      pub copying_less : 0 < x.left → g.end - r.run.at < g.end - x.run.at
+      pub copying_less : 0 < x.many → g.end - r.run.at < g.end - x.run.at
       unfolding count size_in
       copying_less h = go c.some.symbols c.some.many c.some.referring
         where
-          go : (ys : Syms) → count ys ≡ x.left → Referring s w g c.some.places c.some.four c.some.left x.run.at c.some.end ys → g.end - r.run.at < g.end - x.run.at
+          go : (ys : Syms) → count ys ≡ x.many → Referring s w g c.some.places c.some.four c.some.left x.run.at c.some.end ys → g.end - r.run.at < g.end - x.run.at
           go nil m R = absurd (omega arith)
           go (cons y ys) m R =
               omega (
@@ -85,14 +85,14 @@ module _ (s w₀ : List ℕ) (g : Ground) (n lim p k : ℕ) (v : Appended) where
               )
 
     -- ---- the end
-    pub copying_done : x.left ≤ 0 → PutsSymbols s w₀ g n lim p k v x.run w
+    pub copying_done : x.many ≤ 0 → PutsSymbols s w₀ g n lim p k v x.run w
     unfolding PutsSymbols count
     copying_done h ps four left e ys m A R = go f.zs f.many f.referring f.carry
       where
         f : Sofar ps four left e ys w x
         f = c.each ps four left e ys m A R
 
-        go : (zs : Syms) → count zs ≡ x.left → Referring s w g ps four left x.run.at e zs
+        go : (zs : Syms) → count zs ≡ x.many → Referring s w g ps four left x.run.at e zs
             → ((v' : Appended) (w' : List ℕ) → Appends s g n lim ps w x.run.out (symbols_piece g.width.bytes zs) v' w' → Appends s g n lim ps w₀ v (symbols_piece g.width.bytes ys) v' w')
             → (x.run.at ≡ e) × Appends s g n lim ps w₀ v (symbols_piece g.width.bytes ys) x.run.out w
         go nil m S u = (omega (arith, none_stand s w g.m g.width.bytes four left (g.from + x.run.at) (g.from + e) S.stand), u x.run.out w (none_appended s w g n lim ps x.run.out f.going))

@@ -10,14 +10,13 @@ use Rattle.octets.proofs.LiesLaws.{lies_split, lies_part}
 use Rattle.parse_tree.specs.Plain.Tree.{Text, Sym, Syms, nil, cons, count}
 use Rattle.parse_tree.specs.Plain.Texts.{with_new}
 use Rattle.parse_tree.specs.Plain.References.{sym_texts, syms_texts}
-use Rattle.parse_tree.specs.Working.Nodes.{node_bytes, size_of}
+use Rattle.parse_tree.specs.Working.Nodes.{node_bytes, size_of, long_of}
 use Rattle.parse_tree.specs.Working.Encode.{sym_bytes, syms_bytes}
 use Rattle.parse_tree.specs.Working.Within.{Each}
+use Rattle.parse_tree.specs.Working.Nested.{inside_at}
 use Rattle.texts.specs.Table.{texts}
 use Rattle.laws.specs.Flat.{sym_node, children, joined}
 use Rattle.laws.proofs.Flat.{Step, SymsFits, syms_fit_lem, sym_bytes_lem, step, node_size}
-use Rattle.resolve.specs.Commands.{long_of}
-use Rattle.grades.specs.Skip.{inside_at}
 use Rattle.grades.proofs.CodesMean.{Codes, first_codes}
 use Rattle.display.proofs.StandsLaws.{first_stands}
 use Rattle.replacing.specs.Slots.{among}
@@ -125,7 +124,7 @@ module _ (s w : List ℕ) (g : Ground) (n lim : ℕ) (ps : List ℕ) (four : Boo
           (ap (λ (us : List Text). with_new (named_in s w g q.out.count) (us ++ syms_texts (renamed_all ys))) (sym (append-nil (sym_texts (renamed y)))))
           (ap (λ (l : List ℕ). l ++ syms_bytes wd T (renamed_all ys)) (sym (append-nil (sym_bytes wd T (renamed y))))) refl
 
-      pub named-onward : count (cons y ys) ≡ x.left → Onward s w g n lim ps four left e (cons y ys) x (record { left = x.left - 1; run = r }) w'
+      pub named-onward : count (cons y ys) ≡ x.many → Onward s w g n lim ps four left e (cons y ys) x (record { many = x.many - 1; run = r }) w'
       unfolding count
       named-onward m = record {
         zs = ys;
@@ -149,11 +148,11 @@ module _ (s w : List ℕ) (g : Ground) (n lim : ℕ) (ps : List ℕ) (four : Boo
     first_upto = omega (arith, first_size, first_step.room, R.inside, G.ordered)
 
     module _ (h : ℕ) (i : h ≡ inside_at wd w here) where
-      many_is : count (cons y ys) ≡ x.left → count zs ≡ x.left - 1 + h
+      many_is : count (cons y ys) ≡ x.many → count zs ≡ x.many - 1 + h
       unfolding count
       many_is m = omega (arith, first_step.many, codes.held)
 
-      pub first_few : count (cons y ys) ≡ x.left → x.left - 1 + h ≤ length w
+      pub first_few : count (cons y ys) ≡ x.many → x.many - 1 + h ≤ length w
       first_few m = omega (arith, many_is m, count-few wd ts zs, first_step.lies.end, first_step.below)
 
       module _ (r : Copied) (w' : List ℕ) (P : PutsCommand w g lim q c r w') where
@@ -203,7 +202,7 @@ module _ (s w : List ℕ) (g : Ground) (n lim : ℕ) (ps : List ℕ) (four : Boo
           referred = subst (λ (j : ℕ). Each (λ (p : ℕ). among p ps ≡ true) (keys_of_all wd ts zs j)) keys_place_lem (subst (Each (λ (p : ℕ). among p ps ≡ true)) (sym (plain-keys wd ts y ys q.at k)) R.referred);
         }
 
-        pub copied_onward : count (cons y ys) ≡ x.left → Onward s w g n lim ps four left e (cons y ys) x (record { left = x.left - 1 + h; run = r }) w'
+        pub copied_onward : count (cons y ys) ≡ x.many → Onward s w g n lim ps four left e (cons y ys) x (record { many = x.many - 1 + h; run = r }) w'
         copied_onward m = record {
           zs = zs;
           many = many_is m;

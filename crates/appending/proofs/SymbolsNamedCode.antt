@@ -5,6 +5,7 @@ use mathlib.Core.List.{List, ◌∷◌, ◌++◌}
 use Prim.Native.Nat.{ℕ, ◌%◌}
 use borrow.Author.Rules.{rules}
 use Rattle.octets.specs.Plain.Numbers.{le}
+use Rattle.octets.proofs.NumbersLaws.{low_bytes}
 use Rattle.parse_tree.specs.Plain.Tree.{Text}
 use Rattle.parse_tree.specs.Plain.Texts.{number, with_new}
 use Rattle.precedence.specs.Write.{Puts}
@@ -20,7 +21,6 @@ use Rattle.appending.specs.Symbols.{Nameable, PutsNamed}
 use Rattle.appending.proofs.PiecesLaws.{steady_naming, appends_then, appends_is, appends_puts, appends_gives}
 use Rattle.appending.proofs.BuiltLaws.{number-gives}
 use Rattle.appending.proofs.BuiltRoom.{names_room}
-use Rattle.appending.proofs.SymbolsBytes.{low_bytes}
 
 -- ---- its text has a number, and the name is put
 module _ (s w : List ℕ) (g : Ground) (n lim p span : ℕ) (v : Appended) (ps : List ℕ) (h : Appending s g n lim ps w v) (here : among p ps ≡ true) where

@@ -9,8 +9,8 @@ use mir.Val.{Fits}
 use borrow.Author.Rules.{rules}
 use lib.ListN.{length, get_or}
 use Rattle.parse_tree.specs.Plain.Tree.{Sym, Syms, nil, cons, count}
-use Rattle.resolve.specs.Commands.{long_of}
-use Rattle.grades.specs.Skip.{inside_at}
+use Rattle.parse_tree.specs.Working.Nodes.{long_of}
+use Rattle.parse_tree.specs.Working.Nested.{inside_at}
 use Rattle.replacing.specs.Trees.{is_key}
 use Rattle.expander.specs.declared.Ground.{Ground}
 use Rattle.expander.specs.Ground.{size_in}
@@ -29,16 +29,16 @@ record First (s w : List ℕ) (g : Ground) (n lim : ℕ) (x : Coming) : Type 0 w
   pub end : ℕ
   pub one : Sym
   pub others : Syms
-  pub many : count (cons one others) ≡ x.left
+  pub many : count (cons one others) ≡ x.many
   pub going : Appending s g n lim places w x.run.out
   pub referring : Referring s w g places four left x.run.at end (cons one others)
 
-module _ (s w : List ℕ) (g : Ground) (n lim : ℕ) (x : Coming) (K : SomeReferring s w g n lim x.run.at x.left x.run.out) (l : 0 < x.left) where
+module _ (s w : List ℕ) (g : Ground) (n lim : ℕ) (x : Coming) (K : SomeReferring s w g n lim x.run.at x.many x.run.out) (l : 0 < x.many) where
   F : First s w g n lim x
   unfolding count
   F = go K.symbols K.many K.referring
     where
-      go : (ys : Syms) → count ys ≡ x.left → Referring s w g K.places K.four K.left x.run.at K.end ys → First s w g n lim x
+      go : (ys : Syms) → count ys ≡ x.many → Referring s w g K.places K.four K.left x.run.at K.end ys → First s w g n lim x
       go nil m r = absurd (omega arith)
       go (cons y ys) m r = record { places = K.places; four = K.four; left = K.left; end = K.end; one = y; others = ys; many = m; going = K.going; referring = r }
 
@@ -55,8 +55,8 @@ module _ (s w : List ℕ) (g : Ground) (n lim : ℕ) (x : Coming) (K : SomeRefer
   pub next_here : g.from + x.run.at < length w
   next_here = omega (arith, room, F.going.behind)
 
-  pub next_behind : g.from + x.run.at + 16 ≤ length w
-  next_behind = omega (arith, room, F.going.behind)
+  pub next_behind : g.from + x.run.at + (10 + g.width.bytes) ≤ length w
+  next_behind = omega (arith, room, g.width.wide, F.going.behind)
 
   pub next_far : g.from + x.run.at + 17 ≤ length w
   next_far = omega (arith, room, F.going.behind)
@@ -85,7 +85,7 @@ module _ (s w : List ℕ) (g : Ground) (n lim : ℕ) (x : Coming) (K : SomeRefer
         is = first_reference s w g n lim F.places F.four F.left F.end F.one F.others x F.going F.referring (own_key ∙ f);
       }
 
-      pub next_named : (r : Copied) (w' : List ℕ) → PutsReference s w g n lim x.run r w' → PutsNext s w g n lim x (record { left = x.left - 1; run = r }) w'
+      pub next_named : (r : Copied) (w' : List ℕ) → PutsReference s w g n lim x.run r w' → PutsNext s w g n lim x (record { many = x.many - 1; run = r }) w'
       unfolding count
       next_named r w' P = record {
         long = named-long s w g n lim F.places F.four F.left F.end F.one F.others x F.going F.referring (own_key ∙ f) r w' P;
@@ -93,8 +93,8 @@ module _ (s w : List ℕ) (g : Ground) (n lim : ℕ) (x : Coming) (K : SomeRefer
         each = each;
       }
         where
-          each : (ps : List ℕ) (four : Bool) (left end : ℕ) (ys : Syms) → count ys ≡ x.left → Appending s g n lim ps w x.run.out → Referring s w g ps four left x.run.at end ys
-              → Onward s w g n lim ps four left end ys x (record { left = x.left - 1; run = r }) w'
+          each : (ps : List ℕ) (four : Bool) (left end : ℕ) (ys : Syms) → count ys ≡ x.many → Appending s g n lim ps w x.run.out → Referring s w g ps four left x.run.at end ys
+              → Onward s w g n lim ps four left end ys x (record { many = x.many - 1; run = r }) w'
           each ps four left end nil m A R = absurd (omega arith)
           each ps four left end (cons y ys) m A R = named-onward s w g n lim ps four left end y ys x A R (key_is ps four left end y ys A R ∙ f) r w' P m
 
@@ -104,12 +104,12 @@ module _ (s w : List ℕ) (g : Ground) (n lim : ℕ) (x : Coming) (K : SomeRefer
       next_upto = omega (arith, first_upto s w g n lim F.places F.four F.left F.end F.one F.others x F.going F.referring (own_key ∙ f) c d, F.going.items)
 
       module _ (h : ℕ) (j : h ≡ inside_at g.width.bytes w (g.from + x.run.at)) where
-        pub next_fits : Fits w64 (x.left - 1 + h)
+        pub next_fits : Fits w64 (x.many - 1 + h)
         next_fits = record {
           fits = omega (arith, first_few s w g n lim F.places F.four F.left F.end F.one F.others x F.going F.referring (own_key ∙ f) c d h j F.many, F.going.ground.short);
         }
 
-        pub next_copied : (r : Copied) (w' : List ℕ) → PutsCommand w g lim x.run c r w' → PutsNext s w g n lim x (record { left = x.left - 1 + h; run = r }) w'
+        pub next_copied : (r : Copied) (w' : List ℕ) → PutsCommand w g lim x.run c r w' → PutsNext s w g n lim x (record { many = x.many - 1 + h; run = r }) w'
         unfolding count
         next_copied r w' P = record {
           long = copied_long s w g n lim F.places F.four F.left F.end F.one F.others x F.going F.referring (own_key ∙ f) c d h j r w' P;
@@ -117,8 +117,8 @@ module _ (s w : List ℕ) (g : Ground) (n lim : ℕ) (x : Coming) (K : SomeRefer
           each = each;
         }
           where
-            each : (ps : List ℕ) (four : Bool) (left end : ℕ) (ys : Syms) → count ys ≡ x.left → Appending s g n lim ps w x.run.out → Referring s w g ps four left x.run.at end ys
-                → Onward s w g n lim ps four left end ys x (record { left = x.left - 1 + h; run = r }) w'
+            each : (ps : List ℕ) (four : Bool) (left end : ℕ) (ys : Syms) → count ys ≡ x.many → Appending s g n lim ps w x.run.out → Referring s w g ps four left x.run.at end ys
+                → Onward s w g n lim ps four left end ys x (record { many = x.many - 1 + h; run = r }) w'
             each ps four left end nil m A R = absurd (omega arith)
             each ps four left end (cons y ys) m A R = copied_onward s w g n lim ps four left end y ys x A R (key_is ps four left end y ys A R ∙ f) c d h j r w' P m
 

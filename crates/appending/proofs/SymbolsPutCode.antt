@@ -4,7 +4,7 @@ use mathlib.Core.List.{List}
 use Prim.Native.Nat.{ℕ, ◌+◌}
 use borrow.Author.Rules.{rules}
 use Rattle.octets.specs.Plain.Runs.{part}
-use Rattle.resolve.specs.Commands.{long_of}
+use Rattle.parse_tree.specs.Working.Nodes.{long_of}
 use Rattle.precedence.specs.Write.{Puts}
 use Rattle.expander.specs.declared.Ground.{Ground}
 use Rattle.appending.specs.declared.symbols.Copied.{Copied}

@@ -5,6 +5,7 @@ use mathlib.Core.List.{List, [], ◌∷◌, ◌++◌, append-nil, append_assoc}
 use Prim.Native.Nat.{ℕ, zero, suc, ◌+◌, ◌*◌, ◌≤◌}
 use native.Mathlib.Omega.{arith}
 use lib.ListN.{length, length-append}
+use Rattle.std.specs.Prelude.{Some}
 use Rattle.octets.specs.Working.Choice.{pick}
 use Rattle.parse_tree.specs.Plain.Tree.{Text, Leaf, Around, Sym, Syms, ambiguous, bare, quoted, regex, nonterminal, lookahead, lookbehind, error, repeat, choose, name, leaf, around, over, nil, cons, count}
 use Rattle.parse_tree.specs.Plain.Texts.{number, with_new}
@@ -118,7 +119,7 @@ renamed_key (around s (name m n) x) k = absurd (false≢true k)
 renamed_key (over s o xs) k = refl
 
 -- its command is one that is not copied
-pub key_plain : (ts : List Text) (y : Sym) → is_key y ≡ true → plain (sym_node ts y) ≡ false
+pub key_plain : (ts : List Text) (y : Sym) → is_key y ≡ true → plain (Some (sym_node ts y)) ≡ false
 unfolding sym_node leaf_node around_node plain plain_kind plain_leaf plain_around
 key_plain ts (leaf s (ambiguous x)) k = absurd (false≢true k)
 key_plain ts (leaf s (bare x)) k = absurd (false≢true k)
@@ -134,7 +135,7 @@ key_plain ts (around s (name m n) x) k = absurd (false≢true k)
 key_plain ts (over s o xs) k = refl
 
 -- theorem: the bytes of its name, by the number of its print
-pub key_named : (wd : ℕ) (ts T : List Text) (y : Sym) (k : ℕ) → k ≡ number T (print y) → key_bytes wd (sym_node ts y) k ≡ sym_bytes wd T (keyed (span_of y) y)
+pub key_named : (wd : ℕ) (ts T : List Text) (y : Sym) (k : ℕ) → k ≡ number T (print y) → key_bytes wd (Some (sym_node ts y)) k ≡ sym_bytes wd T (keyed (span_of y) y)
 unfolding key_bytes sym_node sym_bytes leaf_node
 key_named wd ts T (leaf s l) k e = ap (λ (i : ℕ). node_bytes wd (Node.Symbol s (SymbolKind.Leaf (LeafNode.Nonterminal (record { 0 = i }))))) e
 key_named wd ts T (around s a x) k e = ap (λ (i : ℕ). node_bytes wd (Node.Symbol s (SymbolKind.Leaf (LeafNode.Nonterminal (record { 0 = i }))))) e

@@ -6,10 +6,6 @@ use Rattle.octets.specs.Plain.Numbers.{le}
 unfoldable pub item_head : ℕ → ℕ → ℕ → ℕ → ℕ → List ℕ
 item_head wd span k flags alternatives = 16 ∷ (le 8 span ++ (le wd k ++ (flags ∷ (0 ∷ le 2 alternatives))))
 
--- an alternative without attributes and condition
-unfoldable pub alternative_head : ℕ → ℕ → ℕ → ℕ → ℕ → List ℕ
-alternative_head wd span act text symbols = 18 ∷ (le 8 span ++ (0 ∷ (0 ∷ (act ∷ (le wd text ++ le 2 symbols)))))
-
 -- a name, not mutable, around the symbol that comes next
 unfoldable pub name_head : ℕ → ℕ → ℕ → List ℕ
 name_head wd span k = 40 ∷ (le 8 span ++ (0 ∷ le wd k))

@@ -3,8 +3,8 @@ use Rattle.std.specs.Prelude.{◌≡◌, Bool, true, List, ℕ, ◌+◌, ◌≤�
 use Rattle.octets.specs.Plain.Runs.{part}
 use Rattle.parse_tree.specs.Plain.Tree.{Sym, Syms, nil, cons, count}
 use Rattle.parse_tree.specs.Working.Within.{Each}
+use Rattle.parse_tree.specs.Working.Nodes.{long_of}
 use Rattle.texts.specs.Table.{texts}
-use Rattle.resolve.specs.Commands.{long_of}
 use Rattle.precedence.specs.Write.{Puts}
 use Rattle.replacing.specs.Slots.{among}
 use Rattle.replacing.specs.Trees.{is_key}
@@ -81,7 +81,7 @@ pub record PutsCommand (w : List ℕ) (g : Ground) (lim : ℕ) (q : Copied) (c :
 -- ---- one symbol or command of those to come: the symbols zs are to come then
 pub record Onward (s w : List ℕ) (g : Ground) (n lim : ℕ) (ps : List ℕ) (four : Bool) (left e : ℕ) (ys : Syms) (x r : Coming) (w' : List ℕ) : Type 0 where
   pub zs : Syms
-  pub many : count zs ≡ r.left
+  pub many : count zs ≡ r.many
   pub going : Appending s g n lim ps w' r.run.out
   pub referring : Referring s w' g ps four left r.run.at e zs
   pub carry : (v' : Appended) (w'' : List ℕ) → Appends s g n lim ps w' r.run.out (symbols_piece g.width.bytes zs) v' w'' → Appends s g n lim ps w x.run.out (symbols_piece g.width.bytes ys) v' w''
@@ -90,5 +90,5 @@ pub record Onward (s w : List ℕ) (g : Ground) (n lim : ℕ) (ps : List ℕ) (f
 pub record PutsNext (s w : List ℕ) (g : Ground) (n lim : ℕ) (x r : Coming) (w' : List ℕ) : Type 0 where
   pub long : length w' ≡ length w
   pub on : x.run.at < r.run.at
-  pub each : (ps : List ℕ) (four : Bool) (left e : ℕ) (ys : Syms) → count ys ≡ x.left → Appending s g n lim ps w x.run.out → Referring s w g ps four left x.run.at e ys
+  pub each : (ps : List ℕ) (four : Bool) (left e : ℕ) (ys : Syms) → count ys ≡ x.many → Appending s g n lim ps w x.run.out → Referring s w g ps four left x.run.at e ys
       → Onward s w g n lim ps four left e ys x r w'

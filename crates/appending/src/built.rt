@@ -1,5 +1,5 @@
 // Built-in texts, and their numbers: those that the Rust's repeats and groups have. No printed form is one of them, so only the texts that have their bytes are asked.
-ghost use Rattle.std.specs.Prelude.{◌≡◌, ◌+◌, ◌*◌, ◌≤◌, ◌<◌, length};
+ghost use Rattle.std.specs.Prelude.{◌≡◌, ◌+◌, ◌*◌, ◌^◌, ◌≤◌, ◌<◌, length};
 ghost use Rattle.octets.specs.Plain.Numbers.{le};
 ghost use Rattle.octets.specs.Working.Stores.{store};
 ghost use Rattle.texts.specs.Table.{Table, Finds, texts};
@@ -7,6 +7,7 @@ ghost use Rattle.expander.specs.Ground.{list_place, Grounded};
 ghost use Rattle.appending.specs.Built.{number_of, word_of, built_text, built_place, built_at, SomeBuilt, GivesBuilt};
 
 use expander::Ground;
+use expander::entries::{NewText, put_entry};
 use expander::slots::Numbered;
 use octets::numbers::{store64, u64_at};
 use texts::Map;
@@ -34,7 +35,7 @@ fn number_of(text: BuiltIn) -> usize
     text as usize
 }
 
-// The text of a number that stands there.
+// The text of a number that stands there. No TryFrom: every number that stands there is below 9, so there would be an Err that no caller can meet.
 pub fn of_number(i: usize) -> BuiltIn
     requires { i < 9 }
     ensures { number_of result ≡ i }
@@ -70,35 +71,36 @@ pub fn bytes(text: BuiltIn) -> &'static [u8]
 }
 
 // What its word says: its number among the texts, if it was asked for.
+#[tactic(auto, unfolding(crate::specs::Built::built_place, crate::specs::Built::built_at))]
 fn word(work: &[u8], g: Ground, text: BuiltIn) -> Option<usize>
     requires { (72 ≤ g.slots) × (built_place g (number_of text) + 8 ≤ length work.now) }
     ensures { built_at work.now g (number_of text) ≡ word_of result }
 {
-    let i = number_of(text);
-    let v = u64_at(work, g.slots - 72 + 8 * i) as usize;
+    let v = u64_at(work, g.built_place(number_of(text))) as usize;
     if v == 0 { None } else { Some(v - 1) }
 }
 
-fn put_word(work: &mut [u8], g: Ground, text: BuiltIn, v: usize)
-    requires { (72 ≤ g.slots) × (built_place g (number_of text) + 8 ≤ length work.old) }
-    ensures { work.new ≡ store work.old (built_place g (number_of text)) (le 8 v) }
+// The text has the number k: its word is the number and one.
+#[tactic(auto, unfolding(crate::specs::Built::built_place))]
+fn put_word(work: &mut [u8], g: Ground, text: BuiltIn, k: usize)
+    requires { (72 ≤ g.slots) × (built_place g (number_of text) + 8 ≤ length work.old) × (k + 1 < 2 ^ 64) }
+    ensures { work.new ≡ store work.old (built_place g (number_of text)) (le 8 (k + 1)) }
 {
-    let i = number_of(text);
-    store64(work, g.slots - 72 + 8 * i, v as u64);
+    store64(work, g.built_place(number_of(text)), k as u64 + 1);
 }
 
 // The text is the c-th new one.
+#[tactic(auto, unfolding(crate::specs::Built::built_place, expander::specs::Ground::list_place))]
 fn put_next(work: &mut [u8], g: Ground, c: usize, text: BuiltIn)
     requires { (72 ≤ g.slots) × (list_place g c + 8 ≤ length work.old) × (built_place g (number_of text) + 8 ≤ length work.old) }
     ensures { work.new ≡ store (store work.old (list_place g c) (le 8 (2 * number_of text + 1))) (built_place g (number_of text)) (le 8 (g.m.count + c + 1)) }
 {
-    let i = number_of(text);
-    store64(work, g.m.base + 24 * g.m.count + 8 * c, (2 * i + 1) as u64);
-    put_word(work, g, text, g.m.count + c + 1);
+    put_entry(work, g, c, NewText::BuiltIn(number_of(text)));
+    put_word(work, g, text, g.m.count + c);
 }
 
 // The number of a text in the table.
-fn find_built<'a>(tape: &'a [u8], work: &'a [u8], m: Map, text: BuiltIn) -> Option<usize>
+fn find_built(tape: &[u8], work: &[u8], m: Map, text: BuiltIn) -> Option<usize>
     requires { Table tape.now work.now m × (0 < m.buckets) }
     ensures { Finds (texts tape.now work.now m) (built_text (number_of text)) result }
 {
@@ -113,7 +115,7 @@ fn first(tape: &[u8], work: &mut [u8], g: Ground, n: usize, c: usize, text: Buil
 {
     match find_built(tape, work, g.m, text) {
         Some(k) => {
-            put_word(work, g, text, k + 1);
+            put_word(work, g, text, k);
             Numbered {
                 number: k,
                 count: c,

@@ -1,48 +1,13 @@
 // Commands of items that are appended. Each is put if it ends at lim or before; else the cursor is lim + 1.
+// A span is one u64, here and in macro_expand: it is only copied, its eight bytes at once, and a type for it would be made where they are read and opened where they are written.
 ghost use Rattle.std.specs.Prelude.{◌≡◌, [], ◌∷◌, ◌++◌, ◌+◌, ◌≤◌, ◌<◌, length};
-ghost use Rattle.std.specs.Fn.{FnOnceReturnsAtMut};
 ghost use Rattle.octets.specs.Plain.Numbers.{le};
 ghost use Rattle.octets.specs.Working.Stores.{store};
-ghost use Rattle.precedence.specs.Write.{Puts};
-ghost use Rattle.appending.specs.Commands.{item_head, alternative_head, name_head, plus_head};
+ghost use Rattle.precedence.specs.Write.{Puts, alternative_head};
+ghost use Rattle.appending.specs.Commands.{item_head, name_head, plus_head};
 
-use octets::numbers::{Width, store16};
-use precedence::substitute::put_atom;
-use precedence::write::put_command;
-
-// The n bytes that `store` writes from `to` on, if they end at lim or before.
-// Two tests with a return each: joined by `&&` they took three machine instructions more.
-#[inline(always)]
-pub fn put<F: FnOnce(&mut [u8])>(
-    work: &mut [u8],
-    n: usize,
-    lim: usize,
-    to: usize,
-    store: F,
-) -> usize
-    requires inside { lim ≤ length work.old }
-    requires stores { (x : _) → (length x.now ≡ length work.old) × (to + n ≤ lim) → F.pre store x }
-    ensures whole { to + n ≤ lim → (result ≡ to + n) × FnOnceReturnsAtMut F.FnOnce store work.old tt work.new }
-    ensures over { lim < to + n → (result ≡ lim + 1) × (work.new ≡ work.old) }
-{
-    if lim < to {
-        return lim + 1;
-    }
-    if lim - to < n {
-        return lim + 1;
-    }
-    store(work);
-    to + n
-}
-
-// A code, a span and the number of a text.
-fn store_named(work: &mut [u8], code: u8, span: u64, k: u32, width: Width, to: usize)
-    requires { to + (9 + width.bytes) ≤ length work.old }
-    ensures { work.new ≡ store work.old to (code ∷ (le 8 span ++ le width.bytes k)) }
-{
-    put_command(work, code, span, to);
-    put_atom(work, to + 9, width, k);
-}
+use octets::numbers::{Width, put_atom, store16};
+use precedence::write::{put, put_command, store_alternative, store_named};
 
 fn store_item(
     work: &mut [u8],
@@ -79,34 +44,6 @@ pub fn put_item(
     put(work, 13 + width.bytes, lim, to, move |w| {
         store_item(w, span, k, flags, alternatives, width, to)
     })
-}
-
-// The beginning of an alternative without attributes and condition.
-fn store_action(work: &mut [u8], span: u64, act: u8, to: usize)
-    requires { to + 12 ≤ length work.old }
-    ensures { work.new ≡ store work.old to (18 ∷ (le 8 span ++ (0 ∷ (0 ∷ (act ∷ []))))) }
-{
-    put_command(work, 18, span, to);
-    work[to + 9] = 0;
-    work[to + 10] = 0;
-    work[to + 11] = act;
-}
-
-fn store_alternative(
-    work: &mut [u8],
-    span: u64,
-    act: u8,
-    text: u32,
-    symbols: u16,
-    width: Width,
-    to: usize,
-)
-    requires { to + (14 + width.bytes) ≤ length work.old }
-    ensures { work.new ≡ store work.old to (alternative_head width.bytes span act text symbols) }
-{
-    store_action(work, span, act, to);
-    put_atom(work, to + 12, width, text);
-    store16(work, to + 12 + width.bytes, symbols);
 }
 
 // An alternative without attributes and condition.

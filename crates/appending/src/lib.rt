@@ -2,6 +2,8 @@
 // work the list of new texts, the slots, the last 72 bytes of the room for records, and the room for appended items.
 #![tactic(auto)]
 
+ghost use Rattle.std.specs.Prelude.{◌≡◌, ◌||◌};
+
 use expander::Ground;
 
 pub mod built;
@@ -22,4 +24,16 @@ pub struct Appended {
     pub to: usize,
     pub count: usize,
     pub deep: bool,
+}
+
+impl Appended {
+    // The same, too deep as well where what is written now is.
+    pub fn deepened(self, deep: bool) -> Appended
+        ensures { result ≡ record { to = self.to; count = self.count; deep = self.deep || deep } }
+    {
+        Appended {
+            deep: self.deep || deep,
+            ..self
+        }
+    }
 }

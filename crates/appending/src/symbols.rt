@@ -2,7 +2,7 @@
 ghost use Rattle.std.specs.Prelude.{◌∷◌, ◌++◌, ◌+◌, ◌≤◌, ◌<◌, length};
 ghost use Rattle.octets.specs.Plain.Numbers.{le};
 ghost use Rattle.precedence.specs.Write.{Puts};
-ghost use Rattle.resolve.specs.Commands.{long_of};
+ghost use Rattle.parse_tree.specs.Working.Nodes.{long_of};
 ghost use Rattle.appending.specs.Symbols.{Nameable, PutsNamed, SomeReference, PutsReference, PutsCommand, SomeReferring, PutsNext, PutsSymbols};
 
 use crate::commands::put_nonterminal;
@@ -10,23 +10,24 @@ use crate::{Appended, Round};
 use expander::Ground;
 use expander::replace::is_expanded;
 use expander::slots::number;
-use grades::skip::{inside, skip};
+use grades::skip::skip;
 use octets::numbers::u64_at;
+use parse_tree::nested::inside_at;
 use precedence::write::put_run;
 use resolve::commands::long;
 
-// The place to read on at, and what is appended.
+// The place to read on at, counted from the first item (in macro_expand::expand from the start of work), and what is appended.
 #[derive(Clone, Copy)]
 pub struct Copied {
     pub at: usize,
     pub out: Appended,
 }
 
-// How many symbols are to come from where the run is.
+// How many symbols are to come from where a run is.
 #[derive(Clone, Copy)]
-struct Coming {
-    left: usize,
-    run: Copied,
+pub struct Coming {
+    pub many: usize,
+    pub run: Copied,
 }
 
 // The print of the symbol at p as a name, at a span.
@@ -42,14 +43,7 @@ pub fn put_named(
     ensures { PutsNamed tape.now work.old round.g round.n round.lim p span v result work.new }
 {
     let x = number(tape, work, round.g, round.n, v.count, p);
-    let to = put_nonterminal(
-        work,
-        span,
-        (x.number % 4294967296) as u32,
-        round.g.width,
-        round.lim,
-        v.to,
-    );
+    let to = put_nonterminal(work, span, x.atom(), round.g.width, round.lim, v.to);
     Appended {
         to,
         count: x.count,
@@ -73,7 +67,7 @@ fn put_reference(tape: &[u8], work: &mut [u8], round: Round, q: Copied) -> Copie
 }
 
 // The command at q.at, of the code c, as it stands.
-fn put_command(work: &mut [u8], g: Ground, lim: usize, q: Copied, c: u8) -> Copied
+fn copy_command(work: &mut [u8], g: Ground, lim: usize, q: Copied, c: u8) -> Copied
     requires { (g.from + q.at + long_of g.width.bytes c ≤ q.out.to) × (lim ≤ length work.old) × (g.from + q.at + 17 ≤ length work.old) }
     ensures { PutsCommand work.old g lim q c result work.new }
 {
@@ -88,7 +82,7 @@ fn put_command(work: &mut [u8], g: Ground, lim: usize, q: Copied, c: u8) -> Copi
 
 // One symbol that is expanded, or one command.
 fn put_next(tape: &[u8], work: &mut [u8], round: Round, x: Coming) -> Coming
-    requires { SomeReferring tape.now work.old round.g round.n round.lim x.run.at x.left x.run.out × (0 < x.left) }
+    requires { SomeReferring tape.now work.old round.g round.n round.lim x.run.at x.many x.run.out × (0 < x.many) }
     ensures { PutsNext tape.now work.old round.g round.n round.lim x result work.new }
 {
     let q = x.run;
@@ -97,13 +91,13 @@ fn put_next(tape: &[u8], work: &mut [u8], round: Round, x: Coming) -> Coming
     if is_expanded(c) {
         let run = put_reference(tape, work, round, q);
         Coming {
-            left: x.left - 1,
+            many: x.many - 1,
             run,
         }
     } else {
-        let left = x.left - 1 + inside(work, at, round.g.width);
-        let run = put_command(work, round.g, round.lim, q, c);
-        Coming { left, run }
+        let many = x.many - 1 + inside_at(work, at, round.g.width);
+        let run = copy_command(work, round.g, round.lim, q, c);
+        Coming { many, run }
     }
 }
 
@@ -121,11 +115,11 @@ pub fn put_symbols(
 {
     let first = Copied { at: p, out: v };
     let mut x = Coming {
-        left: k,
+        many: k,
         run: first,
     };
     // How many are to come grows by what stands inside: no range says it.
-    while 0 < x.left {
+    while 0 < x.many {
         x = put_next(tape, work, round, x);
     }
     x.run

@@ -15,48 +15,45 @@ pub enum Call {
     Whole(usize),
 }
 
-pub fn call_of(word: &[u8]) -> Option<Call> {
-    match word {
-        b"validate" => Some(Call::Validate),
-        b"resolve" => Some(Call::Resolve),
-        b"levels" => Some(Call::Levels),
-        b"macros" => Some(Call::Macros(ROUNDS)),
-        b"whole" => Some(Call::Whole(ROUNDS)),
-        _ => None,
+impl Call {
+    // The call that a word names.
+    pub fn named(word: &[u8]) -> Option<Call> {
+        match word {
+            b"validate" => Some(Call::Validate),
+            b"resolve" => Some(Call::Resolve),
+            b"levels" => Some(Call::Levels),
+            b"macros" => Some(Call::Macros(ROUNDS)),
+            b"whole" => Some(Call::Whole(ROUNDS)),
+            _ => None,
+        }
     }
-}
 
-// The call within another limit, if it takes one.
-pub fn within(call: Call, limit: usize) -> Call {
-    match call {
-        Call::Macros(_) => Call::Macros(limit),
-        Call::Whole(_) => Call::Whole(limit),
-        _ => call,
+    // The call within another limit, if it takes one.
+    pub fn within(self, limit: usize) -> Call {
+        match self {
+            Call::Macros(_) => Call::Macros(limit),
+            Call::Whole(_) => Call::Whole(limit),
+            _ => self,
+        }
     }
-}
 
-// How long the output is where no word says it.
-pub fn usual_output(call: Call, tape: usize) -> usize {
-    match call {
-        Call::Validate => 0,
-        _ => tape,
+    // Whether it is handed an output.
+    pub fn writes(self) -> bool {
+        !matches!(self, Call::Validate)
     }
-}
 
-// How much of the output the call is handed.
-pub fn handed(call: Call, output: usize) -> usize {
-    match call {
-        Call::Validate => 0,
-        _ => output,
+    // How long the output is that it is handed, where others are handed n bytes.
+    pub fn output_length(self, n: usize) -> usize {
+        if self.writes() { n } else { 0 }
     }
-}
 
-pub fn ask(call: Call, tape: &[u8], output: &mut [u8], work: &mut [u8]) -> Result<usize, Refusal> {
-    match call {
-        Call::Validate => validate(tape, work),
-        Call::Resolve => resolve(tape, output, work),
-        Call::Levels => levels(tape, output, work),
-        Call::Macros(limit) => macros(tape, limit, output, work),
-        Call::Whole(limit) => whole(tape, limit, output, work),
+    pub fn ask(self, tape: &[u8], output: &mut [u8], work: &mut [u8]) -> Result<usize, Refusal> {
+        match self {
+            Call::Validate => validate(tape, work),
+            Call::Resolve => resolve(tape, output, work),
+            Call::Levels => levels(tape, output, work),
+            Call::Macros(limit) => macros(tape, limit, output, work),
+            Call::Whole(limit) => whole(tape, limit, output, work),
+        }
     }
 }

@@ -2,7 +2,7 @@
 ghost use Rattle.std.specs.Prelude.{◌≤◌, length};
 
 use crate::buffers::Buffers;
-use crate::call::{Call, ROUNDS, call_of, usual_output, within};
+use crate::call::{Call, ROUNDS};
 use crate::report::run_case;
 use crate::tape::put_word;
 use notation::words::{decimal, find};
@@ -18,25 +18,39 @@ struct Case {
     work: Option<usize>,
 }
 
-// One word more; None of a word that is none.
-fn read_word(word: &[u8], tape: &mut [u8], c: Case) -> Option<Case> {
-    match word {
-        [b'o', rest @ ..] => Some(Case {
-            output: Some(decimal(rest)?),
-            ..c
-        }),
-        [b'w', rest @ ..] => Some(Case {
-            work: Some(decimal(rest)?),
-            ..c
-        }),
-        [b'l', rest @ ..] => Some(Case {
-            limit: decimal(rest)?,
-            ..c
-        }),
-        _ => Some(Case {
-            tape: put_word(word, tape, c.tape)?,
-            ..c
-        }),
+impl Case {
+    // With one word more; None of a word that is none.
+    fn with(self, word: &[u8], tape: &mut [u8]) -> Option<Case> {
+        match word {
+            [b'o', rest @ ..] => Some(Case {
+                output: Some(decimal(rest)?),
+                ..self
+            }),
+            [b'w', rest @ ..] => Some(Case {
+                work: Some(decimal(rest)?),
+                ..self
+            }),
+            [b'l', rest @ ..] => Some(Case {
+                limit: decimal(rest)?,
+                ..self
+            }),
+            _ => Some(Case {
+                tape: put_word(word, tape, self.tape)?,
+                ..self
+            }),
+        }
+    }
+
+    fn output_length(self, call: Call) -> usize {
+        self.output.unwrap_or(call.output_length(self.tape))
+    }
+
+    // 8 bytes for each byte of tape and output, unless the case says another length; None where that is no number.
+    fn work_length(self, output: usize) -> Option<usize> {
+        match self.work {
+            Some(n) => Some(n),
+            None => self.tape.checked_add(output)?.checked_mul(8),
+        }
     }
 }
 
@@ -51,22 +65,10 @@ fn read_words(line: &[u8], from: usize, tape: &mut [u8]) -> Option<Case> {
     let mut at = from;
     while at < line.len() {
         let end = find(line, b' ', at + 1);
-        c = read_word(&line[at + 1..end], tape, c)?;
+        c = c.with(&line[at + 1..end], tape)?;
         at = end;
     }
     Some(c)
-}
-
-fn output_length(c: Case, call: Call) -> usize {
-    c.output.unwrap_or(usual_output(call, c.tape))
-}
-
-// 8 bytes for each byte of tape and output, unless the case says another length; None where that is no number.
-fn work_length(c: Case, output: usize) -> Option<usize> {
-    match c.work {
-        Some(n) => Some(n),
-        None => c.tape.checked_add(output)?.checked_mul(8),
-    }
 }
 
 fn print_bad(writer: &mut impl Write) -> io::Result<()> {
@@ -83,17 +85,14 @@ fn run_sized(
     buffers: &mut Buffers,
     writer: &mut impl Write,
 ) -> io::Result<()> {
-    if buffers.tape.len() < n || buffers.output.len() < o || buffers.work.len() < w {
+    let (Some(tape), Some(output), Some(work)) = (
+        buffers.tape.as_slice().get(..n),
+        buffers.output.as_mut_slice().get_mut(..o),
+        buffers.work.as_mut_slice().get_mut(..w),
+    ) else {
         return print_bad(writer);
-    }
-    run_case(
-        head,
-        call,
-        &buffers.tape[..n],
-        &mut buffers.output[..o],
-        &mut buffers.work[..w],
-        writer,
-    )
+    };
+    run_case(head, call, tape, output, work, writer)
 }
 
 // The case whose call and name are the line's first bytes.
@@ -109,17 +108,17 @@ fn run_named(
     let Some(c) = read_words(line, end, &mut buffers.tape) else {
         return print_bad(writer);
     };
-    let o = output_length(c, call);
-    let Some(w) = work_length(c, o) else {
+    let o = c.output_length(call);
+    let Some(w) = c.work_length(o) else {
         return print_bad(writer);
     };
-    let call = within(call, c.limit);
+    let call = call.within(c.limit);
     run_sized(&line[..end], call, c.tape, o, w, buffers, writer)
 }
 
 pub fn run_line(line: &[u8], buffers: &mut Buffers, writer: &mut impl Write) -> io::Result<()> {
     let space = find(line, b' ', 0);
-    let Some(call) = call_of(&line[..space]) else {
+    let Some(call) = Call::named(&line[..space]) else {
         return print_bad(writer);
     };
     if space == line.len() {

@@ -1,5 +1,5 @@
 // One case run, and its answer printed.
-use crate::call::{Call, ask, handed};
+use crate::call::Call;
 use notation::buffers::is_all;
 use notation::bytes::put_digits;
 use output::room::enough;
@@ -49,9 +49,10 @@ fn print_untouched(output: &[u8], writer: &mut impl Write) -> io::Result<()> {
 
 // What a yes left in the output.
 fn print_output(call: Call, output: &[u8], n: usize, writer: &mut impl Write) -> io::Result<()> {
-    match call {
-        Call::Validate => print_untouched(output, writer),
-        _ => print_tree(output, n, writer),
+    if call.writes() {
+        print_tree(output, n, writer)
+    } else {
+        print_untouched(output, writer)
     }
 }
 
@@ -94,10 +95,10 @@ pub fn run_case(
 ) -> io::Result<()> {
     output.fill(BEFORE);
     work.fill(BEFORE);
-    let a = ask(call, tape, output, work);
+    let a = call.ask(tape, output, work);
     writer.write_all(head)?;
     print_answer(call, a, output, writer)?;
-    let o = handed(call, output.len());
+    let o = call.output_length(output.len());
     if !is_all(work, after(tape.len(), o, work.len())) {
         writer.write_all(b" work")?;
     }

@@ -29,13 +29,19 @@ fn letter(k: usize) -> u8
 fn put_atom(k: usize, tape: &mut [u8], to: usize) -> usize
     requires { k < 70304 }
 {
-    let room = tape.len();
-    let q = put8(tape, room, to, 1);
-    let q = put8(tape, room, q, 3);
-    let q = put8(tape, room, q, 0);
-    let q = put8(tape, room, q, letter(k / 2704));
-    let q = put8(tape, room, q, letter(k / 52 % 52));
-    put8(tape, room, q, letter(k % 52))
+    let mut q = to;
+    for b in [
+        1,
+        3,
+        0,
+        letter(k / 2704),
+        letter(k / 52 % 52),
+        letter(k % 52),
+    ] {
+        let room = tape.len();
+        q = put8(tape, room, q, b);
+    }
+    q
 }
 
 // So many atoms, no two equal.

@@ -15,11 +15,11 @@ use Rattle.parse_tree.specs.Plain.Tree.{Text, Sym, Syms, nil, cons, count}
 use Rattle.parse_tree.specs.Plain.Display.{shown, shown_all, shown_more, print}
 use Rattle.parse_tree.proofs.DisplayLaws.{print-then}
 use Rattle.parse_tree.specs.Working.Encode.{sym_bytes}
+use Rattle.parse_tree.specs.Working.Nodes.{long_of}
+use Rattle.parse_tree.specs.Working.Nested.{inside_by}
 use Rattle.laws.specs.Flat.{children}
 use Rattle.texts.specs.declared.Map.{Map}
 use Rattle.texts.specs.Table.{texts}
-use Rattle.resolve.specs.Commands.{long_of}
-use Rattle.grades.specs.Skip.{inside_by}
 use Rattle.display.specs.declared.Met.{Met}
 use Rattle.display.specs.Standing.{Readable, SymStands, SymsStand, SomeSym}
 use Rattle.display.specs.Follow.{met_by, before_by, behind_by, between_by, index_of, Follows}

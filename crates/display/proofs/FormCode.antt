@@ -5,7 +5,7 @@ use mathlib.Core.List.{List, [], ◌∷◌}
 use Prim.Native.Nat.{ℕ, suc, ◌+◌, ◌*◌, ◌/◌, ◌%◌, ◌<◌, ◌≤◌, min}
 use native.Mathlib.Omega.{arith}
 use native.Mathlib.Numerals.{add-one}
-use native.Mathlib.Nat.{mul-le-mul, mod-lt}
+use native.Mathlib.Nat.{mod-lt, mod-add-mod}
 use borrow.Author.Rules.{rules}
 use borrow.Author.Tests.{ltb-true, ltb-false, ne_eqb, eqb-true, eqb-false}
 use mir.Val.{Fits}
@@ -19,50 +19,35 @@ use Rattle.parse_tree.specs.Plain.Tree.{Text}
 use Rattle.texts.specs.declared.Map.{Map}
 use Rattle.texts.specs.Hash.{hash_by, power_by, hash_step, hash_from, hash_of, power}
 use Rattle.texts.specs.Forms.{stop}
-use Rattle.texts.specs.Fields.{mark_at, hash_at}
-use Rattle.texts.specs.Texts.{marked_text}
+use Rattle.texts.specs.Fields.{hash_at}
 use Rattle.texts.specs.Table.{texts}
 use Rattle.texts.proofs.FormLaws.{power_small, power-times, mod_factor, mod_factor_right}
+use Rattle.texts.proofs.TextCode.{texts-at}
+use Rattle.grades.proofs.WordsCode.{text_beyond}
 use Rattle.display.specs.declared.form.Form.{Form}
 use Rattle.display.specs.Follow.{word_at}
-use Rattle.display.specs.Form.{text_form, SomeForm, odd_times, whole_of, join_of, Hashed, more_of, form_from, From}
-use Rattle.display.proofs.FormLaws.{from_is, from_form, from_join, from_none, from_then, from_as, from-append, hash_fits, power-fits, len_fits}
-use Rattle.display.proofs.MeetCode.{word_beyond, word_some, word_whole, named-room, macro_room, name_room, name_read, repeat_room}
+use Rattle.display.specs.Form.{text_form, odd_times, whole_of, join_of, Hashed, more_of, form_from, From}
+use Rattle.display.proofs.FormLaws.{same_form, from_form, from_join, from_none, from_as, from-append}
+use Rattle.display.proofs.MeetCode.{word_is}
 
 -- ---- none, snoc, one
-pub none_is : record { hash = 0; power = 1; len = 0 } ≡ text_form []
+pub none_is : (r : Form) → r.hash ≡ 0 → r.power ≡ 1 → r.len ≡ 0 → r ≡ text_form []
 unfolding text_form hash_of hash_from hash_by power power_by stop pick
-none_is = refl
+none_is r h p l = same_form h p l
 
-pub none_form : SomeForm (record { hash = 0; power = 1; len = 0 })
-none_form = record { text = []; is = none_is }
+pub snoc_length : (f : Form) → Fits w64 (f.len + 1)
+snoc_length f = record { fits = omega (arith, f.short) }
 
-module _ (f : Form) (g : SomeForm f) where
-  pub snoc_hash : f.hash < 4294967296
-  snoc_hash = hash_fits f g
-
-  pub snoc_power : f.power < 4294967296
-  snoc_power = power-fits f g
-
-  pub snoc_length : Fits w64 (f.len + 1)
-  snoc_length = record { fits = omega (arith, len_fits f g) }
-
-  pub snoc_done : (h b p l : ℕ) → h ≡ hash_step f.hash b → p ≡ f.power * 2654435761 % 4294967296 → l ≡ stop (f.len + 1) → From f (b ∷ []) (record { hash = h; power = p; len = l })
-  unfolding form_from more_of
-  snoc_done h b p l d e i = from_is f (b ∷ []) _ g cc
+pub snoc_done : (f r : Form) (b : ℕ) → r.hash ≡ hash_step f.hash b → r.power ≡ f.power * 2654435761 % 4294967296 → r.len ≡ stop (f.len + 1) → From f (b ∷ []) r
+unfolding form_from more_of
+snoc_done f r b h p l = record { is = same_form h p l }
 
 pub one_is : (f r : Form) (b : ℕ) → f ≡ text_form [] → From f (b ∷ []) r → r ≡ text_form (b ∷ [])
 one_is f r b e a = a.is ∙ ap (λ (x : Form). form_from x (b ∷ [])) e ∙ from_form [] (b ∷ [])
 
-pub ruleset forming = (rules, none_is, none_form, snoc_hash, snoc_power, snoc_length, snoc_done, one_is)
+pub ruleset forming = (rules, none_is, snoc_length, snoc_done, one_is)
 
--- ---- times, power_of
-pub times-fits : (a b : ℕ) → a < 4294967296 → b < 4294967296 → Fits w64 (a * b)
-times-fits a b h k = let z = mul-le-mul {n₁ = a} {m₁ = b} {n₂ = 4294967295} {m₂ = 4294967295} (omega arith) (omega arith) in record { fits = omega arith }
-
-pub times-small : (a b : ℕ) → a * b % 4294967296 < 4294967296
-times-small a b = mod-lt (a * b) (omega arith)
-
+-- ---- power_of
 -- r by the power of b by k is the power that is asked
 pub record Powering (n r b k : ℕ) : Type 0 where
   pub is : r * power_by b k % 4294967296 ≡ power n
@@ -89,18 +74,21 @@ turn r p b =
     let z : r * (p * b) ≡ r * b * p = omega arith in
     mod_factor_right r (p * b) ∙ ap (λ (x : ℕ). x % 4294967296) z ∙ sym (mod_factor (r * b) p)
 
-module _ (n r b k : ℕ) (g : Powering n r b k) (b' k' : ℕ) (sq : b' ≡ b * b % 4294967296) (less : b' < 4294967296) (half : k' ≡ k / 2) where
+module _ (n r b k : ℕ) (g : Powering n r b k) (b' k' : ℕ) (sq : b' ≡ b * b % 4294967296) (half : k' ≡ k / 2) where
+  less : b' < 4294967296
+  less = rw sq (mod-lt (b * b) (omega arith))
+
   squared : power_by b' k' ≡ power_by b (k / 2 * 2)
   squared = ap (λ (x : ℕ). power_by x k') sq ∙ ap (λ (x : ℕ). power_by (b * b % 4294967296) x) half ∙ square b (k / 2) g.base
 
-  power-odd : (r' : ℕ) → k % 2 ≡ 1 → r' ≡ r * b % 4294967296 → r' < 4294967296 → Powering n r' b' k'
-  power-odd r' h e l = record {
+  power-odd : (r' : ℕ) → k % 2 ≡ 1 → r' ≡ r * b % 4294967296 → Powering n r' b' k'
+  power-odd r' h e = record {
     is = ap (λ (x : ℕ). r' * x % 4294967296) squared
         ∙ ap (λ (x : ℕ). x * power_by b (k / 2 * 2) % 4294967296) e
         ∙ sym (turn r (power_by b (k / 2 * 2)) b)
         ∙ ap (λ (x : ℕ). r * x % 4294967296) (sym (odd_power b k h))
         ∙ g.is;
-    small = l;
+    small = rw e (mod-lt (r * b) (omega arith));
     base = less;
   }
 
@@ -109,12 +97,12 @@ module _ (n r b k : ℕ) (g : Powering n r b k) (b' k' : ℕ) (sq : b' ≡ b * b
       let z : k / 2 * 2 ≡ k = omega arith in
       record { is = ap (λ (x : ℕ). r * x % 4294967296) (squared ∙ ap (power_by b) z) ∙ g.is; small = g.small; base = less }
 
-  pub power-next : (r' : ℕ) → r' ≡ odd_times r b k → r' < 4294967296 → Powering n r' b' k'
+  pub power-next : (r' : ℕ) → r' ≡ odd_times r b k → Powering n r' b' k'
   unfolding odd_times pick
-  power-next r' e l = go (eqb (k % 2) 1) refl
+  power-next r' e = go (eqb (k % 2) 1) refl
     where
       go : (c : Bool) → eqb (k % 2) 1 ≡ c → Powering n r' b' k'
-      go true z = let q : r' ≡ r * b % 4294967296 = cc in power-odd r' (eqb-true (k % 2) 1 z) q l
+      go true z = let q : r' ≡ r * b % 4294967296 = cc in power-odd r' (eqb-true (k % 2) 1 z) q
       go false z = let q : r' ≡ r = cc in rw q (power-even (eqb-false (k % 2) 1 z))
 
 pub odd_is : (r b k x : ℕ) → k % 2 ≡ 1 → x ≡ r * b % 4294967296 → x ≡ odd_times r b k
@@ -129,7 +117,7 @@ pub power-done : (n r b k : ℕ) → Powering n r b k → k ≤ 0 → r ≡ powe
 unfolding power_by
 power-done n r b k g h = let z : k ≡ 0 = omega arith in let q : r * power_by b 0 % 4294967296 ≡ power n = rw z at g.is in omega (arith, g.small)
 
-pub ruleset powering = (rules, times-fits, times-small, power-start, power-next, power-done, odd_is, even_is)
+pub ruleset powering = (rules, power-start, power-next, power-done, odd_is, even_is)
 
 -- ---- stopped, whole, join
 pub stopped_is : (n k : ℕ) → k ≡ min n 65536 → k ≡ stop n
@@ -143,68 +131,52 @@ stopped_is n k e = go (ltb n 65536) refl
 pub stopped_most : (n k : ℕ) → k ≡ min n 65536 → k ≤ 65536
 stopped_most n k e = omega arith
 
-pub whole_done : (h n p l : ℕ) → p ≡ power n → l ≡ stop n → record { hash = h; power = p; len = l } ≡ whole_of h n
+pub whole_done : (h n : ℕ) (r : Form) → r.hash ≡ h → r.power ≡ power n → r.len ≡ stop n → r ≡ whole_of h n
 unfolding whole_of
-whole_done h n p l e z = cc
+whole_done h n r a p l = same_form a p l
 
-module _ (x y : Form) (g : SomeForm x) (k : SomeForm y) where
-  pub join_fits : Fits w64 (x.hash * y.power)
-  join_fits = times-fits x.hash y.power (hash_fits x g) (power-fits y k)
+pub join_len_fits : (x y : Form) → Fits w64 (x.len + y.len)
+join_len_fits x y = record { fits = omega (arith, x.short, y.short) }
 
-  pub join_more_fits : Fits w64 (x.hash * y.power + y.hash)
-  join_more_fits =
-      let a = hash_fits x g in
-      let b = power-fits y k in
-      let z = mul-le-mul {n₁ = x.hash} {m₁ = y.power} {n₂ = 4294967295} {m₂ = 4294967295} (omega arith) (omega arith) in
-      record { fits = omega (arith, hash_fits y k) }
+pub join_done : (x y r : Form) → r.hash ≡ (x.hash * y.power % 4294967296 + y.hash) % 4294967296 → r.power ≡ x.power * y.power % 4294967296 → r.len ≡ stop (x.len + y.len) → r ≡ join_of x y
+unfolding join_of
+join_done x y r h p l = same_form (h ∙ mod-add-mod (x.hash * y.power) 4294967296 y.hash) p l
 
-  pub join_len_fits : Fits w64 (x.len + y.len)
-  join_len_fits = record { fits = omega (arith, len_fits x g, len_fits y k) }
-
-  pub join_done : (p l : ℕ) → p ≡ x.power * y.power % 4294967296 → l ≡ stop (x.len + y.len)
-      → record { hash = (x.hash * y.power + y.hash) % 4294967296; power = p; len = l } ≡ join_of x y
-  unfolding join_of
-  join_done p l e z = cc
-
-pub ruleset joining = (rules, stopped_is, stopped_most, whole_done, join_fits, join_more_fits, join_len_fits, join_done)
-
-pub ruleset fitting = (rules, power-fits)
+pub ruleset joining = (rules, stopped_is, stopped_most, whole_done, join_len_fits, join_done)
 
 -- ---- snocs: g is f with what was passed more
 pub record Passing (f : Form) (t : Text) (g : Form) (i : ℕ) : Type 0 where
   pub rest : form_from g (drop i t) ≡ form_from f t
-  pub form : SomeForm g
 
-pub snocs_start : (f : Form) (t : Text) → SomeForm f → Passing f t f 0
-snocs_start f t h = record { rest = refl; form = h }
+pub snocs_start : (f : Form) (t : Text) → Passing f t f 0
+snocs_start f t = record { rest = refl }
 
 module _ (f : Form) (t : Text) (g : Form) (i : ℕ) (p : Passing f t g i) where
   pub snocs_next : (r : Form) → i < length t → From g (get_or t i 0 ∷ []) r → Passing f t r (i + 1)
   snocs_next r l a =
       let z : drop i t ≡ get_or t i 0 ∷ drop (i + 1) t = cc (drop-cons t i 0 l, add-one i) in
-      record { rest = ap (λ (y : Form). form_from y (drop (i + 1) t)) a.is ∙ sym (from-append g (get_or t i 0 ∷ []) (drop (i + 1) t)) ∙ ap (form_from g) (sym z) ∙ p.rest; form = a.form }
+      record { rest = ap (λ (y : Form). form_from y (drop (i + 1) t)) a.is ∙ sym (from-append g (get_or t i 0 ∷ []) (drop (i + 1) t)) ∙ ap (form_from g) (sym z) ∙ p.rest }
 
   pub snocs_done : length t ≤ i → From f t g
   unfolding form_from
-  snocs_done l = record { is = cc (drop_of_length-le t {i = i} l, p.rest); form = p.form }
+  snocs_done l = record { is = cc (drop_of_length-le t {i = i} l, p.rest) }
 
 pub ruleset following = (rules, snocs_start, snocs_next, snocs_done)
 
 -- ---- named
-module _ (s w : List ℕ) (m : Map) (k h y : ℕ) (g : Hashed s w m) (l : k < m.count) (p : y ≡ mark_at w m.base k) (q : h ≡ hash_at w m.base k) (t : Text) (e : t ≡ marked_text s w y) where
+module _ (s w : List ℕ) (m : Map) (k h : ℕ) (g : Hashed s w m) (l : k < m.count) (q : h ≡ hash_at w m.base k) (t : Text) (e : t ≡ get_or (texts s w m) k []) where
+  hash_is : h ≡ hash_of t
+  unfolding texts
+  hash_is = q ∙ g.hashes k l ∙ ap hash_of (sym (e ∙ texts-at s w m.base m.count k l))
+
   whole_is : (n : ℕ) → n ≡ length t → whole_of h n ≡ text_form t
   unfolding whole_of text_form
-  whole_is n z =
-      let a : h ≡ hash_of t = q ∙ g.hashes k l ∙ ap (λ (v : ℕ). hash_of (marked_text s w v)) (sym p) ∙ ap hash_of (sym e) in
-      cc
+  whole_is n z = cc hash_is
 
-  pub whole_form : (n : ℕ) (v : Form) → n ≡ length t → v ≡ whole_of h n → SomeForm v
-  whole_form n v z o = record { text = t; is = o ∙ whole_is n z }
+  pub named_some : (wd at x : ℕ) → x ≡ le_at wd w at → k ≡ x → (n : ℕ) (v f r : Form) → n ≡ length t → v ≡ whole_of h n → f.hash < 4294967296 → f.power < 4294967296 → r ≡ join_of f v → From f (word_at wd (texts s w m) w at) r
+  named_some wd at x j u n v f r z o a c b = from_as (word_is wd s w m at x k j u t e) (from_join f t r a c (b ∙ ap (join_of f) (o ∙ whole_is n z)))
 
-  pub named_some : (wd at x : ℕ) → x ≡ le_at wd w at → k ≡ x → (n : ℕ) (v f r : Form) → n ≡ length t → v ≡ whole_of h n → SomeForm f → r ≡ join_of f v → From f (word_at wd (texts s w m) w at) r
-  named_some wd at x j u n v f r z o i b = from_as (word_some wd s w m at x k j u l y p t e) (from_join f t r i (b ∙ ap (join_of f) (o ∙ whole_is n z)))
+pub named-beyond : (s w : List ℕ) (m : Map) (wd at x k : ℕ) (f : Form) → x ≡ le_at wd w at → k ≡ x → m.count ≤ k → From f (word_at wd (texts s w m) w at) f
+named-beyond s w m wd at x k f j u l = from_as (word_is wd s w m at x k j u [] (text_beyond s w m k l)) (from_none f)
 
-pub named-beyond : (s w : List ℕ) (m : Map) (wd at x k : ℕ) (f : Form) → x ≡ le_at wd w at → k ≡ x → m.count ≤ k → SomeForm f → From f (word_at wd (texts s w m) w at) f
-named-beyond s w m wd at x k f j u l g = from_as (word_beyond wd s w m at x k j u l) (from_none f g)
-
-pub ruleset naming = (rules, word_whole, whole_form, named_some, named-beyond)
+pub ruleset naming = (rules, named_some, named-beyond)

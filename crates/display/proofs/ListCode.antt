@@ -12,12 +12,12 @@ use Rattle.octets.specs.Working.Choice.{pick}
 use Rattle.parse_tree.specs.Plain.Tree.{Text, Sym, Syms, nil, cons, count}
 use Rattle.parse_tree.specs.Plain.Display.{shown, shown_all, shown_more, print}
 use Rattle.parse_tree.specs.Working.Encode.{sym_bytes}
+use Rattle.parse_tree.specs.Working.Nodes.{long_of}
+use Rattle.parse_tree.specs.Working.Nested.{inside_by}
 use Rattle.parse_tree.proofs.DisplayLaws.{shown_all_app, print-then}
 use Rattle.texts.specs.declared.Map.{Map}
 use Rattle.texts.specs.Table.{texts}
 use Rattle.laws.specs.Flat.{children}
-use Rattle.resolve.specs.Commands.{long_of}
-use Rattle.grades.specs.Skip.{inside_by}
 use Rattle.display.specs.Standing.{SymStands, SymsStand, SomeSym, SomeSyms}
 use Rattle.display.specs.Follow.{before_by, behind_by, between_by}
 use Rattle.display.specs.Sink.{all_of, Taken, PrintsTo}
@@ -35,12 +35,12 @@ print-whole : (x : Sym) → print x ≡ before_text x ++ (shown_all (children x)
 print-whole x = print-parts x ∙ ap (λ (y : Text). before_text x ++ y) (sym (shown_all_app (children x) (between_text x) [] (behind_text x)))
 
 -- theorem: what took all these goes on as what took the symbol
-symbol_more : {A : Type 0} {ready : A → Type 0} {more : A → ℕ → A} (x : Sym) (u : Text) (g h : A) (r : Text) → Taken ready more g (u ++ (before_text x ++ (shown_all (children x) (between_text x) [] ++ behind_text x))) h → all_of more g (u ++ shown x r) ≡ all_of more h r
-symbol_more {A} {ready} {more} x u g h r a =
+symbol_more : {A : Type 0} {more : A → ℕ → A} (x : Sym) (u : Text) (g h : A) (r : Text) → Taken more g (u ++ (before_text x ++ (shown_all (children x) (between_text x) [] ++ behind_text x))) h → all_of more g (u ++ shown x r) ≡ all_of more h r
+symbol_more {A} {more} x u g h r a =
     let z : u ++ shown x r ≡ (u ++ print x) ++ r = ap (λ (y : Text). u ++ y) (sym (print-then x r)) ∙ sym (append_assoc u (print x) r) in
     ap (all_of more g) z ∙ all_append more g (u ++ print x) r ∙ ap (λ (y : A). all_of more y r) (ap (λ (y : Text). all_of more g (u ++ y)) (print-whole x) ∙ sym a.is)
 
-module _ {A : Type 0} (ready : A → Type 0) (more : A → ℕ → A) (s w : List ℕ) (m : Map) (wd n left at code : ℕ) (f : A) where
+module _ {A : Type 0} (more : A → ℕ → A) (s w : List ℕ) (m : Map) (wd n left at code : ℕ) (f : A) where
   -- k of the symbols xs are to come, from p on; g is f with the others more
   pub record Onward (four : Bool) (e : ℕ) (xs : Syms) (p k d : ℕ) (g : A) : Type 0 where
     pub ys : Syms
@@ -50,16 +50,14 @@ module _ {A : Type 0} (ready : A → Type 0) (more : A → ℕ → A) (s w : Lis
 
   pub record Forming (p k d : ℕ) (g : A) : Type 0 where
     pub some : SomeSyms s w m wd k left p
-    pub form : ready g
     pub each : (four : Bool) (e : ℕ) (xs : Syms) → count xs ≡ n → SymsStand s w m wd four left at e xs → Onward four e xs p k d g
 
-  pub forming_start : SomeSyms s w m wd n left at → ready f → Forming at (n - 0) 0 f
+  pub forming_start : SomeSyms s w m wd n left at → Forming at (n - 0) 0 f
   unfolding shown_from pick
-  forming_start h g =
+  forming_start h =
       let z : n - 0 ≡ n = omega arith in
       rw z (record {
         some = h;
-        form = g;
         each = λ four e xs q z. record { ys = xs; many = q; stand = z; same = refl };
       })
 
@@ -67,9 +65,9 @@ module _ {A : Type 0} (ready : A → Type 0) (more : A → ℕ → A) (s w : Lis
     abbrev k : ℕ
     k = n - d
 
-    pub forming_done : n ≤ d → PrintsTo ready more s w m wd n left at code f p g
+    pub forming_done : n ≤ d → PrintsTo more s w m wd n left at code f p g
     unfolding all_of count
-    forming_done z = record { each = λ four e xs q h. go four e xs (inv.each four e xs q h); takes = inv.form }
+    forming_done z = record { each = λ four e xs q h. go four e xs (inv.each four e xs q h) }
       where
         last : (four : Bool) (e : ℕ) (xs ys : Syms) → count ys ≡ k → SymsStand s w m wd four left p e ys → all_of more f (shown_all xs (between_by code 1) []) ≡ all_of more g (shown_from d ys (between_by code 1) []) → (p ≡ e) × (g ≡ all_of more f (shown_all xs (between_by code 1) []))
         last four e xs nil c h t = (none_stand s w m wd four left p e h, sym (t ∙ ap (all_of more g) (shown_none d (between_by code 1) [])))
@@ -134,8 +132,8 @@ module _ {A : Type 0} (ready : A → Type 0) (more : A → ℕ → A) (s w : Lis
                   stand = within_first inv.some.four _ y a.0;
                 }
 
-        module _ (x b : A) (before-x : Taken ready more g (between_by code d) x) (before-b : Taken ready more x (before_by wd (texts s w m) w p c) b) (to : ℕ) (q : A)
-            (printed : PrintsTo ready more s w m wd i (left - 1) (p + l) c b to q) (h : A) (behind-h : Taken ready more q (behind_by w p c) h) where
+        module _ (x b : A) (before-x : Taken more g (between_by code d) x) (before-b : Taken more x (before_by wd (texts s w m) w p c) b) (to : ℕ) (q : A)
+            (printed : PrintsTo more s w m wd i (left - 1) (p + l) c b to q) (h : A) (behind-h : Taken more q (behind_by w p c) h) where
           abbrev k1 : ℕ
           k1 = n - (d + 1)
 
@@ -145,10 +143,10 @@ module _ {A : Type 0} (ready : A → Type 0) (more : A → ℕ → A) (s w : Lis
               let o = (standing s w m wd four left p e y st).reads in
               let u = printed.each four e (children y) (counted four e y st) (within_first four e y st) in
               let between_is : between_by c 1 ≡ between_text y = ap (λ (v : ℕ). between_by v 1) read ∙ o.between 0 in
-              let mid : Taken ready more b (shown_all (children y) (between_text y) []) q =
-              record { is = u.1 ∙ ap (λ (v : Text). all_of more b (shown_all (children y) v [])) between_is; takes = printed.takes } in
-              let front : Taken ready more x (before_text y) b = taken_as (ap (before_by wd (texts s w m) w p) read ∙ o.before) before-b in
-              let rear : Taken ready more q (behind_text y) h = taken_as (ap (behind_by w p) read ∙ o.behind) behind-h in
+              let mid : Taken more b (shown_all (children y) (between_text y) []) q =
+              record { is = u.1 ∙ ap (λ (v : Text). all_of more b (shown_all (children y) v [])) between_is } in
+              let front : Taken more x (before_text y) b = taken_as (ap (before_by wd (texts s w m) w p) read ∙ o.before) before-b in
+              let rear : Taken more q (behind_text y) h = taken_as (ap (behind_by w p) read ∙ o.behind) behind-h in
               (u.0, symbol_more y (between_by code d) g h r (taken_then before-x (taken_then front (taken_then mid rear))))
 
           next-some : SomeSyms s w m wd k1 left to
@@ -177,7 +175,6 @@ module _ {A : Type 0} (ready : A → Type 0) (more : A → ℕ → A) (s w : Lis
           pub forming_next : Forming to k1 (d + 1) h
           forming_next = record {
             some = next-some;
-            form = behind-h.takes;
             each = λ four e xs r st. next_each four e xs (inv.each four e xs r st);
           }
 

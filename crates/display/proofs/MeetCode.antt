@@ -9,20 +9,15 @@ use native.Mathlib.Numerals.{add-one}
 use borrow.Author.Rules.{rules}
 use borrow.Author.Tests.{lt-ltb, le-ltb, eq-eqb, ne_eqb, eqb-true, eqb-false}
 use lib.Dec.{eqb}
-use lib.ListN.{length, drop, get_or, drop_of_length-le, get_or-eq_default}
+use lib.ListN.{length, drop, get_or, drop_of_length-le}
 use lib.Seq.{drop-cons}
 use Rattle.std.specs.Prelude.{Option, Some, None}
 use Rattle.octets.specs.Working.Choice.{pick}
 use Rattle.octets.specs.Plain.Numbers.{le_at}
 use Rattle.parse_tree.specs.Plain.Tree.{Text}
+use Rattle.parse_tree.specs.Working.Nodes.{long_of}
 use Rattle.texts.specs.declared.Map.{Map}
-use Rattle.texts.specs.Fields.{mark_at}
-use Rattle.texts.specs.Texts.{marked_text, Whole}
 use Rattle.texts.specs.Table.{texts}
-use Rattle.texts.proofs.TextCode.{length_texts, texts-at}
-use Rattle.grades.specs.Grading.{Worded}
-use Rattle.grades.specs.Skip.{inside_by}
-use Rattle.resolve.specs.Commands.{long_of}
 use Rattle.display.specs.Follow.{met_one, met_by, word_at, op_byte}
 use Rattle.display.proofs.MetLaws.{met_then, met_not}
 
@@ -64,26 +59,11 @@ module _ (t x : Text) (i p k : ℕ) (g : Meeting t x i p k) where
 pub ruleset meeting = (rules, meet_start, meet_next, meet_differs, meet_done)
 
 -- ---- word
-module _ (wd : ℕ) (s w : List ℕ) (m : Map) (at x k : ℕ) (j : x ≡ le_at wd w at) (q : k ≡ x) where
-  some : word_at wd (texts s w m) w at ≡ get_or (texts s w m) k []
-  unfolding word_at
-  some = cc
+pub word_is : (wd : ℕ) (s w : List ℕ) (m : Map) (at x k : ℕ) → x ≡ le_at wd w at → k ≡ x → (t : List ℕ) → t ≡ get_or (texts s w m) k [] → t ≡ word_at wd (texts s w m) w at
+unfolding word_at
+word_is wd s w m at x k j q t e = cc
 
-  many : length (texts s w m) ≡ m.count
-  unfolding texts
-  many = length_texts s w m.base m.count
-
-  pub word_beyond : m.count ≤ k → [] ≡ word_at wd (texts s w m) w at
-  word_beyond l = sym (some ∙ get_or-eq_default (texts s w m) [] {n = k} (omega (arith, many)))
-
-  pub word_some : k < m.count → (y : ℕ) → y ≡ mark_at w m.base k → (t : List ℕ) → t ≡ marked_text s w y → t ≡ word_at wd (texts s w m) w at
-  unfolding texts
-  word_some l y p t e = e ∙ ap (marked_text s w) p ∙ sym (texts-at s w m.base m.count k l) ∙ sym some
-
-pub word_whole : (s w : List ℕ) (m : Map) (k y : ℕ) → Worded s w m → k < m.count → y ≡ mark_at w m.base k → Whole s w y
-word_whole s w m k y g h e = rw e (g.whole k h)
-
-pub ruleset wording = (rules, word_beyond, word_some, word_whole)
+pub ruleset wording = (rules, word_is)
 
 -- ---- op_byte
 pub op_star : (op : ℕ) → op ≡ 0 → 42 ≡ op_byte op
@@ -162,28 +142,3 @@ module _ (wd c : ℕ) where
     pub group_room : c ≡ 41 → at + 9 + 2 ≤ n
     unfolding long_of pick
     group_room h = let z : long_of wd c ≡ 11 = cc in omega (arith, z)
-
--- ---- inside
-module _ (wd : ℕ) (w : List ℕ) (at c : ℕ) where
-  pub inside-macro : (x r : ℕ) → c ≡ 37 → x ≡ get_or w (at + 9 + wd) 0 → r ≡ x → r ≡ inside_by wd w at c
-  unfolding inside_by pick
-  inside-macro x r h j k = cc
-
-  pub inside-group : (x r : ℕ) → c ≡ 41 → x ≡ le_at 2 w (at + 9) → r ≡ x → r ≡ inside_by wd w at c
-  unfolding inside_by pick
-  inside-group x r h j k = cc
-
-  module _ (n37 : c ≡ 37 → ⊥) (n41 : c ≡ 41 → ⊥) where
-    pub inside-named : c < 38 → 0 ≡ inside_by wd w at c
-    unfolding inside_by pick
-    inside-named h = cc (ne_eqb c 37 n37, ne_eqb c 41 n41, lt-ltb c 38 h)
-
-    pub inside-bare : 38 ≤ c → 40 < c → 0 ≡ inside_by wd w at c
-    unfolding inside_by pick
-    inside-bare h k = cc (ne_eqb c 37 n37, ne_eqb c 41 n41, le-ltb c 38 h, lt-ltb 40 c k)
-
-    pub inside-around : 38 ≤ c → c ≤ 40 → 1 ≡ inside_by wd w at c
-    unfolding inside_by pick
-    inside-around h k = cc (ne_eqb c 37 n37, ne_eqb c 41 n41, le-ltb c 38 h, le-ltb 40 c k)
-
-pub ruleset insiding = (rules, macro_read, group_room, inside-macro, inside-group, inside-named, inside-bare, inside-around)

@@ -15,13 +15,13 @@ use Rattle.parse_tree.specs.Plain.Tree.{Sym, Syms, nil, cons, count}
 use Rattle.parse_tree.specs.Plain.Display.{print}
 use Rattle.parse_tree.specs.Working.Encode.{sym_bytes, syms_bytes}
 use Rattle.parse_tree.specs.Working.Within.{SymWithin, SymsWithin}
+use Rattle.parse_tree.specs.Working.Nodes.{long_of}
+use Rattle.parse_tree.specs.Working.Nested.{inside_by}
 use Rattle.laws.specs.Flat.{children, joined}
 use Rattle.laws.proofs.Flat.{SymsFits, sym_fits_lem, inside-count, step}
 use Rattle.laws.proofs.Shape.{Alike}
 use Rattle.texts.specs.declared.Map.{Map}
 use Rattle.texts.specs.Table.{texts}
-use Rattle.resolve.specs.Commands.{long_of}
-use Rattle.grades.specs.Skip.{inside_by}
 use Rattle.grades.proofs.SkipMean.{count-few}
 use Rattle.grades.specs.Grading.{Worded}
 use Rattle.display.specs.Standing.{SymStands, SomeSym}

@@ -13,10 +13,10 @@ use Rattle.octets.specs.Plain.Numbers.{le_at}
 use Rattle.octets.specs.Plain.Runs.{part}
 use Rattle.parse_tree.specs.Plain.Tree.{Text, Sym, Syms, nil, cons, count}
 use Rattle.parse_tree.specs.Plain.Display.{shown, shown_all, shown_more, print}
+use Rattle.parse_tree.specs.Working.Nodes.{long_of}
+use Rattle.parse_tree.specs.Working.Nested.{inside_by}
 use Rattle.laws.specs.Flat.{children, joined}
 use Rattle.laws.proofs.Shape.{Alike, shown_alike}
-use Rattle.resolve.specs.Commands.{long_of}
-use Rattle.grades.specs.Skip.{inside_by}
 use Rattle.display.specs.Follow.{word_at, leaf_text, name_text, op_byte, before_by, behind_by}
 use Rattle.display.proofs.StandsLaws.{before_text, between_text, behind_text, print-parts}
 use Rattle.display.proofs.MeetCode.{named-room, macro_room, macro_read, repeat_room, name_room, name_read, group_room}

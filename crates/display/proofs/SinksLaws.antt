@@ -16,7 +16,7 @@ use Rattle.display.specs.declared.emit.Window.{Window}
 use Rattle.display.specs.declared.form.Formed.{Formed}
 use Rattle.display.specs.Sink.{all_of, Taken, PrintsTo}
 use Rattle.display.specs.Follow.{met_by, held_more, between_by}
-use Rattle.display.specs.Form.{text_form, SomeForm, more_of, form_from, From, PrintsAll, Prints}
+use Rattle.display.specs.Form.{text_form, more_of, form_from, From, PrintsAll, Prints}
 use Rattle.display.specs.Window.{Emitted, window_more, Fills}
 use Rattle.display.proofs.MetLaws.{met_none}
 use Rattle.display.proofs.FormLaws.{from_form}
@@ -30,17 +30,17 @@ unfolding all_of met_by held_more
 held_all x [] = refl
 held_all x (b ∷ bs) = held_all (held_more x b) bs
 
-module _ {ready : Held → Type 0} {x : Held} {xs : Text} where
-  pub held_some : (i : ℕ) (o : Option ℕ) → x.at ≡ Some i → o ≡ met_by x.text.now (Some i) xs → ready (record { text = x.text; at = o }) → Taken ready held_more x xs (record { text = x.text; at = o })
-  held_some i o a b h = record { is = cc (held_all x xs); takes = h }
+module _ {x : Held} {xs : Text} where
+  pub held_some : (i : ℕ) (o : Option ℕ) → x.at ≡ Some i → o ≡ met_by x.text.now (Some i) xs → Taken held_more x xs (record { text = x.text; at = o })
+  held_some i o a b = record { is = cc (held_all x xs) }
 
-  pub held_lost : x.at ≡ None → ready x → Taken ready held_more x xs x
-  held_lost a h =
+  pub held_lost : x.at ≡ None → Taken held_more x xs x
+  held_lost a =
       let e : x.at ≡ met_by x.text.now x.at xs = a ∙ sym (met_none x.text.now xs) ∙ ap (λ (o : Option ℕ). met_by x.text.now o xs) (sym a) in
       let f : Option ℕ → Held = λ (o : Option ℕ). record { text = x.text; at = o } in
-      record { is = ap f e ∙ sym (held_all x xs); takes = h }
+      record { is = ap f e ∙ sym (held_all x xs) }
 
-  module _ {r : Held} (h : Taken ready held_more x xs r) where
+  module _ {r : Held} (h : Taken held_more x xs r) where
     pub taken_text : r.text ≡ x.text
     taken_text = ap (λ (y : Held). y.text) (h.is ∙ held_all x xs)
 
@@ -52,7 +52,7 @@ pub record Holding (t : Text) (i : ℕ) (x : Held) : Type 0 where
   pub text : x.text.now ≡ t
   pub at : x.at ≡ Some i
 
-module _ {ready : Held → Type 0} {x r : Held} {xs t : Text} {i : ℕ} (g : Holding t i x) (h : Taken ready held_more x xs r) where
+module _ {x r : Held} {xs t : Text} {i : ℕ} (g : Holding t i x) (h : Taken held_more x xs r) where
   pub holding_met : r.at ≡ met_by t (Some i) xs
   holding_met = taken_at h ∙ ap (λ (u : Text). met_by u x.at xs) g.text ∙ ap (λ (o : Option ℕ). met_by t o xs) g.at
 
@@ -67,16 +67,15 @@ unfolding all_of form_from
 form_all f [] = refl
 form_all f (b ∷ bs) = form_all (more_of f b) bs
 
-pub form_taken : {f r : Form} {t : Text} → From f t r → Taken SomeForm more_of f t r
-form_taken {f} {r} {t} a = record { is = a.is ∙ sym (form_all f t); takes = a.form }
+pub form_taken : {f r : Form} {t : Text} → From f t r → Taken more_of f t r
+form_taken {f} {r} {t} a = record { is = a.is ∙ sym (form_all f t) }
 
-pub taken_from : {f r : Form} {t : Text} → Taken SomeForm more_of f t r → From f t r
-taken_from {f} {r} {t} a = record { is = a.is ∙ form_all f t; form = a.takes }
+pub taken_from : {f r : Form} {t : Text} → Taken more_of f t r → From f t r
+taken_from {f} {r} {t} a = record { is = a.is ∙ form_all f t }
 
-pub form_prints : {s w : List ℕ} {m : Map} {wd n left at c r : ℕ} {f g : Form} → PrintsTo SomeForm more_of s w m wd n left at c f r g → PrintsAll s w m wd n left at c f (record { at = r; form = g })
+pub form_prints : {s w : List ℕ} {m : Map} {wd n left at c r : ℕ} {f g : Form} → PrintsTo more_of s w m wd n left at c f r g → PrintsAll s w m wd n left at c f (record { at = r; form = g })
 form_prints {s} {w} {m} {wd} {n} {left} {at} {c} {r} {f} {g} h = record {
   each = λ four e xs q st. let a = h.each four e xs q st in (a.0, a.1 ∙ form_all f (shown_all xs (between_by c 1) []));
-  form = h.takes;
 }
 
 pub symbol_prints : (s w : List ℕ) (m : Map) (wd left at : ℕ) (f : Form) (r : Formed) → f ≡ text_form [] → PrintsAll s w m wd 1 left at 0 f r → Prints s w m wd left at r
@@ -105,24 +104,24 @@ unfolding all_of
 window_all x [] = emitted_none x.bytes x.spot
 window_all x (b ∷ bs) = then (window_one x b) (window_all (window_more x b) bs)
 
-module _ {ready : Window → Type 0} {x : Window} {xs : List ℕ} where
-  pub taken_emitted : {r : Window} → Taken ready window_more x xs r → Emitted xs x.bytes x.spot r.spot r.bytes
+module _ {x : Window} {xs : List ℕ} where
+  pub taken_emitted : {r : Window} → Taken window_more x xs r → Emitted xs x.bytes x.spot r.spot r.bytes
   taken_emitted h = rw h.is (window_all x xs)
 
   -- what is emitted decides where it ends
-  pub window_taken : (o : List ℕ) (p : Spot) → Emitted xs x.bytes x.spot p o → ready (record { bytes = o; spot = p }) → Taken ready window_more x xs (record { bytes = o; spot = p })
-  window_taken o p a h =
+  pub window_taken : (o : List ℕ) (p : Spot) → Emitted xs x.bytes x.spot p o → Taken window_more x xs (record { bytes = o; spot = p })
+  window_taken o p a =
       let b = window_all x xs in
-      record { is = same_window (a.bytes ∙ sym b.bytes) (same_spot (a.skip ∙ sym b.skip) (a.after ∙ sym b.after)); takes = h }
+      record { is = same_window (a.bytes ∙ sym b.bytes) (same_spot (a.skip ∙ sym b.skip) (a.after ∙ sym b.after)) }
 
 pub ruleset windowing = (rules, window_taken)
 
-pub window_fills : {ready : Window → Type 0} (s w : List ℕ) (m : Map) (wd left a n c r : ℕ) (o : List ℕ) (y : Window) → PrintsTo ready window_more s w m wd 1 left a c (record { bytes = o; spot = record { skip = n; to = 0 } }) r y → Fills s w m wd left a n o y.spot.to y.bytes
+pub window_fills : (s w : List ℕ) (m : Map) (wd left a n c r : ℕ) (o : List ℕ) (y : Window) → PrintsTo window_more s w m wd 1 left a c (record { bytes = o; spot = record { skip = n; to = 0 } }) r y → Fills s w m wd left a n o y.spot.to y.bytes
 unfolding count shown_all shown_more print
-window_fills {ready} s w m wd left a n c r o y h = record {
+window_fills s w m wd left a n c r o y h = record {
   fills = λ four e x st.
       let p = h.each four e (cons x nil) refl (one_stands s w m wd four left a e x st) in
-      let k = taken_emitted {ready = ready} (record { is = p.1; takes = h.takes }) in
+      let k = taken_emitted (record { is = p.1 }) in
       record { bytes = k.bytes; after = rw (length-drop n (print x)) k.after };
 }
 

@@ -16,10 +16,11 @@ use Rattle.parse_tree.specs.Plain.Tree.{Text, Op, star, plus, question, Leaf, Ar
 use Rattle.parse_tree.specs.Plain.Texts.{has, number}
 use Rattle.parse_tree.specs.Plain.WriteTape.{bit, op_code}
 use Rattle.parse_tree.specs.Plain.Display.{escaped, shown_op, shown_leaf, shown_before, shown_behind, opening, separator, closing, shown, shown_all, shown_more, print}
-use Rattle.parse_tree.specs.Working.Nodes.{leaf_code, leaf_operand, symbol_bytes, node_bytes, size_of, span_bytes}
+use Rattle.parse_tree.specs.Working.Nodes.{leaf_code, leaf_operand, symbol_bytes, node_bytes, size_of, span_bytes, long_of}
 use Rattle.parse_tree.specs.Working.Encode.{leaf_node, around_node, over_node, sym_bytes, syms_bytes}
 use Rattle.parse_tree.specs.Working.Within.{SpanWithin, LeafWithin, AroundWithin, OverWithin, SymWithin, SymsWithin}
 use Rattle.parse_tree.specs.declared.syntax.Span.{Span}
+use Rattle.parse_tree.specs.Working.Nested.{inside_by}
 use Rattle.parse_tree.proofs.SizeLaws.{length_span}
 use Rattle.parse_tree.proofs.TextLaws.{text_number}
 use Rattle.parse_tree.proofs.FieldLaws.{byte_read, le-read_then, span_read}
@@ -27,8 +28,6 @@ use Rattle.laws.specs.Flat.{sym_node, children}
 use Rattle.laws.proofs.Flat.{sym_bytes_lem, node_size}
 use Rattle.texts.specs.declared.Map.{Map}
 use Rattle.texts.specs.Table.{texts}
-use Rattle.resolve.specs.Commands.{long_of}
-use Rattle.grades.specs.Skip.{inside_by}
 use Rattle.display.specs.Standing.{SymStands, SymsStand}
 use Rattle.display.specs.Follow.{quoted_text, word_at, leaf_text, mark_text, label_text, name_text, before_by, op_byte, behind_by, between_by}
 

@@ -11,13 +11,11 @@ unfoldable pub all_of : {A : Type 0} → (A → ℕ → A) → A → List ℕ �
 all_of more s [] = s
 all_of more s (b ∷ bs) = all_of more (more s b) bs
 
--- r is s with xs more, and takes bytes
-pub record Taken {A : Type 0} (ready : A → Type 0) (more : A → ℕ → A) (s : A) (xs : List ℕ) (r : A) : Type 0 where
+-- r is s with xs more
+pub record Taken {A : Type 0} (more : A → ℕ → A) (s : A) (xs : List ℕ) (r : A) : Type 0 where
   pub is : r ≡ all_of more s xs
-  pub takes : ready r
 
-module _ {A : Type 0} (ready : A → Type 0) (more : A → ℕ → A) (s w : List ℕ) (m : Map) (wd : ℕ) where
+module _ {A : Type 0} (more : A → ℕ → A) (s w : List ℕ) (m : Map) (wd : ℕ) where
   -- r is the place behind whatever n symbols stand there, straight inside a command of the code c, and y is x with their printed forms more
   pub record PrintsTo (n left at c : ℕ) (x : A) (r : ℕ) (y : A) : Type 0 where
     pub each : (four : Bool) (e : ℕ) (xs : Syms) → count xs ≡ n → SymsStand s w m wd four left at e xs → (r ≡ e) × (y ≡ all_of more x (shown_all xs (between_by c 1) []))
-    pub takes : ready y

@@ -1,15 +1,12 @@
-// Bytes of printed forms held against a text t. The text whose number stands at a place of work, and how many symbols stand straight inside one.
+// Bytes of printed forms held against a text t. The text whose number stands at a place of work.
 ghost use Rattle.std.specs.Prelude.{◌≡◌, Some, [], ◌∷◌, ◌+◌, ◌≤◌, length};
 ghost use Rattle.texts.specs.Table.{texts};
-ghost use Rattle.resolve.specs.Commands.{long_of};
-ghost use Rattle.grades.specs.Skip.{inside_by};
 ghost use Rattle.display.specs.Follow.{met_by, word_at, op_byte, held_more};
 
 use crate::sink::Sink;
 use grades::words::Words;
-use octets::numbers::{Width, atom_at, u16_at};
-use texts::fields::mark;
-use texts::text::text_at;
+use octets::numbers::atom_at;
+pub use parse_tree::nested::inside;
 
 // The place in t behind the byte b, if it stands at i. None, here and below, after a difference.
 fn meet_byte(t: &[u8], i: usize, b: u8) -> Option<usize>
@@ -61,13 +58,7 @@ pub fn word<'a>(words: Words<'a>, at: usize) -> &'a [u8]
     requires { at + words.width.bytes ≤ length words.work.now }
     ensures { result.now ≡ word_at words.entry.width.bytes (texts words.entry.tape.now words.entry.work.now words.entry.m) words.entry.work.now at }
 {
-    let k = atom_at(words.work, at, words.width) as usize;
-    if words.m.count <= k {
-        &words.tape[0..0]
-    } else {
-        let x = mark(words.work, words.m.base, k);
-        text_at(words.tape, words.work, x)
-    }
+    words.text(atom_at(words.work, at, words.width) as usize)
 }
 
 // The byte of a repeat.
@@ -78,19 +69,5 @@ pub fn op_byte(op: u8) -> u8
         0 => b'*',
         1 => b'+',
         _ => b'?',
-    }
-}
-
-// How many they are.
-pub fn inside(work: &[u8], width: Width, at: usize, c: u8) -> usize
-    requires { at + long_of width.bytes c ≤ length work.now }
-    ensures { result ≡ inside_by width.bytes work.now at c }
-{
-    match c {
-        0..=36 => 0,
-        37 => usize::from(work[at + 9 + width.bytes]),
-        38..=40 => 1,
-        41 => usize::from(u16_at(work, at + 9)),
-        _ => 0,
     }
 }

@@ -5,6 +5,7 @@
 pub mod emit;
 pub mod follow;
 pub mod form;
+pub mod forms;
 pub mod shape;
 pub mod sink;
 pub mod window;

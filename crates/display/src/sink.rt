@@ -1,9 +1,9 @@
 // What a printed form is written to, byte by byte or run by run; what stands in a form before the symbols straight inside a command, between them and behind them; and the forms of symbols.
 ghost use Rattle.std.specs.Prelude.{List, ℕ, [], ◌∷◌, ◌+◌, ◌≤◌, length};
 ghost use Rattle.parse_tree.specs.Plain.Display.{escaped};
+ghost use Rattle.parse_tree.specs.Working.Nodes.{long_of};
 ghost use Rattle.texts.specs.declared.Map.{Map};
 ghost use Rattle.texts.specs.Table.{texts};
-ghost use Rattle.resolve.specs.Commands.{long_of};
 ghost use Rattle.display.specs.Standing.{SomeSyms};
 ghost use Rattle.display.specs.Sink.{Taken, PrintsTo};
 ghost use Rattle.display.specs.Follow.{quoted_text, word_at, leaf_text, mark_text, label_text, name_text, before_by, behind_by, between_by};
@@ -16,23 +16,19 @@ pub trait Sink {
     // What it becomes by a byte.
     ghost more: { Self → ℕ → Self };
 
-    // When it takes bytes, and what it has to know of a table to take a text of it: mostly nothing is asked.
-    ghost ready: { Self → Type 0 } = { λ _. Unit {0} };
-
+    // What it has to know of a table to take a text of it: mostly nothing is asked.
     ghost knows: { List ℕ → List ℕ → Map → Type 0 } = { λ _ _ _. Unit {0} };
 
     fn byte(&mut self, b: u8)
-        requires { ready self.old }
-        ensures { Taken ready more self.old (b ∷ []) self.new };
+        ensures { Taken more self.old (b ∷ []) self.new };
 
     fn run(&mut self, x: &[u8])
-        requires { ready self.old }
-        ensures { Taken ready more self.old x.now self.new };
+        ensures { Taken more self.old x.now self.new };
 
     // The text whose number stands at a place.
     fn text(&mut self, words: Words, at: usize)
-        requires { ready self.old × knows words.tape.now words.work.now words.m × (at + words.width.bytes ≤ length words.work.now) }
-        ensures { Taken ready more self.old (word_at words.entry.width.bytes (texts words.entry.tape.now words.entry.work.now words.entry.m) words.entry.work.now at) self.new }
+        requires { knows words.tape.now words.work.now words.m × (at + words.width.bytes ≤ length words.work.now) }
+        ensures { Taken more self.old (word_at words.entry.width.bytes (texts words.entry.tape.now words.entry.work.now words.entry.m) words.entry.work.now at) self.new }
     {
         self.run(word(words, at));
     }
@@ -40,8 +36,7 @@ pub trait Sink {
 
 // A byte as it stands between quotes.
 fn escape<S: Sink>(s: &mut S, b: u8)
-    requires { S.ready s.old }
-    ensures { Taken S.ready S.more s.old (escaped (b ∷ []) []) s.new }
+    ensures { Taken S.more s.old (escaped (b ∷ []) []) s.new }
 {
     if b == b'"' || b == b'\\' {
         s.byte(b'\\');
@@ -53,8 +48,7 @@ fn escape<S: Sink>(s: &mut S, b: u8)
 
 // The bytes of x as they stand between quotes.
 fn escapes<S: Sink>(s: &mut S, x: &[u8])
-    requires { S.ready s.old }
-    ensures { Taken S.ready S.more s.old (escaped x.now []) s.new }
+    ensures { Taken S.more s.old (escaped x.now []) s.new }
 {
     for b in x {
         escape(s, *b);
@@ -63,8 +57,7 @@ fn escapes<S: Sink>(s: &mut S, x: &[u8])
 
 // With the quotes.
 fn quoted<S: Sink>(s: &mut S, x: &[u8])
-    requires { S.ready s.old }
-    ensures { Taken S.ready S.more s.old (quoted_text x.now) s.new }
+    ensures { Taken S.more s.old (quoted_text x.now) s.new }
 {
     s.byte(b'"');
     escapes(s, x);
@@ -73,8 +66,8 @@ fn quoted<S: Sink>(s: &mut S, x: &[u8])
 
 // A leaf of the code c, the number of whose text stands at a place.
 fn leaf<S: Sink>(s: &mut S, words: Words, at: usize, c: u8)
-    requires { S.ready s.old × S.knows words.tape.now words.work.now words.m × (at + words.width.bytes ≤ length words.work.now) }
-    ensures { Taken S.ready S.more s.old (leaf_text c (word_at words.entry.width.bytes (texts words.entry.tape.now words.entry.work.now words.entry.m) words.entry.work.now at)) s.new }
+    requires { S.knows words.tape.now words.work.now words.m × (at + words.width.bytes ≤ length words.work.now) }
+    ensures { Taken S.more s.old (leaf_text c (word_at words.entry.width.bytes (texts words.entry.tape.now words.entry.work.now words.entry.m) words.entry.work.now at)) s.new }
 {
     match c {
         34 => quoted(s, word(words, at)),
@@ -89,8 +82,7 @@ fn leaf<S: Sink>(s: &mut S, words: Words, at: usize, c: u8)
 
 // A leaf that has no text: `@L`, `@R`, `error`.
 fn mark<S: Sink>(s: &mut S, c: u8)
-    requires { S.ready s.old }
-    ensures { Taken S.ready S.more s.old (mark_text c) s.new }
+    ensures { Taken S.more s.old (mark_text c) s.new }
 {
     match c {
         42 => s.run(b"@L"),
@@ -101,8 +93,7 @@ fn mark<S: Sink>(s: &mut S, c: u8)
 
 // `mut `, if the byte of a name says so.
 fn label<S: Sink>(s: &mut S, b: u8)
-    requires { S.ready s.old }
-    ensures { Taken S.ready S.more s.old (label_text b) s.new }
+    ensures { Taken S.more s.old (label_text b) s.new }
 {
     if b == 1 {
         s.run(b"mut ");
@@ -111,8 +102,8 @@ fn label<S: Sink>(s: &mut S, b: u8)
 
 // `x:` or `mut x:`.
 fn name<S: Sink>(s: &mut S, words: Words, at: usize, b: u8)
-    requires { S.ready s.old × S.knows words.tape.now words.work.now words.m × (at + words.width.bytes ≤ length words.work.now) }
-    ensures { Taken S.ready S.more s.old (name_text b (word_at words.entry.width.bytes (texts words.entry.tape.now words.entry.work.now words.entry.m) words.entry.work.now at)) s.new }
+    requires { S.knows words.tape.now words.work.now words.m × (at + words.width.bytes ≤ length words.work.now) }
+    ensures { Taken S.more s.old (name_text b (word_at words.entry.width.bytes (texts words.entry.tape.now words.entry.work.now words.entry.m) words.entry.work.now at)) s.new }
 {
     label(s, b);
     s.text(words, at);
@@ -121,8 +112,8 @@ fn name<S: Sink>(s: &mut S, words: Words, at: usize, b: u8)
 
 // What stands before the symbols straight inside that of the code c at a place.
 pub fn before<S: Sink>(s: &mut S, words: Words, at: usize, c: u8)
-    requires { S.ready s.old × S.knows words.tape.now words.work.now words.m × (32 ≤ c) × (at + long_of words.width.bytes c ≤ length words.work.now) }
-    ensures { Taken S.ready S.more s.old (before_by words.entry.width.bytes (texts words.entry.tape.now words.entry.work.now words.entry.m) words.entry.work.now at c) s.new }
+    requires { S.knows words.tape.now words.work.now words.m × (32 ≤ c) × (at + long_of words.width.bytes c ≤ length words.work.now) }
+    ensures { Taken S.more s.old (before_by words.entry.width.bytes (texts words.entry.tape.now words.entry.work.now words.entry.m) words.entry.work.now at c) s.new }
 {
     match c {
         0..=36 => leaf(s, words, at + 9, c),
@@ -140,8 +131,8 @@ pub fn before<S: Sink>(s: &mut S, words: Words, at: usize, c: u8)
 
 // What stands behind them.
 pub fn behind<S: Sink>(s: &mut S, work: &[u8], width: usize, at: usize, c: u8)
-    requires { S.ready s.old × (at + long_of width c ≤ length work.now) }
-    ensures { Taken S.ready S.more s.old (behind_by work.now at c) s.new }
+    requires { (at + long_of width c ≤ length work.now) }
+    ensures { Taken S.more s.old (behind_by work.now at c) s.new }
 {
     match c {
         37 => s.byte(b'>'),
@@ -154,8 +145,7 @@ pub fn behind<S: Sink>(s: &mut S, work: &[u8], width: usize, at: usize, c: u8)
 
 // What stands before the k-th of them.
 pub fn between<S: Sink>(s: &mut S, c: u8, k: usize)
-    requires { S.ready s.old }
-    ensures { Taken S.ready S.more s.old (between_by c k) s.new }
+    ensures { Taken S.more s.old (between_by c k) s.new }
 {
     if k != 0 {
         if c == 37 {
@@ -175,8 +165,8 @@ pub fn print_list<S: Sink>(
     n: usize,
     c: u8,
 ) -> usize
-    requires { S.ready s.old × S.knows words.tape.now words.work.now words.m × SomeSyms words.tape.now words.work.now words.m words.width.bytes n left at }
-    ensures { PrintsTo S.ready S.more words.entry.tape.now words.entry.work.now words.entry.m words.entry.width.bytes n left at c s.old result s.new }
+    requires { S.knows words.tape.now words.work.now words.m × SomeSyms words.tape.now words.work.now words.m words.width.bytes n left at }
+    ensures { PrintsTo S.more words.entry.tape.now words.entry.work.now words.entry.m words.entry.width.bytes n left at c s.old result s.new }
 {
     let mut p = at;
     for k in 0..n {

@@ -23,7 +23,7 @@ use Rattle.display.specs.Form.{text_form}
 use Rattle.display.specs.Standing.{SomeSym}
 use Rattle.display.specs.declared.Met.{Met}
 use Rattle.display.specs.Follow.{index_of, Follows}
-use Rattle.std.specs.Prelude.{Option, Some, None}
+use Rattle.std.specs.Prelude.{Option, Some, None, MatchOption}
 use Rattle.display.proofs.MetLaws.{whole_met, met_is}
 use Rattle.display.specs.Window.{SamePrints}
 use Rattle.replacing.specs.Prints.{print_at}
@@ -115,15 +115,23 @@ module _ (s w : List ℕ) (g : Ground) (G : Grounded s w g) (b : (j : ℕ) → B
         ap (whole_met t) (f.met false _ _ (key_stands s w g (λ j. (b j).fits) G p y)) ∙ sym (met_is t 0 (printed_at s w g p) (omega arith))
         ∙ same_as-sym (printed_at s w g p) t ∙ ap (λ (u : Text). same_as u (printed_at s w g p)) e
 
-    pub key_same : (r : Met) → q ≡ Some r → eqb r.i (length t) ≡ same_as (get_or (texts s w g.m) k []) (printed_at s w g p)
+    key_same : (r : Met) → q ≡ Some r → eqb r.i (length t) ≡ same_as (get_or (texts s w g.m) k []) (printed_at s w g p)
     unfolding whole_met index_of
     key_same r z = ap (λ (v : Option Met). whole_met t (index_of v)) (sym z) ∙ key_met
 
-    pub key_differs : q ≡ None → false ≡ same_as (get_or (texts s w g.m) k []) (printed_at s w g p)
+    key_differs : q ≡ None → false ≡ same_as (get_or (texts s w g.m) k []) (printed_at s w g p)
     unfolding whole_met index_of
     key_differs z = ap (λ (v : Option Met). whole_met t (index_of v)) (sym z) ∙ key_met
 
-pub ruleset texting = (rules, place_fits, form_hash, is_not, key_inner, key_same, key_differs)
+    -- what a closure says of where the walk ends, and nothing after a difference
+    pub key_told : (A : Met → Type 0) (r : Bool) → MatchOption q (r ≡ false) A → ((m : Met) → A m → r ≡ eqb m.i (length t)) → r ≡ same_as (get_or (texts s w g.m) k []) (printed_at s w g p)
+    key_told A r y a = go q refl y
+      where
+        go : (o : Option Met) → q ≡ o → MatchOption o (r ≡ false) A → r ≡ same_as (get_or (texts s w g.m) k []) (printed_at s w g p)
+        go (Some m) z h = a m h ∙ key_same m z
+        go None z h = h ∙ key_differs z
+
+pub ruleset texting = (rules, place_fits, form_hash, is_not, key_inner)
 
 -- ---- `written`: the table is gone through as by `find`
 pub ruleset seeking = (finding, form_hash)
@@ -134,6 +142,6 @@ module _ (s w : List ℕ) (g : Ground) (p : ℕ) (f : Form) (G : Grounded s w g)
   written_is = find_is s w g.m (printed_at s w g p) f.hash G.table (form_hash (printed_at s w g p) f e)
 
 -- ---- `is_pushed`
-pub pushed-is : (w : List ℕ) (g : Ground) (k v : ℕ) → v ≡ cell_at w g.m.base k → leb 2147483648 v ≡ pushed_text w g k
+pub pushed-is : (w : List ℕ) (g : Ground) (k v : ℕ) → v ≡ cell_at w g.m.base k → (r : Bool) → r ≡ leb 2147483648 v → r ≡ pushed_text w g k
 unfolding pushed_text
-pushed-is w g k v e = ap (leb 2147483648) e
+pushed-is w g k v e r f = f ∙ ap (leb 2147483648) e

@@ -10,6 +10,7 @@ use borrow.Author.Tests.{eqb-true}
 use lib.Dec.{eqb}
 use lib.ListN.{length, get_or, drop, length-append}
 use lib.Seq.{drop-drop, drop-append-le}
+use Rattle.std.specs.Prelude.{Some}
 use Rattle.octets.specs.Working.Choice.{pick}
 use Rattle.octets.specs.Plain.Runs.{part, Lies}
 use Rattle.octets.proofs.PartLaws.{part_length}
@@ -193,7 +194,7 @@ module _ (wd : ℕ) (ts : List Text) where
 
 -- ---- the code of a symbol's command says whether it is expanded
 module _ (wd : ℕ) (ts : List Text) where
-  node_plain : (y : Sym) → plain (sym_node ts y) ≡ not (is_key y)
+  node_plain : (y : Sym) → plain (Some (sym_node ts y)) ≡ not (is_key y)
   unfolding sym_node leaf_node around_node over_node plain plain_kind plain_leaf plain_around
   node_plain (leaf s (ambiguous x)) = refl
   node_plain (leaf s (bare x)) = refl
@@ -244,7 +245,7 @@ module _ (s w : List ℕ) (g : Ground) (G : Grounded s w g) (four : Bool) (left 
       let k = lies_split w (g.from + p) (g.from + e) (node_bytes g.width.bytes (sym_node (texts s w g.m) y)) (syms_bytes g.width.bytes (texts s w g.m) (children y)) (rw z at h.lies) in
       code_key g.width.bytes (texts s w g.m) w (g.from + p) _ y k.0
 
-  stands_node : node_at g.width.bytes (stage_in w g) p ≡ sym_node (texts s w g.m) y
+  stands_node : node_at g.width.bytes (stage_in w g) p ≡ Some (sym_node (texts s w g.m) y)
   stands_node =
       let z = sym_bytes_lem g.width.bytes (texts s w g.m) y in
       let l = lies_stage in

@@ -3,12 +3,13 @@ use mathlib.Core.Path.{◌≡◌, refl, sym, ap, ◌∙◌}
 use mathlib.Core.Bool.{Bool, true}
 use mathlib.Core.List.{List, [], ◌∷◌, ◌++◌}
 use Prim.Native.Nat.{ℕ, zero, suc, ◌+◌}
+use Rattle.std.specs.Prelude.{Option as Optional, Some, None}
 use Rattle.octets.specs.Plain.Numbers.{Bytes}
 use Rattle.parse_tree.specs.Plain.Tree.{Text, Sym, syms_of}
 use Rattle.parse_tree.specs.Plain.Texts.{distinct}
 use Rattle.parse_tree.specs.Working.Nodes.{node_at, size_of}
 use Rattle.parse_tree.specs.Working.Places.{symbols_place}
-use Rattle.parse_tree.specs.Plain.Reading.{Reading, got, then, times}
+use Rattle.parse_tree.specs.Plain.Reading.{Reading, got, then, times, refused}
 use Rattle.parse_tree.specs.Working.Expect.{expect_symbol}
 use Rattle.parse_tree.specs.Working.Operands.{leaf_of, around_of, over_of, inside_of}
 use Rattle.parse_tree.specs.Working.Decode.{read_sym}
@@ -83,9 +84,9 @@ module _ (four : Bool) (wd : ℕ) (t : List ℕ) (ts : List Text) (b : Bytes t) 
     | SymbolKind.Over o ↦ then (listed (λ q. places wd t left q) (inside_of o) c) (λ ps e'. got (ps ++ (p ∷ [])) e')
   ]
 
-  places-at : (left p c : ℕ) (sp : Span) (k : SymbolKind) → node_at wd t p ≡ Node.Symbol sp k → p + size_of wd (Node.Symbol sp k) ≡ c → places wd t (suc left) p ≡ kind_places left p k c
+  places-at : (left p c : ℕ) (sp : Span) (k : SymbolKind) → node_at wd t p ≡ Some (Node.Symbol sp k) → p + size_of wd (Node.Symbol sp k) ≡ c → places wd t (suc left) p ≡ kind_places left p k c
   unfolding places expect_symbol
-  places-at left p c sp k i q = ap (λ z. expect_symbol p (λ sp' k' e. kind_places left p k' e) z (p + size_of wd z)) i ∙ ap (λ z. kind_places left p k z) q
+  places-at left p c sp k i q = ap (λ (o : Optional Node). elim o as (λ _. Reading (List ℕ)) [ None ↦ refused 2 p | Some n ↦ expect_symbol p (λ sp' k' e. kind_places left p k' e) n (p + size_of wd n) ]) i ∙ ap (λ z. kind_places left p k z) q
 
   kind-keys : (left : ℕ) → SymKeys left → (sp : Span) (k : SymbolKind) (p c : ℕ) (y : Sym) (e : ℕ) → p + size_of wd (Node.Symbol sp k) ≡ c → elim k [
     | SymbolKind.Leaf l ↦ got (Sym.leaf sp (leaf_of ts l)) c

@@ -12,13 +12,12 @@ use mir.Val.{Fits}
 use Rattle.octets.specs.Working.Choice.{pick}
 use Rattle.octets.specs.Plain.Runs.{Lies}
 use Rattle.parse_tree.specs.Plain.Tree.{Text, Syms, nil, cons, count}
-use Rattle.parse_tree.specs.Working.Nodes.{size_of}
+use Rattle.parse_tree.specs.Working.Nodes.{size_of, long_of}
 use Rattle.parse_tree.specs.Working.Encode.{sym_bytes, syms_bytes}
+use Rattle.parse_tree.specs.Working.Nested.{inside_by, inside_at}
 use Rattle.laws.specs.Flat.{sym_node, children, joined}
 use Rattle.laws.proofs.Flat.{SymsFits, node_size, syms_fit_lem, step}
 use Rattle.texts.specs.Table.{texts}
-use Rattle.resolve.specs.Commands.{long_of}
-use Rattle.grades.specs.Skip.{inside_by, inside_at}
 use Rattle.grades.proofs.CodesMean.{first_codes}
 use Rattle.grades.proofs.SkipMean.{count-few}
 use Rattle.display.specs.declared.Met.{Met}

@@ -1,19 +1,19 @@
 -- What the command at a place of a stage is, by its code: how long it is, whether an item, the definition of a macro, or a symbol that is expanded. Assumes nothing.
 use mathlib.Core.Path.{◌≡◌, refl, sym, ap, ◌∙◌, subst}
 use mathlib.Core.Bool.{Bool, true, false, not, false≢true}
-use mathlib.Core.Logic.{◌⊎◌, inl, inr}
 use mathlib.Core.List.{List, ◌∷◌, ◌++◌}
 use Prim.Native.Nat.{ℕ, ◌+◌, ◌*◌, ◌/◌, ◌%◌, ◌<◌, ◌≤◌}
 use native.Mathlib.Omega.{arith}
 use borrow.Author.Tests.{ltb-true, ltb-false, leb-false, eqb-true, eqb-false}
 use lib.Dec.{leb, ltb, eqb}
 use lib.ListN.{length, get_or}
+use Rattle.std.specs.Prelude.{Option as Optional, Some, None}
 use Rattle.octets.specs.Working.Choice.{pick}
 use Rattle.octets.specs.Plain.Numbers.{le_at, le, Bytes}
 use Rattle.octets.proofs.ChoiceLaws.{by_pick}
 use Rattle.octets.proofs.LiesLaws.{le_at-lt}
 use Rattle.octets.proofs.NumbersLaws.{halves_at, le-64}
-use Rattle.parse_tree.specs.Working.Nodes.{span_bytes, leaf_code, leaf_operand, symbol_bytes, node_bytes, size_of, if_whole, span_in, named_leaf, bare_leaf, symbol_node_at, text_node, nonterminal_node_at, terminal_node_at, argument_node_at, alternative_node_at, attribute_node_at, condition_node_at, node_by, node_at}
+use Rattle.parse_tree.specs.Working.Nodes.{code_size, span_bytes, leaf_code, leaf_operand, symbol_bytes, node_bytes, if_whole, span_in, named_leaf, bare_leaf, symbol_node_at, text_node, nonterminal_node_at, terminal_node_at, argument_node_at, alternative_node_at, attribute_node_at, condition_node_at, node_by, node_at, size_read, long_of}
 use Rattle.parse_tree.specs.Working.Places.{class_of}
 use Rattle.parse_tree.specs.declared.syntax.Span.{Span}
 use Rattle.parse_tree.specs.declared.syntax.Atom.{Atom}
@@ -29,131 +29,130 @@ use Rattle.parse_tree.specs.declared.syntax.Around.{Around}
 use Rattle.parse_tree.specs.declared.syntax.Over.{Over}
 use Rattle.parse_tree.specs.declared.syntax.SymbolKind.{SymbolKind}
 use Rattle.parse_tree.specs.declared.syntax.Node.{Node}
-use Rattle.parse_tree.proofs.SizeLaws.{ambiguous_size, bare_size, quoted_size, regex_size, nonterminal_leaf_size, lookahead_size, lookbehind_size, error_size, nonterminal_size, terminal_size, argument-size, alternative_size, attribute_size, condition_size, unknown_size, leaf_size, repeat_size, choose_size, name_size, macro_size, group_size}
-use Rattle.resolve.specs.Commands.{long_of}
+use Rattle.parse_tree.proofs.SizeLaws.{ambiguous_size, bare_size, quoted_size, regex_size, nonterminal_leaf_size, lookahead_size, lookbehind_size, error_size, nonterminal_size, terminal_size, argument-size, alternative_size, attribute_size, condition_size, leaf_size, repeat_size, choose_size, name_size, macro_size, group_size}
 use Rattle.replacing.specs.Runs.{plain_leaf, plain_around, plain_kind, plain, is_item, is_macro, key_bytes}
 use Rattle.replacing.specs.Round.{node_span}
 use Rattle.expander.specs.Replace.{expanded_code}
-use Rattle.expander.specs.Stage.{command_long, item_code, macro_at, WholeAt}
+use Rattle.expander.specs.Stage.{item_code, macro_at, WholeAt}
 
 module _ (wd : ℕ) (t : List ℕ) (p : ℕ) where
   -- what the code c says of the command n; the text behind an atom's command is no part of it
-  pub record ByCode (c : ℕ) (n : Node) : Type 0 where
-    pub long : (c ≡ 1 → ⊥) → size_of wd n ≡ command_long wd c
+  pub record ByCode (c : ℕ) (n : Optional Node) : Type 0 where
+    pub long : (c ≡ 1 → ⊥) → size_read wd n ≡ code_size wd c
     pub item : is_item n ≡ item_code c
     pub macro : is_macro n ≡ macro_at wd t p c
     pub copied : plain n ≡ not (expanded_code c)
     pub span : plain n ≡ false → node_span n ≡ span_in t (p + 1)
 
   -- ---- each command
-  text_code : (k : ℕ) → ByCode 1 (Node.Text k)
+  text_code : (k : ℕ) → ByCode 1 (Some (Node.Text k))
   unfolding item_code macro_at expanded_code pick is_item is_macro plain
   text_code k = record { long = λ z. absurd (z refl); item = refl; macro = refl; copied = refl; span = λ z. absurd (false≢true (sym z)) }
 
-  nonterminal_code_lem : (d : NonterminalData) → d.args ≡ get_or t (p + 10 + wd) 0 → ByCode 16 (Node.Nonterminal d)
-  unfolding command_long item_code macro_at expanded_code pick is_item is_macro plain
+  nonterminal_code_lem : (d : NonterminalData) → d.args ≡ get_or t (p + 10 + wd) 0 → ByCode 16 (Some (Node.Nonterminal d))
+  unfolding code_size item_code macro_at expanded_code pick is_item is_macro plain
   nonterminal_code_lem d q = record { long = λ z. sym (nonterminal_size wd (Node.Nonterminal d) d refl); item = refl; macro = ap (ltb 0) q; copied = refl; span = λ z. absurd (false≢true (sym z)) }
 
-  extern_code : (d : TerminalData) → ByCode 48 (Node.Terminal d)
-  unfolding command_long item_code macro_at expanded_code pick is_item is_macro plain
+  extern_code : (d : TerminalData) → ByCode 48 (Some (Node.Terminal d))
+  unfolding code_size item_code macro_at expanded_code pick is_item is_macro plain
   extern_code d = record { long = λ z. sym (terminal_size wd (Node.Terminal d) d refl); item = refl; macro = refl; copied = refl; span = λ z. absurd (false≢true (sym z)) }
 
-  match_code : (d : TerminalData) → ByCode 49 (Node.Terminal d)
-  unfolding command_long item_code macro_at expanded_code pick is_item is_macro plain
+  match_code : (d : TerminalData) → ByCode 49 (Some (Node.Terminal d))
+  unfolding code_size item_code macro_at expanded_code pick is_item is_macro plain
   match_code d = record { long = λ z. sym (terminal_size wd (Node.Terminal d) d refl); item = refl; macro = refl; copied = refl; span = λ z. absurd (false≢true (sym z)) }
 
-  argument-code : (d : NonterminalString) → ByCode 17 (Node.Argument d)
-  unfolding command_long item_code macro_at expanded_code pick is_item is_macro plain
+  argument-code : (d : NonterminalString) → ByCode 17 (Some (Node.Argument d))
+  unfolding code_size item_code macro_at expanded_code pick is_item is_macro plain
   argument-code d = record { long = λ z. sym (argument-size wd (Node.Argument d) d refl); item = refl; macro = refl; copied = refl; span = λ z. absurd (false≢true (sym z)) }
 
-  alternative_code : (d : Alternative) → ByCode 18 (Node.Alternative d)
-  unfolding command_long long_of item_code macro_at expanded_code pick is_item is_macro plain
+  alternative_code : (d : Alternative) → ByCode 18 (Some (Node.Alternative d))
+  unfolding code_size long_of item_code macro_at expanded_code pick is_item is_macro plain
   alternative_code d = record { long = λ z. sym (alternative_size wd (Node.Alternative d) d refl); item = refl; macro = refl; copied = refl; span = λ z. absurd (false≢true (sym z)) }
 
-  attribute_code : (d : Attribute) → ByCode 19 (Node.Attribute d)
-  unfolding command_long long_of item_code macro_at expanded_code pick is_item is_macro plain
+  attribute_code : (d : Attribute) → ByCode 19 (Some (Node.Attribute d))
+  unfolding code_size long_of item_code macro_at expanded_code pick is_item is_macro plain
   attribute_code d = record { long = λ z. sym (attribute_size wd (Node.Attribute d) d refl); item = refl; macro = refl; copied = refl; span = λ z. absurd (false≢true (sym z)) }
 
-  condition_code_lem : (d : Condition) → ByCode 20 (Node.Condition d)
-  unfolding command_long long_of item_code macro_at expanded_code pick is_item is_macro plain
+  condition_code_lem : (d : Condition) → ByCode 20 (Some (Node.Condition d))
+  unfolding code_size long_of item_code macro_at expanded_code pick is_item is_macro plain
   condition_code_lem d = record { long = λ z. sym (condition_size wd (Node.Condition d) d refl); item = refl; macro = refl; copied = refl; span = λ z. absurd (false≢true (sym z)) }
 
   abbrev here : Span
   here = span_in t (p + 1)
 
-  abbrev leafy : Leaf → Node
-  leafy l = Node.Symbol here (SymbolKind.Leaf l)
+  abbrev leafy : Leaf → Optional Node
+  leafy l = Some (Node.Symbol here (SymbolKind.Leaf l))
 
-  leafy_long : (l : Leaf) (m : ℕ) → m ≡ length (leaf_operand wd l) → size_of wd (leafy l) ≡ 9 + m
-  leafy_long l m e = sym (leaf_size wd (leafy l) here (SymbolKind.Leaf l) refl l m refl e)
+  leafy_long : (l : Leaf) (m : ℕ) → m ≡ length (leaf_operand wd l) → size_read wd (leafy l) ≡ 9 + m
+  leafy_long l m e = sym (leaf_size wd (Node.Symbol here (SymbolKind.Leaf l)) here (SymbolKind.Leaf l) refl l m refl e)
 
   ambiguous_code_lem : (a : Atom) → ByCode 32 (leafy (Leaf.AmbiguousId a))
-  unfolding command_long long_of item_code macro_at expanded_code pick is_item is_macro plain plain_kind plain_leaf
+  unfolding code_size long_of item_code macro_at expanded_code pick is_item is_macro plain plain_kind plain_leaf
   ambiguous_code_lem a = record { long = λ z. leafy_long (Leaf.AmbiguousId a) wd (ambiguous_size wd (Leaf.AmbiguousId a) a refl); item = refl; macro = refl; copied = refl; span = λ z. absurd (false≢true (sym z)) }
 
   bare_code : (a : TerminalString) → ByCode 33 (leafy (Leaf.Bare a))
-  unfolding command_long long_of item_code macro_at expanded_code pick is_item is_macro plain plain_kind plain_leaf
+  unfolding code_size long_of item_code macro_at expanded_code pick is_item is_macro plain plain_kind plain_leaf
   bare_code a = record { long = λ z. leafy_long (Leaf.Bare a) wd (bare_size wd (Leaf.Bare a) a refl); item = refl; macro = refl; copied = refl; span = λ z. absurd (false≢true (sym z)) }
 
   quoted_code : (a : Atom) → ByCode 34 (leafy (Leaf.Quoted a))
-  unfolding command_long long_of item_code macro_at expanded_code pick is_item is_macro plain plain_kind plain_leaf
+  unfolding code_size long_of item_code macro_at expanded_code pick is_item is_macro plain plain_kind plain_leaf
   quoted_code a = record { long = λ z. leafy_long (Leaf.Quoted a) wd (quoted_size wd (Leaf.Quoted a) a refl); item = refl; macro = refl; copied = refl; span = λ z. absurd (false≢true (sym z)) }
 
   regex_code : (a : Atom) → ByCode 35 (leafy (Leaf.Regex a))
-  unfolding command_long long_of item_code macro_at expanded_code pick is_item is_macro plain plain_kind plain_leaf
+  unfolding code_size long_of item_code macro_at expanded_code pick is_item is_macro plain plain_kind plain_leaf
   regex_code a = record { long = λ z. leafy_long (Leaf.Regex a) wd (regex_size wd (Leaf.Regex a) a refl); item = refl; macro = refl; copied = refl; span = λ z. absurd (false≢true (sym z)) }
 
   name_leaf_code : (a : NonterminalString) → ByCode 36 (leafy (Leaf.Nonterminal a))
-  unfolding command_long long_of item_code macro_at expanded_code pick is_item is_macro plain plain_kind plain_leaf
+  unfolding code_size long_of item_code macro_at expanded_code pick is_item is_macro plain plain_kind plain_leaf
   name_leaf_code a = record { long = λ z. leafy_long (Leaf.Nonterminal a) wd (nonterminal_leaf_size wd (Leaf.Nonterminal a) a refl); item = refl; macro = refl; copied = refl; span = λ z. absurd (false≢true (sym z)) }
 
   lookahead_code : ByCode 42 (leafy Leaf.Lookahead)
-  unfolding command_long long_of item_code macro_at expanded_code pick is_item is_macro plain plain_kind plain_leaf node_span
+  unfolding code_size long_of item_code macro_at expanded_code pick is_item is_macro plain plain_kind plain_leaf node_span
   lookahead_code = record { long = λ z. leafy_long Leaf.Lookahead 0 (lookahead_size wd Leaf.Lookahead refl); item = refl; macro = refl; copied = refl; span = λ z. refl }
 
   lookbehind_code : ByCode 43 (leafy Leaf.Lookbehind)
-  unfolding command_long long_of item_code macro_at expanded_code pick is_item is_macro plain plain_kind plain_leaf node_span
+  unfolding code_size long_of item_code macro_at expanded_code pick is_item is_macro plain plain_kind plain_leaf node_span
   lookbehind_code = record { long = λ z. leafy_long Leaf.Lookbehind 0 (lookbehind_size wd Leaf.Lookbehind refl); item = refl; macro = refl; copied = refl; span = λ z. refl }
 
   error_code : ByCode 44 (leafy Leaf.Error)
-  unfolding command_long long_of item_code macro_at expanded_code pick is_item is_macro plain plain_kind plain_leaf node_span
+  unfolding code_size long_of item_code macro_at expanded_code pick is_item is_macro plain plain_kind plain_leaf node_span
   error_code = record { long = λ z. leafy_long Leaf.Error 0 (error_size wd Leaf.Error refl); item = refl; macro = refl; copied = refl; span = λ z. refl }
 
-  macro_code_lem : (a : NonterminalString) (k : ℕ) → ByCode 37 (Node.Symbol here (SymbolKind.Over (Over.Macro a k)))
-  unfolding command_long long_of item_code macro_at expanded_code pick is_item is_macro plain plain_kind node_span
+  macro_code_lem : (a : NonterminalString) (k : ℕ) → ByCode 37 (Some (Node.Symbol here (SymbolKind.Over (Over.Macro a k))))
+  unfolding code_size long_of item_code macro_at expanded_code pick is_item is_macro plain plain_kind node_span
   macro_code_lem a k = record { long = λ z. sym (macro_size wd _ here (SymbolKind.Over (Over.Macro a k)) refl (Over.Macro a k) a k refl refl); item = refl; macro = refl; copied = refl; span = λ z. refl }
 
-  repeat_code : (op : ℕ) → ByCode 38 (Node.Symbol here (SymbolKind.Around (Around.Repeat op)))
-  unfolding command_long long_of item_code macro_at expanded_code pick is_item is_macro plain plain_kind plain_around node_span
+  repeat_code : (op : ℕ) → ByCode 38 (Some (Node.Symbol here (SymbolKind.Around (Around.Repeat op))))
+  unfolding code_size long_of item_code macro_at expanded_code pick is_item is_macro plain plain_kind plain_around node_span
   repeat_code op = record { long = λ z. sym (repeat_size wd _ here (SymbolKind.Around (Around.Repeat op)) refl (Around.Repeat op) op refl refl); item = refl; macro = refl; copied = refl; span = λ z. refl }
 
-  choose_code : ByCode 39 (Node.Symbol here (SymbolKind.Around Around.Choose))
-  unfolding command_long long_of item_code macro_at expanded_code pick is_item is_macro plain plain_kind plain_around node_span
+  choose_code : ByCode 39 (Some (Node.Symbol here (SymbolKind.Around Around.Choose)))
+  unfolding code_size long_of item_code macro_at expanded_code pick is_item is_macro plain plain_kind plain_around node_span
   choose_code = record { long = λ z. sym (choose_size wd _ here (SymbolKind.Around Around.Choose) refl Around.Choose refl refl); item = refl; macro = refl; copied = refl; span = λ z. refl }
 
-  name_code_lem : (m : ℕ) (a : Atom) → ByCode 40 (Node.Symbol here (SymbolKind.Around (Around.Name m a)))
-  unfolding command_long long_of item_code macro_at expanded_code pick is_item is_macro plain plain_kind plain_around node_span
+  name_code_lem : (m : ℕ) (a : Atom) → ByCode 40 (Some (Node.Symbol here (SymbolKind.Around (Around.Name m a))))
+  unfolding code_size long_of item_code macro_at expanded_code pick is_item is_macro plain plain_kind plain_around node_span
   name_code_lem m a = record { long = λ z. sym (name_size wd _ here (SymbolKind.Around (Around.Name m a)) refl (Around.Name m a) m a refl refl); item = refl; macro = refl; copied = refl; span = λ z. refl }
 
-  group_code : (k : ℕ) → ByCode 41 (Node.Symbol here (SymbolKind.Over (Over.Group k)))
-  unfolding command_long long_of item_code macro_at expanded_code pick is_item is_macro plain plain_kind node_span
+  group_code : (k : ℕ) → ByCode 41 (Some (Node.Symbol here (SymbolKind.Over (Over.Group k))))
+  unfolding code_size long_of item_code macro_at expanded_code pick is_item is_macro plain plain_kind node_span
   group_code k = record { long = λ z. sym (group_size wd _ here (SymbolKind.Over (Over.Group k)) refl (Over.Group k) k refl refl); item = refl; macro = refl; copied = refl; span = λ z. refl }
 
   -- ---- the command that is read there
-  abbrev Told : Node → Type 0
-  Told n = (n ≡ Node.Unknown → ⊥) → ByCode (get_or t p 0) n
+  abbrev Told : Optional Node → Type 0
+  Told n = (n ≡ None → ⊥) → ByCode (get_or t p 0) n
 
-  told : (k : ℕ) (n : Node) → ByCode k n → get_or t p 0 ≡ k → Told n
+  told : (k : ℕ) (n : Optional Node) → ByCode k n → get_or t p 0 ≡ k → Told n
   told k n h e z = subst (λ c. ByCode c n) (sym e) h
 
-  whole : (m : ℕ) (n : Node) → Told n → Told (if_whole t p m n)
+  whole : (m : ℕ) (n : Node) → Told (Some n) → Told (if_whole t p m n)
   unfolding if_whole
   whole m n f = by_pick Told _ (λ _ z. absurd (z refl)) (λ _. f)
 
-  is_code : (k : ℕ) (x y : Node) → (get_or t p 0 ≡ k → Told x) → ((get_or t p 0 ≡ k → ⊥) → Told y) → Told (pick (eqb (get_or t p 0) k) x y)
+  is_code : (k : ℕ) (x y : Optional Node) → (get_or t p 0 ≡ k → Told x) → ((get_or t p 0 ≡ k → ⊥) → Told y) → Told (pick (eqb (get_or t p 0) k) x y)
   is_code k x y f g = by_pick Told _ (λ e. f (eqb-true (get_or t p 0) k e)) (λ e. g (eqb-false (get_or t p 0) k e))
 
-  under : (k : ℕ) (x y : Node) → (get_or t p 0 < k → Told x) → (k ≤ get_or t p 0 → Told y) → Told (pick (ltb (get_or t p 0) k) x y)
+  under : (k : ℕ) (x y : Optional Node) → (get_or t p 0 < k → Told x) → (k ≤ get_or t p 0 → Told y) → Told (pick (ltb (get_or t p 0) k) x y)
   under k x y f g = by_pick Told _ (λ e. f (ltb-true (get_or t p 0) k e)) (λ e. g (ltb-false (get_or t p 0) k e))
 
   abbrev LeafTold : Leaf → Type 0
@@ -194,7 +193,7 @@ module _ (wd : ℕ) (t : List ℕ) (p : ℕ) where
   by_told =
       under 32 _ _
       (λ _.
-      is_code 1 _ _ (λ c. whole 3 _ (whole _ _ (told 1 _ (text_code _) c))) (λ _.
+      is_code 1 _ _ (λ c. by_pick Told _ (λ _ z. absurd (z refl)) (λ _. whole _ _ (told 1 _ (text_code _) c))) (λ _.
       is_code 16 _ _ (λ c. whole (13 + wd) _ (told 16 _ (nonterminal_code_lem _ refl) c)) (λ _.
       is_code 17 _ _ (λ c. whole (1 + wd) _ (told 17 _ (argument-code _) c)) (λ _.
       is_code 18 _ _ (λ c. whole (14 + wd) _ (told 18 _ (alternative_code _) c)) (λ _.
@@ -206,12 +205,12 @@ module _ (wd : ℕ) (t : List ℕ) (p : ℕ) where
       is_code 49 _ _ (λ c. whole (9 + wd) _ (told 49 _ (match_code _) c)) (λ _ z. absurd (z refl)))))
 
   -- a command that is known is what its code says
-  pub by_code : (node_at wd t p ≡ Node.Unknown → ⊥) → ByCode (get_or t p 0) (node_at wd t p)
+  pub by_code : (node_at wd t p ≡ None → ⊥) → ByCode (get_or t p 0) (node_at wd t p)
   unfolding node_at
   by_code = by_pick Told _ (λ _ z. absurd (z refl)) (λ _. by_told)
 
   -- and stands inside
-  pub known_inside : (node_at wd t p ≡ Node.Unknown → ⊥) → p < length t
+  pub known_inside : (node_at wd t p ≡ None → ⊥) → p < length t
   unfolding node_at pick
   known_inside z = go (leb (length t) p) refl
     where
@@ -220,12 +219,13 @@ module _ (wd : ℕ) (t : List ℕ) (p : ℕ) where
       go true e = absurd (z (rw e refl))
 
   -- ---- where the code is an atom's, an atom stands, or nothing that is known
-  abbrev AtomOrNone : Node → Type 0
-  AtomOrNone n = (class_of n ≡ 0) ⊎ (class_of n ≡ 8)
+  abbrev AtomOrNone : Optional Node → Type 0
+  AtomOrNone None = Unit {0}
+  AtomOrNone (Some n) = class_of n ≡ 0
 
   text_class_lem : AtomOrNone (text_node t p)
   unfolding text_node if_whole class_of
-  text_class_lem = by_pick AtomOrNone _ (λ _. inr refl) (λ _. by_pick AtomOrNone _ (λ _. inr refl) (λ _. inl refl))
+  text_class_lem = by_pick AtomOrNone _ (λ _. tt) (λ _. by_pick AtomOrNone _ (λ _. tt) (λ _. refl))
 
   atom_by : node_by wd 1 t p ≡ text_node t p
   unfolding node_by pick
@@ -233,20 +233,16 @@ module _ (wd : ℕ) (t : List ℕ) (p : ℕ) where
 
   atom_class : get_or t p 0 ≡ 1 → AtomOrNone (node_at wd t p)
   unfolding node_at class_of
-  atom_class e = by_pick AtomOrNone _ (λ _. inr refl) (λ _. subst AtomOrNone (sym (ap (λ (c : ℕ). node_by wd c t p) e ∙ atom_by)) text_class_lem)
+  atom_class e = by_pick AtomOrNone _ (λ _. tt) (λ _. subst AtomOrNone (sym (ap (λ (c : ℕ). node_by wd c t p) e ∙ atom_by)) text_class_lem)
 
-  pub no_atom : (n : Node) → node_at wd t p ≡ n → 1 ≤ class_of n → class_of n ≤ 7 → get_or t p 0 ≡ 1 → ⊥
-  no_atom n h l m e = go (subst AtomOrNone h (atom_class e))
-    where
-      go : AtomOrNone n → ⊥
-      go (inl i) = omega arith
-      go (inr i) = omega arith
+  pub no_atom : (n : Node) → node_at wd t p ≡ Some n → 1 ≤ class_of n → get_or t p 0 ≡ 1 → ⊥
+  no_atom n h l e = let z : class_of n ≡ 0 = subst AtomOrNone h (atom_class e) in omega arith
 
   -- ---- a whole command
-  whole_known : WholeAt wd t p → node_at wd t p ≡ Node.Unknown → ⊥
-  whole_known h e = let z = unknown_size wd (node_at wd t p) e in omega (arith, h.some)
+  whole_known : WholeAt wd t p → node_at wd t p ≡ None → ⊥
+  whole_known h e = let z : size_read wd (node_at wd t p) ≡ 0 = ap (size_read wd) e in omega (arith, h.some)
 
-  pub whole_long : WholeAt wd t p → size_of wd (node_at wd t p) ≡ command_long wd (get_or t p 0)
+  pub whole_long : WholeAt wd t p → size_read wd (node_at wd t p) ≡ code_size wd (get_or t p 0)
   whole_long h = (by_code (whole_known h)).long h.known
 
   pub whole_item : WholeAt wd t p → is_item (node_at wd t p) ≡ item_code (get_or t p 0)
@@ -259,7 +255,7 @@ module _ (wd : ℕ) (t : List ℕ) (p : ℕ) where
   whole_plain h = (by_code (whole_known h)).copied
 
   -- ---- an item
-  item_known : is_item (node_at wd t p) ≡ true → node_at wd t p ≡ Node.Unknown → ⊥
+  item_known : is_item (node_at wd t p) ≡ true → node_at wd t p ≡ None → ⊥
   unfolding is_item
   item_known i e = false≢true (sym (ap is_item e) ∙ i)
 
@@ -270,7 +266,7 @@ module _ (wd : ℕ) (t : List ℕ) (p : ℕ) where
   item_inside i = known_inside (item_known i)
 
   -- ---- a symbol that is expanded
-  key_known : plain (node_at wd t p) ≡ false → node_at wd t p ≡ Node.Unknown → ⊥
+  key_known : plain (node_at wd t p) ≡ false → node_at wd t p ≡ None → ⊥
   unfolding plain
   key_known z e = false≢true (sym z ∙ ap plain e)
 
@@ -296,17 +292,17 @@ module _ (wd : ℕ) (t : List ℕ) (p : ℕ) where
       let y : le_at 8 t a / 4294967296 ≡ h = omega arith in
       sym (rw (← x, ← y) (le-64 (le_at 8 t a)))
 
-  key_spanned : (n : Node) (k : ℕ) → plain n ≡ false → key_bytes wd n k ≡ 36 ∷ (span_bytes (node_span n) ++ le wd k)
+  key_spanned : (n : Optional Node) (k : ℕ) → plain n ≡ false → key_bytes wd n k ≡ 36 ∷ (span_bytes (node_span n) ++ le wd k)
   unfolding plain key_bytes node_bytes symbol_bytes leaf_code leaf_operand node_span
-  key_spanned (Node.Text m) k z = absurd (false≢true (sym z))
-  key_spanned (Node.Nonterminal d) k z = absurd (false≢true (sym z))
-  key_spanned (Node.Terminal d) k z = absurd (false≢true (sym z))
-  key_spanned (Node.Argument a) k z = absurd (false≢true (sym z))
-  key_spanned (Node.Alternative a) k z = absurd (false≢true (sym z))
-  key_spanned (Node.Attribute a) k z = absurd (false≢true (sym z))
-  key_spanned (Node.Condition c) k z = absurd (false≢true (sym z))
-  key_spanned (Node.Symbol s x) k z = refl
-  key_spanned Node.Unknown k z = absurd (false≢true (sym z))
+  key_spanned (Some (Node.Text m)) k z = absurd (false≢true (sym z))
+  key_spanned (Some (Node.Nonterminal d)) k z = absurd (false≢true (sym z))
+  key_spanned (Some (Node.Terminal d)) k z = absurd (false≢true (sym z))
+  key_spanned (Some (Node.Argument a)) k z = absurd (false≢true (sym z))
+  key_spanned (Some (Node.Alternative a)) k z = absurd (false≢true (sym z))
+  key_spanned (Some (Node.Attribute a)) k z = absurd (false≢true (sym z))
+  key_spanned (Some (Node.Condition c)) k z = absurd (false≢true (sym z))
+  key_spanned (Some (Node.Symbol s x)) k z = refl
+  key_spanned None k z = absurd (false≢true (sym z))
 
   pub key_bytes_lem : Bytes t → (k : ℕ) → plain (node_at wd t p) ≡ false → key_bytes wd (node_at wd t p) k ≡ 36 ∷ (le 8 (le_at 8 t (p + 1)) ++ le wd k)
   key_bytes_lem b k z =

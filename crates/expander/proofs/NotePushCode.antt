@@ -1,5 +1,5 @@
--- A symbol pushed: its record is written and linked. Assumes nothing.
-use mathlib.Core.Path.{◌≡◌, refl, sym, ◌∙◌}
+-- A symbol pushed: its record is put. Assumes nothing.
+use mathlib.Core.Path.{◌≡◌, refl, ◌∙◌}
 use mathlib.Core.Bool.{Bool, true, false}
 use mathlib.Core.Logic.{◌⊎◌, inl, inr}
 use mathlib.Core.List.{List}
@@ -12,24 +12,16 @@ use lib.ListN.{length, get_or}
 use mir.Syntax.{w32}
 use mir.Val.{Fits}
 use Rattle.octets.proofs.ChoiceLaws.{by_pick}
-use Rattle.texts.specs.Hash.{hash_of, bucket_of}
+use Rattle.texts.specs.Hash.{hash_of}
 use Rattle.texts.specs.Forms.{stop}
-use Rattle.texts.specs.Fields.{hash_at, cell_at, Chained, RecordsKept, Linked, RecordWritten}
-use Rattle.texts.specs.Table.{texts, linked}
-use Rattle.texts.proofs.HashLaws.{hash_small, bucket_small}
-use Rattle.texts.proofs.ChainCode.{kept-all, chained_same, chained_more}
-use Rattle.texts.proofs.TableStays.{linked-le}
-use Rattle.texts.proofs.TableFindCode.{linked-few, linked-many}
+use Rattle.texts.specs.Fields.{hash_at, cell_at, Chained, RecordsKept, RecordWritten}
+use Rattle.texts.specs.Table.{texts, linked, RecordPut}
 use Rattle.display.specs.declared.form.Form.{Form}
 use Rattle.display.specs.Form.{text_form}
 use Rattle.expander.specs.declared.Ground.{Ground}
 use Rattle.expander.specs.Ground.{size_in, stage_in, top_of, key_at, printed_at, KeyAt, Grounded, Records, KeptAround}
 use Rattle.expander.specs.Note.{Pushed}
 use Rattle.expander.proofs.GroundLaws.{kept-around, stage_around, texts-around}
-
-linked-more : (k : ℕ) → k < 4294967295 → linked (k + 1) ≡ k + 1
-unfolding linked
-linked-more k h = omega arith
 
 stop-small : (n : ℕ) → stop n < 4294967296
 unfolding stop
@@ -51,9 +43,6 @@ module _ (s w : List ℕ) (g : Ground) (n p : ℕ) (f : Form) (d : Grounded s w 
   pub push-room : g.keys + 24 * n + 24 ≤ length w
   push-room = omega (arith, roof)
 
-  pub push-hash : f.hash < 4294967296
-  push-hash = rw hash_is (hash_small (printed_at s w g p))
-
   pub push-fits : Fits w32 f.len
   push-fits = record { fits = rw len_is (stop-small (length (printed_at s w g p))) }
 
@@ -63,80 +52,70 @@ module _ (s w : List ℕ) (g : Ground) (n p : ℕ) (f : Form) (d : Grounded s w 
   pub push-linkable : g.buckets ≤ 4294967295
   push-linkable = d.linkable
 
-  module _ (w1 : List ℕ) (a : RecordWritten w g.keys n p f.hash f.len w1) where
-    pub push-room_again : g.keys + 24 * n + 24 ≤ length w1
-    push-room_again = rw a.long push-room
+  pub push-chained : Chained w g.keys g.buckets (linked n)
+  push-chained = r.chained
 
-    pub push-wide : g.keys + 24 * g.buckets ≤ length w1
-    push-wide = rw a.long (omega (arith, roof, d.few))
+  pub push-wide : g.keys + 24 * g.buckets ≤ length w
+  push-wide = omega (arith, roof, d.few)
 
-    chained_still : Chained w1 g.keys g.buckets (linked n)
-    chained_still =
-        let y = linked-le n in
-        chained_same w w1 g.keys g.buckets (linked n) (λ i h. a.hashes i (λ z. omega arith)) (λ i h. a.links i) (λ y h. a.heads y) r.chained
+  module _ (w2 : List ℕ) (o : RecordPut w g.keys g.buckets n p f.hash f.len w2) where
+    abbrev w1 : List ℕ
+    w1 = o.between
 
-    -- whatever happened to the chains
-    module _ (w2 : List ℕ) (k : RecordsKept w1 w2 g.keys (n + 1) g.buckets) (ch : Chained w2 g.keys g.buckets (linked (n + 1))) where
-      others : (i : ℕ) → (i < g.keys) ⊎ (g.slots ≤ i) → get_or w2 i 0 ≡ get_or w i 0
-      others i (inl h) = k.before i h ∙ a.before i (omega arith)
-      others i (inr h) = k.after i (omega (arith, d.fits)) (omega (arith, d.fits, d.few)) ∙ a.after i (omega (arith, d.fits))
+    abbrev a : RecordWritten w g.keys n p f.hash f.len w1
+    a = o.written
 
-      kept : KeptAround g w w2
-      unfolding top_of
-      kept = record { long = k.long ∙ a.long; others = λ i h. others i (elim h [ inl b ↦ inl b | inr b ↦ inr (omega arith) ]) }
+    abbrev k : RecordsKept w1 w2 g.keys (n + 1) g.buckets
+    k = o.kept
 
-      st : stage_in w2 g ≡ stage_in w g
-      st = stage_around s w w2 g d (kept-around s w g d w2 kept)
+    others : (i : ℕ) → (i < g.keys) ⊎ (g.slots ≤ i) → get_or w2 i 0 ≡ get_or w i 0
+    others i (inl h) = k.before i h ∙ a.before i (omega arith)
+    others i (inr h) = k.after i (omega (arith, d.fits)) (omega (arith, d.fits, d.few)) ∙ a.after i (omega (arith, d.fits))
 
-      te : texts s w2 g.m ≡ texts s w g.m
-      te = texts-around s w w2 g d (kept-around s w g d w2 kept)
+    kept : KeptAround g w w2
+    unfolding top_of
+    kept = record { long = k.long ∙ a.long; others = λ i h. others i (elim h [ inl b ↦ inl b | inr b ↦ inr (omega arith) ]) }
 
-      here : key_at w2 g n ≡ p
-      unfolding key_at
-      here = k.marks n ∙ a.mark
+    st : stage_in w2 g ≡ stage_in w g
+    st = stage_around s w w2 g d (kept-around s w g d w2 kept)
 
-      before : (j : ℕ) → j < n → key_at w2 g j ≡ key_at w g j
-      unfolding key_at
-      before j h = k.marks j ∙ a.marks j (λ z. omega arith)
+    te : texts s w2 g.m ≡ texts s w g.m
+    te = texts-around s w w2 g d (kept-around s w g d w2 kept)
 
-      keys_at_lem : (j : ℕ) (t : Bool) → ltb j n ≡ t → j < n + 1 → KeyAt s w2 g (key_at w2 g j)
-      keys_at_lem j true u h = let v = ltb-true j n u in rw (st, te, before j v) (r.keys j v)
-      keys_at_lem j false u h = let z : j ≡ n = omega (arith, ltb-false j n u) in rw (z, st, te, here) key
+    here : key_at w2 g n ≡ p
+    unfolding key_at
+    here = k.marks n ∙ a.mark
 
-      hash_at_lem : (j : ℕ) (t : Bool) → ltb j n ≡ t → j < n + 1 → hash_at w2 g.keys j ≡ hash_of (printed_at s w2 g (key_at w2 g j))
-      hash_at_lem j true u h = let v = ltb-true j n u in rw (st, te, before j v) (k.hashes j ∙ a.hashes j (λ z. omega arith) ∙ r.hashes j v)
-      hash_at_lem j false u h = let z : j ≡ n = omega (arith, ltb-false j n u) in rw (z, st, te, here) (k.hashes n ∙ a.hash ∙ hash_is)
+    before : (j : ℕ) → j < n → key_at w2 g j ≡ key_at w g j
+    unfolding key_at
+    before j h = k.marks j ∙ a.marks j (λ z. omega arith)
 
-      length_at : (j : ℕ) (t : Bool) → ltb j n ≡ t → j < n + 1 → cell_at w2 g.keys j ≡ stop (length (printed_at s w2 g (key_at w2 g j)))
-      length_at j true u h = let v = ltb-true j n u in rw (st, te, before j v) (k.cells j ∙ a.cells j (λ z. omega arith) ∙ r.lengths j v)
-      length_at j false u h = let z : j ≡ n = omega (arith, ltb-false j n u) in rw (z, st, te, here) (k.cells n ∙ a.cell ∙ len_is)
+    keys_at_lem : (j : ℕ) (t : Bool) → ltb j n ≡ t → j < n + 1 → KeyAt s w2 g (key_at w2 g j)
+    keys_at_lem j true u h = let v = ltb-true j n u in rw (st, te, before j v) (r.keys j v)
+    keys_at_lem j false u h = let z : j ≡ n = omega (arith, ltb-false j n u) in rw (z, st, te, here) key
 
-      pushed_then : Pushed s w g n p w2
-      pushed_then = record {
-        long = k.long ∙ a.long;
-        here = here;
-        before = before;
-        records = record {
-          few = omega arith;
-          chained = ch;
-          keys = λ j h. keys_at_lem j (ltb j n) refl h;
-          hashes = λ j h. hash_at_lem j (ltb j n) refl h;
-          lengths = λ j h. length_at j (ltb j n) refl h;
-        };
-        others = others;
-      }
+    hash_at_lem : (j : ℕ) (t : Bool) → ltb j n ≡ t → j < n + 1 → hash_at w2 g.keys j ≡ hash_of (printed_at s w2 g (key_at w2 g j))
+    hash_at_lem j true u h = let v = ltb-true j n u in rw (st, te, before j v) (k.hashes j ∙ a.hashes j (λ z. omega arith) ∙ r.hashes j v)
+    hash_at_lem j false u h = let z : j ≡ n = omega (arith, ltb-false j n u) in rw (z, st, te, here) (k.hashes n ∙ a.hash ∙ hash_is)
+
+    length_at : (j : ℕ) (t : Bool) → ltb j n ≡ t → j < n + 1 → cell_at w2 g.keys j ≡ stop (length (printed_at s w2 g (key_at w2 g j)))
+    length_at j true u h = let v = ltb-true j n u in rw (st, te, before j v) (k.cells j ∙ a.cells j (λ z. omega arith) ∙ r.lengths j v)
+    length_at j false u h = let z : j ≡ n = omega (arith, ltb-false j n u) in rw (z, st, te, here) (k.cells n ∙ a.cell ∙ len_is)
 
     -- theorem: what `push` does
-    pub pushed-linked : (w2 : List ℕ) → n < 4294967295 → Linked w1 g.keys g.buckets n (bucket_of f.hash g.buckets) w2 → Pushed s w g n p w2
-    pushed-linked w2 h k =
-        let c1 : Chained w1 g.keys g.buckets n = rw (linked-few n h) at chained_still in
-        let c2 = chained_more w1 w2 g.keys g.buckets n f.hash c1 (sym a.hash) (bucket_small f.hash g.buckets push-hash d.filled) k in
-        pushed_then w2 k.kept (rw (linked-more n h) c2)
+    pub pushed : Pushed s w g n p w2
+    pushed = record {
+      long = k.long ∙ a.long;
+      here = here;
+      before = before;
+      records = record {
+        few = omega arith;
+        chained = o.chained;
+        keys = λ j h. keys_at_lem j (ltb j n) refl h;
+        hashes = λ j h. hash_at_lem j (ltb j n) refl h;
+        lengths = λ j h. length_at j (ltb j n) refl h;
+      };
+      others = others;
+    }
 
-    -- theorem: and where no chain can hold it
-    pub pushed-apart : 4294967295 ≤ n → Pushed s w g n p w1
-    pushed-apart h =
-        let z : linked (n + 1) ≡ linked n = linked-many (n + 1) (omega arith) ∙ sym (linked-many n h) in
-        pushed_then w1 (kept-all w1 g.keys (n + 1) g.buckets) (rw z chained_still)
-
-pub ruleset pushing = (rules, push-room, push-hash, push-fits, push-some, push-linkable, push-room_again, push-wide, pushed-linked, pushed-apart)
+pub ruleset pushing = (rules, push-room, push-fits, push-some, push-linkable, push-chained, push-wide, pushed)

@@ -13,23 +13,22 @@ use lib.ListN.{length, get_or}
 use Rattle.octets.specs.Working.Choice.{pick}
 use Rattle.parse_tree.specs.Plain.Tree.{Text, Sym, count}
 use Rattle.parse_tree.specs.Plain.Display.{shown_all, print}
-use Rattle.parse_tree.specs.Working.Nodes.{size_of}
+use Rattle.parse_tree.specs.Working.Nodes.{size_of, long_of}
 use Rattle.parse_tree.specs.Working.Within.{Each}
 use Rattle.parse_tree.specs.Working.Encode.{syms_bytes}
+use Rattle.parse_tree.specs.Working.Nested.{inside_by}
 use Rattle.parse_tree.proofs.DisplayLaws.{shown_all_app}
 use Rattle.laws.specs.Flat.{sym_node, children}
 use Rattle.laws.proofs.Flat.{node_size}
 use Rattle.texts.specs.Table.{texts}
-use Rattle.resolve.specs.Commands.{long_of}
 use Rattle.grades.specs.Grading.{Worded}
-use Rattle.grades.specs.Skip.{inside_by}
 use Rattle.grades.proofs.WordedLaws.{table-worded}
 use Rattle.replacing.specs.Slots.{Slots, note_all}
 use Rattle.replacing.specs.Sound.{HasRef}
 use Rattle.replacing.specs.Trees.{is_key}
 use Rattle.display.specs.declared.form.Form.{Form}
 use Rattle.display.specs.Follow.{before_by, behind_by, between_by}
-use Rattle.display.specs.Form.{text_form, SomeForm, Hashed, form_from, From}
+use Rattle.display.specs.Form.{text_form, Hashed, form_from, From}
 use Rattle.display.proofs.FormLaws.{from_form, from_then, from_as, table-hashed}
 use Rattle.display.proofs.StandsLaws.{before_text, between_text, behind_text, print-parts, Standing, standing}
 use Rattle.expander.specs.declared.Ground.{Ground}
@@ -184,7 +183,7 @@ module _ (s w : List ℕ) (g : Ground) (left p n : ℕ) (G : Grounded s w g) (S 
           let a : long_of g.width.bytes c ≡ long_of g.width.bytes (get_or w (g.from + p) 0) = ap (long_of g.width.bytes) read in
           omega (arith, symbol_length, symbol_room)
 
-      module _ (some : SomeForm q.form) (f : Form) (behind-f : From q.form (behind_by v (g.from + p) c) f) where
+      module _ (f : Form) (behind-f : From q.form (behind_by v (g.from + p) c) f) where
         -- the code is still there
         code_there : (e : ℕ) → p < e → e ≤ size_in g → get_or v (g.from + p) 0 ≡ c
         unfolding size_in
@@ -200,7 +199,7 @@ module _ (s w : List ℕ) (g : Ground) (left p n : ℕ) (G : Grounded s w g) (S 
             let x1 = size_least four e y h in
             let code = code_there e (omega arith) i in
             let between_is : between_by c 1 ≡ between_text y = ap (λ (u : ℕ). between_by u 1) read ∙ o.between 0 in
-            let mid : From b (shown_all (children y) (between_text y) []) q.form = record { is = (met four e y h i).1 ∙ ap (λ (u : Text). form_from b (shown_all (children y) u [])) between_is; form = some } in
+            let mid : From b (shown_all (children y) (between_text y) []) q.form = record { is = (met four e y h i).1 ∙ ap (λ (u : Text). form_from b (shown_all (children y) u [])) between_is } in
             let front : From z (before_text y) b = from_as (ap (before_by g.width.bytes (texts s w g.m) w (g.from + p)) read ∙ o.before) before-b in
             let rear : From q.form (behind_text y) f = from_as (ap (behind_by v (g.from + p)) (sym code) ∙ o'.behind) behind-f in
             let all = from_then front (from_then mid rear) in

@@ -14,8 +14,8 @@ use Rattle.parse_tree.proofs.DisplayLaws.{print-then}
 use Rattle.texts.specs.Table.{texts}
 use Rattle.display.specs.declared.form.Form.{Form}
 use Rattle.display.specs.Follow.{between_by}
-use Rattle.display.specs.Form.{text_form, SomeForm, join_of, form_from, From}
-use Rattle.display.proofs.FormLaws.{from-append, from_then, from_join}
+use Rattle.display.specs.Form.{text_form, join_of, form_from, From}
+use Rattle.display.proofs.FormLaws.{from-append, from_then, from_join, Narrow, from_narrow, join_narrow}
 use Rattle.display.proofs.StandsLaws.{first_stands, none_stand, more}
 use Rattle.expander.specs.declared.Ground.{Ground}
 use Rattle.expander.specs.declared.replace.Keyed.{Keyed}
@@ -26,11 +26,11 @@ use Rattle.expander.proofs.KeysLaws.{keys_spread}
 use Rattle.expander.proofs.ReplaceLaws.{kept-grounded, kept-texts, kept-stand, noted_none, noted_then, held-behind}
 
 -- theorem: a form with a separator and a printed form joined goes on as with the symbol more
-join_more : (c d : ℕ) (x : Sym) (xs : Syms) (f h j : Form) → From f (between_by c d) h → SomeForm h → j ≡ join_of h (text_form (print x))
+join_more : (c d : ℕ) (x : Sym) (xs : Syms) (f h j : Form) → From f (between_by c d) h → Narrow h → j ≡ join_of h (text_form (print x))
     → form_from f (shown_from d (cons x xs) (between_by c 1) []) ≡ form_from j (shown_from (d + 1) xs (between_by c 1) [])
 join_more c d x xs f h j a g e =
     let r = shown_more xs (between_by c 1) [] in
-    let b : From f (between_by c d ++ print x) j = from_then a (from_join h (print x) j g e) in
+    let b : From f (between_by c d ++ print x) j = from_then a (from_join h (print x) j g.hash g.power e) in
     let z : between_by c d ++ shown x (shown_more xs (between_by c 1) []) ≡ (between_by c d ++ print x) ++ shown_more xs (between_by c 1) [] =
     ap (λ (y : Text). between_by c d ++ y) (sym (print-then x r)) ∙ sym (append_assoc (between_by c d) (print x) r) in
     ap (form_from f) (sym (shown_first c d x xs (between_by c 1) [] (λ i. more c i ∙ sym (more c 0))) ∙ z) ∙ from-append f (between_by c d ++ print x) r ∙ ap (λ (y : Form). form_from y r) (sym b.is) ∙ ap (form_from j) (sym (shown_later d xs (between_by c 1) []))
@@ -63,18 +63,18 @@ module _ (s w₀ : List ℕ) (g : Ground) (left p k c n : ℕ) (f : Form) where
   pub record Replacing (w : List ℕ) (q : Keyed) (d i : ℕ) : Type 0 where
     pub ground : Grounded s w g
     pub some : SomeSymbols s w g i left q.at q.pile
-    pub form : SomeForm q.form
+    pub form : Narrow q.form
     pub long : length w ≡ length w₀
     pub each : (four : Bool) (e : ℕ) (xs : Syms) → count xs ≡ k → StandAt s w₀ g four left p e xs → e ≤ size_in g → Onward w q d i four e xs
 
-  pub replacing_start : Grounded s w₀ g → SomeSymbols s w₀ g k left p n → SomeForm f → Replacing w₀ (record { at = p; form = f; pile = n }) 0 (k - 0)
+  pub replacing_start : Grounded s w₀ g → SomeSymbols s w₀ g k left p n → f.hash < 4294967296 → f.power < 4294967296 → Replacing w₀ (record { at = p; form = f; pile = n }) 0 (k - 0)
   unfolding shown_from pick
-  replacing_start G S F =
+  replacing_start G S a b =
       let z : k - 0 ≡ k = omega arith in
       rw z (record {
         ground = G;
         some = S;
-        form = F;
+        form = record { hash = a; power = b };
         long = refl;
         each = λ four e xs m h i. record { ys = xs; many = m; stand = h; same = refl; carry = λ r w' x. x };
       })
@@ -151,11 +151,8 @@ module _ (s w₀ : List ℕ) (g : Ground) (left p k c n : ℕ) (f : Form) where
                 }
 
         module _ (h j : Form) (between : From q.form (between_by c d) h) (joined : j ≡ join_of h x.form) where
-          next_form : SomeForm j
-          next_form =
-              let o = replacing_first in
-              let m = (met o.four o.end o.symbol o.stands o.inside).1 in
-              (from_join h (print o.symbol) j between.form (joined ∙ ap (join_of h) m)).form
+          next_form : Narrow j
+          next_form = join_narrow h x.form j joined
 
           next_each : (four : Bool) (e : ℕ) (xs : Syms) → e ≤ size_in g → Onward w q d i four e xs → Onward v (record { at = x.at; form = j; pile = x.pile }) (d + 1) (k - (d + 1)) four e xs
           unfolding count keys_of_all
@@ -175,7 +172,7 @@ module _ (s w₀ : List ℕ) (g : Ground) (left p k c n : ℕ) (f : Form) where
                     ys = ys;
                     many = omega arith;
                     stand = subst (λ (o : ℕ). StandAt s v g four left o e ys) z (kept-stand s w v g inv.ground first-kept four left a.end e ys l a.others);
-                    same = u ∙ join_more c d y ys q.form h j between between.form (joined ∙ ap (join_of h) m.1);
+                    same = u ∙ join_more c d y ys q.form h j between (from_narrow q.form h (between_by c d) inv.form between) (joined ∙ ap (join_of h) m.1);
                     carry = λ r w' N. rest r w'
                         (subst (λ (o : ℕ). NotedAll s w g q.at q.pile e (keys_of g.width.bytes (texts s w g.m) y q.at ++ keys_of_all g.width.bytes (texts s w g.m) ys o) r w') a.is
                         (noted_then s w g inv.ground v w' q.at q.pile a.end e (keys_of g.width.bytes (texts s w g.m) y q.at) (keys_of_all g.width.bytes (texts s w g.m) ys a.end) x r (omega (arith, a.is)) sp m.0

@@ -1,4 +1,4 @@
--- Laws of `tells`, `put_slot`, `put_new` and `reference`. Assumes nothing.
+-- Laws of `number` and `reference`. Assumes nothing.
 use mathlib.Core.Path.{◌≡◌, refl, sym, ap, ◌∙◌, subst}
 use mathlib.Core.Bool.{Bool, true, false}
 use mathlib.Core.List.{List}
@@ -10,9 +10,7 @@ use borrow.Author.Rules.{rules}
 use borrow.Author.Tests.{eqb-true, eqb-false, eq-eqb, ne_eqb, lt-ltb, le-ltb}
 use lib.Dec.{eqb}
 use lib.ListN.{length}
-use Rattle.octets.specs.Plain.Numbers.{le_at, le}
 use Rattle.octets.specs.Working.Choice.{pick}
-use Rattle.octets.specs.Working.Stores.{store}
 use Rattle.parse_tree.specs.Working.Within.{Each}
 use Rattle.texts.specs.Fields.{mark_at}
 use Rattle.replacing.specs.Slots.{text, like, Slots, among}
@@ -27,64 +25,10 @@ use Rattle.expander.proofs.HeldLists.{each-down}
 pub odd_one : (v : ℕ) → (v % 2 ≡ 0 → ⊥) → v % 2 ≡ 1
 odd_one v e = omega arith
 
--- ---- `tells` and `put_slot`
-module _ (w : List ℕ) (g : Ground) (p : ℕ) where
-  pub slot_fits : slot_place g p + 8 ≤ length w → length w < 2 ^ 64 → Fits w64 (g.slots + 8 * (p / 9))
-  unfolding slot_place
-  slot_fits h l = record { fits = omega arith }
-
-  pub slot_room : slot_place g p + 8 ≤ length w → g.slots + 8 * (p / 9) + 8 ≤ length w
-  unfolding slot_place
-  slot_room h = h
-
-  module _ (x : ℕ) (e : x ≡ le_at 8 w (g.slots + 8 * (p / 9))) where
-    slot_is : x ≡ slot_at w g p
-    unfolding slot_at slot_place
-    slot_is = e
-
-    pub tells_text : x % 2 ≡ 0 → 2 * (x / 2) ≡ slot_at w g p
-    tells_text z = omega (arith, slot_is)
-
-    pub tells_pushed : (x % 2 ≡ 0 → ⊥) → 2 * (x / 2) + 1 ≡ slot_at w g p
-    tells_pushed z = omega (arith, slot_is, odd_one x z)
-
-  pub slot_stored : (v : ℕ) (w' : List ℕ) → w' ≡ store w (g.slots + 8 * (p / 9)) (le 8 v) → w' ≡ store w (slot_place g p) (le 8 v)
-  unfolding slot_place
-  slot_stored v w' e = e
-
-pub ruleset slotting = (rules, slot_fits, slot_room, tells_text, tells_pushed, slot_stored)
-
--- ---- `put_new`
-module _ (w : List ℕ) (g : Ground) (c : ℕ) (h : list_place g c + 8 ≤ length w) where
-  pub entry_room : g.m.base + 24 * g.m.count + 8 * c + 8 ≤ length w
-  unfolding list_place
-  entry_room = h
-
-  module _ (l : length w < 2 ^ 64) where
-    pub counts_fit : Fits w64 (24 * g.m.count)
-    counts_fit = record { fits = omega (arith, entry_room) }
-
-    pub base_fits : Fits w64 (g.m.base + 24 * g.m.count)
-    base_fits = record { fits = omega (arith, entry_room) }
-
-    pub entries_fit : Fits w64 (8 * c)
-    entries_fit = record { fits = omega (arith, entry_room) }
-
-    pub entry_fits : Fits w64 (g.m.base + 24 * g.m.count + 8 * c)
-    entry_fits = record { fits = omega (arith, entry_room) }
-
-    pub number_fits : Fits w64 (g.m.count + c)
-    number_fits = record { fits = omega (arith, entry_room) }
-
-    pub twice_small : 2 * (g.m.count + c) < 2 ^ 64
-    twice_small = omega (arith, entry_room)
-
-pub new_stored : (w w1 w2 : List ℕ) (g : Ground) (c j q : ℕ) → w1 ≡ store w (g.m.base + 24 * g.m.count + 8 * c) (le 8 (2 * j)) → w2 ≡ store w1 (slot_place g q) (le 8 (2 * (g.m.count + c)))
-    → w2 ≡ store (store w (list_place g c) (le 8 (2 * j))) (slot_place g q) (le 8 (2 * (g.m.count + c)))
+-- ---- the number of a new text
+pub number_fits : (w : List ℕ) (g : Ground) (c : ℕ) → list_place g c + 8 ≤ length w → length w < 2 ^ 64 → Fits w64 (g.m.count + c)
 unfolding list_place
-new_stored w w1 w2 g c j q e f = f ∙ ap (λ (u : List ℕ). store u (slot_place g q) (le 8 (2 * (g.m.count + c)))) e
-
-pub ruleset listing = (rules, entry_room, counts_fit, base_fits, entries_fit, entry_fits, number_fits, twice_small, new_stored)
+number_fits w g c h l = record { fits = omega arith }
 
 -- ---- references
 module _ (w : List ℕ) (g : Ground) (v : ℕ) where

@@ -1,4 +1,4 @@
--- Laws of `command_long`, `is_item`, `is_macro` and `next_item`. Assumes nothing.
+-- Laws of `is_item`, `is_macro` and `next_item`. Assumes nothing.
 use mathlib.Core.Path.{◌≡◌, refl, sym, ap, ◌∙◌}
 use mathlib.Core.Bool.{Bool, true, false, false≢true}
 use mathlib.Core.Logic.{inl, inr}
@@ -14,38 +14,14 @@ use lib.ListN.{length, get_or, drop}
 use lib.Seq.{get_or-take, get_or-drop}
 use Rattle.octets.specs.Working.Choice.{pick}
 use Rattle.octets.specs.Plain.Runs.{part}
-use Rattle.parse_tree.specs.Working.Nodes.{node_at, size_of}
-use Rattle.resolve.specs.Commands.{long_of}
+use Rattle.parse_tree.specs.Working.Nodes.{code_size, node_at, size_read, long_of}
+use Rattle.parse_tree.proofs.SizeLaws.{size_16}
 use Rattle.replacing.specs.Runs.{is_item, hop, hops}
 use Rattle.expander.specs.declared.Ground.{Ground}
 use Rattle.expander.specs.Ground.{size_in, stage_in, Grounded}
-use Rattle.expander.specs.Stage.{command_long, item_code, macro_at, WholeAt, Hopping, SomeHops, Skips}
+use Rattle.expander.specs.Stage.{item_code, macro_at, WholeAt, Hopping, SomeHops, Skips}
 use Rattle.expander.proofs.StageReads.{stage_length}
 use Rattle.expander.proofs.NodeCodes.{whole_long, whole_item, item_code_lem}
-
--- ---- `command_long`
-module _ (wd c : ℕ) where
-  pub long_16 : c ≡ 16 → 13 + wd ≡ command_long wd c
-  unfolding command_long pick
-  long_16 e = rw e refl
-
-  pub long_17 : c ≡ 17 → 1 + wd ≡ command_long wd c
-  unfolding command_long pick
-  long_17 e = rw e refl
-
-  pub long_48 : c ≡ 48 → 9 + wd ≡ command_long wd c
-  unfolding command_long pick
-  long_48 e = rw e refl
-
-  pub long_49 : c ≡ 49 → 9 + wd ≡ command_long wd c
-  unfolding command_long pick
-  long_49 e = rw e refl
-
-  pub long_other : (c ≡ 16 → ⊥) → (c ≡ 17 → ⊥) → (c ≡ 48 → ⊥) → (c ≡ 49 → ⊥) → (r : ℕ) → r ≡ long_of wd c → r ≡ command_long wd c
-  unfolding command_long pick
-  long_other a b d e r h = cc (ne_eqb c 16 a, ne_eqb c 17 b, ne_eqb c 48 d, ne_eqb c 49 e)
-
-pub ruleset lengthening = (rules, long_16, long_17, long_48, long_49, long_other)
 
 -- ---- `is_item`
 module _ (c : ℕ) where
@@ -75,8 +51,8 @@ pub ruleset beginning = (rules, item_first, item_second, item_between, item_abov
 
 -- ---- `is_macro`
 module _ (wd : ℕ) (w : List ℕ) (at c : ℕ) where
-  pub macro_room : c ≡ 16 → at + command_long wd c ≤ length w → at + 10 + wd < length w
-  macro_room e h = let z = long_16 wd c e in omega arith
+  pub macro_room : c ≡ 16 → at + code_size wd c ≤ length w → at + 10 + wd < length w
+  macro_room e h = let z = size_16 wd c e in omega arith
 
   pub macro_is : (b : ℕ) → c ≡ 16 → b ≡ get_or w (at + 10 + wd) 0 → ltb 0 b ≡ macro_at wd w at c
   unfolding macro_at pick
@@ -116,7 +92,7 @@ module _ (wd : ℕ) (t : List ℕ) where
   unfolding hop pick
   stay_item q l i = cc (lt-leb (length t) q l)
 
-  hop-on : (q : ℕ) → q < length t → is_item (node_at wd t q) ≡ false → hop wd t q ≡ q + size_of wd (node_at wd t q)
+  hop-on : (q : ℕ) → q < length t → is_item (node_at wd t q) ≡ false → hop wd t q ≡ q + size_read wd (node_at wd t q)
   unfolding hop pick
   hop-on q l i = cc (lt-leb (length t) q l)
 
@@ -131,7 +107,7 @@ module _ (wd : ℕ) (t : List ℕ) where
     pub on : b ≡ false → is_item (node_at wd t q) ≡ false
     pub whole : b ≡ false → WholeAt wd t q
     pub many : b ≡ false → ℕ
-    pub hopping : (e : b ≡ false) → Hopping wd t (many e) (q + size_of wd (node_at wd t q))
+    pub hopping : (e : b ≡ false) → Hopping wd t (many e) (q + size_read wd (node_at wd t q))
 
   item_turning : (q : ℕ) (b : Bool) → b ≡ item_code (get_or t q 0) → is_item (node_at wd t q) ≡ true → Turning q b
   item_turning q b e i =
@@ -198,9 +174,9 @@ module _ (s w : List ℕ) (g : Ground) (p q : ℕ) (G : Grounded s w g) (h : Hun
         upto = h.upto;
       }
 
-      module _ (f : b ≡ false) (n : ℕ) (k : n ≡ command_long g.width.bytes c) where
-        size_is : n ≡ size_of g.width.bytes (node_at g.width.bytes (stage_in w g) q)
-        size_is = k ∙ ap (command_long g.width.bytes) (d ∙ sym (stage_byte s w g G q below)) ∙ sym (whole_long g.width.bytes (stage_in w g) q (turn.whole f))
+      module _ (f : b ≡ false) (n : ℕ) (k : n ≡ code_size g.width.bytes c) where
+        size_is : n ≡ size_read g.width.bytes (node_at g.width.bytes (stage_in w g) q)
+        size_is = k ∙ ap (code_size g.width.bytes) (d ∙ sym (stage_byte s w g G q below)) ∙ sym (whole_long g.width.bytes (stage_in w g) q (turn.whole f))
 
         inside : q + n ≤ size_in g
         inside = omega (arith, (turn.whole f).inside, size_is, stage_length s w g G)

@@ -2,7 +2,7 @@
 use mathlib.Core.Path.{◌≡◌, refl, sym, ap, ◌∙◌, subst}
 use mathlib.Core.Logic.{◌⊎◌, inl, inr}
 use mathlib.Core.List.{List, ◌∷◌, ◌++◌}
-use Prim.Native.Nat.{ℕ, zero, suc, ◌+◌, ◌*◌, ◌/◌, ◌%◌, ◌<◌, ◌≤◌}
+use Prim.Native.Nat.{ℕ, zero, suc, ◌+◌, ◌%◌, ◌<◌, ◌≤◌}
 use native.Mathlib.Omega.{arith}
 use mir.Syntax.{w8, w64}
 use mir.Val as Bound
@@ -12,7 +12,7 @@ use Rattle.octets.specs.Plain.Numbers.{le_at, le, Bytes}
 use Rattle.octets.specs.Plain.Runs.{Lies}
 use Rattle.octets.specs.Working.Stores.{store}
 use Rattle.octets.proofs.LiesLaws.{lies_to}
-use Rattle.octets.proofs.NumbersLaws.{length-le}
+use Rattle.octets.proofs.NumbersLaws.{length-le, low_bytes}
 use Rattle.octets.proofs.StoreLaws.{length_store, get_d_store_before, get_d_store_after, lies_store}
 use Rattle.parse_tree.specs.Working.Nodes.{node_at}
 use Rattle.texts.specs.Table.{Above}
@@ -34,51 +34,6 @@ use Rattle.expander.proofs.NamesLaws.{held-named}
 use Rattle.expander.proofs.NodeCodes.{key_bytes_lem}
 use Rattle.expander.proofs.StageReads.{bytes_part}
 use Rattle.expander.proofs.StageCode.{stage_byte}
-
--- ---- a number in two or three bytes is that of four
-rest_most : (k m h : ℕ) → k ≡ 256 * h + m → k / 256 ≤ h + m / 256
-rest_most k m h e = omega arith
-
-rest_least : (k m h : ℕ) → k ≡ 256 * h + m → h + m / 256 ≤ k / 256
-rest_least k m h e = omega arith
-
-rest-is : (k m h : ℕ) → k ≡ 256 * h + m → k / 256 ≡ h + m / 256
-rest-is k m h e = omega (arith, rest_most k m h e, rest_least k m h e)
-
-low-is : (k m h : ℕ) → k ≡ 256 * h + m → m % 256 ≡ k % 256
-low-is k m h e = omega (arith, rest-is k m h e)
-
-module _ (k : ℕ) where
-  abbrev m : ℕ
-  m = k % 4294967296
-
-  abbrev q : ℕ
-  q = k / 4294967296
-
-  first-is : k ≡ 256 * (16777216 * q) + m
-  first-is = omega arith
-
-  second_is : k / 256 ≡ 256 * (65536 * q) + m / 256
-  second_is = omega (arith, rest-is k m (16777216 * q) first-is)
-
-  third_is : k / 256 / 256 ≡ 256 * (256 * q) + m / 256 / 256
-  third_is = omega (arith, rest-is (k / 256) (m / 256) (65536 * q) second_is)
-
-  two_bytes : le 2 m ≡ le 2 k
-  unfolding le
-  two_bytes = cc (low-is k m (16777216 * q) first-is, low-is (k / 256) (m / 256) (65536 * q) second_is)
-
-  three_bytes : le 3 m ≡ le 3 k
-  unfolding le
-  three_bytes =
-      cc (low-is k m (16777216 * q) first-is, low-is (k / 256) (m / 256) (65536 * q) second_is, low-is (k / 256 / 256) (m / 256 / 256) (256 * q) third_is)
-
-low_bytes : (wd k : ℕ) → 2 ≤ wd → wd ≤ 3 → le wd (k % 4294967296) ≡ le wd k
-low_bytes zero k a b = absurd (omega arith)
-low_bytes (suc zero) k a b = absurd (omega arith)
-low_bytes (suc (suc zero)) k a b = two_bytes k
-low_bytes (suc (suc (suc zero))) k a b = three_bytes k
-low_bytes (suc (suc (suc (suc n)))) k a b = absurd (omega arith)
 
 -- ---- numbers in the stage
 stage_number : (s w : List ℕ) (g : Ground) → Grounded s w g → (n p : ℕ) → p + n ≤ size_in g → le_at n (stage_in w g) p ≡ le_at n w (g.from + p)

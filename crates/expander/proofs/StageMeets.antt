@@ -8,18 +8,20 @@ use native.Mathlib.Omega.{arith}
 use borrow.Author.Tests.{eqb-true}
 use lib.Dec.{eqb, ltb}
 use lib.ListN.{length, get_or}
+use Rattle.std.specs.Prelude.{Option as Optional, Some, None}
 use Rattle.octets.specs.Working.Choice.{pick}
 use Rattle.parse_tree.specs.Plain.Tree.{Text}
-use Rattle.parse_tree.specs.Working.Nodes.{node_at, size_of}
+use Rattle.parse_tree.specs.Working.Nodes.{code_size, node_at, size_read}
 use Rattle.parse_tree.specs.declared.syntax.Node.{Node}
+use Rattle.parse_tree.proofs.SizeLaws.{size_16}
 use Rattle.replacing.specs.Runs.{plain, is_macro, hops}
 use Rattle.replacing.specs.Sound.{Firm}
 use Rattle.expander.specs.declared.Ground.{Ground}
 use Rattle.expander.specs.Ground.{size_in, stage_in, Grounded}
 use Rattle.expander.specs.Replace.{expanded_code}
-use Rattle.expander.specs.Stage.{command_long, macro_at, WholeAt, Hopping, Walks}
+use Rattle.expander.specs.Stage.{macro_at, WholeAt, Hopping, Walks}
 use Rattle.expander.proofs.NodeCodes.{whole_macro, whole_plain, key_code_lem}
-use Rattle.expander.proofs.StageCode.{long_16, stage_byte}
+use Rattle.expander.proofs.StageCode.{stage_byte}
 
 -- ---- room: each nine bytes of items may become 9 + wd
 module _ (to m n lim : ℕ) where
@@ -70,32 +72,32 @@ pub room_upto : (to n lim : ℕ) → 9 * to + n ≤ 9 * lim → to ≤ lim
 room_upto to n lim h = omega arith
 
 -- ---- whether the definition of a macro begins there
-pub macro_stage : (s w : List ℕ) (g : Ground) → Grounded s w g → (p c : ℕ) → p + command_long g.width.bytes c ≤ size_in g → macro_at g.width.bytes w (g.from + p) c ≡ macro_at g.width.bytes (stage_in w g) p c
+pub macro_stage : (s w : List ℕ) (g : Ground) → Grounded s w g → (p c : ℕ) → p + code_size g.width.bytes c ≤ size_in g → macro_at g.width.bytes w (g.from + p) c ≡ macro_at g.width.bytes (stage_in w g) p c
 unfolding macro_at pick
 macro_stage s w g G p c l = go (eqb c 16) refl
   where
     go : (b : Bool) → eqb c 16 ≡ b → pick b (ltb 0 (get_or w (g.from + p + 10 + g.width.bytes) 0)) false ≡ pick b (ltb 0 (get_or (stage_in w g) (p + 10 + g.width.bytes) 0)) false
     go false e = refl
     go true e =
-        let z = long_16 g.width.bytes c (eqb-true c 16 e) in
+        let z = size_16 g.width.bytes c (eqb-true c 16 e) in
         let i : g.from + (p + 10 + g.width.bytes) ≡ g.from + p + 10 + g.width.bytes = omega arith in
         ap (λ (v : ℕ). pick true (ltb 0 v) false) (ap (λ (k : ℕ). get_or w k 0) (sym i) ∙ sym (stage_byte s w g G (p + 10 + g.width.bytes) (omega arith)))
 
 -- ---- the turns
-macro_plain : (n : Node) → is_macro n ≡ true → plain n ≡ true
+macro_plain : (n : Optional Node) → is_macro n ≡ true → plain n ≡ true
 unfolding is_macro plain
-macro_plain (Node.Text k) e = absurd (false≢true e)
-macro_plain (Node.Nonterminal d) e = refl
-macro_plain (Node.Terminal d) e = refl
-macro_plain (Node.Argument a) e = refl
-macro_plain (Node.Alternative a) e = refl
-macro_plain (Node.Attribute a) e = refl
-macro_plain (Node.Condition c) e = refl
-macro_plain (Node.Symbol s k) e = absurd (false≢true e)
-macro_plain Node.Unknown e = absurd (false≢true e)
+macro_plain (Some (Node.Text k)) e = absurd (false≢true e)
+macro_plain (Some (Node.Nonterminal d)) e = refl
+macro_plain (Some (Node.Terminal d)) e = refl
+macro_plain (Some (Node.Argument a)) e = refl
+macro_plain (Some (Node.Alternative a)) e = refl
+macro_plain (Some (Node.Attribute a)) e = refl
+macro_plain (Some (Node.Condition c)) e = refl
+macro_plain (Some (Node.Symbol s k)) e = absurd (false≢true e)
+macro_plain None e = absurd (false≢true e)
 
 -- a symbol that is expanded is no definition
-pub key_no_macro : (n : Node) → plain n ≡ false → is_macro n ≡ false
+pub key_no_macro : (n : Optional Node) → plain n ≡ false → is_macro n ≡ false
 key_no_macro n e = go (is_macro n) refl
   where
     go : (b : Bool) → is_macro n ≡ b → b ≡ false
@@ -115,15 +117,15 @@ module _ (wd : ℕ) (t : List ℕ) (ts : List Text) where
     pub macro : is_macro (node_at wd t p) ≡ true
     pub whole : WholeAt wd t p
     pub many : ℕ
-    pub hopping : Hopping wd t many (p + size_of wd (node_at wd t p))
-    pub next : Walks wd t ts turns k (hops wd t (length t) (p + size_of wd (node_at wd t p)))
+    pub hopping : Hopping wd t many (p + size_read wd (node_at wd t p))
+    pub next : Walks wd t ts turns k (hops wd t (length t) (p + size_read wd (node_at wd t p)))
 
   pub record CopyMeets (k p : ℕ) : Type 0 where
     pub turns : ℕ
     pub copied : plain (node_at wd t p) ≡ true
     pub macro : is_macro (node_at wd t p) ≡ false
     pub whole : WholeAt wd t p
-    pub next : Walks wd t ts turns k (p + size_of wd (node_at wd t p))
+    pub next : Walks wd t ts turns k (p + size_read wd (node_at wd t p))
 
   -- a command that is copied, or a definition, has none of the codes of symbols that are expanded
   no_key : (p : ℕ) → WholeAt wd t p → plain (node_at wd t p) ≡ true → expanded_code (get_or t p 0) ≡ true → ⊥

@@ -10,6 +10,7 @@ use borrow.Author.Rules.{rules}
 use borrow.Author.Tests.{lt-leb}
 use lib.Dec.{leb}
 use lib.ListN.{length, get_or}
+use Rattle.std.specs.Prelude.{Option as Optional, Some, None}
 use Rattle.octets.specs.Plain.Numbers.{Bytes}
 use Rattle.octets.specs.Plain.Runs.{Lies}
 use Rattle.octets.specs.Working.Choice.{pick}
@@ -55,17 +56,17 @@ numbered-keeps base p x = go (ref_at p x.refs)
         by false = refl
 
 -- the command of a symbol that is expanded
-key_node : (n : Node) → plain n ≡ false → (sp : Span) × (k : SymbolKind) × (n ≡ Node.Symbol sp k) × (plain_kind k ≡ false)
+key_node : (n : Optional Node) → plain n ≡ false → (sp : Span) × (k : SymbolKind) × (n ≡ Some (Node.Symbol sp k)) × (plain_kind k ≡ false)
 unfolding plain
-key_node (Node.Text k) e = absurd (false≢true (sym e))
-key_node (Node.Nonterminal d) e = absurd (false≢true (sym e))
-key_node (Node.Terminal d) e = absurd (false≢true (sym e))
-key_node (Node.Argument a) e = absurd (false≢true (sym e))
-key_node (Node.Alternative a) e = absurd (false≢true (sym e))
-key_node (Node.Attribute a) e = absurd (false≢true (sym e))
-key_node (Node.Condition c) e = absurd (false≢true (sym e))
-key_node (Node.Symbol s k) e = (s, k, refl, e)
-key_node Node.Unknown e = absurd (false≢true (sym e))
+key_node (Some (Node.Text k)) e = absurd (false≢true (sym e))
+key_node (Some (Node.Nonterminal d)) e = absurd (false≢true (sym e))
+key_node (Some (Node.Terminal d)) e = absurd (false≢true (sym e))
+key_node (Some (Node.Argument a)) e = absurd (false≢true (sym e))
+key_node (Some (Node.Alternative a)) e = absurd (false≢true (sym e))
+key_node (Some (Node.Attribute a)) e = absurd (false≢true (sym e))
+key_node (Some (Node.Condition c)) e = absurd (false≢true (sym e))
+key_node (Some (Node.Symbol s k)) e = (s, k, refl, e)
+key_node None e = absurd (false≢true (sym e))
 
 -- the list grows by at most one
 list_next : (g : Ground) (c d left : ℕ) → d ≤ c + 1 → 1 ≤ left → list_place g (c + left) ≤ g.keys → list_place g (d + (left - 1)) ≤ g.keys

@@ -7,7 +7,7 @@ use native.Mathlib.Omega.{arith}
 use mir.Syntax.{w64}
 use mir.Val.{Fits}
 use borrow.Author.Rules.{rules}
-use borrow.Author.Tests.{eqb-true, eqb-false, ltb-false, leb-true, lt-ltb, le-ltb, lt-leb}
+use borrow.Author.Tests.{eqb-true, eqb-false, ltb-false, leb-true, lt-ltb, le-ltb, le-leb, lt-leb}
 use lib.Dec.{eqb, leb, ltb}
 use lib.ListN.{length, get_or}
 use Rattle.octets.specs.Working.Choice.{pick}
@@ -15,15 +15,14 @@ use Rattle.octets.specs.Plain.Runs.{part}
 use Rattle.octets.proofs.PartLaws.{part_none}
 use Rattle.octets.proofs.LiesLaws.{lies_append, lies_part, part_lies}
 use Rattle.parse_tree.specs.Plain.Tree.{Text}
-use Rattle.parse_tree.specs.Working.Nodes.{node_at, size_of}
+use Rattle.parse_tree.specs.Working.Nodes.{code_size, node_at, size_read, long_of}
 use Rattle.texts.specs.Table.{texts}
-use Rattle.resolve.specs.Commands.{long_of}
 use Rattle.replacing.specs.Runs.{copy_step, step_on, steps}
 use Rattle.replacing.proofs.Going.{run, steps_append}
 use Rattle.expander.specs.declared.Ground.{Ground}
 use Rattle.expander.specs.Ground.{size_in, stage_in, same_at, text_in, Grounded}
 use Rattle.expander.specs.Replace.{expanded_code}
-use Rattle.expander.specs.Stage.{command_long, macro_at, name_code, left_at, RoomFor, Walks, SomeWalk, Copies}
+use Rattle.expander.specs.Stage.{macro_at, name_code, left_at, RoomFor, Walks, SomeWalk, Copies}
 use Rattle.expander.proofs.NodeCodes.{whole_long}
 use Rattle.expander.proofs.StageReads.{stage_length}
 use Rattle.expander.proofs.StageCode.{stage_room, stage_byte, stage_in_lem}
@@ -34,11 +33,15 @@ pub name_low : (c : ℕ) → c < 32 → false ≡ name_code c
 unfolding name_code pick
 name_low c l = cc (lt-ltb c 32 l)
 
-pub name_high : (c : ℕ) → 32 ≤ c → leb c 36 ≡ name_code c
+pub name_within : (c : ℕ) → 32 ≤ c → c ≤ 36 → true ≡ name_code c
 unfolding name_code pick
-name_high c l = cc (le-ltb c 32 l)
+name_within c l h = cc (le-ltb c 32 l, le-leb c 36 h)
 
-pub ruleset naming = (rules, name_low, name_high)
+pub name_high : (c : ℕ) → 36 < c → false ≡ name_code c
+unfolding name_code pick
+name_high c l = cc (le-ltb c 32 (omega arith), lt-leb c 36 l)
+
+pub ruleset naming = (rules, name_low, name_within, name_high)
 
 name_between : (c : ℕ) → name_code c ≡ true → (32 ≤ c) × (c ≤ 36)
 unfolding name_code pick
@@ -64,9 +67,9 @@ name_each P a b d e f c h = go (eqb c 32) (eqb c 33) (eqb c 34) (eqb c 35) refl 
         let v : 36 ≡ c = omega (arith, name_between c h, eqb-false c 32 x, eqb-false c 33 y, eqb-false c 34 z, eqb-false c 35 u) in
         subst P v f
 
-name_long : (wd c : ℕ) → name_code c ≡ true → command_long wd c ≡ 9 + wd
-unfolding command_long long_of pick
-name_long wd = name_each (λ (c : ℕ). command_long wd c ≡ 9 + wd) refl refl refl refl refl
+name_long : (wd c : ℕ) → name_code c ≡ true → code_size wd c ≡ 9 + wd
+unfolding code_size long_of pick
+name_long wd = name_each (λ (c : ℕ). code_size wd c ≡ 9 + wd) refl refl refl refl refl
 
 name_plain : (c : ℕ) → name_code c ≡ true → expanded_code c ≡ false
 unfolding expanded_code pick
@@ -82,7 +85,7 @@ module _ (wd : ℕ) (w : List ℕ) (at c : ℕ) where
   unfolding left_at pick
   left_key b e f = cc
 
-  pub left_room : (b : Bool) → b ≡ expanded_code c → b ≡ false → RoomFor wd w at c → at + command_long wd c ≤ length w
+  pub left_room : (b : Bool) → b ≡ expanded_code c → b ≡ false → RoomFor wd w at c → at + code_size wd c ≤ length w
   left_room b e f r = r.room (sym e ∙ f)
 
   pub left_other : (b : Bool) → b ≡ expanded_code c → b ≡ false → (m : Bool) → m ≡ macro_at wd w at c → m ≡ left_at wd w at c
@@ -139,7 +142,7 @@ module _ (s w : List ℕ) (g : Ground) (G : Grounded s w g) where
   }
 
   -- a command that is copied is a step
-  pub copies_one : (q : ℕ) → q < size_in g → expanded_code (get_or t q 0) ≡ false → macro_at wd t q (get_or t q 0) ≡ false → (n k : ℕ) → Walks wd t ts n k q → Copies s w g q (q + size_of wd (node_at wd t q))
+  pub copies_one : (q : ℕ) → q < size_in g → expanded_code (get_or t q 0) ≡ false → macro_at wd t q (get_or t q 0) ≡ false → (n k : ℕ) → Walks wd t ts n k q → Copies s w g q (q + size_read wd (node_at wd t q))
   unfolding steps step_on copy_step pick
   copies_one q l e d n k h =
       let j = stage_in_lem s w g G q l in
@@ -179,25 +182,25 @@ module _ (s w : List ℕ) (g : Ground) (p q : ℕ) (G : Grounded s w g) (S : Som
       unexpanded : expanded_code (get_or (stage_in w g) q 0) ≡ false
       unexpanded = ap expanded_code code_is ∙ e
 
-      long_is : command_long g.width.bytes c ≡ size_of g.width.bytes (node_at g.width.bytes (stage_in w g) q)
+      long_is : code_size g.width.bytes c ≡ size_read g.width.bytes (node_at g.width.bytes (stage_in w g) q)
       long_is =
-          ap (command_long g.width.bytes) (sym code_is)
+          ap (code_size g.width.bytes) (sym code_is)
           ∙ sym (whole_long g.width.bytes (stage_in w g) q (meets_whole g.width.bytes (stage_in w g) (texts s w g.m) here.0 S.left q here.1 (stage_in_lem s w g G q below) unexpanded))
 
-      inside : q + command_long g.width.bytes c ≤ size_in g
+      inside : q + code_size g.width.bytes c ≤ size_in g
       inside =
           let z = meets_whole g.width.bytes (stage_in w g) (texts s w g.m) here.0 S.left q here.1 (stage_in_lem s w g G q below) unexpanded in
           omega (arith, z.inside, long_is, stage_length s w g G)
 
       -- a command that is copied
       module _ (m : macro_at g.width.bytes w (g.from + q) c ≡ false) where
-        next : Copies s w g p (q + command_long g.width.bytes c)
+        next : Copies s w g p (q + code_size g.width.bytes c)
         next =
             let z = ap (macro_at g.width.bytes (stage_in w g) q) code_is ∙ sym (macro_stage s w g G q c inside) ∙ m in
-            copies_then s w g G p q (q + command_long g.width.bytes c) C
+            copies_then s w g G p q (q + code_size g.width.bytes c) C
             (subst (λ (j : ℕ). Copies s w g q (q + j)) (sym long_is) (copies_one s w g G q below unexpanded z here.0 S.left here.1))
 
-        fits : length w < 2 ^ 64 → Fits w64 (q + command_long g.width.bytes c)
+        fits : length w < 2 ^ 64 → Fits w64 (q + code_size g.width.bytes c)
         unfolding size_in
         fits k = record { fits = omega (arith, inside, G.inside) }
 
@@ -206,7 +209,7 @@ module _ (s w : List ℕ) (g : Ground) (p q : ℕ) (G : Grounded s w g) (S : Som
       named : name_code c ≡ true
       named = sym e ∙ f
 
-      long : command_long g.width.bytes c ≡ 9 + g.width.bytes
+      long : code_size g.width.bytes c ≡ 9 + g.width.bytes
       long = name_long g.width.bytes c named
 
       pub run_name_fits : length w < 2 ^ 64 → Fits w64 (q + (9 + g.width.bytes))
@@ -220,7 +223,7 @@ module _ (s w : List ℕ) (g : Ground) (p q : ℕ) (G : Grounded s w g) (S : Som
     unfolding size_in
     run_left_room = record { room = λ e. omega (arith, inside e, G.inside, G.ordered) }
 
-    module _ (b : Bool) (e : b ≡ left_at g.width.bytes w (g.from + q) c) (f : b ≡ false) (n : ℕ) (k : n ≡ command_long g.width.bytes c) where
+    module _ (b : Bool) (e : b ≡ left_at g.width.bytes w (g.from + q) c) (f : b ≡ false) (n : ℕ) (k : n ≡ code_size g.width.bytes c) where
       copied : (expanded_code c ≡ false) × (macro_at g.width.bytes w (g.from + q) c ≡ false)
       copied = left_not g.width.bytes w (g.from + q) c (sym e ∙ f)
 

@@ -15,7 +15,7 @@ use Rattle.octets.specs.Working.Stores.{store}
 use Rattle.octets.specs.Plain.Runs.{part, Lies}
 use Rattle.octets.proofs.PartLaws.{part_length}
 use Rattle.octets.proofs.LiesLaws.{lies_none, lies_part, part_lies}
-use Rattle.parse_tree.specs.Working.Nodes.{node_at, size_of}
+use Rattle.parse_tree.specs.Working.Nodes.{code_size, node_at, size_read}
 use Rattle.texts.specs.Table.{Above, texts}
 use Rattle.replacing.specs.Runs.{hops, Run, skip_step, step_on, steps}
 use Rattle.replacing.specs.Slots.{Slots}
@@ -24,7 +24,7 @@ use Rattle.expander.specs.declared.stage.Replaced.{Replaced}
 use Rattle.expander.specs.Ground.{size_in, stage_in, top_of, list_place, Grounded}
 use Rattle.expander.specs.Held.{Held, AllBefore}
 use Rattle.expander.specs.Replace.{expanded_code}
-use Rattle.expander.specs.Stage.{command_long, macro_at, WholeAt, Walks, SomeHops, Skips, Writable, WroteOnly, SomeWalk, Copies, SomeTurn, turned, TurnedBy, Turns}
+use Rattle.expander.specs.Stage.{macro_at, WholeAt, Walks, SomeHops, Skips, Writable, WroteOnly, SomeWalk, Copies, SomeTurn, turned, TurnedBy, Turns}
 use Rattle.expander.proofs.GroundLaws.{list_keys, keys_slots, slots_top}
 use Rattle.expander.proofs.HeldStays.{Between, between-wrote, held_stays, said_wrote, above_wrote}
 use Rattle.expander.proofs.NodeCodes.{whole_long}
@@ -73,18 +73,18 @@ module _ (s w : List ℕ) (g : Ground) (r : Replaced) (G : Grounded s w g) (T : 
     whole : WholeAt wd t r.at
     whole = meets_whole wd t (texts s w g.m) T.turns T.left r.at T.walks (stage_in_lem s w g G r.at l) unexpanded
 
-    long_is : command_long wd c ≡ size_of wd (node_at wd t r.at)
-    long_is = ap (command_long wd) (sym code_is) ∙ sym (whole_long wd t r.at whole)
+    long_is : code_size wd c ≡ size_read wd (node_at wd t r.at)
+    long_is = ap (code_size wd) (sym code_is) ∙ sym (whole_long wd t r.at whole)
 
-    inside : r.at + command_long wd c ≤ size_in g
+    inside : r.at + code_size wd c ≤ size_in g
     inside = omega (arith, whole.inside, long_is, stage_length s w g G)
 
-    pub turn_macro_room : g.from + r.at + command_long wd c ≤ length w
+    pub turn_macro_room : g.from + r.at + code_size wd c ≤ length w
     unfolding size_in
     turn_macro_room = omega (arith, inside, G.inside, G.ordered)
 
-    module _ (n : ℕ) (k : n ≡ command_long wd c) (b : Bool) (z : b ≡ macro_at wd w (g.from + r.at) c) where
-      size_is : n ≡ size_of wd (node_at wd t r.at)
+    module _ (n : ℕ) (k : n ≡ code_size wd c) (b : Bool) (z : b ≡ macro_at wd w (g.from + r.at) c) where
+      size_is : n ≡ size_read wd (node_at wd t r.at)
       size_is = k ∙ long_is
 
       macro_is : macro_at wd t r.at (get_or t r.at 0) ≡ b
@@ -102,10 +102,10 @@ module _ (s w : List ℕ) (g : Ground) (r : Replaced) (G : Grounded s w g) (T : 
         turn_hops = rw size_is (record { many = M.many; hopping = M.hopping; inside = rw (← size_is) upto })
 
         module _ (q : ℕ) (h : Skips w g (r.at + n) q) where
-          next_is : q ≡ hops wd t (length t) (r.at + size_of wd (node_at wd t r.at))
+          next_is : q ≡ hops wd t (length t) (r.at + size_read wd (node_at wd t r.at))
           next_is = h.is ∙ ap (λ (i : ℕ). hops wd t (length t) (r.at + i)) size_is
 
-          skip_step_lem : (x : Slots) → turned s w g 1 r.at x ≡ record { at = hops wd t (length t) (r.at + size_of wd (node_at wd t r.at)); out = []; slots = x }
+          skip_step_lem : (x : Slots) → turned s w g 1 r.at x ≡ record { at = hops wd t (length t) (r.at + size_read wd (node_at wd t r.at)); out = []; slots = x }
           unfolding steps step_on skip_step pick
           skip_step_lem x = let i : leb (length t) r.at ≡ false = lt-leb (length t) r.at (stage_in_lem s w g G r.at l) in rw (i, M.macro) refl
 

@@ -8,11 +8,12 @@ use native.Mathlib.Omega.{arith}
 use borrow.Author.Tests.{leb-false, ltb-true, ltb-false}
 use lib.Dec.{leb}
 use lib.ListN.{length}
+use Rattle.std.specs.Prelude.{Some}
 use Rattle.octets.specs.Plain.Numbers.{Bytes}
 use Rattle.octets.proofs.LiesLaws.{lies_inside}
 use Rattle.parse_tree.specs.Plain.Tree.{Text, Sym, Alternative, Item, item, syms_of}
 use Rattle.parse_tree.specs.Plain.Texts.{distinct}
-use Rattle.parse_tree.specs.Working.Nodes.{node_at, size_of}
+use Rattle.parse_tree.specs.Working.Nodes.{node_at, size_read}
 use Rattle.parse_tree.specs.Working.Places.{class_of, items_place, symbols_place}
 use Rattle.parse_tree.specs.Plain.Reading.{got, then, times}
 use Rattle.parse_tree.specs.Working.Operands.{around_of, nonterminal_of, terminal_of}
@@ -67,11 +68,11 @@ module _ (wd : ℕ) (t : List ℕ) (ts : List Text) (b : Bytes t) (d : distinct 
   turns_more : (a e n l : ℕ) → n ≤ l → Turns a e n → Turns a e l
   turns_more a e n l i u = record { many = u.many; few = u.few; walks = λ m k h. walks_more wd t ts (u.many + m) (u.many + m) (n + k) (l + k) a (omega arith) (omega arith) (u.walks m k h) }
 
-  copy_walks : (a c m k : ℕ) → a + size_of wd (node_at wd t a) ≡ c → WholeAt wd t a → plain (node_at wd t a) ≡ true → is_macro (node_at wd t a) ≡ false → W m k c → W (suc m) k a
+  copy_walks : (a c m k : ℕ) → a + size_read wd (node_at wd t a) ≡ c → WholeAt wd t a → plain (node_at wd t a) ≡ true → is_macro (node_at wd t a) ≡ false → W m k c → W (suc m) k a
   unfolding Walks
   copy_walks a c m k e q z y h = inr (inl (z, y, q, subst (W m k) (sym e) h))
 
-  copy_turns : (a c : ℕ) → a + size_of wd (node_at wd t a) ≡ c → WholeAt wd t a → plain (node_at wd t a) ≡ true → is_macro (node_at wd t a) ≡ false → Turns a c 0
+  copy_turns : (a c : ℕ) → a + size_read wd (node_at wd t a) ≡ c → WholeAt wd t a → plain (node_at wd t a) ≡ true → is_macro (node_at wd t a) ≡ false → Turns a c 0
   copy_turns a c e q z y = record {
     many = 1;
     few = omega (arith, q.some);
@@ -82,12 +83,12 @@ module _ (wd : ℕ) (t : List ℕ) (ts : List Text) (b : Bytes t) (d : distinct 
   one_turns a c h = copy_turns a c h.end h.whole h.plainly h.other
 
   -- the definition of a macro
-  skip_walks : (a c e m k : ℕ) → a + size_of wd (node_at wd t a) ≡ c → WholeAt wd t a → is_macro (node_at wd t a) ≡ true → Hop c → hops wd t (length t) c ≡ e → W m k e → W (suc m) k a
+  skip_walks : (a c e m k : ℕ) → a + size_read wd (node_at wd t a) ≡ c → WholeAt wd t a → is_macro (node_at wd t a) ≡ true → Hop c → hops wd t (length t) c ≡ e → W m k e → W (suc m) k a
   unfolding Walks
   skip_walks a c e m k i q y g j h =
       inr (inr (inl (y, q, subst Hop (sym i) g, subst (W m k) (sym (ap (hops wd t (length t)) i ∙ j)) h)))
 
-  skip-turns : (a c e : ℕ) → a + size_of wd (node_at wd t a) ≡ c → WholeAt wd t a → is_macro (node_at wd t a) ≡ true → Hop c → hops wd t (length t) c ≡ e → c ≤ e → Turns a e 0
+  skip-turns : (a c e : ℕ) → a + size_read wd (node_at wd t a) ≡ c → WholeAt wd t a → is_macro (node_at wd t a) ≡ true → Hop c → hops wd t (length t) c ≡ e → c ≤ e → Turns a e 0
   skip-turns a c e i q y g j l = record {
     many = 1;
     few = omega (arith, q.some);
@@ -122,10 +123,10 @@ module _ (wd : ℕ) (t : List ℕ) (ts : List Text) (b : Bytes t) (d : distinct 
   unfolding plain_kind plain is_macro is_item class_of
   kind-turns left f sp k a c x e l r h p false z = key_turns left a x e l (ap plain h.here ∙ z) r
   kind-turns left f sp (SymbolKind.Leaf n) a c x e l r h p true z =
-      let u = one_turns a c (copied wd t ts b a c (Node.Symbol sp (SymbolKind.Leaf n)) h (omega arith) (omega arith) refl z refl) in
+      let u = one_turns a c (copied wd t ts b a c (Node.Symbol sp (SymbolKind.Leaf n)) h (omega arith) refl z refl) in
       got_as (λ y m. Turns a m (length (expanded y))) p (turns_more a c 0 _ (omega arith) u)
   kind-turns left f sp (SymbolKind.Around o) a c x e l r h p true z =
-      let u = one_turns a c (copied wd t ts b a c (Node.Symbol sp (SymbolKind.Around o)) h (omega arith) (omega arith) refl z refl) in
+      let u = one_turns a c (copied wd t ts b a c (Node.Symbol sp (SymbolKind.Around o)) h (omega arith) refl z refl) in
       let i = then-got (read_sym false wd t ts left c) _ p in
       got_as (λ y m. Turns a m (length (expanded y))) i.second
       (turns_more a i.mid (0 + length (expanded i.value)) _ (omega (arith, around_more sp (around_of ts o) i.value))
@@ -158,19 +159,19 @@ module _ (wd : ℕ) (t : List ℕ) (ts : List Text) (b : Bytes t) (d : distinct 
   -- a nonterminal, by its arguments; an item or the end stands behind it
   nonterminal_turns : (k : NonterminalData) (a c m e : ℕ) (args : List Text) (alts : List Alternative) → stand a c (Node.Nonterminal k)
       → times (read_argument false wd t ts) k.args c ≡ got args m → times (read_alternative false wd t ts) k.alternatives m ≡ got alts e
-      → Settled false wd t ts b e → e ≤ length t → Hop e → (z : Bool) → is_macro (Node.Nonterminal k) ≡ z → Turns a e (length (expanded_items (kept (item (nonterminal_of ts k args alts)))))
+      → Settled false wd t ts b e → e ≤ length t → Hop e → (z : Bool) → is_macro (Some (Node.Nonterminal k)) ≡ z → Turns a e (length (expanded_items (kept (item (nonterminal_of ts k args alts)))))
   unfolding kept nonterminal_of is_macro expanded_items expanded_item plain class_of
   nonterminal_turns k a c m e [] alts h p q g l o false z =
       turns_more a e (0 + length (expanded_alternatives alts)) _ (omega (arith, append_long (expanded_alternatives alts) []))
       (both_turn a c e 0 (length (expanded_alternatives alts))
-      (copy_turns a c (ap (λ j. a + size_of wd j) h.here ∙ h.behind) (standing_whole wd t ts b a c (Node.Nonterminal k) h (omega arith) (omega arith)) (ap plain h.here) (ap is_macro h.here ∙ z))
+      (copy_turns a c (ap (λ j. a + size_read wd j) h.here ∙ h.behind) (standing_whole wd t ts b a c (Node.Nonterminal k) h (omega arith)) (ap plain h.here) (ap is_macro h.here ∙ z))
       (data_turns k c m e [] alts p q))
   nonterminal_turns k a c m e [] alts h p q g l o true z =
       let n = times-length (read_argument false wd t ts) k.args c [] m p in
       absurd (omega (arith, ltb-true 0 k.args z))
   nonterminal_turns k a c m e (x ∷ args) alts h p q g l o true z =
       let s = data_skips false wd t ts b k c m e (x ∷ args) alts p q in
-      skip-turns a c e (ap (λ j. a + size_of wd j) h.here ∙ h.behind) (standing_whole wd t ts b a c (Node.Nonterminal k) h (omega arith) (omega arith)) (ap is_macro h.here ∙ z)
+      skip-turns a c e (ap (λ j. a + size_read wd j) h.here ∙ h.behind) (standing_whole wd t ts b a c (Node.Nonterminal k) h (omega arith)) (ap is_macro h.here ∙ z)
       (data_leads wd t ts b k c m e (x ∷ args) alts p q o) (skips_settled false wd t ts b c e s g l) (omega (arith, s.few))
   nonterminal_turns k a c m e (x ∷ args) alts h p q g l o false z =
       let n = times-length (read_argument false wd t ts) k.args c (x ∷ args) m p in
@@ -180,7 +181,7 @@ module _ (wd : ℕ) (t : List ℕ) (ts : List Text) (b : Bytes t) (d : distinct 
   unfolding plain is_macro class_of
   terminal_turns k a c h =
       turns_more a c 0 _ (omega arith)
-      (copy_turns a c (ap (λ j. a + size_of wd j) h.here ∙ h.behind) (standing_whole wd t ts b a c (Node.Terminal k) h (omega arith) (omega arith)) (ap plain h.here) (ap is_macro h.here))
+      (copy_turns a c (ap (λ j. a + size_read wd j) h.here ∙ h.behind) (standing_whole wd t ts b a c (Node.Terminal k) h (omega arith)) (ap plain h.here) (ap is_macro h.here))
 
   item_turns : (a : ℕ) (x : Item) (e : ℕ) → read_item false wd t ts a ≡ got x e → Settled false wd t ts b e → e ≤ length t → Hop e → Turns a e (length (expanded_items (kept x)))
   unfolding read_item nonterminal_parts
@@ -191,7 +192,7 @@ module _ (wd : ℕ) (t : List ℕ) (ts : List Text) (b : Bytes t) (d : distinct 
       let u = then-got (times (read_argument false wd t ts) k.args c) _ r in
       let v = then-got (times (read_alternative false wd t ts) k.alternatives u.mid) _ u.second in
       got_as (λ z m. Settled false wd t ts b m → m ≤ length t → Hop m → Turns a m (length (expanded_items (kept z)))) v.second
-      (λ g' l' o'. nonterminal_turns k a c u.mid v.mid u.value v.value i u.first v.first g' l' o' (is_macro (Node.Nonterminal k)) refl) g l o)
+      (λ g' l' o'. nonterminal_turns k a c u.mid v.mid u.value v.value i u.first v.first g' l' o' (is_macro (Some (Node.Nonterminal k))) refl) g l o)
       (λ k i r. got_as (λ z m. Turns a m (length (expanded_items (kept z)))) r (terminal_turns k a c i)))
 
   -- what is read behind an item begins with one

@@ -6,10 +6,11 @@ use mathlib.Core.List.{List, [], ◌∷◌, ◌++◌}
 use Prim.Native.Nat.{ℕ, zero, suc, ◌+◌, ◌-◌, ◌<◌, ◌≤◌}
 use native.Mathlib.Omega.{arith}
 use lib.ListN.{length, length-append}
+use Rattle.std.specs.Prelude.{Some}
 use Rattle.octets.specs.Plain.Numbers.{Bytes}
 use Rattle.octets.proofs.LiesLaws.{lies_inside}
 use Rattle.parse_tree.specs.Plain.Tree.{Text, Around, Sym, Attribute, Condition, Alternative, Item, ambiguous, bare, quoted, regex, nonterminal, lookahead, lookbehind, error, repeat, choose, name, macro, group, leaf, around, over, item, syms_of}
-use Rattle.parse_tree.specs.Working.Nodes.{symbol_bytes, node_bytes, node_at, size_of}
+use Rattle.parse_tree.specs.Working.Nodes.{symbol_bytes, node_bytes, node_at, size_of, size_read}
 use Rattle.parse_tree.specs.Working.Places.{class_of, symbols_place, arguments_place, alternatives_place, attributes_place, conditions_place}
 use Rattle.parse_tree.specs.Plain.Reading.{Reading, got, then, times}
 use Rattle.parse_tree.specs.Working.Operands.{leaf_of, around_of, over_of, inside_of, alternative_of}
@@ -94,26 +95,26 @@ module _ (wd : ℕ) (t : List ℕ) (ts : List Text) (b : Bytes t) where
   stand a c n = Standing false wd t ts a c n
 
   -- what stands and is no atom is whole
-  pub standing_whole : (a c : ℕ) (n : Node) → stand a c n → 1 ≤ class_of n → class_of n ≤ 7 → WholeAt wd t a
+  pub standing_whole : (a c : ℕ) (n : Node) → stand a c n → 1 ≤ class_of n → WholeAt wd t a
   unfolding size_of
-  standing_whole a c n h l m =
+  standing_whole a c n h l =
       let p = node_positive wd (length ts) n h.passes.known in
       let q = lies_inside t a c (node_bytes wd n) p h.lies in
-      let z : size_of wd (node_at wd t a) ≡ length (node_bytes wd n) = ap (size_of wd) h.here in
-      record { some = omega arith; known = no_atom wd t a n h.here l m; inside = omega (arith, h.lies.end) }
+      let z : size_read wd (node_at wd t a) ≡ length (node_bytes wd n) = ap (size_read wd) h.here in
+      record { some = omega arith; known = no_atom wd t a n h.here l; inside = omega (arith, h.lies.end) }
 
   -- a command that is copied wherever it stands
   pub record Copied (a c : ℕ) : Type 0 where
-    pub end : a + size_of wd (node_at wd t a) ≡ c
+    pub end : a + size_read wd (node_at wd t a) ≡ c
     pub whole : WholeAt wd t a
     pub inner : is_item (node_at wd t a) ≡ false
     pub plainly : plain (node_at wd t a) ≡ true
     pub other : is_macro (node_at wd t a) ≡ false
 
-  pub copied : (a c : ℕ) (n : Node) → stand a c n → 1 ≤ class_of n → class_of n ≤ 7 → is_item n ≡ false → plain n ≡ true → is_macro n ≡ false → Copied a c
-  copied a c n h l m i z y = record {
-    end = ap (λ k. a + size_of wd k) h.here ∙ h.behind;
-    whole = standing_whole a c n h l m;
+  pub copied : (a c : ℕ) (n : Node) → stand a c n → 1 ≤ class_of n → is_item (Some n) ≡ false → plain (Some n) ≡ true → is_macro (Some n) ≡ false → Copied a c
+  copied a c n h l i z y = record {
+    end = ap (λ k. a + size_read wd k) h.here ∙ h.behind;
+    whole = standing_whole a c n h l;
     inner = ap is_item h.here ∙ i;
     plainly = ap plain h.here ∙ z;
     other = ap is_macro h.here ∙ y;
@@ -137,19 +138,19 @@ module _ (wd : ℕ) (t : List ℕ) (ts : List Text) (b : Bytes t) where
     unfolding read_attribute is_item plain is_macro class_of
     attribute_holds a x e p =
         stands_then false wd t ts attributes_place 1 b _ a p (λ n c h q.
-        attribute_wanted (stand a c) a c x e _ n h q (λ k i r. got_as (λ z m. P a m 0) r (one a c (copied a c (Node.Attribute k) i (omega arith) (omega arith) refl refl refl))))
+        attribute_wanted (stand a c) a c x e _ n h q (λ k i r. got_as (λ z m. P a m 0) r (one a c (copied a c (Node.Attribute k) i (omega arith) refl refl refl))))
 
     condition_holds : (a : ℕ) (x : Condition) (e : ℕ) → read_condition false wd t ts a ≡ got x e → P a e 0
     unfolding read_condition is_item plain is_macro class_of
     condition_holds a x e p =
         stands_then false wd t ts conditions_place 1 b _ a p (λ n c h q.
-        condition_wanted (stand a c) a c x e _ n h q (λ k i r. got_as (λ z m. P a m 0) r (one a c (copied a c (Node.Condition k) i (omega arith) (omega arith) refl refl refl))))
+        condition_wanted (stand a c) a c x e _ n h q (λ k i r. got_as (λ z m. P a m 0) r (one a c (copied a c (Node.Condition k) i (omega arith) refl refl refl))))
 
     argument-holds : (a : ℕ) (x : Text) (e : ℕ) → read_argument false wd t ts a ≡ got x e → P a e 0
     unfolding read_argument is_item plain is_macro class_of
     argument-holds a x e p =
         stands_then false wd t ts arguments_place 1 b _ a p (λ n c h q.
-        argument-wanted (stand a c) a c x e _ n h q (λ k i r. got_as (λ z m. P a m 0) r (one a c (copied a c (Node.Argument k) i (omega arith) (omega arith) refl refl refl))))
+        argument-wanted (stand a c) a c x e _ n h q (λ k i r. got_as (λ z m. P a m 0) r (one a c (copied a c (Node.Argument k) i (omega arith) refl refl refl))))
 
     alternative_holds : (a : ℕ) (x : Alternative) (e : ℕ) → read_alternative false wd t ts a ≡ got x e → P a e (length (expanded_all x.symbols))
     unfolding read_alternative alternative_parts alternative_of is_item plain is_macro class_of
@@ -161,7 +162,7 @@ module _ (wd : ℕ) (t : List ℕ) (ts : List Text) (b : Bytes t) where
         let l = then-got (times (read_sym false wd t ts 64) k.symbols v.mid) _ v.second in
         let m = length (expanded_all (syms_of l.value)) in
         got_as (λ z m. P a m (length (expanded_all z.symbols))) l.second
-        (both_as a c l.mid 0 m m (omega arith) (one a c (copied a c (Node.Alternative k) i (omega arith) (omega arith) refl refl refl))
+        (both_as a c l.mid 0 m m (omega arith) (one a c (copied a c (Node.Alternative k) i (omega arith) refl refl refl))
         (both_as c u.mid l.mid 0 m m (omega arith) (each (read_attribute false wd t ts) attribute_holds k.attributes c u.value u.mid u.first)
         (both_as u.mid v.mid l.mid 0 m m (omega arith) (each (read_condition false wd t ts) condition_holds k.conditions u.mid v.value v.mid v.first)
         (syms k.symbols v.mid l.value l.mid l.first))))))
@@ -198,7 +199,7 @@ module _ (wd : ℕ) (t : List ℕ) (ts : List Text) (b : Bytes t) where
   abbrev Leads : ℕ → ℕ → ℕ → Type 0
   Leads a e n = Hop e → Hop a
 
-  hop-over : (a c : ℕ) → a + size_of wd (node_at wd t a) ≡ c → WholeAt wd t a → is_item (node_at wd t a) ≡ false → Hop c → Hop a
+  hop-over : (a c : ℕ) → a + size_read wd (node_at wd t a) ≡ c → WholeAt wd t a → is_item (node_at wd t a) ≡ false → Hop c → Hop a
   unfolding Hopping
   hop-over a c e q i h = (suc h.0, inr (inr (i, q, subst (Hopping wd t h.0) (sym e) h.1)))
 
@@ -228,7 +229,7 @@ module _ (wd : ℕ) (t : List ℕ) (ts : List Text) (b : Bytes t) where
   sym_leads (suc left) a x e p =
       stands_then false wd t ts symbols_place (suc left) b _ a p (λ n c h q.
       symbol_wanted (stand a c) a c x e _ n h q (λ sp k i r v.
-      hop-over a c (ap (λ j. a + size_of wd j) i.here ∙ i.behind) (standing_whole a c (Node.Symbol sp k) i (omega arith) (omega arith)) (ap is_item i.here)
+      hop-over a c (ap (λ j. a + size_read wd j) i.here ∙ i.behind) (standing_whole a c (Node.Symbol sp k) i (omega arith)) (ap is_item i.here)
       (kind-leads left (sym_leads left) sp k c x e r v)))
 
   pub data_leads : (k : NonterminalData) (c m e : ℕ) (args : List Text) (alts : List Alternative) → times (read_argument false wd t ts) k.args c ≡ got args m

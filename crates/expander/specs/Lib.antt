@@ -1,5 +1,6 @@
 -- What the contracts of expander cite: a round's ground in work, what stands there, and what is found, noted and replaced.
 pub mod Ground
+pub mod Entries
 pub mod Held
 pub mod Names
 pub mod Find

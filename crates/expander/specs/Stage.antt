@@ -3,11 +3,10 @@ use Rattle.std.specs.Prelude.{◌≡◌, Bool, true, false, ◌⊎◌, List, [],
 use Rattle.octets.specs.Working.Choice.{pick}
 use Rattle.octets.specs.Plain.Runs.{part, Lies}
 use Rattle.parse_tree.specs.Plain.Tree.{Text}
-use Rattle.parse_tree.specs.Working.Nodes.{node_at, size_of}
+use Rattle.parse_tree.specs.Working.Nodes.{code_size, node_at, size_read}
 use Rattle.parse_tree.specs.Working.Within.{Each}
 use Rattle.texts.specs.Fields.{Chained}
 use Rattle.texts.specs.Table.{Above, texts}
-use Rattle.resolve.specs.Commands.{long_of}
 use Rattle.replacing.specs.Slots.{Slots, among, numbered}
 use Rattle.replacing.specs.Runs.{plain, is_item, is_macro, hops, key_bytes, Run, steps}
 use Rattle.replacing.specs.Sound.{Firm, HasRef}
@@ -20,9 +19,6 @@ use Rattle.expander.specs.Replace.{expanded_code}
 use Rattle.expander.specs.Held.{Held, AllBefore}
 
 -- ---- commands by their codes
-unfoldable pub command_long : ℕ → ℕ → ℕ
-command_long wd c = pick (eqb c 16) (13 + wd) (pick (eqb c 17) (1 + wd) (pick (eqb c 48) (9 + wd) (pick (eqb c 49) (9 + wd) (long_of wd c))))
-
 unfoldable pub item_code : ℕ → Bool
 item_code c = pick (eqb c 16) true (pick (eqb c 48) true (eqb c 49))
 
@@ -38,20 +34,20 @@ unfoldable pub left_at : ℕ → List ℕ → ℕ → ℕ → Bool
 left_at wd w at c = pick (expanded_code c) true (macro_at wd w at c)
 
 pub record RoomFor (wd : ℕ) (w : List ℕ) (at c : ℕ) : Type 0 where
-  pub room : expanded_code c ≡ false → at + command_long wd c ≤ length w
+  pub room : expanded_code c ≡ false → at + code_size wd c ≤ length w
 
 -- ---- what stands in a stage t, whose names are numbers in ts
 module _ (wd : ℕ) (t : List ℕ) where
   -- a whole command stands at p, which is no atom
   pub record WholeAt (p : ℕ) : Type 0 where
-    pub some : 0 < size_of wd (node_at wd t p)
+    pub some : 0 < size_read wd (node_at wd t p)
     pub known : (get_or t p 0 ≡ 1) → ⊥
-    pub inside : p + size_of wd (node_at wd t p) ≤ length t
+    pub inside : p + size_read wd (node_at wd t p) ≤ length t
 
   -- whole commands from p on, up to an item or the end, at most n
   unfoldable pub Hopping : ℕ → ℕ → Type 0
   Hopping zero p = (p ≡ length t) ⊎ (is_item (node_at wd t p) ≡ true)
-  Hopping (suc n) p = (p ≡ length t) ⊎ (is_item (node_at wd t p) ≡ true) ⊎ ((is_item (node_at wd t p) ≡ false) × WholeAt p × Hopping n (p + size_of wd (node_at wd t p)))
+  Hopping (suc n) p = (p ≡ length t) ⊎ (is_item (node_at wd t p) ≡ true) ⊎ ((is_item (node_at wd t p) ≡ false) × WholeAt p × Hopping n (p + size_read wd (node_at wd t p)))
 
   module _ (ts : List Text) where
     -- turns of the run from p on, at most n: each copies a whole command, leaves a definition of a macro out, or meets one of k symbols that are expanded
@@ -59,8 +55,8 @@ module _ (wd : ℕ) (t : List ℕ) where
     Walks zero k p = p ≡ length t
     Walks (suc n) k p =
         (p ≡ length t)
-        ⊎ ((plain (node_at wd t p) ≡ true) × (is_macro (node_at wd t p) ≡ false) × WholeAt p × Walks n k (p + size_of wd (node_at wd t p)))
-        ⊎ ((is_macro (node_at wd t p) ≡ true) × WholeAt p × ((h : ℕ) × Hopping h (p + size_of wd (node_at wd t p))) × Walks n k (hops wd t (length t) (p + size_of wd (node_at wd t p))))
+        ⊎ ((plain (node_at wd t p) ≡ true) × (is_macro (node_at wd t p) ≡ false) × WholeAt p × Walks n k (p + size_read wd (node_at wd t p)))
+        ⊎ ((is_macro (node_at wd t p) ≡ true) × WholeAt p × ((h : ℕ) × Hopping h (p + size_read wd (node_at wd t p))) × Walks n k (hops wd t (length t) (p + size_read wd (node_at wd t p))))
         ⊎ ((f : Firm false wd t ts p) × (f.end ≤ length t) × (1 ≤ k) × Walks n (k - 1) f.end)
 
 -- ---- the next item

@@ -9,11 +9,11 @@ ghost use Rattle.expander.specs.Meet.{InnerNoted};
 ghost use Rattle.expander.specs.Find.{FindsKey};
 
 use crate::Ground;
+use crate::cells::TextCell;
 use crate::meet::meet_symbol;
 use display::Met;
 use display::form::Form;
 use display::window::same_print;
-use grades::words::Words;
 use texts::chain::search;
 use texts::fields::{cell, hash, mark};
 use texts::hash::bucket;
@@ -22,40 +22,22 @@ use texts::text::text;
 // Whether the i-th pushed symbol prints as the one at p, whose form is f.
 // Not inlined: else the closure in `pending` is too long to be, and what it captures is stored at each search.
 #[inline(never)]
-fn is_key<'a>(
-    tape: &'a [u8],
-    work: &'a [u8],
-    g: Ground,
-    n: usize,
-    i: usize,
-    p: usize,
-    f: Form,
-) -> bool
+fn is_key(tape: &[u8], work: &[u8], g: Ground, n: usize, i: usize, p: usize, f: Form) -> bool
     requires { Grounded tape.now work.now g × Records tape.now work.now g n × (i < n) × KeyAt tape.now work.now g p × (f ≡ text_form (printed_at tape.now work.now g p)) }
     ensures { result ≡ same_as (printed_at tape.now work.now g (key_at work.now g i)) (printed_at tape.now work.now g p) }
 {
-    if hash(work, g.keys, i) != f.hash || cell(work, g.keys, i) as usize != f.len {
-        return false;
-    }
-    let q = mark(work, g.keys, i);
-    let words = Words {
-        tape,
-        work,
-        m: g.m,
-        width: g.width,
-    };
-    same_print(words, 64, g.from + q, g.from + p)
+    hash(work, g.keys, i) == f.hash
+        && cell(work, g.keys, i) as usize == f.len
+        && same_print(
+            g.words(tape, work),
+            64,
+            g.from + mark(work, g.keys, i),
+            g.from + p,
+        )
 }
 
 // The number of the symbol pushed this round that prints as the one at p.
-pub fn pending<'a>(
-    tape: &'a [u8],
-    work: &'a [u8],
-    g: Ground,
-    n: usize,
-    p: usize,
-    f: Form,
-) -> Option<usize>
+pub fn pending(tape: &[u8], work: &[u8], g: Ground, n: usize, p: usize, f: Form) -> Option<usize>
     requires { Grounded tape.now work.now g × Records tape.now work.now g n × KeyAt tape.now work.now g p × (f ≡ text_form (printed_at tape.now work.now g p)) }
     ensures { FindsKey tape.now work.now g n p result }
 {
@@ -66,7 +48,7 @@ pub fn pending<'a>(
 }
 
 // Whether the k-th text is the printed form of the symbol at p.
-fn is_text<'a>(tape: &'a [u8], work: &'a [u8], g: Ground, k: usize, p: usize, f: Form) -> bool
+fn is_text(tape: &[u8], work: &[u8], g: Ground, k: usize, p: usize, f: Form) -> bool
     requires { Grounded tape.now work.now g × (k < g.m.count) × KeyAt tape.now work.now g p × InnerNoted tape.now work.now g p × (f ≡ text_form (printed_at tape.now work.now g p)) }
     ensures { result ≡ same_as (get_or (texts tape.now work.now g.m) k []) (printed_at tape.now work.now g p) }
 {
@@ -78,14 +60,11 @@ fn is_text<'a>(tape: &'a [u8], work: &'a [u8], g: Ground, k: usize, p: usize, f:
         at: g.from + p,
         i: 0,
     };
-    match meet_symbol(tape, work, g, 64, t, start) {
-        Some(q) => q.i == t.len(),
-        None => false,
-    }
+    meet_symbol(tape, work, g, 64, t, start).is_some_and(|q| q.i == t.len())
 }
 
 // The number of the text that is the printed form of the symbol at p.
-pub fn written<'a>(tape: &'a [u8], work: &'a [u8], g: Ground, p: usize, f: Form) -> Option<usize>
+pub fn written(tape: &[u8], work: &[u8], g: Ground, p: usize, f: Form) -> Option<usize>
     requires { Grounded tape.now work.now g × KeyAt tape.now work.now g p × InnerNoted tape.now work.now g p × (f ≡ text_form (printed_at tape.now work.now g p)) }
     ensures { Finds (texts tape.now work.now g.m) (printed_at tape.now work.now g p) result }
 {
@@ -96,9 +75,9 @@ pub fn written<'a>(tape: &'a [u8], work: &'a [u8], g: Ground, p: usize, f: Form)
 }
 
 // Whether a symbol that prints as text k was pushed in an earlier round.
-pub fn is_pushed<'a>(tape: &'a [u8], work: &'a [u8], g: Ground, k: usize) -> bool
+pub fn is_pushed(tape: &[u8], work: &[u8], g: Ground, k: usize) -> bool
     requires { Grounded tape.now work.now g × (k < g.m.count) }
     ensures { result ≡ pushed_text work.now g k }
 {
-    2147483648 <= cell(work, g.m.base, k)
+    TextCell(cell(work, g.m.base, k)).is_pushed()
 }

@@ -3,9 +3,15 @@
 // new texts behind the table's records, and the room for replaced items.
 #![tactic(auto)]
 
+ghost use Rattle.std.specs.Prelude.{◌≡◌, ◌+◌, ◌-◌, ◌*◌, ◌^◌, ◌≤◌, ◌<◌};
+ghost use Rattle.expander.specs.Ground.{slot_place, list_place, Grounded};
+
+use grades::words::Words;
 use octets::numbers::Width;
 use texts::Map;
 
+pub mod cells;
+pub mod entries;
 pub mod find;
 pub mod meet;
 pub mod note;
@@ -15,7 +21,9 @@ pub mod stage;
 
 // A round's ground: the texts that it finds, the width of an atom's number in bytes, the unreplaced items from `from` up to `end`, the records of pushed symbols (those
 // of the table of texts: the symbol's place, the hash and the length of its printed form), how many buckets they have, and the slots, eight bytes for each nine of the
-// items. Places are counted from the first item. Tape and work go beside it, as beside a table of texts: most functions write work.
+// items. Places are counted from the first item. Tape and work go beside it, as beside a table of texts: most functions write work. `find` and `meet` only read; written
+// with one value of the three they have two parameters fewer, but clauses that are longer by an eighth (`x.entry.tape.now x.entry.work.now x.entry.g`), and bodies that
+// take it apart again.
 #[derive(Clone, Copy)]
 pub struct Ground {
     pub m: Map,
@@ -25,4 +33,46 @@ pub struct Ground {
     pub keys: usize,
     pub buckets: usize,
     pub slots: usize,
+}
+
+impl Ground {
+    // The texts that can be read, and the width of their numbers.
+    #[tactic(auto, using(crate::proofs::StageReads::grounded_readable))]
+    pub fn words<'a>(self, tape: &'a [u8], work: &'a [u8]) -> Words<'a>
+        requires { Grounded tape.now work.now self }
+        ensures { (result.tape.now ≡ tape.now) × (result.work.now ≡ work.now) × (result.m ≡ self.m) × (result.width ≡ self.width) }
+    {
+        Words {
+            tape,
+            work,
+            m: self.m,
+            width: self.width,
+        }
+    }
+
+    // The place of the slot of the symbol at p.
+    #[tactic(auto, unfolding(crate::specs::Ground::slot_place))]
+    pub fn slot_place(self, p: usize) -> usize
+        requires { slot_place self p < 2 ^ 64 }
+        ensures { result ≡ slot_place self p }
+    {
+        self.slots + 8 * (p / 9)
+    }
+
+    // The place of the i-th entry in the list of new texts, behind the table's records.
+    #[tactic(auto, unfolding(crate::specs::Ground::list_place))]
+    pub fn list_place(self, i: usize) -> usize
+        requires { list_place self i < 2 ^ 64 }
+        ensures { result ≡ list_place self i }
+    {
+        self.m.base + 24 * self.m.count + 8 * i
+    }
+
+    // The place of the word of the i-th built-in text: the nine words stand before the slots.
+    pub fn built_place(self, i: usize) -> usize
+        requires { (72 ≤ self.slots) × (self.slots - 72 + 8 * i < 2 ^ 64) }
+        ensures { result ≡ self.slots - 72 + 8 * i }
+    {
+        self.slots - 72 + 8 * i
+    }
 }

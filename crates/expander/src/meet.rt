@@ -10,7 +10,6 @@ use crate::slots::{Noted, tells};
 use display::Met;
 use display::follow::{Held, inside, meet};
 use display::sink::{before, behind, between};
-use grades::words::Words;
 use octets::numbers::Width;
 use resolve::commands::long;
 use texts::text::text;
@@ -39,21 +38,14 @@ fn known(work: &[u8], g: Ground, at: usize) -> Option<usize>
         return None;
     }
     match tells(work, g, at - g.from) {
-        Noted::Text(k) => { if k < g.m.count { Some(k) } else { None } }
-        Noted::Pushed(_) => None,
+        Noted::Text(k) if k < g.m.count => Some(k),
+        _ => None,
     }
 }
 
 // The symbol at a place, which was noted if it is one that is expanded; `left` levels of nesting are left. None after a difference.
 #[cycle(meet_known_meet_symbol)]
-fn meet_known<'a>(
-    tape: &'a [u8],
-    work: &'a [u8],
-    g: Ground,
-    left: usize,
-    t: &[u8],
-    p: Met,
-) -> Option<Met>
+fn meet_known(tape: &[u8], work: &[u8], g: Ground, left: usize, t: &[u8], p: Met) -> Option<Met>
     requires { Grounded tape.now work.now g × SomeKnown tape.now work.now g left p.at }
     ensures { Follows tape.now work.now g.m g.width.bytes left t.now p result }
 {
@@ -69,9 +61,9 @@ fn meet_known<'a>(
 
 // The symbol at a place, inside which all that are expanded were noted.
 #[cycle(meet_known_meet_symbol)]
-pub fn meet_symbol<'a>(
-    tape: &'a [u8],
-    work: &'a [u8],
+pub fn meet_symbol(
+    tape: &[u8],
+    work: &[u8],
     g: Ground,
     left: usize,
     t: &[u8],
@@ -82,18 +74,12 @@ pub fn meet_symbol<'a>(
 {
     let at = p.at;
     let c = work[at];
-    let words = Words {
-        tape,
-        work,
-        m: g.m,
-        width: g.width,
-    };
-    let n = inside(work, words.width, at, c);
+    let n = inside(work, g.width, at, c);
     let mut held = Held {
         text: t,
         at: Some(p.i),
     };
-    before(&mut held, words, at, c);
+    before(&mut held, g.words(tape, work), at, c);
     let mut q = Met {
         at: at + long(c, g.width),
         i: held.at?,

@@ -11,17 +11,14 @@ use crate::Ground;
 use crate::find::{is_pushed, pending, written};
 use crate::slots::{Noted, put_slot};
 use display::form::Form;
-use texts::fields::write;
+use texts::chain::put_record;
 
 // The symbol at p, whose form is f, as the n-th pushed one.
 fn push(tape: &[u8], work: &mut [u8], g: Ground, n: usize, p: usize, f: Form)
     requires { Grounded tape.now work.old g × Records tape.now work.old g n × (n < size_in g / 9) × KeyAt tape.now work.old g p × (f ≡ text_form (printed_at tape.now work.old g p)) }
     ensures { Pushed tape.now work.old g n p work.new }
 {
-    write(work, g.keys, n, p, f.hash, f.len as u32);
-    if n < 4294967295 {
-        texts::chain::link(work, g.keys, g.buckets, n, f.hash);
-    }
+    put_record(work, g.keys, g.buckets, n, p, f.hash, f.len as u32);
 }
 
 // The symbol at p, which no symbol of this round prints as.

@@ -1,15 +1,14 @@
 // The symbols that are expanded, inner ones first: each is met with its printed form, which is made from those of the symbols inside it. Nothing is written for them yet.
 ghost use Rattle.std.specs.Prelude.{◌≡◌};
-ghost use Rattle.display.specs.Form.{SomeForm};
 ghost use Rattle.expander.specs.Ground.{Grounded};
 ghost use Rattle.expander.specs.Replace.{expanded_code, SomeSymbol, SomeSymbols, ReplacesOne, ReplacesAll};
 
 use crate::Ground;
 use crate::note::note;
 use display::follow::inside;
-use display::form::{Form, join, none};
+use display::form::Form;
+use display::forms::{join, none};
 use display::sink::{before, behind, between};
-use grades::words::Words;
 use resolve::commands::long;
 
 // The place behind symbols, a form with theirs behind, and how many symbols are pushed.
@@ -38,67 +37,56 @@ pub fn replace_symbol(
     n: usize,
 ) -> Keyed
     requires { Grounded tape.now work.old g × SomeSymbol tape.now work.old g left p n }
-    ensures { ReplacesOne tape.now work.old g left p n result work.new × SomeForm result.form }
+    ensures { ReplacesOne tape.now work.old g left p n result work.new }
 {
     let at = g.from + p;
     let c = work[at];
-    let words = Words {
-        tape,
-        work,
-        m: g.m,
-        width: g.width,
-    };
     let mut b = none();
-    before(&mut b, words, at, c);
-    let e = p + long(c, g.width);
-    let k = inside(work, words.width, at, c);
-    let q = replace_symbols(tape, work, g, left - 1, e, k, c, b, n);
+    before(&mut b, g.words(tape, work), at, c);
+    let k = inside(work, g.width, at, c);
+    let q = Keyed {
+        at: p + long(c, g.width),
+        form: b,
+        pile: n,
+    };
+    let q = replace_symbols(tape, work, g, left - 1, k, c, q);
     let mut f = q.form;
     behind(&mut f, work, g.width.bytes, at, c);
-    if is_expanded(c) {
-        return Keyed {
-            at: q.at,
-            form: f,
-            pile: note(tape, work, g, q.pile, p, f),
-        };
-    }
     Keyed {
         at: q.at,
         form: f,
-        pile: q.pile,
+        pile: if is_expanded(c) {
+            note(tape, work, g, q.pile, p, f)
+        } else {
+            q.pile
+        },
     }
 }
 
-// k symbols, straight inside a command of the code c; their forms come behind f.
+// k symbols, straight inside a command of the code c; their forms come behind that of q.
 #[cycle(replace_symbol_replace_symbols)]
 pub fn replace_symbols(
     tape: &[u8],
     work: &mut [u8],
     g: Ground,
     left: usize,
-    p: usize,
     k: usize,
     c: u8,
-    f: Form,
-    n: usize,
+    q: Keyed,
 ) -> Keyed
-    requires { Grounded tape.now work.old g × SomeSymbols tape.now work.old g k left p n × SomeForm f }
-    ensures { ReplacesAll tape.now work.old g k left p c f n result work.new × SomeForm result.form }
+    requires { Grounded tape.now work.old g × SomeSymbols tape.now work.old g k left q.at q.pile }
+    ensures { ReplacesAll tape.now work.old g k left q.at c q.form q.pile result work.new }
 {
-    let mut q = Keyed {
-        at: p,
-        form: f,
-        pile: n,
-    };
+    let mut r = q;
     for i in 0..k {
-        let x = replace_symbol(tape, work, g, left, q.at, q.pile);
-        let mut f = q.form;
+        let x = replace_symbol(tape, work, g, left, r.at, r.pile);
+        let mut f = r.form;
         between(&mut f, c, i);
-        q = Keyed {
+        r = Keyed {
             at: x.at,
             form: join(f, x.form),
             pile: x.pile,
         };
     }
-    q
+    r
 }

@@ -1,5 +1,5 @@
 // Slots: what is known of a symbol that is expanded, by its place; and the numbers of texts.
-ghost use Rattle.std.specs.Prelude.{◌≡◌, ◌+◌, ◌*◌, ◌^◌, ◌≤◌, ◌<◌, length};
+ghost use Rattle.std.specs.Prelude.{◌≡◌, ◌+◌, ◌*◌, ◌%◌, ◌^◌, ◌≤◌, ◌<◌, length};
 ghost use Rattle.octets.specs.Plain.Numbers.{le};
 ghost use Rattle.octets.specs.Working.Stores.{store};
 ghost use Rattle.expander.specs.Ground.{slot_code, slot_place, slot_at, list_place, Grounded};
@@ -7,6 +7,7 @@ ghost use Rattle.expander.specs.Held.{followed, Followable, Numbers};
 ghost use Rattle.expander.specs.Names.{SomeNamed, NameRoom, NamesOne};
 
 use crate::Ground;
+use crate::entries::{NewText, put_entry};
 use octets::numbers::{store64, u64_at};
 use texts::fields::mark;
 
@@ -15,6 +16,15 @@ use texts::fields::mark;
 pub struct Numbered {
     pub number: usize,
     pub count: usize,
+}
+
+impl Numbered {
+    // The number as an atom has it: only its lowest two or three bytes are written.
+    pub fn atom(self) -> u32
+        ensures { result ≡ self.number % 4294967296 }
+    {
+        (self.number % 4294967296) as u32
+    }
 }
 
 // What a slot tells: the number of the symbol's text, or of the record of a pushed symbol that prints so.
@@ -36,11 +46,12 @@ fn code(x: Noted) -> usize
 }
 
 // What the slot of the symbol at a place tells.
+#[tactic(auto, unfolding(crate::specs::Ground::slot_at))]
 pub fn tells(work: &[u8], g: Ground, p: usize) -> Noted
     requires { slot_place g p + 8 ≤ length work.now }
     ensures { slot_code result ≡ slot_at work.now g p }
 {
-    let v = u64_at(work, g.slots + 8 * (p / 9)) as usize;
+    let v = u64_at(work, g.slot_place(p)) as usize;
     if v % 2 == 0 {
         Noted::Text(v / 2)
     } else {
@@ -52,7 +63,7 @@ pub fn put_slot(work: &mut [u8], g: Ground, p: usize, x: Noted)
     requires { (slot_place g p + 8 ≤ length work.old) × (slot_code x < 2 ^ 64) }
     ensures { work.new ≡ store work.old (slot_place g p) (le 8 (slot_code x)) }
 {
-    store64(work, g.slots + 8 * (p / 9), code(x) as u64);
+    store64(work, g.slot_place(p), code(x) as u64);
 }
 
 // What the slot of the symbol at a place tells, or that of the pushed one that it refers to.
@@ -67,11 +78,12 @@ pub fn reference(work: &[u8], g: Ground, p: usize) -> Noted
 }
 
 // The text of the j-th pushed symbol, which stands at q, is the c-th new one.
+#[tactic(auto, unfolding(crate::specs::Ground::list_place))]
 fn put_new(work: &mut [u8], g: Ground, c: usize, j: usize, q: usize)
     requires { (list_place g c + 8 ≤ length work.old) × (slot_place g q + 8 ≤ length work.old) × (24 * j ≤ length work.old) }
     ensures { work.new ≡ store (store work.old (list_place g c) (le 8 (2 * j))) (slot_place g q) (le 8 (2 * (g.m.count + c))) }
 {
-    store64(work, g.m.base + 24 * g.m.count + 8 * c, (2 * j) as u64);
+    put_entry(work, g, c, NewText::Print(j));
     put_slot(work, g, q, Noted::Text(g.m.count + c));
 }
 

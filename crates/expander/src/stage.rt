@@ -2,14 +2,15 @@
 // definitions of macros are left out.
 ghost use Rattle.std.specs.Prelude.{◌≡◌, ◌+◌, ◌≤◌, ◌<◌, length};
 ghost use Rattle.expander.specs.Ground.{size_in, Grounded};
-ghost use Rattle.expander.specs.Stage.{command_long, item_code, macro_at, name_code, left_at, RoomFor, SomeHops, Skips, SomeKeyed, PutsKeyed, SomeWalk, Copies, SomeTurn, Turns, SomeStage, Stages};
+ghost use Rattle.parse_tree.specs.Working.Nodes.{code_size};
+ghost use Rattle.expander.specs.Stage.{item_code, macro_at, name_code, left_at, RoomFor, SomeHops, Skips, SomeKeyed, PutsKeyed, SomeWalk, Copies, SomeTurn, Turns, SomeStage, Stages};
 
 use crate::Ground;
 use crate::replace::{Keyed, is_expanded, replace_symbol};
 use crate::slots::number;
 use octets::numbers::{Width, u64_at};
+use parse_tree::size::size_by_code;
 use precedence::write::{copy_within, put_nonterminal};
-use resolve::commands::long;
 
 // Where the run stands: the place to read on at, the place to write on at, how many symbols are pushed, how many texts are new.
 #[derive(Clone, Copy)]
@@ -20,19 +21,6 @@ pub struct Replaced {
     pub count: usize,
 }
 
-// How long a command is, by its code.
-pub fn command_long(c: u8, width: Width) -> usize
-    ensures { (result ≡ command_long width.bytes c) × (0 < result) × (result ≤ 17) }
-{
-    match c {
-        16 => 13 + width.bytes,
-        17 => 1 + width.bytes,
-        48 => 9 + width.bytes,
-        49 => 9 + width.bytes,
-        _ => long(c, width),
-    }
-}
-
 // Whether an item begins with this code.
 pub fn is_item(c: u8) -> bool
     ensures { result ≡ item_code c }
@@ -40,16 +28,17 @@ pub fn is_item(c: u8) -> bool
     matches!(c, 16 | 48..=49)
 }
 
-// Whether the definition of a macro begins at a place of work, where a command of the code c stands.
+// Whether the definition of a macro begins at a place of work, where a command of the code c stands. One field, read by its place: a reader would read the whole command.
 fn is_macro(work: &[u8], width: Width, at: usize, c: u8) -> bool
-    requires { at + command_long width.bytes c ≤ length work.now }
+    requires { at + code_size width.bytes c ≤ length work.now }
     ensures { result ≡ macro_at width.bytes work.now at c }
 {
     c == 16 && 0 < work[at + 10 + width.bytes]
 }
 
 // The place of the next item from p on, or the end.
-fn next_item<'a>(tape: &'a [u8], work: &'a [u8], g: Ground, p: usize) -> usize
+// A loop, here and in `run_end` and `replace_items`: what is read at a place decides where the next turn begins, so an iterator of commands would be this loop with its place in a struct.
+fn next_item(tape: &[u8], work: &[u8], g: Ground, p: usize) -> usize
     requires { Grounded tape.now work.now g × SomeHops work.now g p }
     ensures { Skips work.now g p result }
 {
@@ -60,16 +49,16 @@ fn next_item<'a>(tape: &'a [u8], work: &'a [u8], g: Ground, p: usize) -> usize
         if is_item(c) {
             return q;
         }
-        q += command_long(c, g.width);
+        q += size_by_code(c, g.width);
     }
     q
 }
 
-// Whether a command of this code is a span and a name: most are, so this is asked first. A `match` would be taken together with those behind it.
+// Whether a command of this code is a span and a name: most are, so this is asked first.
 fn is_name(c: u8) -> bool
     ensures { result ≡ name_code c }
 {
-    32 <= c && c <= 36
+    matches!(c, 32..=36)
 }
 
 // Whether what begins at a place of work with the code c is not copied as it stands.
@@ -81,7 +70,7 @@ fn is_left(work: &[u8], width: Width, at: usize, c: u8) -> bool
 }
 
 // The place behind the commands from p on that are copied: of a symbol that is expanded, of the definition of a macro, or the end.
-fn run_end<'a>(tape: &'a [u8], work: &'a [u8], g: Ground, p: usize) -> usize
+fn run_end(tape: &[u8], work: &[u8], g: Ground, p: usize) -> usize
     requires { Grounded tape.now work.now g × SomeWalk tape.now work.now g p }
     ensures { Copies tape.now work.now g p result }
 {
@@ -95,7 +84,7 @@ fn run_end<'a>(tape: &'a [u8], work: &'a [u8], g: Ground, p: usize) -> usize
             if is_left(work, g.width, g.from + q, c) {
                 return q;
             }
-            q += command_long(c, g.width);
+            q += size_by_code(c, g.width);
         }
     }
     q
@@ -108,7 +97,7 @@ fn put_key(tape: &[u8], work: &mut [u8], g: Ground, r: Replaced, k: Keyed) -> Re
 {
     let x = number(tape, work, g, k.pile, r.count, r.at);
     let span = u64_at(work, g.from + r.at + 1);
-    put_nonterminal(work, span, (x.number % 4294967296) as u32, g.width, r.to);
+    put_nonterminal(work, span, x.atom(), g.width, r.to);
     Replaced {
         at: k.at,
         to: r.to + 9 + g.width.bytes,
@@ -142,7 +131,7 @@ fn replace_next(tape: &[u8], work: &mut [u8], g: Ground, r: Replaced) -> Replace
         let k = replace_symbol(tape, work, g, 64, r.at, r.pile);
         return put_key(tape, work, g, r, k);
     }
-    let n = command_long(c, g.width);
+    let n = size_by_code(c, g.width);
     if is_macro(work, g.width, at, c) {
         return Replaced {
             at: next_item(tape, work, g, r.at + n),

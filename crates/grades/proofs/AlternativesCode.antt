@@ -1,14 +1,14 @@
 -- Grading all alternatives, and the lowest level: the ways out of the code. Assumes nothing.
-use mathlib.Core.Path.{◌≡◌, refl, sym, ◌∙◌}
+use mathlib.Core.Path.{◌≡◌, refl, sym, ap, ◌∙◌}
 use mathlib.Core.Bool.{Bool, true, false, not}
 use mathlib.Core.Logic.{inl, inr}
 use mathlib.Core.List.{List}
-use Prim.Native.Nat.{ℕ, suc, ◌+◌, ◌-◌, ◌*◌, ◌/◌, ◌%◌, ◌≤◌, ◌<◌}
+use Prim.Native.Nat.{ℕ, zero, suc, ◌+◌, ◌-◌, ◌*◌, ◌/◌, ◌%◌, ◌≤◌, ◌<◌}
 use native.Mathlib.Omega.{arith}
 use native.Mathlib.Nat.{mul_comm}
 use borrow.Author.Rules.{rules}
-use borrow.Author.Tests.{not-true, not-false, lt-ltb, le-ltb, le-leb, lt-leb, leb-false, eq-eqb, ne_eqb}
-use denote.Enum.Declared.{tag_of}
+use borrow.Author.Tests.{not-true, not-false, lt-ltb, le-ltb, le-leb, lt-leb, leb-false}
+use denote.Enum.Bare.{sameb}
 use lib.Dec.{eqb, leb, ltb}
 use lib.ListN.{length, get_or}
 use Rattle.std.specs.Prelude.{Option, Some, None, Result, Ok, Err}
@@ -19,6 +19,7 @@ use Rattle.octets.proofs.ChoiceLaws.{by_pick}
 use Rattle.octets.proofs.NumbersLaws.{length-le}
 use Rattle.octets.proofs.StoreLaws.{length_store, get_d_store_before, get_d_store_after}
 use Rattle.parse_tree.specs.Plain.Tree.{Text}
+use Rattle.parse_tree.specs.declared.refusal.Question.{Question}
 use Rattle.texts.specs.declared.Map.{Map}
 use Rattle.texts.specs.Table.{Above, Agree, texts}
 use Rattle.resolve.specs.Whole.{Apart}
@@ -28,48 +29,35 @@ use Rattle.grades.specs.declared.Graded.{Graded}
 use Rattle.grades.specs.declared.Ungraded.{Ungraded}
 use Rattle.grades.specs.declared.Ids.{Ids}
 use Rattle.grades.specs.Annotations.{attributes_long, attributes_end, conditions_from, symbols_from, alternative_end}
-use Rattle.grades.specs.Grading.{Worded, graded_at, ReadsGrade}
+use Rattle.grades.specs.Grading.{Worded, graded_at}
+use Rattle.grades.specs.Key.{grade_key, key_side}
 use Rattle.grades.specs.Sort.{level_at}
-use Rattle.grades.specs.Alternatives.{side_number, grade_key, graded_there, next_grade, stored_grade, OffTable, Gradable, grade_then, grade_from, Grades, still_ascends, place_of_key, lowest_from}
+use Rattle.grades.specs.Alternatives.{graded_there, next_grade, stored_grade, OffTable, Gradable, grade_then, grade_from, Grades, still_ascends, place_of_key, lowest_from}
 use Rattle.grades.proofs.WordedLaws.{worded_stays}
-
--- ---- a side in a key: the number of its variant
-tagged : (s : Assoc) → tag_of assoc_type s ≡ side_number s
-unfolding side_number
-tagged Assoc.Left = refl
-tagged Assoc.Right = refl
-tagged Assoc.NonAssoc = refl
-tagged Assoc.FullyAssoc = refl
-
-pub tag_small : (s : Assoc) → tag_of assoc_type s < 4
-tag_small Assoc.Left = omega arith
-tag_small Assoc.Right = omega arith
-tag_small Assoc.NonAssoc = omega arith
-tag_small Assoc.FullyAssoc = omega arith
 
 -- ---- next_grade
 module _ (wd : ℕ) (ids : Ids) (ts : List Text) (w : List ℕ) (at e level : ℕ) (side : Assoc) where
-  pub next-none : e ≤ at → ReadsGrade (next_grade wd ids ts w at e level side) (Err (record { question = None; at = at }))
+  pub next-none : e ≤ at → Err (record { question = None; at = at }) ≡ next_grade wd ids ts w at e level side
   unfolding next_grade pick
-  next-none h = record { answered = cc (le-leb e at h); small = tt }
+  next-none h = cc (le-leb e at h)
 
   module _ (h : at < e) (x : ℕ) (q : x ≡ symbols_from wd w at) where
-    pub next_short : e < x → ReadsGrade (next_grade wd ids ts w at e level side) (Err (record { question = None; at = at }))
+    pub next_short : e < x → Err (record { question = None; at = at }) ≡ next_grade wd ids ts w at e level side
     unfolding next_grade pick
-    next_short l = record { answered = cc (lt-leb e at h, lt-ltb e x l); small = tt }
+    next_short l = cc (lt-leb e at h, lt-ltb e x l)
 
-    there : x ≤ e → next_grade wd ids ts w at e level side ≡ graded_there at (graded_at wd ids ts w at level side)
-    unfolding next_grade pick
-    there l = cc (lt-leb e at h, le-ltb e x l)
+    module _ (l : x ≤ e) (r : Result Graded Question) (g : r ≡ graded_at wd ids ts w at level side) where
+      there : graded_there at r ≡ next_grade wd ids ts w at e level side
+      unfolding next_grade pick
+      there = cc (lt-leb e at h, le-ltb e x l)
 
-    module _ (l : x ≤ e) (r : Result Graded ℕ) (g : ReadsGrade (graded_at wd ids ts w at level side) r) where
-      pub next_there : (k : Graded) → r ≡ Ok k → ReadsGrade (next_grade wd ids ts w at e level side) (Ok k)
+      pub next_there : (k : Graded) → r ≡ Ok k → Ok k ≡ next_grade wd ids ts w at e level side
       unfolding graded_there
-      next_there k z = record { answered = sym (there l ∙ cc (g.answered, z)); small = rw z at g.small }
+      next_there k z = cc there
 
-      pub next_fails : (q : ℕ) → r ≡ Err q → ReadsGrade (next_grade wd ids ts w at e level side) (Err (record { question = Some q; at = at }))
+      pub next_fails : (q : Question) → r ≡ Err q → Err (record { question = Some q; at = at }) ≡ next_grade wd ids ts w at e level side
       unfolding graded_there
-      next_fails q z = record { answered = sym (there l ∙ cc (g.answered, z)); small = tt }
+      next_fails q z = cc there
 
 before-ends : (wd : ℕ) (w : List ℕ) (at : ℕ) → attributes_end wd w at ≤ symbols_from wd w at
 unfolding symbols_from conditions_from attributes_long
@@ -81,12 +69,12 @@ next_fits wd w at e x q l k = omega (arith, before-ends wd w at)
 pub ruleset nexting = (rules, next-none, next_short, next_there, next_fails, next_fits)
 
 -- ---- put_grade
-pub put_is : (w w1 w2 : List ℕ) (places keys i at level : ℕ) (side : Assoc) → w1 ≡ store w (places + 8 * i) (le 8 at) → w2 ≡ store w1 (keys + 8 * i) (le 8 ((level * 65536 + i) * 4 + tag_of assoc_type side))
+pub put_is : (w w1 w2 : List ℕ) (places keys i at level k : ℕ) (side : Assoc) → k ≡ grade_key level i side → w1 ≡ store w (places + 8 * i) (le 8 at) → w2 ≡ store w1 (keys + 8 * i) (le 8 k)
     → w2 ≡ stored_grade w places keys i at level side
-unfolding stored_grade grade_key
-put_is w w1 w2 places keys i at level side b c = cc (tagged side)
+unfolding stored_grade
+put_is w w1 w2 places keys i at level k side a b c = cc
 
-pub ruleset putting_grades = (rules, tag_small, put_is)
+pub ruleset putting_grades = (rules, put_is)
 
 -- ---- ascends
 pub ascends_not : (b : Bool) (level v : ℕ) → v < level → false ≡ still_ascends b level v
@@ -155,7 +143,6 @@ pub record Walking (s w₀ : List ℕ) (m : Map) (wd : ℕ) (ids : Ids) (places 
   pub narrow : 2 ≤ wd
   pub wide : wd ≤ 3
   pub gradable : Gradable s w m places keys n e
-  pub small : level < 4294967296
   pub left : ℕ
   pub many : i + left ≡ n
   pub same : length w ≡ length w₀
@@ -163,10 +150,7 @@ pub record Walking (s w₀ : List ℕ) (m : Map) (wd : ℕ) (ids : Ids) (places 
 
 pub walk_start : (s w : List ℕ) (m : Map) (wd : ℕ) (ids : Ids) (places keys n at e : ℕ) → 2 ≤ wd → wd ≤ 3 → Gradable s w m places keys n e
     → Walking s w m wd ids places keys n at e w at 0 0 Assoc.FullyAssoc true
-walk_start s w m wd ids places keys n at e h k g = record { narrow = h; wide = k; gradable = g; small = omega arith; left = n; many = omega arith; same = refl; carry = refl }
-
-pub read_small : (x r : Result Graded Ungraded) → ReadsGrade x r → (k : Graded) → r ≡ Ok k → k.level < 4294967296
-read_small x r f k q = let z = f.small in rw q at z
+walk_start s w m wd ids places keys n at e h k g = record { narrow = h; wide = k; gradable = g; left = n; many = omega arith; same = refl; carry = refl }
 
 -- what was read stands before e
 abbrev IsBefore : ℕ → ℕ → Result Graded Ungraded → Type 0
@@ -177,13 +161,13 @@ any_before : (p e : ℕ) (r : Result Graded Ungraded) → p < e → IsBefore p e
 any_before p e (Ok k) h = h
 any_before p e (Err q) h = tt
 
-module _ (wd : ℕ) (ids : Ids) (ts : List Text) (w : List ℕ) (p e level : ℕ) (side : Assoc) (r : Result Graded Ungraded) (f : ReadsGrade (next_grade wd ids ts w p e level side) r) (k : Graded) (q : r ≡ Ok k) where
+module _ (wd : ℕ) (ids : Ids) (ts : List Text) (w : List ℕ) (p e level : ℕ) (side : Assoc) (r : Result Graded Ungraded) (f : r ≡ next_grade wd ids ts w p e level side) (k : Graded) (q : r ≡ Ok k) where
   next_before : IsBefore p e (next_grade wd ids ts w p e level side)
   unfolding next_grade
   next_before = by_pick (IsBefore p e) (leb e p) (λ h. tt) (λ h. any_before p e (pick (ltb e (symbols_from wd w p)) (Err (record { question = None; at = p })) (graded_there p (graded_at wd ids ts w p level side))) (leb-false e p h))
 
   pub read_before : p < e
-  read_before = let z : IsBefore p e r = rw f.answered next_before in rw q at z
+  read_before = let z : IsBefore p e r = rw f next_before in rw q at z
 
 module _ (s w₀ : List ℕ) (m : Map) (wd : ℕ) (ids : Ids) (places keys n at e : ℕ) (w : List ℕ) (p i level : ℕ) (side : Assoc) (b : Bool)
     (g : Walking s w₀ m wd ids places keys n at e w p i level side b) where
@@ -213,10 +197,10 @@ module _ (s w₀ : List ℕ) (m : Map) (wd : ℕ) (ids : Ids) (places keys n at 
     one : g.left ≡ suc (g.left - 1)
     one = omega (arith, g.many)
 
-    module _ (r : Result Graded Ungraded) (f : ReadsGrade (next_grade wd ids (texts s w m) w p e level side) r) where
+    module _ (r : Result Graded Ungraded) (f : r ≡ next_grade wd ids (texts s w m) w p e level side) where
       pub walk_refused : (u : Ungraded) → r ≡ Err u → Grades (grade_from wd ids s m e places keys n 0 at 0 Assoc.FullyAssoc true w₀) (Err u) w
       unfolding grade_from grade_then
-      walk_refused u z = record { is = sym g.carry ∙ cc (one, f.answered, z) }
+      walk_refused u z = record { is = sym g.carry ∙ cc (one, f, z) }
 
       module _ (k : Graded) (z : r ≡ Ok k) (end : ℕ) (a : end ≡ alternative_end wd w p e) (w1 : List ℕ) (o : w1 ≡ stored_grade w places keys i p k.level k.side) where
         pub walk_same : length w1 ≡ length w₀
@@ -228,14 +212,13 @@ module _ (s w₀ : List ℕ) (m : Map) (wd : ℕ) (ids : Ids) (places keys n at 
           narrow = g.narrow;
           wide = g.wide;
           gradable = rw o (gradable_stays s w m places keys n e g.gradable i p k.level k.side h);
-          small = read_small (next_grade wd ids (texts s w m) w p e level side) r f k z;
           left = g.left - 1;
           many = omega (arith, g.many);
           same = walk_same;
-          carry = cc (one, f.answered, z, a, o, j) ∙ g.carry;
+          carry = cc (one, f, z, a, o, j) ∙ g.carry;
         }
 
-pub ruleset walking = (rules, walk_start, read_small, read_before, walk_worded, walk_inside, walk_last, walk_done, walk_few, walk_place, walk_key, walk_refused, walk_same, walk-next)
+pub ruleset walking = (rules, walk_start, read_before, walk_worded, walk_inside, walk_last, walk_done, walk_few, walk_place, walk_key, walk_refused, walk_same, walk-next)
 
 -- ---- place_of
 module _ (w : List ℕ) (places n k i : ℕ) (e : i ≡ k / 4 % 65536) where
@@ -250,6 +233,22 @@ module _ (w : List ℕ) (places n k i : ℕ) (e : i ≡ k / 4 % 65536) where
 pub ruleset placing = (rules, place_there, place_none)
 
 -- ---- lowest: what is left from i on says the whole
+not_twice : (b : Bool) → not (not b) ≡ b
+not_twice true = refl
+not_twice false = refl
+
+-- a key's side is FullyAssoc where its last number is 3
+side_all : (k : ℕ) → sameb assoc_type (key_side k) Assoc.FullyAssoc ≡ eqb (k % 4) 3
+unfolding key_side pick
+side_all k = go (k % 4) (omega arith)
+  where
+    go : (m : ℕ) → m < 4 → sameb assoc_type (pick (eqb m 0) Assoc.Left (pick (eqb m 1) Assoc.Right (pick (eqb m 2) Assoc.NonAssoc Assoc.FullyAssoc))) Assoc.FullyAssoc ≡ eqb m 3
+    go zero h = refl
+    go (suc zero) h = refl
+    go (suc (suc zero)) h = refl
+    go (suc (suc (suc zero))) h = refl
+    go (suc (suc (suc (suc n)))) h = absurd (omega arith)
+
 pub record Lowering (w : List ℕ) (keys places n i : ℕ) : Type 0 where
   pub left : ℕ
   pub many : i + left ≡ n
@@ -271,13 +270,16 @@ module _ (w : List ℕ) (keys places n i : ℕ) (g : Lowering w keys places n i)
     unfolding lowest_from pick
     low_other z = cc (low_one, q, not-true c z) ∙ g.rest
 
-    module _ (z : not c ≡ false) (k : ℕ) (l : k ≡ le_at 8 w (keys + 8 * i)) where
-      pub low_place : (k % 4 ≡ 3 → ⊥) → (r : Option ℕ) → r ≡ place_of_key w places n k → r ≡ lowest_from w keys places n 0 n
-      unfolding lowest_from pick
-      low_place x r o = cc (low_one, q, not-false c z, ne_eqb (k % 4) 3 x, l, o) ∙ g.rest
+    module _ (z : not c ≡ false) (k : ℕ) (l : k ≡ le_at 8 w (keys + 8 * i)) (s : Assoc) (t : s ≡ key_side k) (y : Bool) (x : y ≡ not (sameb assoc_type s Assoc.FullyAssoc)) where
+      low_side : not y ≡ eqb (k % 4) 3
+      low_side = ap not x ∙ not_twice (sameb assoc_type s Assoc.FullyAssoc) ∙ ap (λ (a : Assoc). sameb assoc_type a Assoc.FullyAssoc) t ∙ side_all k
 
-      pub low_next : k % 4 ≡ 3 → Lowering w keys places n (i + 1)
+      pub low_place : y ≡ true → (r : Option ℕ) → r ≡ place_of_key w places n k → r ≡ lowest_from w keys places n 0 n
       unfolding lowest_from pick
-      low_next x = record { left = g.left - 1; many = omega (arith, g.many); rest = cc (low_one, q, not-false c z, eq-eqb (k % 4) 3 x, l) ∙ g.rest }
+      low_place u r o = cc (low_one, q, not-false c z, sym low_side ∙ ap not u, l, o) ∙ g.rest
+
+      pub low_next : y ≡ false → Lowering w keys places n (i + 1)
+      unfolding lowest_from pick
+      low_next u = record { left = g.left - 1; many = omega (arith, g.many); rest = cc (low_one, q, not-false c z, sym low_side ∙ ap not u, l) ∙ g.rest }
 
 pub ruleset lowering = (rules, low_start, low_done, low_other, low_place, low_next)

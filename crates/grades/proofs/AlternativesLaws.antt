@@ -17,7 +17,8 @@ use Rattle.parse_tree.specs.Plain.Tree.{Text}
 use Rattle.passes.specs.Grades.{is_digit, digits, unsigned, level_in, level_of}
 use Rattle.resolve.specs.Whole.{Apart}
 use Rattle.grades.specs.declared.Assoc.{Assoc}
-use Rattle.grades.specs.Alternatives.{grade_key, stored_grade}
+use Rattle.grades.specs.Key.{grade_key}
+use Rattle.grades.specs.Alternatives.{stored_grade}
 
 -- ---- levels
 abbrev Small : Option ℕ → Type 0

@@ -6,8 +6,8 @@ use Prim.Native.Nat.{ℕ, suc, ◌+◌, ◌*◌, ◌^◌, ◌<◌, ◌≤◌}
 use native.Mathlib.Omega.{arith}
 use native.Mathlib.Nat.{mul_comm, mul-suc}
 use borrow.Author.Tests.{ne_eqb}
-use lib.Dec.{ltb}
 use lib.ListN.{length, get_or, length-append}
+use Rattle.std.specs.Prelude.{is_some}
 use Rattle.octets.specs.Working.Choice.{pick}
 use Rattle.octets.specs.Plain.Numbers.{le_at, le}
 use Rattle.octets.specs.Plain.Runs.{Lies}
@@ -22,14 +22,15 @@ use Rattle.parse_tree.specs.Working.Encode.{action_code, action_text, alternativ
 use Rattle.parse_tree.specs.Working.Within.{Each, AlternativeWithin, NonterminalWithin, SpanWithin}
 use Rattle.parse_tree.proofs.FieldLaws.{byte_read, span_read}
 use Rattle.parse_tree.proofs.SpanLaws.{length_span}
+use Rattle.texts.specs.Table.{found_in}
 use Rattle.passes.specs.Grades.{precedence, assoc, value_of, is_given, starts_annotated, annotated}
 use Rattle.laws.proofs.Flat.{syms_fit_lem}
 use Rattle.resolve.proofs.GrammarLaws.{Headed, headed, terminal_headed}
 use Rattle.grades.specs.Skip.{skip_out}
-use Rattle.grades.specs.Ids.{id_of, ids_in}
+use Rattle.grades.specs.Ids.{ids_in}
 use Rattle.grades.specs.Annotations.{attributes_long, attributes_end, first_with, annotated_at, HeadInside, first_alternative, has_prec_attr, conditions_from, symbols_from, alternative_end}
 use Rattle.grades.proofs.SkipMean.{skip-means}
-use Rattle.grades.proofs.AnnotationsMean.{Value, attributes_long_lem, value_means}
+use Rattle.grades.proofs.AnnotationsMean.{Value, attributes_long_lem, value_means, value_given}
 
 module _ (four : Bool) (wd : ℕ) (ts : List Text) where
   -- ---- an alternative
@@ -102,13 +103,13 @@ module _ (four : Bool) (wd : ℕ) (ts : List Text) where
     pub level : Value four wd ts w (p + 14 + wd) precedence a.attributes
     pub side : Value four wd ts w (p + 14 + wd) assoc a.attributes
 
-  pub alternative_means : wd ≤ 3 → (w : List ℕ) (p e : ℕ) (a : Alternative) (more : List ℕ) → AlternativeWithin four wd ts a → Lies w p (alternative_bytes wd ts a ++ more) e → Annotations w p a
-  alternative_means narrow w p e a more h l =
+  pub alternative_means : (w : List ℕ) (p e : ℕ) (a : Alternative) (more : List ℕ) → AlternativeWithin four wd ts a → Lies w p (alternative_bytes wd ts a ++ more) e → Annotations w p a
+  alternative_means w p e a more h l =
       let r = alternative_read w p e a more h l in
       record {
         many = r.many;
-        level = value_means four wd ts narrow w (p + 14 + wd) _ precedence a.attributes h.attributes r.lies;
-        side = value_means four wd ts narrow w (p + 14 + wd) _ assoc a.attributes h.attributes r.lies;
+        level = value_means four wd ts w (p + 14 + wd) _ precedence a.attributes h.attributes r.lies;
+        side = value_means four wd ts w (p + 14 + wd) _ assoc a.attributes h.attributes r.lies;
       }
 
   pick-or : (b c : Bool) → pick b true c ≡ (b || c)
@@ -119,10 +120,10 @@ module _ (four : Bool) (wd : ℕ) (ts : List Text) where
   pub annotated-means : (w : List ℕ) (p : ℕ) (a : Alternative) → Annotations w p a → annotated_at wd (ids_in ts) w p ≡ (is_given (value_of precedence a.attributes) || is_given (value_of assoc a.attributes))
   unfolding annotated_at
   annotated-means w p a r =
-      let i : ltb (first_with wd (id_of ts precedence) w (p + 14 + wd) (length a.attributes)) (length a.attributes) ≡ is_given (value_of precedence a.attributes) =
-      ap (λ (k : ℕ). ltb k (length a.attributes)) r.level.index ∙ r.level.given in
-      let j : ltb (first_with wd (id_of ts assoc) w (p + 14 + wd) (length a.attributes)) (length a.attributes) ≡ is_given (value_of assoc a.attributes) =
-      ap (λ (k : ℕ). ltb k (length a.attributes)) r.side.index ∙ r.side.given in
+      let i : is_some (first_with wd (found_in ts precedence) w (p + 14 + wd) (length a.attributes)) ≡ is_given (value_of precedence a.attributes) =
+      ap is_some r.level.index ∙ value_given four wd ts w (p + 14 + wd) precedence a.attributes r.level in
+      let j : is_some (first_with wd (found_in ts assoc) w (p + 14 + wd) (length a.attributes)) ≡ is_given (value_of assoc a.attributes) =
+      ap is_some r.side.index ∙ value_given four wd ts w (p + 14 + wd) assoc a.attributes r.side in
       rw (r.many, i, j) (pick-or (is_given (value_of precedence a.attributes)) (is_given (value_of assoc a.attributes)))
 
   -- ---- an item
@@ -149,16 +150,16 @@ module _ (four : Bool) (wd : ℕ) (ts : List Text) where
   an_alternative w at n p h k l = cc (ne_eqb (le_at 2 w (at + 11 + wd)) 0 (λ z. absurd (omega (arith, k, z))))
 
   -- theorem: it is annotated as Grades says
-  pub has-means : wd ≤ 3 → (w : List ℕ) (at e : ℕ) (d : Nonterminal) → NonterminalWithin four wd ts d → Lies w at (item_bytes wd ts (item d)) e → has_prec_attr wd (ids_in ts) w at ≡ annotated d
+  pub has-means : (w : List ℕ) (at e : ℕ) (d : Nonterminal) → NonterminalWithin four wd ts d → Lies w at (item_bytes wd ts (item d)) e → has_prec_attr wd (ids_in ts) w at ≡ annotated d
   unfolding bytes_of_each
-  has-means narrow w at e d h l = let g = headed four w wd ts at d e h l in go d.alternatives h.alternatives g.many g.alternatives g
+  has-means w at e d h l = let g = headed four w wd ts at d e h l in go d.alternatives h.alternatives g.many g.alternatives g
     where
       go : (xs : List Alternative) → Each (AlternativeWithin four wd ts) xs → le_at 2 w (at + 11 + wd) ≡ length xs
           → Lies w (at + 13 + wd + length (bytes_of_each (argument_bytes wd ts) d.args)) (bytes_of_each (alternative_bytes wd ts) xs) e → Headed w wd ts at d e → has_prec_attr wd (ids_in ts) w at ≡ starts_annotated xs
       go [] y k m g = no_alternative w at g.code k
       go (a ∷ rest) y k m g =
           an_alternative w at (length rest) _ g.code k (first_means w at e d g)
-          ∙ annotated-means w _ a (alternative_means narrow w _ e a (bytes_of_each (alternative_bytes wd ts) rest) y.0 m)
+          ∙ annotated-means w _ a (alternative_means w _ e a (bytes_of_each (alternative_bytes wd ts) rest) y.0 m)
 
   -- and what the code asks of work holds
   pub head_inside : (w : List ℕ) (at e : ℕ) (d : Nonterminal) → NonterminalWithin four wd ts d → Lies w at (item_bytes wd ts (item d)) e → at + 16 ≤ length w → HeadInside wd w at

@@ -22,6 +22,8 @@ use Rattle.parse_tree.specs.Working.Nodes.{node_bytes, span_bytes, span_in}
 use Rattle.parse_tree.specs.Working.Encode.{alternative_node, alternative_bytes}
 use Rattle.parse_tree.specs.Working.Within.{Each, AlternativeWithin}
 use Rattle.parse_tree.proofs.FieldLaws.{byte_read, span_read}
+use Rattle.parse_tree.specs.declared.refusal.Question.{Question}
+use Rattle.parse_tree.specs.Working.Refusals.{number_of}
 use Rattle.texts.specs.declared.Map.{Map}
 use Rattle.texts.specs.Table.{texts}
 use Rattle.texts.proofs.TableStays.{le_at-agree}
@@ -38,9 +40,10 @@ use Rattle.grades.specs.Grade.{assoc_of}
 use Rattle.grades.specs.Ids.{ids_in}
 use Rattle.grades.specs.Sort.{keys_at}
 use Rattle.grades.specs.Grading.{graded_as}
-use Rattle.grades.specs.Alternatives.{ungraded_as, grade_key, graded_there, next_grade, stored_grade, Gradable, GradesOut, grades_out, grade_then, grade_from, Grades, still_ascends}
+use Rattle.grades.specs.Key.{grade_key}
+use Rattle.grades.specs.Alternatives.{ungraded_as, graded_there, next_grade, stored_grade, Gradable, GradesOut, grades_out, grade_then, grade_from, Grades, still_ascends}
 use Rattle.grades.proofs.AlternativesMean.{AlternativeAt, alternative_read, end_means}
-use Rattle.grades.proofs.GradingMean.{grade_says, graded-means}
+use Rattle.grades.proofs.GradingMean.{asked_by, grade_says, graded-means}
 use Rattle.grades.proofs.AlternativesCode.{stored_long, texts-kept, gradable_stays}
 use Rattle.grades.proofs.AscendsMean.{code_of, ascends_from, side_few}
 use Rattle.grades.proofs.AlternativesLaws.{level_of_small, Outside, outside_part, apart_outside, cell_kept, stored_kept}
@@ -87,7 +90,9 @@ module _ (four : Bool) (wd : ℕ) (ts : List Text) (s : List ℕ) (m : Map) (pla
   pub record OneRefused (w : List ℕ) (i q : ℕ) (sp : Span) (x : GradesOut) : Type 0 where
     pub place : ℕ
     pub inside : place + 14 ≤ e
-    pub answer : answer_of x ≡ ungraded_as q place
+    pub question : Question
+    pub asks : number_of question ≡ q
+    pub answer : answer_of x ≡ ungraded_as question place
     pub span : span_in (work_of x) (place + 1) ≡ sp
     pub long : length (work_of x) ≡ length w
     pub others : Others w i (work_of x)
@@ -153,7 +158,7 @@ module _ (four : Bool) (wd : ℕ) (ts : List Text) (s : List ℕ) (m : Map) (pla
     read_is =
         let x = lt-leb e p (omega (arith, before)) in
         let y = le-ltb e (symbols_from wd w p) (omega (arith, place.place.end, split.1.end)) in
-        rw (r.same, x, y) (ap (graded_there p) (graded-means four wd ts r.width w p e a more r.within.0 lies_all level side))
+        rw (r.same, x, y) (ap (graded_there p) (graded-means four wd ts w p e a more r.within.0 lies_all level side))
 
     end_is : alternative_end wd w p e ≡ next
     end_is = end_means four wd ts w p e e a more r.within.0 lies_all (omega (arith, split.1.end))
@@ -168,13 +173,13 @@ module _ (four : Bool) (wd : ℕ) (ts : List Text) (s : List ℕ) (m : Map) (pla
     unfolding grade_from grade_then
     stepped z = cc (z, end_is)
 
-    refused_is : (q : ℕ) → next_grade wd (ids_in ts) (texts s w m) w p e level (assoc_of side) ≡ Err (record { question = Some q; at = p })
+    refused_is : (q : Question) → next_grade wd (ids_in ts) (texts s w m) w p e level (assoc_of side) ≡ Err (record { question = Some q; at = p })
         → grade_from wd (ids_in ts) s m e places keys (suc (length rest)) i p level (assoc_of side) b w ≡ grades_out (ungraded_as q p) w
     unfolding grade_from grade_then
     refused_is q z = cc z
 
-    refused : (q : ℕ) (x : GradesOut) → x ≡ grades_out (ungraded_as q p) w → OneRefused w i q a.span x
-    refused q x z = rw z (record { place = p; inside = before; answer = refl; span = span_is; long = refl; others = λ j c d. refl })
+    refused : (q : Question) (x : GradesOut) → x ≡ grades_out (ungraded_as q p) w → OneRefused w i (number_of q) a.span x
+    refused q x z = rw z (record { place = p; inside = before; question = q; asks = refl; answer = refl; span = span_is; long = refl; others = λ j c d. refl })
 
     fewer : i < n
     fewer = omega (arith, r.many)
@@ -270,6 +275,8 @@ module _ (four : Bool) (wd : ℕ) (ts : List Text) (s : List ℕ) (m : Map) (pla
       refused_next k sp f = record {
         place = f.place;
         inside = f.inside;
+        question = f.question;
+        asks = f.asks;
         answer = f.answer;
         span = f.span;
         long = f.long ∙ stored_long w places keys i p v (assoc_of t);
@@ -282,13 +289,13 @@ module _ (four : Bool) (wd : ℕ) (ts : List Text) (s : List ℕ) (m : Map) (pla
 
     -- the two questions, and then the rest
     asked : (c d : Bool) (o : Outcome (Unit {0}))
-        → next_grade wd (ids_in ts) (texts s w m) w p e level (assoc_of side) ≡ graded_there p (elim (cond c (cond d (yes (tt {0})) (no 15 a.span)) (no 14 a.span)) [ yes u ↦ graded_as v (assoc_of t) | no q z ↦ Err q ])
+        → next_grade wd (ids_in ts) (texts s w m) w p e level (assoc_of side) ≡ graded_there p (elim (cond c (cond d (yes (tt {0})) (no 15 a.span)) (no 14 a.span)) [ yes u ↦ graded_as v (assoc_of t) | no q z ↦ Err (asked_by q) ])
         → GradesMean w1 (i + 1) next v t (still_ascends b level v) rest (grade_from wd (ids_in ts) s m e places keys (length rest) (i + 1) next v (assoc_of t) (still_ascends b level v) w1) o
         → GradesMean w i p level side b (a ∷ rest) (grade_from wd (ids_in ts) s m e places keys (suc (length rest)) i p level (assoc_of side) b w) (cond c (cond d o (no 15 a.span)) (no 14 a.span))
     unfolding graded_there
     asked true true o z f = mean_same w i p level side b (a ∷ rest) o _ _ (stepped z) (mean_next _ o f)
-    asked true false o z f = refused 15 _ (refused_is 15 z)
-    asked false d o z f = refused 14 _ (refused_is 14 z)
+    asked true false o z f = refused Question.Side _ (refused_is Question.Side z)
+    asked false d o z f = refused Question.Level _ (refused_is Question.Level z)
 
   -- theorem: what is left of the alternatives is refused as check_attributes refuses it, else their keys and places are stored
   pub grades_mean : (cs : List Alternative) (w : List ℕ) (i p level : ℕ) (side : Side) (b : Bool) → Ready w i p level cs

@@ -1,18 +1,19 @@
 -- Looking for the attributes `precedence` and `assoc`: the ways out of the code. Assumes nothing.
 use mathlib.Core.Path.{◌≡◌, refl, sym, ap, ◌∙◌}
-use mathlib.Core.Bool.{Bool, false}
+use mathlib.Core.Bool.{Bool, true, false}
 use mathlib.Core.List.{List}
-use Prim.Native.Nat.{ℕ, suc, ◌+◌, ◌-◌, ◌*◌, ◌^◌, ◌≤◌, ◌<◌}
+use Prim.Native.Nat.{ℕ, zero, suc, ◌+◌, ◌-◌, ◌*◌, ◌^◌, ◌≤◌, ◌<◌}
 use native.Mathlib.Omega.{arith}
 use native.Mathlib.Nat.{mul-suc, mul-le-mul, mul-le-mul_right}
 use borrow.Author.Rules.{rules}
-use borrow.Author.Tests.{lt-ltb, le-ltb, eq-eqb, ne_eqb}
+use borrow.Author.Tests.{eq-eqb, ne_eqb}
 use mir.Val.{Fits}
 use mir.Syntax.{w64}
-use lib.Dec.{ltb}
 use lib.ListN.{length, get_or}
+use Rattle.std.specs.Prelude.{Option, Some, None, is_some, option_map}
 use Rattle.octets.specs.Working.Choice.{pick}
 use Rattle.octets.specs.Plain.Numbers.{le_at}
+use Rattle.grades.specs.declared.Indices.{Indices}
 use Rattle.grades.specs.declared.Ids.{Ids}
 use Rattle.grades.specs.Skip.{skip_out}
 use Rattle.grades.specs.Annotations.{attributes_long, first_with, Finding, Annotates, attributes_end, annotated_at, first_alternative, has_prec_attr, HeadInside, conditions_from, symbols_from, alternative_end}
@@ -27,26 +28,48 @@ unfolding attributes_long
 long_none wd = omega arith
 
 -- ---- position
+pub no_id : (wd : ℕ) (w : List ℕ) (p n : ℕ) → first_with wd None w p n ≡ None
+unfolding first_with pick
+no_id wd w p zero = refl
+no_id wd w p (suc n) = ap (option_map suc) (no_id wd w (p + (2 + 3 * wd)) n)
+
+pub look_none : (wd : ℕ) (id : Option ℕ) (w : List ℕ) (at n : ℕ) → id ≡ None → Finding wd id w at n None
+look_none wd id w at n e = rw e record { index = sym (no_id wd w at n); below = tt }
+
+-- an index behind i
+abbrev pub from : ℕ → Option ℕ → Option ℕ
+from i o = option_map (λ j. i + j) o
+
+from_start : (o : Option ℕ) → o ≡ from 0 o
+from_start None = refl
+from_start (Some j) = ap Some (omega arith)
+
+from_next : (i : ℕ) (o : Option ℕ) → from i (option_map suc o) ≡ from (i + 1) o
+from_next i None = refl
+from_next i (Some j) = ap Some (omega arith)
+
 -- `left` attributes are to come, and the index among them is the rest of that among all
-pub record Looking (wd id : ℕ) (w : List ℕ) (at n size p i : ℕ) : Type 0 where
+pub record Looking (wd k : ℕ) (id : Option ℕ) (w : List ℕ) (at n size p i : ℕ) : Type 0 where
   pub narrow : 2 ≤ wd
   pub wide : wd ≤ 3
   pub long : size ≡ 2 + 3 * wd
+  pub is : id ≡ Some k
   pub left : ℕ
   pub many : i + left ≡ n
   pub room : p + attributes_long wd left ≤ length w
-  pub rest : i + first_with wd id w p left ≡ first_with wd id w at n
+  pub rest : first_with wd id w at n ≡ from i (first_with wd id w p left)
 
-pub look_start : (wd id : ℕ) (w : List ℕ) (at n : ℕ) → 2 ≤ wd → wd ≤ 3 → at + attributes_long wd n ≤ length w → Looking wd id w at n (2 + 3 * wd) at 0
-look_start wd id w at n h k r = record { narrow = h; wide = k; long = refl; left = n; many = omega arith; room = r; rest = omega arith }
+pub look_start : (wd k : ℕ) (id : Option ℕ) (w : List ℕ) (at n : ℕ) → 2 ≤ wd → wd ≤ 3 → id ≡ Some k → at + attributes_long wd n ≤ length w → Looking wd k id w at n (2 + 3 * wd) at 0
+look_start wd k id w at n h l e r =
+    record { narrow = h; wide = l; long = refl; is = e; left = n; many = omega arith; room = r; rest = from_start (first_with wd id w at n) }
 
-none_left : (wd id : ℕ) (w : List ℕ) (p l : ℕ) → l ≡ 0 → first_with wd id w p l ≡ 0
+none_left : (wd : ℕ) (id : Option ℕ) (w : List ℕ) (p l : ℕ) → l ≡ 0 → first_with wd id w p l ≡ None
 unfolding first_with
 none_left wd id w p l e = cc
 
-module _ (wd id : ℕ) (w : List ℕ) (at n size p i : ℕ) (g : Looking wd id w at n size p i) where
-  pub look_done : n ≤ i → Finding wd id w at n n
-  look_done h = record { index = omega (arith, g.many, none_left wd id w p g.left (omega (arith, g.many)), g.rest); upto = omega arith }
+module _ (wd k : ℕ) (id : Option ℕ) (w : List ℕ) (at n size p i : ℕ) (g : Looking wd k id w at n size p i) where
+  pub look_done : n ≤ i → Finding wd id w at n None
+  look_done h = record { index = sym (g.rest ∙ ap (from i) (none_left wd id w p g.left (omega (arith, g.many)))); below = tt }
 
   module _ (h : i < n) where
     abbrev next : ℕ
@@ -61,48 +84,49 @@ module _ (wd id : ℕ) (w : List ℕ) (at n size p i : ℕ) (g : Looking wd id w
     pub look_fits : p + 1 + wd ≤ length w
     look_fits = omega (arith, long_next, g.room)
 
-    opened : first_with wd id w p g.left ≡ first_with wd id w p (suc next)
-    opened = ap (first_with wd id w p) one
+    opened : first_with wd id w at n ≡ from i (first_with wd id w p (suc next))
+    opened = g.rest ∙ ap (λ (l : ℕ). from i (first_with wd id w p l)) one
 
     module _ (x v : ℕ) (r : x ≡ le_at wd w (p + 1)) (q : v ≡ x) where
-      here : id ≡ v → first_with wd id w p (suc next) ≡ 0
+      here : k ≡ v → first_with wd id w p (suc next) ≡ Some 0
       unfolding first_with pick
-      here e = cc (eq-eqb id (le_at wd w (p + 1)) (e ∙ q ∙ r))
+      here e = let z = eq-eqb k (le_at wd w (p + 1)) (e ∙ q ∙ r) in let y = g.is in cc
 
-      pub look_found : id ≡ v → Finding wd id w at n i
-      look_found e = record { index = omega (arith, here e, opened, g.rest); upto = omega arith }
+      pub look_found : k ≡ v → Finding wd id w at n (Some i)
+      look_found e = record { index = sym (opened ∙ ap (from i) (here e) ∙ ap Some (omega arith)); below = h }
 
-      later : (id ≡ v → ⊥) → first_with wd id w p (suc next) ≡ suc (first_with wd id w (p + (2 + 3 * wd)) next)
+      later : (k ≡ v → ⊥) → first_with wd id w p (suc next) ≡ option_map suc (first_with wd id w (p + (2 + 3 * wd)) next)
       unfolding first_with pick
-      later e = cc (ne_eqb id (le_at wd w (p + 1)) (λ z. e (z ∙ sym r ∙ sym q)))
+      later e = let z = ne_eqb k (le_at wd w (p + 1)) (λ z. e (z ∙ sym r ∙ sym q)) in let y = g.is in cc
 
-      pub look_next : (id ≡ v → ⊥) → Looking wd id w at n size (p + size) (i + 1)
+      pub look_next : (k ≡ v → ⊥) → Looking wd k id w at n size (p + size) (i + 1)
       look_next e =
           let z : p + size ≡ p + (2 + 3 * wd) = omega (arith, g.long) in
           record {
             narrow = g.narrow;
             wide = g.wide;
             long = g.long;
+            is = g.is;
             left = next;
             many = omega (arith, g.many);
             room = omega (arith, long_next, g.room, g.long);
-            rest = omega (arith, later e, opened, g.rest, ap (λ (y : ℕ). first_with wd id w y next) z);
+            rest = opened ∙ ap (from i) (later e) ∙ from_next i (first_with wd id w (p + (2 + 3 * wd)) next) ∙ ap (λ (y : ℕ). from (i + 1) (first_with wd id w y next)) (sym z);
           }
 
-pub ruleset looking = (rules, look_start, look_done, look_fits, look_found, look_next)
+pub ruleset looking = (rules, look_none, look_start, look_done, look_fits, look_found, look_next)
 
 -- ---- annotated
 pub end_whole : (wd : ℕ) (w : List ℕ) (at x n : ℕ) → attributes_end wd w at ≤ length w → x ≡ get_or w (at + 9) 0 → n ≡ x → at + 14 + wd + attributes_long wd n ≤ length w
 end_whole wd w at x n h p q = let z : n ≡ get_or w (at + 9) 0 = q ∙ p in rw z h
 
-module _ (wd : ℕ) (ids : Ids) (w : List ℕ) (at x n : ℕ) (p : x ≡ get_or w (at + 9) 0) (q : n ≡ x) (f : Ids) (a : Annotates wd ids w (at + 14 + wd) n f) where
-  pub annotated-level : f.precedence < n → ltb f.precedence n ≡ annotated_at wd ids w at
+module _ (wd : ℕ) (ids : Ids) (w : List ℕ) (at x n : ℕ) (p : x ≡ get_or w (at + 9) 0) (q : n ≡ x) (f : Indices) (a : Annotates wd ids w (at + 14 + wd) n f) where
+  pub annotated-level : is_some f.precedence ≡ true → true ≡ annotated_at wd ids w at
   unfolding annotated_at pick
-  annotated-level h = cc (a.precedence.index, lt-ltb f.precedence n h)
+  annotated-level h = cc (a.precedence.index)
 
-  pub annotated-side : n ≤ f.precedence → (r : Bool) → r ≡ ltb f.assoc n → r ≡ annotated_at wd ids w at
+  pub annotated-side : is_some f.precedence ≡ false → (r : Bool) → r ≡ is_some f.assoc → r ≡ annotated_at wd ids w at
   unfolding annotated_at pick
-  annotated-side h r e = cc (a.precedence.index, a.assoc.index, le-ltb f.precedence n h)
+  annotated-side h r e = cc (a.precedence.index, a.assoc.index)
 
 pub ruleset annotating = (rules, end_whole, annotated-level, annotated-side)
 
@@ -114,7 +138,7 @@ module _ (wd n : ℕ) (h : wd ≤ 3) (k : n < 256) where
   pub few_fits : Fits w64 ((1 + wd) * n)
   few_fits = omega (arith, few)
 
-  pub few_behind : (m at : ℕ) → m * 1 < 2 ^ 63 → at + 16 ≤ m → Fits w64 (at + 13 + wd + (1 + wd) * n)
+  pub few_behind : (m at : ℕ) → m * 1 < 2 ^ 63 → at + 13 + wd ≤ m → Fits w64 (at + 13 + wd + (1 + wd) * n)
   few_behind m at l r = omega (arith, few)
 
 pub first-is : (wd : ℕ) (w : List ℕ) (at x n : ℕ) → x ≡ get_or w (at + 10 + wd) 0 → n ≡ x → at + 13 + wd + (1 + wd) * n ≡ first_alternative wd w at

@@ -4,11 +4,12 @@ use mathlib.Core.Path.{◌≡◌, refl, sym, ap, ◌∙◌}
 use mathlib.Core.Bool.{Bool, true, false, cond}
 use mathlib.Core.List.{List, [], ◌∷◌, ◌++◌}
 use mathlib.Core.Option.{Option, none, some}
-use Prim.Native.Nat.{ℕ, suc, ◌+◌, ◌*◌, ◌<◌, ◌≤◌}
+use Prim.Native.Nat.{ℕ, suc, ◌+◌, ◌*◌}
 use native.Mathlib.Omega.{arith}
-use borrow.Author.Tests.{lt-ltb, le-ltb, ltb-true, ltb-false}
-use lib.Dec.{eqb, ltb}
 use lib.ListN.{length, get_or, length-append}
+use Rattle.std.specs.Prelude.{Option as Maybe, Some, None, is_some, option_map}
+use lib.Dec.{eqb}
+use Rattle.std.specs.Option.{option_eq}
 use Rattle.octets.specs.Working.Choice.{pick}
 use Rattle.octets.specs.Plain.Numbers.{le_at, le}
 use Rattle.octets.specs.Plain.Runs.{Lies, same_as}
@@ -22,9 +23,9 @@ use Rattle.parse_tree.specs.Working.Encode.{attribute_node, attribute_bytes}
 use Rattle.parse_tree.specs.Working.Within.{Each, ArgumentWithin, AttributeWithin}
 use Rattle.parse_tree.proofs.FieldLaws.{byte_read, le-read_then, le-read_last}
 use Rattle.parse_tree.proofs.TextLaws.{text_number}
+use Rattle.texts.specs.Table.{found_in}
 use Rattle.passes.specs.Grades.{value_of, is_given}
 use Rattle.grades.specs.Annotations.{attributes_long, first_with, value_text, first_index}
-use Rattle.grades.specs.Ids.{id_of}
 use Rattle.grades.proofs.IdsMean.{id_tells}
 use Rattle.grades.proofs.AnnotationsCode.{long_more, long_none}
 
@@ -37,13 +38,6 @@ abbrev pub text_given : Option (Option Text) → Text
 text_given none = []
 text_given (some none) = []
 text_given (some (some t)) = t
-
-ltb_suc : (m n : ℕ) → ltb (suc m) (suc n) ≡ ltb m n
-ltb_suc m n = go (ltb m n) refl
-  where
-    go : (b : Bool) → ltb m n ≡ b → ltb (suc m) (suc n) ≡ b
-    go true e = lt-ltb (suc m) (suc n) (omega (arith, ltb-true m n e))
-    go false e = le-ltb (suc m) (suc n) (omega (arith, ltb-false m n e))
 
 module _ (four : Bool) (wd : ℕ) (ts : List Text) where
   -- ---- one attribute
@@ -101,19 +95,23 @@ module _ (four : Bool) (wd : ℕ) (ts : List Text) where
       omega (arith, length-append (attribute_bytes wd ts a) (bytes_of_each (attribute_bytes wd ts) rest), attribute_long a, attributes_long_lem rest, long_more wd (length rest))
 
   -- what Grades takes of the attributes, and what the index says
-  pub record Value (w : List ℕ) (at : ℕ) (id : Text) (xs : List Attribute) : Type 0 where
-    pub index : first_with wd (id_of ts id) w at (length xs) ≡ first_index id xs
-    pub given : ltb (first_index id xs) (length xs) ≡ is_given (value_of id xs)
-    pub text : first_index id xs < length xs → value_text wd ts w (at + attributes_long wd (first_index id xs)) ≡ text_given (value_of id xs)
+  abbrev pub Says : List ℕ → ℕ → Option (Option Text) → Maybe ℕ → Type 0
+  Says w at v None = v ≡ none
+  Says w at v (Some i) = (is_given v ≡ true) × (value_text wd ts w (at + attributes_long wd i) ≡ text_given v)
 
-  none_there : (w : List ℕ) (p : ℕ) (id : Text) → first_with wd (id_of ts id) w p 0 ≡ 0
+  pub record Value (w : List ℕ) (at : ℕ) (id : Text) (xs : List Attribute) : Type 0 where
+    pub index : first_with wd (found_in ts id) w at (length xs) ≡ first_index id xs
+    pub says : Says w at (value_of id xs) (first_index id xs)
+
+  none_there : (w : List ℕ) (p : ℕ) (id : Text) → first_with wd (found_in ts id) w p 0 ≡ None
   unfolding first_with
   none_there w p id = refl
 
-  one_there : (w : List ℕ) (p k n : ℕ) (b : Bool) → eqb k (le_at wd w (p + 1)) ≡ b → first_with wd k w p (suc n) ≡ cond b 0 (suc (first_with wd k w (p + (2 + 3 * wd)) n))
+  one_there : (w : List ℕ) (p n : ℕ) (k : Maybe ℕ) (b : Bool) → option_eq eqb k (Some (le_at wd w (p + 1))) ≡ b
+      → first_with wd k w p (suc n) ≡ cond b (Some 0) (option_map suc (first_with wd k w (p + (2 + 3 * wd)) n))
   unfolding first_with pick
-  one_there w p k n true e = cc
-  one_there w p k n false e = cc
+  one_there w p n k true e = cc
+  one_there w p n k false e = cc
 
   value_in : (a : Attribute) → text_of a.argument ≡ text_given (some (elim a.argument [ none ↦ none | some kv ↦ some kv.1 ]))
   value_in a = go a.argument
@@ -122,37 +120,45 @@ module _ (four : Bool) (wd : ℕ) (ts : List Text) where
       go none = refl
       go (some kv) = refl
 
-  module _ (narrow : wd ≤ 3) where
-    -- theorem: the index is that of the first of them, and the value there is the one that is taken
-    pub value_means : (w : List ℕ) (at e : ℕ) (id : Text) (xs : List Attribute) → Each (AttributeWithin four wd ts) xs → Lies w at (bytes_of_each (attribute_bytes wd ts) xs) e → Value w at id xs
-    unfolding bytes_of_each first_index
-    value_means w at e id [] h l = record { index = none_there w at id; given = refl; text = λ k. absurd (omega arith) }
-    value_means w at e id (a ∷ rest) h l =
-        let s = lies_split w at e (attribute_bytes wd ts a) (bytes_of_each (attribute_bytes wd ts) rest) l in
-        let q : at + length (attribute_bytes wd ts a) ≡ at + (2 + 3 * wd) = ap (λ (k : ℕ). at + k) (attribute_long a) in
-        let o = attribute_read w at _ a h.0 s.0 in
-        let t : eqb (id_of ts id) (le_at wd w (at + 1)) ≡ same_as id a.id = ap (eqb (id_of ts id)) o.id ∙ id_tells wd ts id a.id narrow h.0.0.0 h.0.0.1 in
-        go (same_as id a.id) refl o t (value_means w (at + (2 + 3 * wd)) e id rest h.1 (lies_from q s.1))
-      where
-        go : (b : Bool) → same_as id a.id ≡ b → AttributeAt w at a → eqb (id_of ts id) (le_at wd w (at + 1)) ≡ same_as id a.id → Value w (at + (2 + 3 * wd)) id rest → Value w at id (a ∷ rest)
-        go true z o t v =
-            let i : first_index id (a ∷ rest) ≡ 0 = ap (λ (x : Bool). cond x 0 (suc (first_index id rest))) z in
-            let y : value_of id (a ∷ rest) ≡ some (elim a.argument [ none ↦ none | some kv ↦ some kv.1 ]) =
-            ap (λ (x : Bool). cond x (some (elim a.argument [ none ↦ none | some kv ↦ some kv.1 ])) (value_of id rest)) z in
-            let p : at + attributes_long wd (first_index id (a ∷ rest)) ≡ at = omega (arith, ap (attributes_long wd) i, long_none wd) in
-            record {
-              index = one_there w at (id_of ts id) (length rest) true (t ∙ z) ∙ sym i;
-              given = ap (λ (k : ℕ). ltb k (suc (length rest))) i ∙ lt-ltb 0 (suc (length rest)) (omega arith) ∙ sym (ap is_given y);
-              text = λ k. ap (value_text wd ts w) p ∙ o.text ∙ value_in a ∙ sym (ap text_given y);
-            }
-        go false z o t v =
-            let i : first_index id (a ∷ rest) ≡ suc (first_index id rest) = ap (λ (x : Bool). cond x 0 (suc (first_index id rest))) z in
-            let y : value_of id (a ∷ rest) ≡ value_of id rest =
-            ap (λ (x : Bool). cond x (some (elim a.argument [ none ↦ none | some kv ↦ some kv.1 ])) (value_of id rest)) z in
-            let p : at + attributes_long wd (first_index id (a ∷ rest)) ≡ at + (2 + 3 * wd) + attributes_long wd (first_index id rest) =
-            omega (arith, ap (attributes_long wd) i, long_more wd (first_index id rest)) in
-            record {
-              index = one_there w at (id_of ts id) (length rest) false (t ∙ z) ∙ ap suc v.index ∙ sym i;
-              given = ap (λ (k : ℕ). ltb k (suc (length rest))) i ∙ ltb_suc (first_index id rest) (length rest) ∙ v.given ∙ sym (ap is_given y);
-              text = λ k. ap (value_text wd ts w) p ∙ v.text (omega (arith, i)) ∙ sym (ap text_given y);
-            }
+  -- one attribute more before those that the index is of
+  says_next : (w : List ℕ) (at : ℕ) (v : Option (Option Text)) (o : Maybe ℕ) → Says w (at + (2 + 3 * wd)) v o → Says w at v (option_map suc o)
+  says_next w at v None s = s
+  says_next w at v (Some i) s =
+      let p : at + attributes_long wd (suc i) ≡ at + (2 + 3 * wd) + attributes_long wd i = omega (arith, long_more wd i) in
+      (s.0, ap (value_text wd ts w) p ∙ s.1)
+
+  -- theorem: the index is that of the first of them, and the value there is the one that is taken
+  pub value_means : (w : List ℕ) (at e : ℕ) (id : Text) (xs : List Attribute) → Each (AttributeWithin four wd ts) xs → Lies w at (bytes_of_each (attribute_bytes wd ts) xs) e → Value w at id xs
+  unfolding bytes_of_each first_index
+  value_means w at e id [] h l = record { index = none_there w at id; says = refl }
+  value_means w at e id (a ∷ rest) h l =
+      let s = lies_split w at e (attribute_bytes wd ts a) (bytes_of_each (attribute_bytes wd ts) rest) l in
+      let q : at + length (attribute_bytes wd ts a) ≡ at + (2 + 3 * wd) = ap (λ (k : ℕ). at + k) (attribute_long a) in
+      let o = attribute_read w at _ a h.0 s.0 in
+      let t : option_eq eqb (found_in ts id) (Some (le_at wd w (at + 1))) ≡ same_as id a.id = ap (λ (k : ℕ). option_eq eqb (found_in ts id) (Some k)) o.id ∙ id_tells ts id a.id h.0.0.0 in
+      go (same_as id a.id) refl o t (value_means w (at + (2 + 3 * wd)) e id rest h.1 (lies_from q s.1))
+    where
+      value : Option Text
+      value = elim a.argument [ none ↦ none | some kv ↦ some kv.1 ]
+
+      go : (b : Bool) → same_as id a.id ≡ b → AttributeAt w at a → option_eq eqb (found_in ts id) (Some (le_at wd w (at + 1))) ≡ same_as id a.id → Value w (at + (2 + 3 * wd)) id rest → Value w at id (a ∷ rest)
+      go true z o t v =
+          let i : first_index id (a ∷ rest) ≡ Some 0 = ap (λ (x : Bool). cond x (Some 0) (option_map suc (first_index id rest))) z in
+          let y : value_of id (a ∷ rest) ≡ some value = ap (λ (x : Bool). cond x (some value) (value_of id rest)) z in
+          let p : at + attributes_long wd 0 ≡ at = omega (arith, long_none wd) in
+          let k : Says w at (some value) (Some 0) = (refl, ap (value_text wd ts w) p ∙ o.text ∙ value_in a) in
+          record { index = one_there w at (length rest) (found_in ts id) true (t ∙ z) ∙ sym i; says = rw (i, y) k }
+      go false z o t v =
+          let i : first_index id (a ∷ rest) ≡ option_map suc (first_index id rest) = ap (λ (x : Bool). cond x (Some 0) (option_map suc (first_index id rest))) z in
+          let y : value_of id (a ∷ rest) ≡ value_of id rest = ap (λ (x : Bool). cond x (some value) (value_of id rest)) z in
+          record {
+            index = one_there w at (length rest) (found_in ts id) false (t ∙ z) ∙ ap (option_map suc) v.index ∙ sym i;
+            says = rw (i, y) (says_next w at (value_of id rest) (first_index id rest) v.says);
+          }
+
+  pub value_given : (w : List ℕ) (at : ℕ) (id : Text) (xs : List Attribute) → Value w at id xs → is_some (first_index id xs) ≡ is_given (value_of id xs)
+  value_given w at id xs v = go (first_index id xs) v.says
+    where
+      go : (o : Maybe ℕ) → Says w at (value_of id xs) o → is_some o ≡ is_given (value_of id xs)
+      go None s = sym (ap is_given s)
+      go (Some i) s = sym s.0

@@ -12,7 +12,7 @@ use Rattle.octets.specs.Plain.Runs.{Lies}
 use Rattle.octets.proofs.LiesLaws.{lies_first, lies_split}
 use Rattle.octets.proofs.NumbersLaws.{length-le}
 use Rattle.parse_tree.specs.Plain.Tree.{Text, Sym, Syms, leaf, around, over, cons}
-use Rattle.parse_tree.specs.Working.Nodes.{leaf_code, leaf_operand, symbol_bytes, node_bytes, size_of, span_bytes}
+use Rattle.parse_tree.specs.Working.Nodes.{leaf_code, leaf_operand, symbol_bytes, node_bytes, size_of, span_bytes, long_of}
 use Rattle.parse_tree.specs.Working.Operands.{inside_of}
 use Rattle.parse_tree.specs.Working.Encode.{sym_bytes, syms_bytes}
 use Rattle.parse_tree.specs.Working.Within.{SpanWithin}
@@ -22,13 +22,13 @@ use Rattle.parse_tree.specs.declared.syntax.Around.{Around}
 use Rattle.parse_tree.specs.declared.syntax.Over.{Over}
 use Rattle.parse_tree.specs.declared.syntax.SymbolKind.{SymbolKind}
 use Rattle.parse_tree.specs.declared.syntax.Node.{Node}
+use Rattle.parse_tree.specs.Working.Nested.{inside_by, inside_at}
 use Rattle.parse_tree.proofs.SizeLaws.{length_span}
 use Rattle.parse_tree.proofs.NodeFits.{LeafFits, KindFits}
 use Rattle.parse_tree.proofs.FieldLaws.{byte_read, le-read_then, span_read}
 use Rattle.laws.specs.Flat.{sym_node, children, inside}
 use Rattle.laws.proofs.Flat.{SymFits, SymsFits, sym_bytes_lem}
-use Rattle.resolve.specs.Commands.{long_of}
-use Rattle.grades.specs.Skip.{inside_by, inside_at, names_at}
+use Rattle.grades.specs.Skip.{names_at}
 
 -- ---- whether a command is an occurrence of the atom `target`
 module _ (target : ℕ) where
@@ -56,7 +56,6 @@ module _ (target : ℕ) where
   node_names (Node.Attribute a) = false
   node_names (Node.Condition c) = false
   node_names (Node.Symbol s k) = kind_names k
-  node_names Node.Unknown = false
 
 -- ---- the code's answers at a place, and the command that lies there
 pub record Codes (wd target : ℕ) (w : List ℕ) (p : ℕ) (n : Node) : Type 0 where

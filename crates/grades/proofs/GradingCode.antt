@@ -1,29 +1,29 @@
 -- Reading level and side: the ways out of the code. Assumes nothing.
-use mathlib.Core.Path.{◌≡◌, refl, sym, ap, ◌∙◌}
+use mathlib.Core.Path.{◌≡◌, refl}
 use mathlib.Core.List.{List, []}
 use Prim.Native.Nat.{ℕ, suc, ◌+◌, ◌*◌, ◌^◌, ◌≤◌, ◌<◌}
 use native.Mathlib.Omega.{arith}
 use native.Mathlib.Nat.{mul-le-mul_right, mul-le-mul_left}
 use borrow.Author.Rules.{rules}
-use borrow.Author.Tests.{lt-ltb, le-ltb, ne_eqb}
+use borrow.Author.Tests.{ne_eqb}
 use mir.Val.{Fits}
 use mir.Syntax.{w64}
-use lib.ListN.{length, get_or, get_or-eq_default}
-use Rattle.std.specs.Prelude.{Option, Some, None, Result, Ok, Err}
+use lib.ListN.{get_or}
+use Rattle.std.specs.Prelude.{Option, Some, None, IfSome, Result, Ok, Err}
+use Rattle.std.specs.Option.{ok_or}
 use Rattle.octets.specs.Working.Choice.{pick}
 use Rattle.octets.specs.Plain.Numbers.{le_at}
 use Rattle.parse_tree.specs.Plain.Tree.{Text}
+use Rattle.parse_tree.specs.declared.refusal.Question.{Question}
 use Rattle.texts.specs.declared.Map.{Map}
-use Rattle.texts.specs.Fields.{mark_at}
-use Rattle.texts.specs.Texts.{marked_text, Whole}
 use Rattle.texts.specs.Table.{texts}
-use Rattle.texts.proofs.TextCode.{length_texts, texts-at}
 use Rattle.grades.specs.declared.Assoc.{Assoc}
 use Rattle.grades.specs.declared.Graded.{Graded}
 use Rattle.grades.specs.declared.Ids.{Ids}
+use Rattle.grades.specs.declared.Indices.{Indices}
 use Rattle.grades.specs.Annotations.{attributes_long, Annotates, value_text}
-use Rattle.grades.specs.Grade.{level_said, assoc_said, ReadsLevel}
-use Rattle.grades.specs.Grading.{Worded, graded_as, side_said, sided_at, level_then, graded_by, graded_at, ReadsGrade}
+use Rattle.grades.specs.Grade.{level_said, assoc_said}
+use Rattle.grades.specs.Grading.{graded_as, side_said, sided_at, level_then, graded_by, graded_at}
 use Rattle.grades.proofs.AnnotationsCode.{long_more, end_whole}
 
 -- ---- value
@@ -32,26 +32,12 @@ module _ (wd : ℕ) (s w : List ℕ) (m : Map) (at : ℕ) where
   unfolding value_text pick
   value_none h = cc
 
-  module _ (h : get_or w (at + 1 + wd) 0 ≡ 0 → ⊥) (x k : ℕ) (j : x ≡ le_at wd w (at + 2 + wd + wd)) (q : k ≡ x) where
-    some : value_text wd (texts s w m) w at ≡ get_or (texts s w m) k []
-    unfolding value_text pick
-    some = cc (ne_eqb (get_or w (at + 1 + wd) 0) 0 h)
+  pub value_some : (get_or w (at + 1 + wd) 0 ≡ 0 → ⊥) → (x k : ℕ) → x ≡ le_at wd w (at + 2 + wd + wd) → k ≡ x
+      → (t : List ℕ) → t ≡ get_or (texts s w m) k [] → t ≡ value_text wd (texts s w m) w at
+  unfolding value_text pick
+  value_some h x k j q t e = cc (ne_eqb (get_or w (at + 1 + wd) 0) 0 h)
 
-    many : length (texts s w m) ≡ m.count
-    unfolding texts
-    many = length_texts s w m.base m.count
-
-    pub value_beyond : m.count ≤ k → [] ≡ value_text wd (texts s w m) w at
-    value_beyond l = sym (some ∙ get_or-eq_default (texts s w m) [] {n = k} (omega (arith, many)))
-
-    pub value_some : k < m.count → (y : ℕ) → y ≡ mark_at w m.base k → (t : List ℕ) → t ≡ marked_text s w y → t ≡ value_text wd (texts s w m) w at
-    unfolding texts
-    value_some l y p t e = e ∙ ap (marked_text s w) p ∙ sym (texts-at s w m.base m.count k l) ∙ sym some
-
-pub value_whole : (s w : List ℕ) (m : Map) (k y : ℕ) → Worded s w m → k < m.count → y ≡ mark_at w m.base k → Whole s w y
-value_whole s w m k y g h e = rw e (g.whole k h)
-
-pub ruleset valuing = (rules, value_none, value_beyond, value_some, value_whole)
+pub ruleset valuing = (rules, value_none, value_some)
 
 -- ---- nth_value
 module _ (wd n j : ℕ) (l : j < n) where
@@ -81,56 +67,74 @@ module _ (wd n j : ℕ) (l : j < n) where
 pub ruleset choosing = (rules, one_fits, one_behind, one_inside, one_is)
 
 -- ---- sided
-module _ (wd : ℕ) (ts : List Text) (w : List ℕ) (at n j : ℕ) (g : Graded) where
-  pub sided_same : n ≤ j → g.level < 4294967296 → ReadsGrade (sided_at wd ts w at n j g.level g.side) (Ok g)
-  unfolding sided_at pick
-  sided_same h k = record { answered = cc (le-ltb j n h); small = k }
+-- what was said, or the question
+module _ (level : ℕ) (y : Result Assoc Question) where
+  side_bad : (x : Option Assoc) (q : Question) → y ≡ ok_or x Question.Side → y ≡ Err q → Err q ≡ side_said level x
+  unfolding side_said
+  side_bad None q v z = cc (v, z)
+  side_bad (Some s) q v z = cc (v, z)
 
-  module _ (h : j < n) (t : List ℕ) (i : t ≡ value_text wd ts w (at + attributes_long wd j)) (x : Option Assoc) (e : x ≡ assoc_said t) where
-    pub sided_bad : x ≡ None → ReadsGrade (sided_at wd ts w at n j g.level g.side) (Err 15)
-    unfolding sided_at side_said pick
-    sided_bad z = record { answered = cc (lt-ltb j n h); small = tt }
+  side_is : (x : Option Assoc) (s : Assoc) → y ≡ ok_or x Question.Side → y ≡ Ok s → graded_as level s ≡ side_said level x
+  unfolding side_said
+  side_is None s v z = cc (v, z)
+  side_is (Some t) s v z = cc (v, z)
 
-    pub sided_is : (s : Assoc) → x ≡ Some s → g.level < 4294967296 → ReadsGrade (sided_at wd ts w at n j g.level g.side) (graded_as g.level s)
-    unfolding sided_at side_said pick
-    sided_is s z k = record { answered = cc (lt-ltb j n h); small = k }
+module _ (f : ℕ → Assoc → Result Graded Question) (y : Result ℕ Question) where
+  level_bad : (x : Option ℕ) (q : Question) → y ≡ ok_or x Question.Level → y ≡ Err q → Err q ≡ level_then f x
+  unfolding level_then
+  level_bad None q v z = cc (v, z)
+  level_bad (Some s) q v z = cc (v, z)
 
-pub ruleset siding = (rules, sided_same, sided_bad, sided_is)
+  level_is : (x : Option ℕ) (l : ℕ) → y ≡ ok_or x Question.Level → y ≡ Ok l → f l Assoc.FullyAssoc ≡ level_then f x
+  unfolding level_then
+  level_is None l v z = cc (v, z)
+  level_is (Some t) l v z = cc (v, z)
+
+pub index_below : (j : Option ℕ) (k n : ℕ) → IfSome j (λ i. i < n) → j ≡ Some k → k < n
+index_below j k n h e = rw e at h
+
+module _ (wd : ℕ) (ts : List Text) (w : List ℕ) (at : ℕ) (j : Option ℕ) (g : Graded) where
+  pub sided_same : j ≡ None → Ok g ≡ sided_at wd ts w at j g.level g.side
+  unfolding sided_at
+  sided_same h = cc
+
+  module _ (k : ℕ) (h : j ≡ Some k) (t : List ℕ) (i : t ≡ value_text wd ts w (at + attributes_long wd k)) (x : Option Assoc) (e : x ≡ assoc_said t) where
+    module _ (y : Result Assoc Question) (v : y ≡ ok_or x Question.Side) where
+      pub sided_bad : (q : Question) → y ≡ Err q → Err q ≡ sided_at wd ts w at j g.level g.side
+      unfolding sided_at side_said
+      sided_bad q z = cc (side_bad g.level y x q v z)
+
+      pub sided_is : (s : Assoc) → y ≡ Ok s → graded_as g.level s ≡ sided_at wd ts w at j g.level g.side
+      unfolding sided_at side_said
+      sided_is s z = cc (side_is g.level y x s v z)
+
+pub ruleset siding = (rules, index_below, sided_same, sided_bad, sided_is)
 
 -- ---- graded
-pub level_small : (x l : Option ℕ) (v : ℕ) → ReadsLevel x l → l ≡ Some v → v < 4294967296
-level_small x l v r e = (rw e at r).small
+pub assoc_below : (wd : ℕ) (ids : Ids) (w : List ℕ) (at n : ℕ) (f : Indices) → Annotates wd ids w at n f → IfSome f.assoc (λ i. i < n)
+assoc_below wd ids w at n f a = a.assoc.below
 
-module _ (wd : ℕ) (ids : Ids) (ts : List Text) (w : List ℕ) (at level : ℕ) (side : Assoc) (x n : ℕ) (p : x ≡ get_or w (at + 9) 0) (q : n ≡ x) (f : Ids)
+module _ (wd : ℕ) (ids : Ids) (ts : List Text) (w : List ℕ) (at level : ℕ) (side : Assoc) (x n : ℕ) (p : x ≡ get_or w (at + 9) 0) (q : n ≡ x) (f : Indices)
     (a : Annotates wd ids w (at + 14 + wd) n f) where
-  opened : graded_at wd ids ts w at level side ≡ graded_by wd ts w (at + 14 + wd) n f.precedence f.assoc level side
+  pub level_below : (i : ℕ) → f.precedence ≡ Some i → i < n
+  level_below i e = index_below f.precedence i n a.precedence.below e
+
+  opened : graded_at wd ids ts w at level side ≡ graded_by wd ts w (at + 14 + wd) f.precedence f.assoc level side
   unfolding graded_at
   opened = cc (a.precedence.index, a.assoc.index)
 
-  same : n ≤ f.precedence → graded_by wd ts w (at + 14 + wd) n f.precedence f.assoc level side ≡ sided_at wd ts w (at + 14 + wd) n f.assoc level side
-  unfolding graded_by pick
-  same h = cc (le-ltb f.precedence n h)
+  pub graded-same : f.precedence ≡ None → (r : Result Graded Question) → r ≡ sided_at wd ts w (at + 14 + wd) f.assoc level side → r ≡ graded_at wd ids ts w at level side
+  unfolding graded_by
+  graded-same h r s = cc opened
 
-  pub graded-same : n ≤ f.precedence → (r : Result Graded ℕ) → ReadsGrade (sided_at wd ts w (at + 14 + wd) n f.assoc level side) r → ReadsGrade (graded_at wd ids ts w at level side) r
-  graded-same h r s = rw (opened, same h) s
+  module _ (j : ℕ) (h : f.precedence ≡ Some j) (t : List ℕ) (i : t ≡ value_text wd ts w (at + 14 + wd + attributes_long wd j)) (l : Option ℕ) (e : l ≡ level_said t) where
+    module _ (y : Result ℕ Question) (u : y ≡ ok_or l Question.Level) where
+      pub graded-bad : (q : Question) → y ≡ Err q → Err q ≡ graded_at wd ids ts w at level side
+      unfolding graded_by level_then
+      graded-bad q z = cc (opened, level_bad (sided_at wd ts w (at + 14 + wd) f.assoc) y l q u z)
 
-  module _ (h : f.precedence < n) (t : List ℕ) (i : t ≡ value_text wd ts w (at + 14 + wd + attributes_long wd f.precedence)) (l : Option ℕ) (e : ReadsLevel (level_said t) l) where
-    said : graded_by wd ts w (at + 14 + wd) n f.precedence f.assoc level side ≡ level_then (sided_at wd ts w (at + 14 + wd) n f.assoc) l
-    unfolding graded_by pick
-    said = cc (lt-ltb f.precedence n h, e.answered)
+      pub graded-is : (v : ℕ) → y ≡ Ok v → (r : Result Graded Question) → r ≡ sided_at wd ts w (at + 14 + wd) f.assoc v Assoc.FullyAssoc → r ≡ graded_at wd ids ts w at level side
+      unfolding graded_by level_then
+      graded-is v z r s = cc (opened, level_is (sided_at wd ts w (at + 14 + wd) f.assoc) y l v u z)
 
-    bad : l ≡ None → level_then (sided_at wd ts w (at + 14 + wd) n f.assoc) l ≡ Err 14
-    unfolding level_then
-    bad z = cc
-
-    pub graded-bad : l ≡ None → ReadsGrade (graded_at wd ids ts w at level side) (Err 14)
-    graded-bad z = record { answered = sym (opened ∙ said ∙ bad z); small = tt }
-
-    is : (v : ℕ) → l ≡ Some v → level_then (sided_at wd ts w (at + 14 + wd) n f.assoc) l ≡ sided_at wd ts w (at + 14 + wd) n f.assoc v Assoc.FullyAssoc
-    unfolding level_then
-    is v z = cc
-
-    pub graded-is : (v : ℕ) → l ≡ Some v → (r : Result Graded ℕ) → ReadsGrade (sided_at wd ts w (at + 14 + wd) n f.assoc v Assoc.FullyAssoc) r → ReadsGrade (graded_at wd ids ts w at level side) r
-    graded-is v z r s = rw (opened, said, is v z) s
-
-pub ruleset grading = (rules, end_whole, level_small, graded-same, graded-bad, graded-is)
+pub ruleset grading = (rules, end_whole, assoc_below, level_below, graded-same, graded-bad, graded-is)

@@ -1,11 +1,12 @@
 -- What the proofs of several functions use: NameCode of code, NameLaws of lists, NameMean of what the definitions that follow the code mean.
-mod IdsCode
 pub mod IdsMean
 pub mod AnnotationsCode
 mod AnnotationsMean
 mod GradeCode
+pub mod WordsCode
 mod GradingCode
 pub mod WordedLaws
+mod KeyCode
 mod AlternativesCode
 pub mod AlternativesMean
 mod GradingMean

@@ -1,4 +1,4 @@
--- Skipping: the ways out of inside and skip. Assumes nothing.
+-- Skipping: the ways out of skip. Assumes nothing.
 use mathlib.Core.Path.{◌≡◌, refl, sym, ap, ◌∙◌}
 use mathlib.Core.List.{List}
 use Prim.Native.Nat.{ℕ, zero, suc, ◌+◌, ◌-◌, ◌*◌, ◌^◌, ◌≤◌, ◌<◌}
@@ -9,34 +9,9 @@ use mir.Val.{Fits}
 use mir.Syntax.{w64}
 use lib.ListN.{length, get_or}
 use Rattle.octets.specs.Working.Choice.{pick}
-use Rattle.octets.specs.Plain.Numbers.{le_at}
-use Rattle.resolve.specs.Commands.{long_of}
-use Rattle.grades.specs.Skip.{inside_by, inside_at, skip_out}
-
--- ---- inside
-module _ (wd : ℕ) (w : List ℕ) (at c : ℕ) (i : c ≡ get_or w at 0) where
-  pub inside-macro : (x r : ℕ) → c ≡ 37 → x ≡ get_or w (at + 9 + wd) 0 → r ≡ x → r ≡ inside_at wd w at
-  unfolding inside_at inside_by pick
-  inside-macro x r h j k = cc
-
-  pub inside-group : (x r : ℕ) → c ≡ 41 → x ≡ le_at 2 w (at + 9) → r ≡ x → r ≡ inside_at wd w at
-  unfolding inside_at inside_by pick
-  inside-group x r h j k = cc
-
-  module _ (n37 : c ≡ 37 → ⊥) (n41 : c ≡ 41 → ⊥) where
-    pub inside-named : c < 38 → 0 ≡ inside_at wd w at
-    unfolding inside_at inside_by pick
-    inside-named h = cc (ne_eqb c 37 n37, ne_eqb c 41 n41, lt-ltb c 38 h)
-
-    pub inside-bare : 38 ≤ c → 40 < c → 0 ≡ inside_at wd w at
-    unfolding inside_at inside_by pick
-    inside-bare h k = cc (ne_eqb c 37 n37, ne_eqb c 41 n41, le-ltb c 38 h, lt-ltb 40 c k)
-
-    pub inside-around : 38 ≤ c → c ≤ 40 → 1 ≡ inside_at wd w at
-    unfolding inside_at inside_by pick
-    inside-around h k = cc (ne_eqb c 37 n37, ne_eqb c 41 n41, le-ltb c 38 h, le-ltb 40 c k)
-
-pub ruleset insiding = (rules, inside-macro, inside-group, inside-named, inside-bare, inside-around)
+use Rattle.parse_tree.specs.Working.Nodes.{long_of}
+use Rattle.parse_tree.specs.Working.Nested.{inside_at}
+use Rattle.grades.specs.Skip.{skip_out}
 
 -- ---- skip
 -- with `fuel` commands to come at the most, the rest is what the whole is

@@ -10,12 +10,12 @@ use lib.ListN.{length, get_or, length-append}
 use Rattle.octets.specs.Working.Choice.{pick}
 use Rattle.octets.specs.Plain.Runs.{Lies}
 use Rattle.parse_tree.specs.Plain.Tree.{Text, Sym, Syms, nil, cons, count}
-use Rattle.parse_tree.specs.Working.Nodes.{size_of}
+use Rattle.parse_tree.specs.Working.Nodes.{size_of, long_of}
 use Rattle.parse_tree.specs.Working.Encode.{sym_bytes, syms_bytes}
+use Rattle.parse_tree.specs.Working.Nested.{inside_at}
 use Rattle.laws.specs.Flat.{sym_node, children, joined, inside, nodes}
 use Rattle.laws.proofs.Flat.{SymsFits, step, nodes_few}
-use Rattle.resolve.specs.Commands.{long_of}
-use Rattle.grades.specs.Skip.{inside_at, skip_out}
+use Rattle.grades.specs.Skip.{skip_out}
 use Rattle.grades.proofs.CodesMean.{first_codes}
 
 module _ (wd : ℕ) (ts : List Text) where

@@ -1,10 +1,11 @@
 -- All alternatives of a nonterminal graded, as `grade` goes: w is work as it stands at each step. wd is the width of an atom's number in bytes.
 -- Assumes nothing: these are definitions.
-use Rattle.std.specs.Prelude.{◌≡◌, Bool, false, List, ℕ, zero, suc, ◌+◌, ◌*◌, ◌/◌, ◌%◌, ◌≤◌, ◌<◌, eqb, leb, ltb, length, Option, Some, None, Result, Ok, Err}
+use Rattle.std.specs.Prelude.{◌≡◌, Bool, false, List, ℕ, zero, suc, ◌+◌, ◌*◌, ◌%◌, ◌≤◌, ◌<◌, eqb, leb, ltb, length, Option, Some, None, Result, Ok, Err}
 use Rattle.octets.specs.Plain.Numbers.{le_at, le}
 use Rattle.octets.specs.Working.Choice.{pick}
 use Rattle.octets.specs.Working.Stores.{store}
 use Rattle.parse_tree.specs.Plain.Tree.{Text}
+use Rattle.parse_tree.specs.declared.refusal.Question.{Question}
 use Rattle.texts.specs.declared.Map.{Map}
 use Rattle.texts.specs.Table.{Above, texts}
 use Rattle.resolve.specs.Whole.{Apart}
@@ -14,21 +15,11 @@ use Rattle.grades.specs.declared.Ungraded.{Ungraded}
 use Rattle.grades.specs.declared.Ids.{Ids}
 use Rattle.grades.specs.Annotations.{symbols_from, alternative_end}
 use Rattle.grades.specs.Grading.{Worded, graded_at}
+use Rattle.grades.specs.Key.{grade_key, key_index}
 use Rattle.grades.specs.Sort.{level_at}
 
--- a side in a key
-unfoldable pub side_number : Assoc → ℕ
-side_number Assoc.Left = 0
-side_number Assoc.Right = 1
-side_number Assoc.NonAssoc = 2
-side_number Assoc.FullyAssoc = 3
-
--- the key of the i-th alternative
-unfoldable pub grade_key : ℕ → ℕ → Assoc → ℕ
-grade_key level i side = (level * 65536 + i) * 4 + side_number side
-
 -- a level and a side, or the question that fails, with the place of the alternative
-unfoldable pub graded_there : ℕ → Result Graded ℕ → Result Graded Ungraded
+unfoldable pub graded_there : ℕ → Result Graded Question → Result Graded Ungraded
 graded_there at (Ok g) = Ok g
 graded_there at (Err q) = Err (record { question = Some q; at = at })
 
@@ -58,7 +49,7 @@ pub record Gradable (s w : List ℕ) (m : Map) (places keys n e : ℕ) : Type 0 
   pub keys_off : OffTable m (length w) texts-from keys (keys + 8 * n)
 
 -- the question that fails and the alternative's place, as the code's answer
-abbrev pub ungraded_as : ℕ → ℕ → Result Bool Ungraded
+abbrev pub ungraded_as : Question → ℕ → Result Bool Ungraded
 ungraded_as q p = Err (record { question = Some q; at = p })
 
 -- the answer, and what work becomes
@@ -87,7 +78,7 @@ pub record Grades (x : GradesOut) (r : Result Bool Ungraded) (w' : List ℕ) : T
 
 -- the place of the alternative of a key, if it is one of n
 unfoldable pub place_of_key : List ℕ → ℕ → ℕ → ℕ → Option ℕ
-place_of_key w places n k = pick (ltb (k / 4 % 65536) n) (Some (le_at 8 w (places + 8 * (k / 4 % 65536)))) None
+place_of_key w places n k = pick (ltb (key_index k) n) (Some (le_at 8 w (places + 8 * (key_index k)))) None
 
 -- among the keys left from the i-th on, the first of the first key's level whose side is not 3
 unfoldable pub lowest_from : List ℕ → ℕ → ℕ → ℕ → ℕ → ℕ → Option ℕ

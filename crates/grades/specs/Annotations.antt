@@ -1,29 +1,31 @@
 -- The attributes `precedence` and `assoc` of alternatives that stand in work, as `annotations` looks for them. wd is the width of an atom's number in
 -- bytes. Assumes nothing: these are definitions.
-use Rattle.std.specs.Prelude.{◌≡◌, Bool, true, false, cond, List, [], ◌∷◌, ℕ, zero, suc, ◌+◌, ◌*◌, ◌≤◌, eqb, ltb, length, get_or}
+use Rattle.std.specs.Prelude.{◌≡◌, Bool, true, false, cond, List, [], ◌∷◌, ℕ, zero, suc, ◌+◌, ◌*◌, ◌≤◌, ◌<◌, eqb, length, get_or, Option, Some, None, is_some, option_map, IfSome}
+use Rattle.std.specs.Option.{option_eq}
 use Rattle.octets.specs.Working.Choice.{pick}
 use Rattle.octets.specs.Plain.Numbers.{le_at}
 use Rattle.octets.specs.Plain.Runs.{same_as}
 use Rattle.parse_tree.specs.Plain.Tree.{Text, Attribute}
 use Rattle.grades.specs.declared.Ids.{Ids}
+use Rattle.grades.specs.declared.Indices.{Indices}
 use Rattle.grades.specs.Skip.{skip_out}
 
 -- the bytes of n attributes
 unfoldable pub attributes_long : ℕ → ℕ → ℕ
 attributes_long wd n = (2 + 3 * wd) * n
 
--- the index of the first attribute of an id among the n from a place on; n where there is none
-unfoldable pub first_with : ℕ → ℕ → List ℕ → ℕ → ℕ → ℕ
-first_with wd id w p zero = 0
-first_with wd id w p (suc n) = pick (eqb id (le_at wd w (p + 1))) 0 (suc (first_with wd id w (p + (2 + 3 * wd)) n))
+-- the index of the first attribute of an id among the n from a place on
+unfoldable pub first_with : ℕ → Option ℕ → List ℕ → ℕ → ℕ → Option ℕ
+first_with wd id w p zero = None
+first_with wd id w p (suc n) = pick (option_eq eqb id (Some (le_at wd w (p + 1)))) (Some 0) (option_map suc (first_with wd id w (p + (2 + 3 * wd)) n))
 
 -- that index as an answer
-pub record Finding (wd id : ℕ) (w : List ℕ) (at n r : ℕ) : Type 0 where
+pub record Finding (wd : ℕ) (id : Option ℕ) (w : List ℕ) (at n : ℕ) (r : Option ℕ) : Type 0 where
   pub index : r ≡ first_with wd id w at n
-  pub upto : r ≤ n
+  pub below : IfSome r (λ i. i < n)
 
 -- and those of both ids
-pub record Annotates (wd : ℕ) (ids : Ids) (w : List ℕ) (at n : ℕ) (r : Ids) : Type 0 where
+pub record Annotates (wd : ℕ) (ids : Ids) (w : List ℕ) (at n : ℕ) (r : Indices) : Type 0 where
   pub precedence : Finding wd ids.precedence w at n r.precedence
   pub assoc : Finding wd ids.assoc w at n r.assoc
 
@@ -39,7 +41,7 @@ attributes_end wd w at = at + 14 + wd + attributes_long wd (get_or w (at + 9) 0)
 unfoldable pub annotated_at : ℕ → Ids → List ℕ → ℕ → Bool
 annotated_at wd ids w at =
     let n = get_or w (at + 9) 0 in
-    pick (ltb (first_with wd ids.precedence w (at + 14 + wd) n) n) true (ltb (first_with wd ids.assoc w (at + 14 + wd) n) n)
+    pick (is_some (first_with wd ids.precedence w (at + 14 + wd) n)) true (is_some (first_with wd ids.assoc w (at + 14 + wd) n))
 
 -- the first alternative of the nonterminal at a place
 unfoldable pub first_alternative : ℕ → List ℕ → ℕ → ℕ
@@ -68,7 +70,7 @@ alternative_end wd w at e = skip_out wd e w (symbols_from wd w at) e (le_at 2 w 
 
 -- ---- what they mean
 
--- the index of the first attribute of an id; how many there are where none has it
-unfoldable pub first_index : Text → List Attribute → ℕ
-first_index id [] = 0
-first_index id (a ∷ rest) = cond (same_as id a.id) 0 (suc (first_index id rest))
+-- the index of the first attribute of an id
+unfoldable pub first_index : Text → List Attribute → Option ℕ
+first_index id [] = None
+first_index id (a ∷ rest) = cond (same_as id a.id) (Some 0) (option_map suc (first_index id rest))

@@ -1,5 +1,5 @@
 -- What the texts of `precedence` and `assoc` say, as the code's answers, and a level's digits. Assumes nothing: these are definitions.
-use Rattle.std.specs.Prelude.{◌≡◌, List, [], ℕ, ◌+◌, ◌<◌, length, Option as Maybe, Some, None}
+use Rattle.std.specs.Prelude.{◌≡◌, List, [], ℕ, ◌+◌, length, Option as Maybe, Some, None}
 use Rattle.std.proofs.Math.Option.{Option, none, some}
 use Rattle.octets.specs.Working.Stores.{store}
 use Rattle.passes.specs.Grades.{Side, all, non, left, right, unsigned, level_in, side_in}
@@ -18,16 +18,6 @@ level_said t = level_answer (level_in t)
 -- and what it says behind a plus
 unfoldable pub digits_said : List ℕ → Maybe ℕ
 digits_said t = level_answer (unsigned t)
-
--- a level that was read is a `u32`
-abbrev pub IsSmall : Maybe ℕ → Type 0
-IsSmall None = Unit {0}
-IsSmall (Some v) = v < 4294967296
-
--- r is the answer x, and small
-pub record ReadsLevel (x r : Maybe ℕ) : Type 0 where
-  pub answered : r ≡ x
-  pub small : IsSmall r
 
 -- a side as the code has it
 abbrev pub assoc_of : Side → Assoc

@@ -4,5 +4,6 @@ pub mod Annotations
 pub mod Grade
 pub mod Grading
 pub mod Ids
+pub mod Key
 pub mod Skip
 pub mod Sort

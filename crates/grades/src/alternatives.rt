@@ -4,11 +4,11 @@ ghost use Rattle.grades.specs.declared.Assoc.{Assoc};
 ghost use Rattle.octets.specs.Plain.Numbers.{le};
 ghost use Rattle.octets.specs.Working.Stores.{store};
 ghost use Rattle.texts.specs.Table.{texts};
-ghost use Rattle.grades.specs.Grading.{ReadsGrade};
 ghost use Rattle.grades.specs.Alternatives.{next_grade, stored_grade, Gradable, grade_from, Grades, still_ascends, place_of_key, lowest_from};
 
 use crate::annotations::{alternative_end, symbols};
 use crate::grading::graded;
+use crate::key::Key;
 use crate::sort::same_level;
 use crate::words::Words;
 use crate::{Assoc, Graded, Ids, Ungraded};
@@ -23,8 +23,8 @@ fn next_grade<'a>(
     ids: Ids,
     before: Graded,
 ) -> Result<Graded, Ungraded>
-    requires { (before.level < 4294967296) × (e + 16 ≤ length t.work.now) }
-    ensures { ReadsGrade (next_grade t.entry.width.bytes ids (texts t.entry.tape.now t.entry.work.now t.entry.m) t.entry.work.now at e before.level before.side) result }
+    requires { e + 16 ≤ length t.work.now }
+    ensures { result ≡ next_grade t.entry.width.bytes ids (texts t.entry.tape.now t.entry.work.now t.entry.m) t.entry.work.now at e before.level before.side }
 {
     if e <= at || e < symbols(t.work, at, t.width) {
         return Err(Ungraded { question: None, at });
@@ -38,22 +38,23 @@ fn next_grade<'a>(
 
 // Place and key of the i-th alternative.
 fn put_grade(work: &mut [u8], places: usize, keys: usize, i: usize, at: usize, grade: Graded)
-    requires { (i < 65536) × (grade.level < 4294967296) × (places + 8 * i + 8 ≤ length work.old) × (keys + 8 * i + 8 ≤ length work.old) }
+    requires { (i < 65536) × (places + 8 * i + 8 ≤ length work.old) × (keys + 8 * i + 8 ≤ length work.old) }
     ensures { work.new ≡ stored_grade work.old places keys i at grade.level grade.side }
 {
-    let k = (grade.level * 65536 + i) * 4 + grade.side as usize;
+    let k = Key::of(grade.level, i, grade.side);
     store64(work, places + 8 * i, at as u64);
-    store64(work, keys + 8 * i, k as u64);
+    store64(work, keys + 8 * i, k.number);
 }
 
 // Whether the levels still ascend, behind one of a level.
-fn ascends(before: bool, level: usize, next: usize) -> bool
+fn ascends(before: bool, level: u32, next: u32) -> bool
     ensures { result ≡ still_ascends before level next }
 {
     before && level <= next
 }
 
 // n alternatives from a place on, before e: whether their levels ascend. The error has the place where one can't be graded or doesn't stand.
+// Ten parameters and no struct: it is called once, and its caller knows the place of the sorted keys, which precedence's `Keyed` has, only behind it.
 pub fn grade(
     tape: &[u8],
     work: &mut [u8],
@@ -94,11 +95,11 @@ pub fn grade(
 }
 
 // Where the alternative of a key stands, of n places; None where the key is of none of them.
-fn place_of(work: &[u8], places: usize, n: usize, k: u64) -> Option<usize>
+fn place_of(work: &[u8], places: usize, n: usize, k: Key) -> Option<usize>
     requires { places + 8 * n ≤ length work.now }
-    ensures { result ≡ place_of_key work.now places n k }
+    ensures { result ≡ place_of_key work.now places n k.number }
 {
-    let i = (k / 4 % 65536) as usize;
+    let i = k.index();
     if i < n {
         Some(u64_at(work, places + 8 * i) as usize)
     } else {
@@ -106,7 +107,7 @@ fn place_of(work: &[u8], places: usize, n: usize, k: u64) -> Option<usize>
     }
 }
 
-// Among n sorted keys the first of the lowest level whose side is not FullyAssoc.
+// Among n sorted keys the first of the lowest level whose side is not FullyAssoc. A loop: the first key of another level ends it.
 pub fn lowest(work: &[u8], keys: usize, n: usize, places: usize) -> Option<usize>
     requires { (keys + 8 * n ≤ length work.now) × (places + 8 * n ≤ length work.now) }
     ensures { result ≡ lowest_from work.now keys places n 0 n }
@@ -115,8 +116,8 @@ pub fn lowest(work: &[u8], keys: usize, n: usize, places: usize) -> Option<usize
         if !same_level(work, keys, 0, i) {
             return None;
         }
-        let k = u64_at(work, keys + 8 * i);
-        if k % 4 != 3 {
+        let k = Key::read(work, keys, i);
+        if k.side() != Assoc::FullyAssoc {
             return place_of(work, places, n, k);
         }
     }

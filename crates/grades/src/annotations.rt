@@ -2,32 +2,33 @@
 ghost use Rattle.std.specs.Prelude.{◌≡◌, ◌+◌, ◌≤◌, ◌<◌, length};
 ghost use Rattle.grades.specs.Annotations.{attributes_long, Finding, Annotates, attributes_end, annotated_at, first_alternative, HeadInside, has_prec_attr, symbols_from, alternative_end};
 
-use crate::Ids;
 use crate::skip::skip;
+use crate::{Ids, Indices};
 use octets::numbers::{Width, atom_at, u16_at};
 
-// The index of the first attribute of an id among the n that stand from a place on; n, no Option, where there is none: loops over attributes compare with it.
-fn position(work: &[u8], at: usize, n: usize, width: Width, id: usize) -> usize
+// The index of the first attribute of an id among the n that stand from a place on.
+fn position(work: &[u8], at: usize, n: usize, width: Width, id: Option<usize>) -> Option<usize>
     requires { at + attributes_long width.bytes n ≤ length work.now }
     ensures { Finding width.bytes id work.now at n result }
 {
+    let k = id?;
     let size = 2 + 3 * width.bytes;
     let mut p = at;
     for i in 0..n {
-        if id == atom_at(work, p + 1, width) as usize {
-            return i;
+        if k == atom_at(work, p + 1, width) as usize {
+            return Some(i);
         }
         p += size;
     }
-    n
+    None
 }
 
 // Of both ids.
-pub fn annotations(work: &[u8], at: usize, n: usize, width: Width, ids: Ids) -> Ids
+pub fn annotations(work: &[u8], at: usize, n: usize, width: Width, ids: Ids) -> Indices
     requires { at + attributes_long width.bytes n ≤ length work.now }
     ensures { Annotates width.bytes ids work.now at n result }
 {
-    Ids {
+    Indices {
         precedence: position(work, at, n, width, ids.precedence),
         assoc: position(work, at, n, width, ids.assoc),
     }
@@ -40,12 +41,12 @@ fn annotated(work: &[u8], at: usize, width: Width, ids: Ids) -> bool
 {
     let n = usize::from(work[at + 9]);
     let f = annotations(work, at + 14 + width.bytes, n, width, ids);
-    f.precedence < n || f.assoc < n
+    f.precedence.is_some() || f.assoc.is_some()
 }
 
 // Where the first alternative of the nonterminal at a place stands.
 pub fn first_alternative(work: &[u8], at: usize, width: Width) -> usize
-    requires { at + 16 ≤ length work.now }
+    requires { at + 13 + width.bytes ≤ length work.now }
     ensures { result ≡ first_alternative width.bytes work.now at }
 {
     let args = usize::from(work[at + 10 + width.bytes]);

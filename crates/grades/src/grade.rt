@@ -1,14 +1,14 @@
 // What the texts of the attributes `precedence` and `assoc` say, and a level written in decimal.
 ghost use Rattle.std.specs.Prelude.{◌≡◌, ◌+◌, ◌≤◌, ◌<◌, length};
-ghost use Rattle.grades.specs.Grade.{ReadsLevel, level_said, digits_said, assoc_said, level_digits, PutsDecimal};
+ghost use Rattle.grades.specs.Grade.{level_said, digits_said, assoc_said, level_digits, PutsDecimal};
 
 use crate::Assoc;
 pub use crate::decimal::digit;
 use crate::decimal::{number_size, put_digits};
 
 // A `u32` as Rust parses it: perhaps a plus, then one digit or more.
-pub fn read_level(t: &[u8]) -> Option<usize>
-    ensures { ReadsLevel (level_said t.now) result }
+pub fn read_level(t: &[u8]) -> Option<u32>
+    ensures { result ≡ level_said t.now }
 {
     if t.is_empty() {
         None
@@ -20,25 +20,23 @@ pub fn read_level(t: &[u8]) -> Option<usize>
 }
 
 // One digit or more. Stops where the number is too large for a `u32`: what follows doesn't make it smaller.
-fn read_digits(t: &[u8]) -> Option<usize>
-    ensures { ReadsLevel (digits_said t.now) result }
+fn read_digits(t: &[u8]) -> Option<u32>
+    ensures { result ≡ digits_said t.now }
 {
     if t.is_empty() {
         return None;
     }
-    let mut v = 0;
+    let mut v: u32 = 0;
     for b in t {
-        if *b < b'0' || b'9' < *b {
+        if !b.is_ascii_digit() {
             return None;
         }
-        v = v * 10 + usize::from(*b - b'0');
-        if 4294967295 < v {
-            return None;
-        }
+        v = v.checked_mul(10)?.checked_add(u32::from(*b - b'0'))?;
     }
     Some(v)
 }
 
+// No match of byte strings: it asks byte by byte, so that "none of the four" is a way out for each byte.
 pub fn read_assoc(t: &[u8]) -> Option<Assoc>
     ensures { result ≡ assoc_said t.now }
 {
@@ -56,17 +54,16 @@ pub fn read_assoc(t: &[u8]) -> Option<Assoc>
 }
 
 // How many digits a level has.
-pub fn decimal_size(v: usize) -> usize
-    requires { v < 4294967296 }
+pub fn decimal_size(v: u32) -> usize
     ensures { (result ≡ length (level_digits v)) × (1 ≤ result) × (result ≤ 10) }
 {
-    number_size(v)
+    number_size(v as usize)
 }
 
 // A level in plain decimal; says the place behind.
-pub fn put_decimal(out: &mut [u8], to: usize, v: usize) -> usize
-    requires { (v < 4294967296) × (to + length (level_digits v) ≤ length out.old) }
+pub fn put_decimal(out: &mut [u8], to: usize, v: u32) -> usize
+    requires { to + length (level_digits v) ≤ length out.old }
     ensures { PutsDecimal out.old to v result out.new }
 {
-    put_digits(out, to, v)
+    put_digits(out, to, v as usize)
 }

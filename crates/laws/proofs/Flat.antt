@@ -6,6 +6,7 @@ use Prim.Native.Nat.{ℕ, zero, suc, ◌+◌, ◌-◌, ◌*◌, ◌≤◌}
 use native.Mathlib.Omega.{arith}
 use lib.ListN.{length, drop, length-append, length-drop}
 use lib.Seq.{drop-drop}
+use Rattle.std.specs.Prelude.{Some}
 use Rattle.octets.specs.Plain.Runs.{Lies}
 use Rattle.octets.proofs.LiesLaws.{lies_split, lies_inside}
 use Rattle.parse_tree.specs.Plain.Tree.{Text, Over, Sym, Syms, leaf, around, over, nil, cons, macro, group, count}
@@ -145,7 +146,7 @@ module _ (w : ℕ) (ts : List Text) where
 
   -- ---- one step, for a loop: the command at the place is the first symbol's, and what is left stands behind it
   pub record Step (s : List ℕ) (p e : ℕ) (x : Sym) (xs : Syms) : Type 0 where
-    pub here : node_at w s p ≡ sym_node ts x
+    pub here : node_at w s p ≡ Some (sym_node ts x)
     pub large : 9 ≤ size_of w (sym_node ts x)
     pub room : p + size_of w (sym_node ts x) ≤ e
     pub below : e ≤ length s
@@ -159,7 +160,7 @@ module _ (w : ℕ) (ts : List Text) where
   node_text (around sp a x) s p = tt
   node_text (over sp o xs) s p = tt
 
-  pub sym_here : (s : List ℕ) (p e : ℕ) (x : Sym) → SymFits x → Lies s p (node_bytes w (sym_node ts x)) e → node_at w s p ≡ sym_node ts x
+  pub sym_here : (s : List ℕ) (p e : ℕ) (x : Sym) → SymFits x → Lies s p (node_bytes w (sym_node ts x)) e → node_at w s p ≡ Some (sym_node ts x)
   sym_here s p e x h l = node_back w s p e (sym_node ts x) (node_fits x h) (node_text x s p) l
 
   pub step : (s : List ℕ) (p e : ℕ) (x : Sym) (xs : Syms) → SymsFits (cons x xs) → Lies s p (syms_bytes w ts (cons x xs)) e → Step s p e x xs
@@ -242,9 +243,9 @@ module _ (w : ℕ) {A : Type 0} (effect : A → ℕ → Node → A) (ts : List T
           let q = length-append (sym_bytes w ts x) (syms_bytes w ts xs) in
           kept-all h xs _ _ e (omega arith) ∙ drop_later (bytes acc) _ (at + length (sym_bytes w ts x)) e (omega arith) (kept h x acc at (at + length (sym_bytes w ts x)) refl)
 
-    turn : (g k : ℕ) (acc : A) (at : ℕ) (n : Node) → node_at w (bytes acc) at ≡ n → run w effect bytes (suc g) (suc k) acc at ≡ run w effect bytes g (k + inside n) (effect acc at n) (at + size_of w n)
+    turn : (g k : ℕ) (acc : A) (at : ℕ) (n : Node) → node_at w (bytes acc) at ≡ Some n → run w effect bytes (suc g) (suc k) acc at ≡ run w effect bytes g (k + inside n) (effect acc at n) (at + size_of w n)
     unfolding run
-    turn g k acc at n e = ap (λ (m : Node). run w effect bytes g (k + inside m) (effect acc at m) (at + size_of w m)) e
+    turn g k acc at n e = cc
 
     alike : (g f j k : ℕ) (acc : A) (d e : ℕ) → g ≡ f → j ≡ k → d ≡ e → run w effect bytes g j acc d ≡ run w effect bytes f k acc e
     alike g f j k acc d e p q r = cc

@@ -4,6 +4,7 @@ use mathlib.Core.Bool.{Bool, true}
 use mathlib.Core.List.{List}
 use Prim.Native.Nat.{ℕ, zero, suc, ◌+◌, ◌≤◌}
 use lib.ListN.{length}
+use Rattle.std.specs.Prelude.{Option, Some, None}
 use Rattle.octets.specs.Plain.Numbers.{Bytes}
 use Rattle.octets.specs.Plain.Runs.{Lies}
 use Rattle.parse_tree.specs.Plain.Tree.{Text, Sym, Syms, count, syms_of}
@@ -26,7 +27,12 @@ module _ (w : ℕ) (s : List ℕ) where
   unfolding skip run
   skip-run zero k at = refl
   skip-run (suc f) zero at = refl
-  skip-run (suc f) (suc k) at = skip-run f (k + inside (node_at w s at)) (at + size_of w (node_at w s at))
+  skip-run (suc f) (suc k) at = go (node_at w s at) (skip-run f)
+    where
+      go : (o : Option Node) → ((j p : ℕ) → skip w s f j p ≡ (run w still (λ u. s) f j tt p).1) → elim o [ None ↦ skip w s f k at | Some n ↦ skip w s f (k + inside n) (at + size_of w n) ]
+          ≡ (elim o as (λ _. Unit {0} × ℕ) [ None ↦ run w still (λ u. s) f k tt at | Some n ↦ run w still (λ u. s) f (k + inside n) tt (at + size_of w n) ]).1
+      go None h = h k at
+      go (Some n) h = h (k + inside n) (at + size_of w n)
 
   -- it comes to the place behind the symbols that lie there
   pub skip-lies : (ts : List Text) (xs : Syms) (f at e : ℕ) → SymsFits w ts xs → nodes_all xs ≤ f → Lies s at (syms_bytes w ts xs) e → skip w s f (count xs) at ≡ e

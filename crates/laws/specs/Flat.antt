@@ -1,6 +1,6 @@
 -- Flat runs over the commands of symbols: so many symbols are to come, and each command read is one less and those straight inside it more.
 -- w is the width of an atom's number in bytes. Assumes nothing: these are definitions.
-use Rattle.std.specs.Prelude.{ℕ, zero, suc, ◌+◌, List, length}
+use Rattle.std.specs.Prelude.{ℕ, zero, suc, ◌+◌, List, length, Some, None}
 use Rattle.parse_tree.specs.Plain.Tree.{Text, Sym, Syms, leaf, around, over, nil, cons, count}
 use Rattle.parse_tree.specs.Working.Nodes.{node_at, size_of}
 use Rattle.parse_tree.specs.Working.Operands.{inside_of}
@@ -39,7 +39,6 @@ inside (Node.Alternative a) = 0
 inside (Node.Attribute a) = 0
 inside (Node.Condition c) = 0
 inside (Node.Symbol s k) = inside_kind k
-inside Node.Unknown = 0
 
 -- how many symbols there are in all
 unfoldable mutual
@@ -70,11 +69,13 @@ module _ (w : ℕ) {A : Type 0} (effect : A → ℕ → Node → A) where
   unfoldable pub run : (A → List ℕ) → ℕ → ℕ → A → ℕ → A × ℕ
   run bytes zero k acc at = (acc, at)
   run bytes (suc f) zero acc at = (acc, at)
-  run bytes (suc f) (suc k) acc at =
-      run bytes f (k + inside (node_at w (bytes acc) at)) (effect acc at (node_at w (bytes acc) at)) (at + size_of w (node_at w (bytes acc) at))
+  run bytes (suc f) (suc k) acc at = elim (node_at w (bytes acc) at) [
+    | None ↦ run bytes f k acc at
+    | Some n ↦ run bytes f (k + inside n) (effect acc at n) (at + size_of w n)
+  ]
 
 -- the place behind k symbols, in at most so many steps
 unfoldable pub skip : ℕ → List ℕ → ℕ → ℕ → ℕ → ℕ
 skip w s zero k at = at
 skip w s (suc f) zero at = at
-skip w s (suc f) (suc k) at = skip w s f (k + inside (node_at w s at)) (at + size_of w (node_at w s at))
+skip w s (suc f) (suc k) at = elim (node_at w s at) [ None ↦ skip w s f k at | Some n ↦ skip w s f (k + inside n) (at + size_of w n) ]

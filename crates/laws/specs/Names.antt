@@ -69,7 +69,6 @@ module _ (look : ℕ → Option Def) where
   ask_node s at (Node.Attribute a) = fine s
   ask_node s at (Node.Condition c) = fine s
   ask_node s at (Node.Symbol sp k) = ask_kind s at sp k
-  ask_node s at Node.Unknown = fine s
 
   -- the effect of a flat run
   unfoldable pub ask_name : State → ℕ → Node → State

@@ -56,4 +56,3 @@ module _ (terminal : ℕ → Bool) where
   patch s at (Node.Attribute a) = s
   patch s at (Node.Condition c) = s
   patch s at (Node.Symbol sp k) = patch_kind s at k
-  patch s at Node.Unknown = s

@@ -32,4 +32,3 @@ module _ (w target : ℕ) (f : ℕ → ℕ) where
   rename σ at (Node.Attribute a) = σ
   rename σ at (Node.Condition c) = σ
   rename σ at (Node.Symbol sp k) = rename_kind σ at k
-  rename σ at Node.Unknown = σ

@@ -11,7 +11,8 @@ use Rattle.octets.specs.Plain.Numbers.{le_at}
 use Rattle.parse_tree.specs.Plain.Tree.{Nonterminal}
 use Rattle.parse_tree.specs.declared.refusal.Refusal.{Refusal}
 use Rattle.parse_tree.specs.Working.Nodes.{span_in}
-use Rattle.parse_tree.specs.Working.Refusals.{refusal_over}
+use Rattle.parse_tree.specs.Working.Refusals.{number_of, refusal_over}
+use Rattle.parse_tree.specs.declared.refusal.Question.{Question}
 use Rattle.texts.specs.declared.Map.{Map}
 use Rattle.texts.specs.Table.{texts}
 use Rattle.passes.specs.Outcome.{Outcome, yes, no, after}
@@ -31,7 +32,7 @@ use Rattle.levels.specs.declared.Written.{Written}
 use Rattle.levels.specs.Expand.{Expandable, ExpandedBy, alternatives_at}
 
 -- what a refusal says
-abbrev question_said : Result Bool Ungraded → Option ℕ
+abbrev question_said : Result Bool Ungraded → Option Question
 question_said (Ok b) = None
 question_said (Err u) = u.question
 
@@ -40,11 +41,11 @@ place_said (Ok b) = 0
 place_said (Err u) = u.at
 
 -- an answer is not a refusal
-pub is_not : {b : Bool} {q a : ℕ} → Ok b ≡ ungraded_as q a → ⊥
+pub is_not : {b : Bool} {q : Question} {a : ℕ} → Ok b ≡ ungraded_as q a → ⊥
 is_not {b} {q} {a} e = let z : ◌≡◌ {A = ℕ} 0 1 = cc in omega arith
 
 -- nor is a refusal without a question one with it
-pub unasked-not : {q a b : ℕ} → ◌≡◌ {A = Result Bool Ungraded} (Err (record { question = None; at = b })) (ungraded_as q a) → ⊥
+pub unasked-not : {q : Question} {a b : ℕ} → ◌≡◌ {A = Result Bool Ungraded} (Err (record { question = None; at = b })) (ungraded_as q a) → ⊥
 unasked-not {q} {a} {b} e = let t : None ≡ Some q = ap question_said e in let z : ◌≡◌ {A = ℕ} 0 1 = cc in omega arith
 
 -- where the keys stand: behind the places of n alternatives and of what is behind them
@@ -121,7 +122,7 @@ module _ (s : List ℕ) (m : Map) (room : Room) (wd : ℕ) (ids : Ids) (p e : �
             grade_means four wd (texts s w m) s m room.arrays (keys_place room n) n e d.alternatives w (alternatives_at wd (texts s w m) p d) ready g w1 y
 
   -- ---- a refusal of `grade`
-  module _ (n at : ℕ) (w1 : List ℕ) (q a : ℕ) where
+  module _ (n at : ℕ) (w1 : List ℕ) (q : Question) (a : ℕ) where
     -- what it says of the nonterminal
     abbrev Said : Outcome (Unit {0}) → Type 0
     Said o = GradeMeans four wd (texts s w m) s m room.arrays (keys_place room n) n e w at d.alternatives (ungraded_as q a) w1 o
@@ -131,15 +132,15 @@ module _ (s : List ℕ) (m : Map) (room : Room) (wd : ℕ) (ids : Ids) (p e : �
     refused_inside (yes u) k = absurd (is_not (sym k.answer))
     refused_inside (no r sp) k = let z : a ≡ k.place = same_place k.answer in omega (arith, k.inside, k.long, stands_before.2)
       where
-        same_place : {x y : ℕ} → ungraded_as q a ≡ ungraded_as x y → a ≡ y
+        same_place : {x : Question} {y : ℕ} → ungraded_as q a ≡ ungraded_as x y → a ≡ y
         same_place z = ap place_said z
 
     -- theorem: and it is refused as it should be
-    pub refused_means : (o : Outcome (Unit {0})) (f : Unit {0} → Outcome (Unit {0})) → Said o → (why : Refusal) → why ≡ refusal_over q (span_in w1 (a + 1))
+    pub refused_means : (o : Outcome (Unit {0})) (f : Unit {0} → Outcome (Unit {0})) → Said o → (why : Refusal) → why ≡ refusal_over (number_of q) (span_in w1 (a + 1))
         → ExpandedBy s m room wd ids p e (after o f) d v w (Err why) w1
     unfolding ExpandedBy
     refused_means (yes u) f k why z = absurd (is_not (sym k.answer))
-    refused_means (no r sp) f k why z = go k.place k.answer k.span
+    refused_means (no r sp) f k why z = go k.place k.question k.asks k.answer k.span
       where
-        go : (x : ℕ) → ungraded_as q a ≡ ungraded_as r x → span_in w1 (x + 1) ≡ sp → ◌≡◌ {A = Result Written Refusal} (Err why) (Err (refusal_over r sp))
-        go x i j = let y : a ≡ x = ap place_said i in let t : Some q ≡ Some r = ap question_said i in cc (z, y, t, j)
+        go : (x : ℕ) (c : Question) → number_of c ≡ r → ungraded_as q a ≡ ungraded_as c x → span_in w1 (x + 1) ≡ sp → ◌≡◌ {A = Result Written Refusal} (Err why) (Err (refusal_over r sp))
+        go x c n i j = let y : a ≡ x = ap place_said i in let t : Some q ≡ Some c = ap question_said i in let u : q ≡ c = cc in let l : number_of q ≡ r = ap number_of u ∙ n in cc (z, y, l, j)

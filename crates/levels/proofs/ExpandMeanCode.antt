@@ -13,7 +13,8 @@ use Rattle.octets.specs.Plain.Numbers.{le_at}
 use Rattle.parse_tree.specs.Plain.Tree.{Nonterminal}
 use Rattle.parse_tree.specs.declared.refusal.Refusal.{Refusal}
 use Rattle.parse_tree.specs.Working.Nodes.{span_in}
-use Rattle.parse_tree.specs.Working.Refusals.{refusal_over}
+use Rattle.parse_tree.specs.Working.Refusals.{number_of, refusal_over}
+use Rattle.parse_tree.specs.declared.refusal.Question.{Question}
 use Rattle.texts.specs.declared.Map.{Map}
 use Rattle.texts.specs.Table.{texts}
 use Rattle.passes.specs.Outcome.{Outcome, yes, no, after}
@@ -98,10 +99,10 @@ module _ {s : List ℕ} {m : Map} {room : Room} {wd : ℕ} {ids : Ids} {p e : �
         a = u.at
 
         -- what `grade` answers, by its question
-        by-question : {o : Maybe ℕ} → u.question ≡ o → g ≡ Err (record { question = o; at = a })
-        by-question t = z ∙ ap (λ (o : Maybe ℕ). Err (record { question = o; at = a })) t
+        by-question : {o : Maybe Question} → u.question ≡ o → g ≡ Err (record { question = o; at = a })
+        by-question t = z ∙ ap (λ (o : Maybe Question). Err (record { question = o; at = a })) t
 
-        module _ {q : ℕ} (t : u.question ≡ Some q) where
+        module _ {q : Question} (t : u.question ≡ Some q) where
           says : (four' : Bool) (d' : Nonterminal) → Expandable s m room wd ids p e v w four' d'
               → GradeMeans four' wd (texts s w m) s m room.arrays (keys_place room n) n e w (alternatives_at wd (texts s w m) p d') d'.alternatives (ungraded_as q a) w1 (check_attributes d'.alternatives)
           says four' d' S' = stands_graded s m room wd ids p e v w four' d' S' n many wide at first (ungraded_as q a) w1 (rw (by-question t) at x)
@@ -111,7 +112,7 @@ module _ {s : List ℕ} {m : Map} {room : Room} {wd : ℕ} {ids : Ids} {p e : �
           expand_refused_inside = refused_inside s m room wd ids p e v w four d S n _ w1 q a (check_attributes d.alternatives) (says four d S)
 
           -- theorem: each nonterminal that stands there is refused so
-          pub expand_refused : {why : Refusal} → why ≡ refusal_over q (span_in w1 (a + 1)) → ExpandsOne s m room wd ids p e v w (Err why) w1
+          pub expand_refused : {why : Refusal} → why ≡ refusal_over (number_of q) (span_in w1 (a + 1)) → ExpandsOne s m room wd ids p e v w (Err why) w1
           unfolding ExpandsOne
           expand_refused {why} y four' d' S' =
               refused_means s m room wd ids p e v w four' d' S' n _ w1 q a (check_attributes d'.alternatives) (λ u. check_lowest (grouped d'.name (graded d'))) (says four' d' S') why y

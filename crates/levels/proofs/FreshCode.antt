@@ -29,26 +29,33 @@ use Rattle.grades.specs.Grade.{level_digits, PutsDecimal}
 use Rattle.precedence.specs.Names.{Naming, Based, BaseText, level_text, described_text, described_texts, named_text}
 use Rattle.precedence.proofs.NamesHashCode.{named-described}
 use Rattle.precedence.proofs.NamesFindCode.{naming-based}
+use Rattle.grades.proofs.DecimalLaws.{digits-most}
 use Rattle.levels.specs.Fresh.{too_long, new_texts, fresh_of, NameLong, PutsNames}
 
 -- ---- name_length
 module _ (s w : List ℕ) (m : Map) (n k : ℕ) (g : Naming s w m n) (l : m.count ≤ k) (h : k < n) where
   -- the text that a described name begins with can be read
-  pub name_based : (x : ℕ) → x ≡ mark_at w m.base k → Based s w m (x / 4294967296)
-  name_based x e = naming-based s w m n g (x / 4294967296) (rw e (g.bases k l h))
+  pub name_based : (x b : ℕ) → x ≡ mark_at w m.base k → b ≡ x / 4294967296 → Based s w m b
+  name_based x b e p = rw p (naming-based s w m n g (x / 4294967296) (rw e (g.bases k l h)))
 
-module _ (s w : List ℕ) (m : Map) (k : ℕ) (l : m.count ≤ k) (x : ℕ) (e : x ≡ mark_at w m.base k) (t : Text) (c : t ≡ get_or (texts s w m) (x / 4294967296) []) where
+-- x is its mark, b and v are the base and the level that it tells
+module _ (s w : List ℕ) (m : Map) (k : ℕ) (l : m.count ≤ k) (x b v : ℕ) (e : x ≡ mark_at w m.base k) (p : b ≡ x / 4294967296) (q : v ≡ x % 4294967296) (t : Text) (c : t ≡ get_or (texts s w m) b []) where
   -- a described name is that text and the level's digits
-  pub name_is : named_text s w m k ≡ t ++ level_digits (x % 4294967296)
+  pub name_is : named_text s w m k ≡ t ++ level_digits v
   unfolding level_text described_text
-  name_is = named-described s w m k l ∙ ap (described_text s w m) (sym e) ∙ ap (λ (u : Text). u ++ level_digits (x % 4294967296)) (sym c)
+  name_is =
+      named-described s w m k l ∙ ap (described_text s w m) (sym e) ∙ ap (λ (i : ℕ). get_or (texts s w m) i [] ++ level_digits (x % 4294967296)) (sym p)
+      ∙ ap (λ (u : Text). u ++ level_digits (x % 4294967296)) (sym c) ∙ ap (λ (i : ℕ). t ++ level_digits i) (sym q)
 
-  pub name_size : length (named_text s w m k) ≡ length t + length (level_digits (x % 4294967296))
-  name_size = ap length name_is ∙ length-append t (level_digits (x % 4294967296))
+  pub name_size : length (named_text s w m k) ≡ length t + length (level_digits v)
+  name_size = ap length name_is ∙ length-append t (level_digits v)
 
-pub length_done : (s w : List ℕ) (m : Map) (k : ℕ) → m.count ≤ k → (x : ℕ) → x ≡ mark_at w m.base k → (t : Text) → BaseText s w m (x / 4294967296) t
-    → (z : ℕ) → z ≡ length (level_digits (x % 4294967296)) → z ≤ 10 → NameLong s w m k (length t + z)
-length_done s w m k l x e t c z p q = record { is = omega (arith, name_size s w m k l x e t c.text); small = omega (arith, c.short) }
+pub length_done : (s w : List ℕ) (m : Map) (k : ℕ) → m.count ≤ k → (x b v : ℕ) → x ≡ mark_at w m.base k → b ≡ x / 4294967296 → v ≡ x % 4294967296 → (t : Text) → BaseText s w m b t
+    → (z : ℕ) → z ≡ length (t ++ level_digits v) → NameLong s w m k z
+length_done s w m k l x b v e p q t c z i = record {
+  is = omega (arith, i, length-append t (level_digits v), name_size s w m k l x b v e p q t c.text);
+  small = omega (arith, i, q, length-append t (level_digits v), digits-most v, c.short);
+}
 
 pub ruleset lengthening = (rules, name_based, length_done)
 
@@ -179,20 +186,19 @@ module _ (t : Text) (v : ℕ) where
     pub put_digits : (b : List ℕ) → length b ≡ length o → to + 3 + length t + length (level_digits v) ≤ length b
     put_digits b q = omega (arith, q)
 
-  module _ (z : ℕ) (p : z ≡ length (level_digits v)) where
+  module _ (z : ℕ) (p : z ≡ length (t ++ level_digits v)) where
     -- the atom: its command, the text, the digits
-    atom_is : atom_bytes 2 (t ++ level_digits v) ≡ ((1 ∷ le 2 (length t + z)) ++ t) ++ level_digits v
+    atom_is : atom_bytes 2 (t ++ level_digits v) ≡ ((1 ∷ le 2 z) ++ t) ++ level_digits v
     unfolding atom_bytes node_bytes
     atom_is =
         let d = level_digits v in
-        let n : length (t ++ d) ≡ length t + z = omega (arith, length-append t d) in
-        ap (λ (i : ℕ). (1 ∷ le 2 i) ++ (t ++ d)) n ∙ sym (append_assoc (1 ∷ le 2 (length t + z)) t d)
+        ap (λ (i : ℕ). (1 ∷ le 2 i) ++ (t ++ d)) (sym p) ∙ sym (append_assoc (1 ∷ le 2 z) t d)
 
-    pub put_level_done : (o b r : List ℕ) (to q : ℕ) → b ≡ store o to ((1 ∷ le 2 (length t + z)) ++ t) → PutsDecimal b (to + 3 + length t) v q r → PutsNames o to (atom_bytes 2 (t ++ level_digits v)) q r
+    pub put_level_done : (o b r : List ℕ) (to q : ℕ) → b ≡ store o to ((1 ∷ le 2 z) ++ t) → PutsDecimal b (to + 3 + length t) v q r → PutsNames o to (atom_bytes 2 (t ++ level_digits v)) q r
     put_level_done o b r to q i u =
         let d = level_digits v in
-        let y : List ℕ = 1 ∷ le 2 (length t + z) in
-        let x : to + 3 + length t ≡ to + length (y ++ t) = omega (arith, length-append y t, length-le 2 (length t + z)) in
+        let y : List ℕ = 1 ∷ le 2 z in
+        let x : to + 3 + length t ≡ to + length (y ++ t) = omega (arith, length-append y t, length-le 2 z) in
         let j : r ≡ store o to ((y ++ t) ++ d) = u.bytes ∙ ap (λ (l : List ℕ). store l (to + 3 + length t) d) i ∙ store-append o to (to + 3 + length t) (y ++ t) d x in
         record {
           bytes = j ∙ ap (store o to) (sym atom_is);
@@ -202,15 +208,15 @@ module _ (t : Text) (v : ℕ) where
 pub ruleset level_putting = (rules, put_base, put_digits, put_level_done)
 
 -- ---- put_name
-module _ (s w : List ℕ) (m : Map) (k : ℕ) (l : m.count ≤ k) (x : ℕ) (e : x ≡ mark_at w m.base k) (t : Text) (c : BaseText s w m (x / 4294967296) t) where
-  pub name_short : length (named_text s w m k) < 65536 → length t + length (level_digits (x % 4294967296)) < 65536
-  name_short h = omega (arith, name_size s w m k l x e t c.text)
+module _ (s w : List ℕ) (m : Map) (k : ℕ) (l : m.count ≤ k) (x b v : ℕ) (e : x ≡ mark_at w m.base k) (p : b ≡ x / 4294967296) (q : v ≡ x % 4294967296) (t : Text) (c : BaseText s w m b t) where
+  pub name_short : length (named_text s w m k) < 65536 → length t + length (level_digits v) < 65536
+  name_short h = omega (arith, name_size s w m k l x b v e p q t c.text)
 
-  pub name_room : (to n : ℕ) → to + 3 + length (named_text s w m k) ≤ n → to + 3 + (length t + length (level_digits (x % 4294967296))) ≤ n
-  name_room to n h = omega (arith, name_size s w m k l x e t c.text)
+  pub name_room : (to n : ℕ) → to + 3 + length (named_text s w m k) ≤ n → to + 3 + (length t + length (level_digits v)) ≤ n
+  name_room to n h = omega (arith, name_size s w m k l x b v e p q t c.text)
 
-  pub put_name_done : (o r : List ℕ) (to q : ℕ) → PutsNames o to (atom_bytes 2 (t ++ level_digits (x % 4294967296))) q r → PutsNames o to (atom_bytes 2 (named_text s w m k)) q r
-  put_name_done o r to q u = let z = name_is s w m k l x e t c.text in rw z u
+  pub put_name_done : (o r : List ℕ) (to z : ℕ) → PutsNames o to (atom_bytes 2 (t ++ level_digits v)) z r → PutsNames o to (atom_bytes 2 (named_text s w m k)) z r
+  put_name_done o r to z u = let i = name_is s w m k l x b v e p q t c.text in rw i u
 
 pub ruleset name_putting = (rules, name_based, name_short, name_room, put_name_done)
 

@@ -3,7 +3,7 @@ use mathlib.Core.Path.{◌≡◌, refl}
 use mathlib.Core.Bool.{Bool, false}
 use mathlib.Core.List.{List, [], ◌∷◌}
 use mathlib.Core.Option.{Option}
-use Prim.Native.Nat.{ℕ, ◌+◌, ◌*◌, ◌/◌, ◌≤◌, ◌<◌}
+use Prim.Native.Nat.{ℕ, ◌+◌, ◌*◌, ◌≤◌, ◌<◌}
 use borrow.Author.Rules.{rules}
 use lib.Dec.{eqb}
 use lib.ListN.{length, get_or}
@@ -15,6 +15,7 @@ use Rattle.parse_tree.specs.Plain.Tree.{Text, Nonterminal}
 use Rattle.texts.specs.declared.Map.{Map}
 use Rattle.passes.specs.Levels.{level_name}
 use Rattle.grades.specs.declared.Ids.{Ids}
+use Rattle.grades.specs.Key.{key_level}
 use Rattle.grades.specs.Sort.{GroupEnd}
 use Rattle.precedence.specs.declared.level.Level.{Level}
 use Rattle.precedence.specs.declared.names.LevelName.{LevelName}
@@ -35,21 +36,21 @@ module _ (s : List ℕ) (m : Map) (room : Room) (wd : ℕ) (ids : Ids) (p e plac
   with_level four d o (v0 ∷ above) T h L f = f v0 above refl L
 
   module _ (S : SomeLeft s m room wd ids p e places keys n i below v w) (h : i < n) where
-    module _ (j : ℕ) (g : GroupEnd w keys n i j) (a base u : ℕ) (r : a ≡ le_at wd w (p + 9)) (b : base ≡ a) (l : u ≡ le_at 8 w (keys + 8 * i)) where
+    module _ (j : ℕ) (g : GroupEnd w keys n i j) (a base u y : ℕ) (r : a ≡ le_at wd w (p + 9)) (b : base ≡ a) (l : u ≡ le_at 8 w (keys + 8 * i)) (q : y ≡ key_level u) where
       -- theorem: the name of the next level can be described
-      pub next_describing : eqb j n ≡ false → Describing s w m v.count base (u / 262144)
+      pub next_describing : eqb j n ≡ false → Describing s w m v.count base y
       next_describing other =
-          with_level S.four S.nonterminal S.lower S.levels (Describing s w m v.count base (u / 262144)) h S.left
-          (λ v0 above z L. rw (b, r, l) (step-describing s m room wd ids p e places keys n i below v w S.four S.nonterminal S.lower v0 above L j g other))
+          with_level S.four S.nonterminal S.lower S.levels (Describing s w m v.count base y) h S.left
+          (λ v0 above z L. rw (b, r, q, l) (step-describing s m room wd ids p e places keys n i below v w S.four S.nonterminal S.lower v0 above L j g other))
 
-      module _ (x : LevelName) (w1 : List ℕ) (f : NamesLevel s w m v.count base (u / 262144) (eqb j n) x w1) where
+      module _ (x : LevelName) (w1 : List ℕ) (f : NamesLevel s w m v.count base y (eqb j n) x w1) where
         -- theorem: its number is a `u32`
         pub next_name : x.name < 4294967296
         next_name =
             with_level S.four S.nonterminal S.lower S.levels (x.name < 4294967296) h S.left
             (λ v0 above z L.
             name_small s m room ids w v.count (level_name S.nonterminal.name v0 above) x w1
-            (step-known s m room wd ids p e places keys n i below v w S.four S.nonterminal S.lower v0 above L j g x w1 (rw (b, r, l) at f)))
+            (step-known s m room wd ids p e places keys n i below v w S.four S.nonterminal S.lower v0 above L j g x w1 (rw (b, r, q, l) at f)))
 
         module _ (long : length w1 ≡ length w) (bytes : (k : ℕ) → Bound.Fits w8 (get_or w1 k 0)) where
           abbrev level : Level
@@ -60,7 +61,7 @@ module _ (s : List ℕ) (m : Map) (room : Room) (wd : ℕ) (ids : Ids) (p e plac
           next_inside =
               with_level S.four S.nonterminal S.lower S.levels (LevelInside wd w1 p places keys level room.lim v.to) h S.left
               (λ v0 above z L.
-              let k = step-known s m room wd ids p e places keys n i below v w S.four S.nonterminal S.lower v0 above L j g x w1 (rw (b, r, l) at f) in
+              let k = step-known s m room wd ids p e places keys n i below v w S.four S.nonterminal S.lower v0 above L j g x w1 (rw (b, r, q, l) at f) in
               step-inside s m room wd ids p e places keys n i below v w S.four S.nonterminal S.lower v0 above L j g x w1 long k bytes)
 
           -- theorem: and is written
@@ -71,7 +72,7 @@ module _ (s : List ℕ) (m : Map) (room : Room) (wd : ℕ) (ids : Ids) (p e plac
               let T : Type 0 = Stepped s m room wd ids p e places keys n i below v w four d o vs (record { last = j; name = x.name; count = x.count; to = to }) w2 in
               with_level four d o vs T h L₀
               (λ v0 above z L.
-              let k = step-known s m room wd ids p e places keys n i below v w four d o v0 above L j g x w1 (rw (b, r, l) at f) in
+              let k = step-known s m room wd ids p e places keys n i below v w four d o v0 above L j g x w1 (rw (b, r, q, l) at f) in
               let put = step-puts s m room wd ids p e places keys n i below v w four d o v0 above L j g x w1 long k bytes narrow to w2 t in
               rw z (level_steps s m room wd ids p e places keys n i below v w four d o v0 above L j g x w1 long k to w2 put))
 

@@ -44,9 +44,9 @@ module _ (four : Bool) (wd : ℕ) (ts : List Text) (w : List ℕ) (p e : ℕ) wh
       record { head = k; first = λ c n. absurd (source_other o (sym z.code ∙ c)) }
 
   -- theorem: an item has an annotation just where the tree says so
-  pub item_annotated : wd ≤ 3 → (x : Item) → ItemWithin four wd ts x → Lies w p (item_bytes wd ts x) e → has_prec_attr wd (ids_in ts) w p ≡ has_levels x
-  item_annotated n (item d) h l = has-means four wd ts n w p e d h l
-  item_annotated n (Item.terminal sp o x) h l = terminal_means four wd ts w p e sp o x h.0 h.1.1 l
+  pub item_annotated : (x : Item) → ItemWithin four wd ts x → Lies w p (item_bytes wd ts x) e → has_prec_attr wd (ids_in ts) w p ≡ has_levels x
+  item_annotated (item d) h l = has-means four wd ts w p e d h l
+  item_annotated (Item.terminal sp o x) h l = terminal_means four wd ts w p e sp o x h.0 h.1.1 l
 
 -- theorem: the alternatives of the first and of the others
 pub alternatives_split : (x : Item) (rest : List Item) → alternatives_in (x ∷ rest) ≡ alternatives_in (x ∷ []) + alternatives_in rest
@@ -92,7 +92,7 @@ module _ (s : List ℕ) (m : Map) (t : Grammar) (room : Room) (ids : Ids) (i : �
   pub first_annotated : t.width.bytes ≤ 3 → has_prec_attr t.width.bytes ids w (item_place_in t w i) ≡ has_levels x
   first_annotated n =
       ap (λ (a : Ids). has_prec_attr t.width.bytes a w (item_place_in t w i)) L.names.ids_table
-      ∙ item_annotated four t.width.bytes (texts s w m) w (item_place_in t w i) (item_place_in t w (i + 1)) n x L.within.0 first_lies
+      ∙ item_annotated four t.width.bytes (texts s w m) w (item_place_in t w i) (item_place_in t w (i + 1)) x L.within.0 first_lies
 
 -- theorem: a nonterminal that stands first among the items stands as `expand_nonterm` asks
 pub first_stands : (s : List ℕ) (m : Map) (t : Grammar) (room : Room) (ids : Ids) (i : ℕ) (v : Written) (w : List ℕ) (four : Bool) (d : Nonterminal) (rest : List Item)

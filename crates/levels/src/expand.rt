@@ -1,7 +1,5 @@
 // One annotated nonterminal: its alternatives graded and sorted, and an item written for each level.
 ghost use Rattle.std.specs.Prelude.{◌≡◌, false, None, ◌+◌, ◌*◌, ◌≤◌, ◌<◌, length};
-ghost use Rattle.parse_tree.specs.Working.Nodes.{span_in};
-ghost use Rattle.parse_tree.specs.Working.Refusals.{refusal_over};
 ghost use Rattle.grades.specs.Sort.{Arrays};
 ghost use Rattle.precedence.specs.Names.{Describing};
 ghost use Rattle.levels.specs.Expand.{NamesLevel, SortsKeys, SomeLeft, Steps, Finishes, SomeExpandable, ExpandsOne};
@@ -10,14 +8,33 @@ use crate::{Room, Written};
 use grades::Ids;
 use grades::alternatives::{grade, lowest};
 use grades::annotations::first_alternative;
+use grades::key::Key;
 use grades::sort::{group_end, sort};
-use octets::numbers::{Width, atom_at, u16_at, u64_at};
-use parse_tree::node::span_at;
+use octets::numbers::{Width, atom_at, u16_at};
 use parse_tree::refusal;
-use parse_tree::refusal::Refusal;
-use precedence::level::{Level, write_level};
+use parse_tree::refusal::{Question, Refusal};
+use precedence::level::{Keyed, Level, write_level};
 use precedence::names::{LevelName, level_name};
 use texts::Map;
+
+// What is read and where is written, the same for each nonterminal.
+#[derive(Clone, Copy)]
+pub struct Plan {
+    pub m: Map,
+    pub room: Room,
+    pub width: Width,
+    pub ids: Ids,
+}
+
+// An annotated nonterminal, from p up to e: the places and the sorted keys of its n alternatives are two arrays.
+#[derive(Clone, Copy)]
+pub struct Annotated {
+    pub p: usize,
+    pub e: usize,
+    pub places: usize,
+    pub keys: usize,
+    pub n: usize,
+}
 
 // The level whose keys were written: where they end, its name, how many texts there are then, and the place behind its item.
 #[derive(Clone, Copy)]
@@ -47,7 +64,7 @@ fn name_level(
             count: n,
         }
     } else {
-        level_name(tape, work, m, n, base, level)
+        level_name(tape, work, m, n, base, level as u32)
     }
 }
 
@@ -55,26 +72,19 @@ fn name_level(
 fn next_level(
     tape: &[u8],
     work: &mut [u8],
-    m: Map,
-    room: Room,
-    width: Width,
-    ids: Ids,
-    p: usize,
-    e: usize,
-    places: usize,
-    keys: usize,
-    n: usize,
+    g: Plan,
+    a: Annotated,
     i: usize,
     below: Option<u32>,
     v: Written,
 ) -> Next
-    requires { (i < n) × SomeLeft tape.now m room width.bytes ids p e places keys n i below v work.old }
-    ensures { Steps tape.now m room width.bytes ids p e places keys n i below v work.old result work.new }
+    requires { (i < a.n) × SomeLeft tape.now g.m g.room g.width.bytes g.ids a.p a.e a.places a.keys a.n i below v work.old }
+    ensures { Steps tape.now g.m g.room g.width.bytes g.ids a.p a.e a.places a.keys a.n i below v work.old result work.new }
 {
-    let j = group_end(work, keys, n, i);
-    let base = atom_at(work, p + 9, width) as usize;
-    let level = (u64_at(work, keys + 8 * i) / 262144) as usize;
-    let x = name_level(tape, work, m, v.count, base, level, j == n);
+    let j = group_end(work, a.keys, a.n, i);
+    let base = atom_at(work, a.p + 9, g.width) as usize;
+    let level = Key::read(work, a.keys, i).level();
+    let x = name_level(tape, work, g.m, v.count, base, level, j == a.n);
     let name = x.name as u32;
     let l = Level {
         first: i,
@@ -82,7 +92,14 @@ fn next_level(
         name,
         below,
     };
-    let to = write_level(work, p, width, ids, places, keys, l, room.lim, v.to);
+    let t = Keyed {
+        places: a.places,
+        keys: a.keys,
+        ids: g.ids,
+        width: g.width,
+        lim: g.room.lim,
+    };
+    let to = write_level(work, a.p, t, l, v.to);
     Next {
         last: j,
         name,
@@ -91,30 +108,15 @@ fn next_level(
     }
 }
 
-// An item for each level, ascending; n sorted keys.
-fn write_levels(
-    tape: &[u8],
-    work: &mut [u8],
-    m: Map,
-    room: Room,
-    width: Width,
-    ids: Ids,
-    p: usize,
-    e: usize,
-    places: usize,
-    keys: usize,
-    n: usize,
-    mut v: Written,
-) -> Written
-    requires { SomeLeft tape.now m room width.bytes ids p e places keys n 0 None v work.old }
-    ensures { Finishes tape.now m room width.bytes ids p e places keys n 0 None v work.old result work.new }
+// An item for each level, ascending.
+fn write_levels(tape: &[u8], work: &mut [u8], g: Plan, a: Annotated, mut v: Written) -> Written
+    requires { SomeLeft tape.now g.m g.room g.width.bytes g.ids a.p a.e a.places a.keys a.n 0 None v work.old }
+    ensures { Finishes tape.now g.m g.room g.width.bytes g.ids a.p a.e a.places a.keys a.n 0 None v work.old result work.new }
 {
     let mut i = 0;
     let mut below = None;
-    while i < n {
-        let x = next_level(
-            tape, work, m, room, width, ids, p, e, places, keys, n, i, below, v,
-        );
+    while i < a.n {
+        let x = next_level(tape, work, g, a, i, below, v);
         i = x.last;
         below = Some(x.name);
         v = Written {
@@ -137,44 +139,40 @@ fn sorted(work: &mut [u8], keys: usize, other: usize, n: usize, ascending: bool)
     }
 }
 
-// A question, and the span of the alternative at a place.
-fn refused(work: &[u8], q: usize, at: usize) -> Refusal
-    requires { at + 9 ≤ length work.now }
-    ensures { result ≡ refusal_over q (span_in work.now (at + 1)) }
-{
-    refusal::over(q, span_at(work, at + 1))
-}
-
 // The annotated nonterminal from p up to e.
 pub fn expand_nonterm(
     tape: &[u8],
     work: &mut [u8],
-    m: Map,
-    room: Room,
-    width: Width,
-    ids: Ids,
+    g: Plan,
     p: usize,
     e: usize,
     v: Written,
 ) -> Result<Written, Refusal>
-    requires { SomeExpandable tape.now m room width.bytes ids p e v work.old }
-    ensures { ExpandsOne tape.now m room width.bytes ids p e v work.old result work.new }
+    requires { SomeExpandable tape.now g.m g.room g.width.bytes g.ids p e v work.old }
+    ensures { ExpandsOne tape.now g.m g.room g.width.bytes g.ids p e v work.old result work.new }
 {
-    let n = usize::from(u16_at(work, p + 11 + width.bytes));
-    let places = room.arrays;
+    let n = usize::from(u16_at(work, p + 11 + g.width.bytes));
+    let places = g.room.arrays;
     let keys = places + 8 * n + 8;
-    let at = first_alternative(work, p, width);
-    match grade(tape, work, m, width, ids, places, keys, n, at, e) {
+    let at = first_alternative(work, p, g.width);
+    let ascending = match grade(tape, work, g.m, g.width, g.ids, places, keys, n, at, e) {
+        Ok(ascending) => ascending,
         Err(why) => match why.question {
-            Some(q) => Err(refused(work, q, why.at)),
+            Some(q) => return Err(refusal::of_command(q, work, why.at)),
+            // The n alternatives stand before e.
             None => unreachable!(),
         },
-        Ok(ascending) => {
-            let k = sorted(work, keys, keys + 8 * n, n, ascending);
-            match lowest(work, k, n, places) {
-                Some(a) => Err(refused(work, 16, a)),
-                None => Ok(write_levels(tape, work, m, room, width, ids, p, e, places, k, n, v)),
-            }
-        }
+    };
+    let keys = sorted(work, keys, keys + 8 * n, n, ascending);
+    if let Some(low) = lowest(work, keys, n, places) {
+        return Err(refusal::of_command(Question::LowestLevel, work, low));
     }
+    let a = Annotated {
+        p,
+        e,
+        places,
+        keys,
+        n,
+    };
+    Ok(write_levels(tape, work, g, a, v))
 }

@@ -1,4 +1,6 @@
 // The names of levels, which have no bytes yet: their bytes counted, and written to the output.
+// tape, work, m and n stay parameters: of one value (as Words is) the clauses are longer, `names.entry.work.now` for `work.now` in each, and only `Naming` goes.
+// In `name_length` and `put_name` n is for the clauses alone.
 ghost use Rattle.std.specs.Prelude.{◌≡◌, ◌++◌, ◌+◌, ◌≤◌, ◌<◌, length, false};
 ghost use Rattle.parse_tree.specs.Plain.WriteTape.{bytes_of_each};
 ghost use Rattle.parse_tree.specs.Working.Encode.{atom_bytes};
@@ -6,10 +8,9 @@ ghost use Rattle.grades.specs.Grade.{level_digits};
 ghost use Rattle.precedence.specs.Names.{Naming, named_text};
 ghost use Rattle.levels.specs.Fresh.{too_long, new_texts, fresh_of, NameLong, PutsNames};
 
-use grades::grade::{decimal_size, put_decimal};
-use precedence::names::base_text;
+use grades::grade::put_decimal;
+use precedence::names::{base_text, long, name_mark};
 use texts::Map;
-use texts::fields::mark;
 use texts::text::put_atom;
 
 // How long name k is, of those described up to n.
@@ -17,12 +18,12 @@ fn name_length<'a>(tape: &'a [u8], work: &'a [u8], m: Map, n: usize, k: usize) -
     requires { Naming tape.now work.now m n × (m.count ≤ k) × (k < n) }
     ensures { NameLong tape.now work.now m k result }
 {
-    let x = mark(work, m.base, k);
-    let t = base_text(tape, work, m, x / 4294967296);
-    t.len() + decimal_size(x % 4294967296)
+    let x = name_mark(work, m.base, k);
+    let t = base_text(tape, work, m, x.base());
+    long(t, Some(x.level()))
 }
 
-// How many bytes all names described up to n have with their commands; as an error where one is too long for a text.
+// How many bytes all names described up to n have with their commands; as an error where one is too long for a text: also where a name is too long the bytes are told.
 pub fn count_bytes<'a>(tape: &'a [u8], work: &'a [u8], m: Map, n: usize) -> Result<usize, usize>
     requires { Naming tape.now work.now m n }
     ensures { result ≡ fresh_of (new_texts tape.now work.now m n) }
@@ -40,12 +41,11 @@ pub fn count_bytes<'a>(tape: &'a [u8], work: &'a [u8], m: Map, n: usize) -> Resu
 }
 
 // A text and a level's digits behind it as an atom, to out from `to` on; says the place behind.
-pub fn put_level(t: &[u8], v: usize, out: &mut [u8], to: usize) -> usize
-    requires { (v < 4294967296) × (length t.now + length (level_digits v) < 65536) × (to + 3 + (length t.now + length (level_digits v)) ≤ length out.old) }
+pub fn put_level(t: &[u8], v: u32, out: &mut [u8], to: usize) -> usize
+    requires { (length t.now + length (level_digits v) < 65536) × (to + 3 + (length t.now + length (level_digits v)) ≤ length out.old) }
     ensures { PutsNames out.old to (atom_bytes 2 (t.now ++ level_digits v)) result out.new }
 {
-    let l = t.len() + decimal_size(v);
-    put_atom(t, l as u16, out, to);
+    put_atom(t, long(t, Some(v)) as u16, out, to);
     put_decimal(out, to + 3 + t.len(), v)
 }
 
@@ -62,10 +62,9 @@ fn put_name<'a>(
     requires { Naming tape.now work.now m n × (m.count ≤ k) × (k < n) × (length (named_text tape.now work.now m k) < 65536) × (to + 3 + length (named_text tape.now work.now m k) ≤ length out.old) }
     ensures { PutsNames out.old to (atom_bytes 2 (named_text tape.now work.now m k)) result out.new }
 {
-    let x = mark(work, m.base, k);
-    let t = base_text(tape, work, m, x / 4294967296);
-    let v = x % 4294967296;
-    put_level(t, v, out, to)
+    let x = name_mark(work, m.base, k);
+    let t = base_text(tape, work, m, x.base());
+    put_level(t, x.level(), out, to)
 }
 
 // All names described up to n, by number.

@@ -3,10 +3,10 @@ ghost use Rattle.precedence.specs.Names.{named_text};
 ghost use Rattle.levels.specs.Settle.{NameReady, NamePut, NameSettled, SettlingNames, SettledNames};
 
 use crate::fresh::put_level;
-use grades::grade::decimal_size;
-use octets::numbers::store64;
+use precedence::names::{long, name_mark};
 use texts::Map;
-use texts::fields::mark;
+use texts::fields::{put_mark, text_mark};
+use texts::mark::TextMark;
 use texts::text::atom;
 
 // Name k as an atom that ends at q; says where it begins. The text that it begins with stands on the tape.
@@ -14,11 +14,11 @@ fn put_before(tape: &[u8], work: &mut [u8], m: Map, k: usize, q: usize) -> usize
     requires { NameReady tape.now work.old m k q }
     ensures { NamePut work.old (named_text tape.now work.old m k) q result work.new }
 {
-    let x = mark(work, m.base, k);
-    let y = mark(work, m.base, x / 4294967296);
-    let t = atom(tape, y / 4);
-    let v = x % 4294967296;
-    let to = q - (t.len() + decimal_size(v) + 3);
+    let x = name_mark(work, m.base, k);
+    let y = text_mark(work, m.base, x.base());
+    let t = atom(tape, y.tape_place());
+    let v = x.level();
+    let to = q - (long(t, Some(v)) + 3);
     put_level(t, v, work, to);
     to
 }
@@ -29,7 +29,8 @@ fn settle_name(tape: &[u8], work: &mut [u8], m: Map, k: usize, q: usize) -> usiz
     ensures { NameSettled tape.now work.old m k (named_text tape.now work.old m k) q result work.new }
 {
     let to = put_before(tape, work, m, k, q);
-    store64(work, m.base + 24 * k, (to - 4 * tape.len()) as u64);
+    let x = TextMark::in_work(tape, to);
+    put_mark(work, m.base, k, x.number);
     to
 }
 

@@ -1,10 +1,9 @@
 // The pass: each item copied, or written level by level.
-ghost use Rattle.std.specs.Prelude.{◌≤◌, ◌<◌};
+ghost use Rattle.std.specs.Prelude.{◌≡◌, ◌≤◌, ◌<◌};
 ghost use Rattle.levels.specs.Whole.{SomeItems, ItemSteps, SomeGrammar, Levels};
 
-use crate::expand::expand_nonterm;
+use crate::expand::{Plan, expand_nonterm};
 use crate::{Room, Written};
-use grades::Ids;
 use grades::annotations::has_prec_attr;
 use grades::identify::ids;
 use parse_tree::refusal::Refusal;
@@ -17,22 +16,21 @@ use texts::Map;
 fn expand_item(
     tape: &[u8],
     work: &mut [u8],
-    m: Map,
+    g: Plan,
     t: Grammar,
-    room: Room,
-    ids: Ids,
     i: usize,
     v: Written,
 ) -> Result<Written, Refusal>
-    requires { (i < t.count) × SomeItems tape.now m t room ids i v work.old }
-    ensures { ItemSteps tape.now m t room ids i v work.old result work.new }
+    requires some { (i < t.count) × SomeItems tape.now g.m t g.room g.ids i v work.old }
+    requires wide { g.width ≡ t.width }
+    ensures { ItemSteps tape.now g.m t g.room g.ids i v work.old result work.new }
 {
     let p = place(work, t, i);
     let e = place(work, t, i + 1);
-    if has_prec_attr(work, p, t.width, ids) {
-        return expand_nonterm(tape, work, m, room, t.width, ids, p, e, v);
+    if has_prec_attr(work, p, t.width, g.ids) {
+        return expand_nonterm(tape, work, g, p, e, v);
     }
-    let to = put_run(work, p, e, room.lim, v.to);
+    let to = put_run(work, p, e, g.room.lim, v.to);
     Ok(Written { to, count: v.count })
 }
 
@@ -47,13 +45,18 @@ pub fn expand_precedence(
     requires { SomeGrammar tape.now m t room work.old }
     ensures { Levels tape.now m t room work.old result work.new }
 {
-    let ids = ids(tape, work, m);
+    let g = Plan {
+        m,
+        room,
+        width: t.width,
+        ids: ids(tape, work, m),
+    };
     let mut v = Written {
         to: room.at,
         count: m.count,
     };
     for i in 0..t.count {
-        v = expand_item(tape, work, m, t, room, ids, i, v)?;
+        v = expand_item(tape, work, g, t, i, v)?;
     }
     Ok(v)
 }

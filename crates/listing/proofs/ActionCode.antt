@@ -1,7 +1,8 @@
--- The ways out of put_arrow, put_side, put_action and put_tail. Assumes nothing.
+-- The ways out of put_arrow, put_action and put_tail. Assumes nothing.
 use mathlib.Core.Path.{◌≡◌, refl, sym, ap, ◌∙◌}
 use mathlib.Core.List.{List, [], ◌∷◌, ◌++◌}
 use Prim.Native.Nat.{ℕ, ◌+◌, ◌<◌, ◌≤◌}
+use native.Mathlib.Omega.{arith}
 use borrow.Author.Rules.{rules}
 use borrow.Author.Tests.{ne_eqb, lt-ltb, le-ltb}
 use lib.ListN.{length, get_or}
@@ -19,52 +20,60 @@ use Rattle.settling.proofs.PutLaws.{then, puts_as}
 use Rattle.settling.proofs.WordsLaws.{fixed_same, source_next}
 use Rattle.listing.specs.Tree.{arrow_text, side_text, action_by, action_at}
 
--- ---- put_arrow, put_side: t is what stands for the code
-module _ (c : ℕ) (t : Text) where
-  pub arrow_fallible : c ≡ 2 → t ≡ (32 ∷ 61 ∷ 62 ∷ 63 ∷ 32 ∷ []) → t ≡ arrow_text c
-  unfolding arrow_text pick
-  arrow_fallible e p = rw e p
+-- ---- put_arrow
+module _ (s w : List ℕ) (m : Map) (wd at lim to : ℕ) (g : Printable s w m wd lim to) (p : Source) (d : PlacedText s w m (word_at wd (texts s w m) w at) p) (t : Text) (q : ℕ) (w1 : List ℕ) (u : Puts w lim to t q w1) where
+  pub text_later : Fixed (length s) (length w1) lim p
+  text_later = fixed_same (length s) (length w) lim p (length w1) (d.fixed lim g.above) u.long
 
-  pub arrow_user : (c ≡ 2 → ⊥) → t ≡ (32 ∷ 61 ∷ 62 ∷ 32 ∷ []) → t ≡ arrow_text c
-  unfolding arrow_text pick
-  arrow_user a p = rw (ne_eqb c 2 a) p
+  pub arrow_put : (r : ℕ) (w2 : List ℕ) → Puts w1 lim q (source_text s w1 p) r w2 → Puts w lim to (t ++ word_at wd (texts s w m) w at) r w2
+  arrow_put r w2 v = then u (puts_as (source_next s w lim p (d.fixed lim g.above) to t q w1 u ∙ d.text) v)
 
-  pub side_left : c ≡ 3 → t ≡ (32 ∷ 61 ∷ 62 ∷ 32 ∷ 64 ∷ 76 ∷ []) → t ≡ side_text c
-  unfolding side_text pick
-  side_left e p = rw e p
+pub ruleset arrowing = (rules, text_later, arrow_put)
 
-  pub side_right : (c ≡ 3 → ⊥) → t ≡ (32 ∷ 61 ∷ 62 ∷ 32 ∷ 64 ∷ 82 ∷ []) → t ≡ side_text c
-  unfolding side_text pick
-  side_right a p = rw (ne_eqb c 3 a) p
+-- ---- put_action: the code is c, x is its text
+module _ (c : ℕ) (x : Text) where
+  by_user : c ≡ 1 → (32 ∷ 61 ∷ 62 ∷ 32 ∷ []) ++ x ≡ action_by c x
+  unfolding action_by arrow_text pick
+  by_user e = rw e refl
 
-pub ruleset arrowing = (rules, arrow_fallible, arrow_user, side_left, side_right)
+  by_fallible : c ≡ 2 → (32 ∷ 61 ∷ 62 ∷ 63 ∷ 32 ∷ []) ++ x ≡ action_by c x
+  unfolding action_by arrow_text pick
+  by_fallible e = rw e refl
 
--- ---- put_action: the code is c
-module _ (s w : List ℕ) (m : Map) (wd at lim to : ℕ) (g : Printable s w m wd lim to) where
-  pub text_later : (t : Text) (p : Source) → PlacedText s w m t p → (xs : List ℕ) (q : ℕ) (w1 : List ℕ) → Puts w lim to xs q w1 → Fixed (length s) (length w1) lim p
-  text_later t p d xs q w1 u = fixed_same (length s) (length w) lim p (length w1) (d.fixed lim g.above) u.long
+  by_left : c ≡ 3 → (32 ∷ 61 ∷ 62 ∷ 32 ∷ 64 ∷ 76 ∷ []) ≡ action_by c x
+  unfolding action_by side_text pick
+  by_left e = rw e refl
 
-  module _ (c : ℕ) (e : c ≡ get_or w (at + 11) 0) where
-    at-is : (x : Text) → action_by c (word_at wd (texts s w m) w (at + 12)) ≡ x → x ≡ action_at wd (texts s w m) w at
-    unfolding action_at
-    at-is x h = sym h ∙ ap (λ (k : ℕ). action_by k (word_at wd (texts s w m) w (at + 12))) e
+  by_right : (c ≡ 0 → ⊥) → (c ≡ 1 → ⊥) → (c ≡ 2 → ⊥) → (c ≡ 3 → ⊥) → (32 ∷ 61 ∷ 62 ∷ 32 ∷ 64 ∷ 82 ∷ []) ≡ action_by c x
+  unfolding action_by side_text pick
+  by_right n0 n1 n2 n3 = rw (ne_eqb c 0 n0, le-ltb c 3 (omega (arith, n0, n1, n2)), ne_eqb c 3 n3) refl
 
-    pub action_none : c ≡ 0 → Puts w lim to (action_at wd (texts s w m) w at) to w
-    unfolding action_by pick
-    action_none z = puts_as (at-is [] (rw z refl)) (puts_none w lim to g.stop)
+module _ (s w : List ℕ) (m : Map) (wd at lim to c : ℕ) (e : c ≡ get_or w (at + 11) 0) where
+  abbrev x : Text
+  x = word_at wd (texts s w m) w (at + 12)
 
-    pub action_text_lem : (p : Source) (q r : ℕ) (w1 w2 : List ℕ) → (c ≡ 0 → ⊥) → c < 3 → PlacedText s w m (word_at wd (texts s w m) w (at + 12)) p → Puts w lim to (arrow_text c) q w1
-        → Puts w1 lim q (source_text s w1 p) r w2 → Puts w lim to (action_at wd (texts s w m) w at) r w2
-    unfolding action_by pick
-    action_text_lem p q r w1 w2 n l d u v =
-        let k : source_text s w1 p ≡ word_at wd (texts s w m) w (at + 12) = source_next s w lim p (d.fixed lim g.above) to (arrow_text c) q w1 u ∙ d.text in
-        puts_as (ap (λ (x : Text). arrow_text c ++ x) k ∙ at-is (arrow_text c ++ word_at wd (texts s w m) w (at + 12)) (rw (ne_eqb c 0 n, lt-ltb c 3 l) refl)) (then u v)
+  is : action_by c x ≡ action_at wd (texts s w m) w at
+  unfolding action_at
+  is = ap (λ (k : ℕ). action_by k x) e
 
-    pub action_side : (r : ℕ) (w1 : List ℕ) → (c ≡ 0 → ⊥) → 3 ≤ c → Puts w lim to (side_text c) r w1 → Puts w lim to (action_at wd (texts s w m) w at) r w1
-    unfolding action_by pick
-    action_side r w1 n l u = puts_as (at-is (side_text c) (rw (ne_eqb c 0 n, le-ltb c 3 l) refl)) u
+  pub action_none : Printable s w m wd lim to → c ≡ 0 → Puts w lim to (action_at wd (texts s w m) w at) to w
+  unfolding action_by pick
+  action_none g z = puts_as ((rw z refl) ∙ is) (puts_none w lim to g.stop)
 
-pub ruleset acting = (rules, text_later, action_none, action_text_lem, action_side)
+  module _ (r : ℕ) (w1 : List ℕ) where
+    pub action_user : c ≡ 1 → Puts w lim to ((32 ∷ 61 ∷ 62 ∷ 32 ∷ []) ++ x) r w1 → Puts w lim to (action_at wd (texts s w m) w at) r w1
+    action_user z u = puts_as (by_user c x z ∙ is) u
+
+    pub action_fallible : c ≡ 2 → Puts w lim to ((32 ∷ 61 ∷ 62 ∷ 63 ∷ 32 ∷ []) ++ x) r w1 → Puts w lim to (action_at wd (texts s w m) w at) r w1
+    action_fallible z u = puts_as (by_fallible c x z ∙ is) u
+
+    pub action_left : c ≡ 3 → Puts w lim to (32 ∷ 61 ∷ 62 ∷ 32 ∷ 64 ∷ 76 ∷ []) r w1 → Puts w lim to (action_at wd (texts s w m) w at) r w1
+    action_left z u = puts_as (by_left c x z ∙ is) u
+
+    pub action_right : (c ≡ 0 → ⊥) × (c ≡ 1 → ⊥) × (c ≡ 2 → ⊥) × (c ≡ 3 → ⊥) → Puts w lim to (32 ∷ 61 ∷ 62 ∷ 32 ∷ 64 ∷ 82 ∷ []) r w1 → Puts w lim to (action_at wd (texts s w m) w at) r w1
+    action_right (n0, n1, n2, n3) u = puts_as (by_right c x n0 n1 n2 n3 ∙ is) u
+
+pub ruleset acting = (rules, action_none, action_user, action_fallible, action_left)
 
 -- ---- put_tail
 pub tail_put : (w w1 w2 : List ℕ) (xs : List ℕ) (lim to q r : ℕ) → Puts w lim to xs q w1 → Puts w1 lim q (10 ∷ []) r w2 → Puts w lim to (xs ++ (10 ∷ [])) r w2

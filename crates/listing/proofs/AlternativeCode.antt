@@ -11,6 +11,8 @@ use Rattle.octets.specs.Plain.Numbers.{le_at}
 use Rattle.parse_tree.specs.Plain.Tree.{Text, Alternative, count}
 use Rattle.parse_tree.specs.Plain.Display.{shown_all}
 use Rattle.parse_tree.specs.Working.Encode.{alternative_bytes}
+use Rattle.parse_tree.specs.Working.Nodes.{alternative_here}
+use Rattle.parse_tree.specs.declared.syntax.Alternative.{Alternative as Command}
 use Rattle.texts.specs.declared.Map.{Map}
 use Rattle.texts.specs.Table.{texts}
 use Rattle.grades.specs.Annotations.{symbols_from}
@@ -34,13 +36,13 @@ module _ (s w : List ℕ) (m : Map) (wd at lim to : ℕ) (h : SomeOne (Alternati
   alternative_room : at + 14 + wd ≤ length w
   alternative_room = let z = first in omega (arith, z.room, z.inside)
 
-  pub alternative_count : at + 12 + wd + 2 ≤ length w
-  alternative_count = let z = alternative_room in omega arith
+  pub alternative_whole : at + (14 + wd) ≤ length w
+  alternative_whole = let z = alternative_room in omega arith
 
   pub alternative_start : at + 11 ≤ length w
   alternative_start = let z = alternative_room in omega arith
 
-  module _ (g : Printable s w m wd lim to) (j n b : ℕ) (y : j ≡ le_at 2 w (at + 12 + wd)) (i : n ≡ j) (t : b ≡ symbols_from wd w at) (q : ℕ) (w1 : List ℕ) (u : Puts w lim to (32 ∷ 32 ∷ []) q w1) where
+  module _ (g : Printable s w m wd lim to) (d : Command) (n b : ℕ) (y : d ≡ alternative_here wd w at) (i : n ≡ d.symbols) (t : b ≡ symbols_from wd w at) (q : ℕ) (w1 : List ℕ) (u : Puts w lim to (32 ∷ 32 ∷ []) q w1) where
     on : to ≤ q
     on = next_on s w m wd lim to g (32 ∷ 32 ∷ []) q w1 u
 
@@ -49,7 +51,7 @@ module _ (s w : List ℕ) (m : Map) (wd at lim to : ℕ) (h : SomeOne (Alternati
     stand e a l r = rw t (symbols_next s w m wd lim to g (32 ∷ 32 ∷ []) q w1 u false 64 (symbols_from wd w at) e a.symbols l r.symbols)
 
     counted : (e : ℕ) (a : Alternative) → AlternativeReads wd s w m at e a → count a.symbols ≡ n
-    counted e a r = sym (i ∙ y ∙ r.many)
+    counted e a r = sym (i ∙ ap (λ (k : Command). k.symbols) y ∙ r.many)
 
     pub alternative_symbols : SomeBelow s w1 m wd n 64 b q
     alternative_symbols =
@@ -87,6 +89,6 @@ printed_printable s w m wd n left at c lim to z w2 v = v.printable
 pub alternative_low : (s w : List ℕ) (m : Map) (wd at lim to : ℕ) → SomeOne (AlternativeGood wd) (alternative_bytes wd) s w m at to → to ≤ lim + 1 → at + 14 + wd ≤ lim + 1
 alternative_low s w m wd at lim to h l = let z = first s w m wd at lim to h in omega (arith, z.room, h.below)
 
-pub ruleset alternating = (rules, alternative_count, alternative_start, alternative_printable, alternative_symbols, printed_printable, alternative_shown)
+pub ruleset alternating = (rules, alternative_whole, alternative_start, alternative_printable, alternative_symbols, printed_printable, alternative_shown)
 
 pub ruleset lasting = (alternative_low)

@@ -1,13 +1,16 @@
 -- The ways out of put_flags, put_line, put_word and put_head. Assumes nothing.
-use mathlib.Core.Path.{◌≡◌}
+use mathlib.Core.Path.{◌≡◌, ap, ◌∙◌}
 use mathlib.Core.List.{List, [], ◌∷◌, ◌++◌}
 use Prim.Native.Nat.{ℕ, ◌+◌}
+use native.Mathlib.Omega.{arith}
 use borrow.Author.Rules.{rules}
 use borrow.Author.Tests.{ne_eqb}
 use lib.ListN.{length, get_or}
 use Rattle.octets.specs.Working.Choice.{pick}
 use Rattle.octets.specs.Plain.Numbers.{le_at}
 use Rattle.parse_tree.specs.Plain.Tree.{Text}
+use Rattle.parse_tree.specs.Working.Nodes.{span_in, nonterminal_here}
+use Rattle.parse_tree.specs.declared.syntax.NonterminalData.{NonterminalData}
 use Rattle.texts.specs.declared.Map.{Map}
 use Rattle.texts.specs.Table.{texts}
 use Rattle.display.specs.Follow.{word_at}
@@ -42,10 +45,10 @@ module _ (f : ℕ) (t : Text) where
 pub ruleset flagging = (rules, flags_none, flags_inline, flags_public, flags_both)
 
 -- ---- put_line
-pub line_put : (w w1 w2 w3 : List ℕ) (from end f lim to a b r : ℕ) → Puts w lim to (32 ∷ shown_number from) a w1 → Puts w1 lim a (45 ∷ shown_number end) b w2 → Puts w2 lim b (flags_line f) r w3
+pub line_put : (w w1 w2 w3 : List ℕ) (from end f lim to x y a b r : ℕ) → x ≡ from → y ≡ end → Puts w lim to (32 ∷ shown_number x) a w1 → Puts w1 lim a (45 ∷ shown_number y) b w2 → Puts w2 lim b (flags_line f) r w3
     → Puts w lim to (line_text from end f) r w3
 unfolding line_text
-line_put w w1 w2 w3 from end f lim to a b r p q u = then p (then q u)
+line_put w w1 w2 w3 from end f lim to x y a b r i j p q u = rw (← i, ← j) (then p (then q u))
 
 pub ruleset lining = (rules, line_put)
 
@@ -57,11 +60,13 @@ pub word_put : (s w : List ℕ) (m : Map) (wd at lim to r : ℕ) (w1 : List ℕ)
     → Puts w lim to (source_text s w p) r w1 → Puts w lim to (word_at wd (texts s w m) w at) r w1
 word_put s w m wd at lim to r w1 p d u = puts_as d.text u
 
-pub head_put : (s w : List ℕ) (m : Map) (wd at lim to x y a b f q r : ℕ) (w1 w2 : List ℕ) → x ≡ le_at 4 w (at + 1) → a ≡ x → y ≡ le_at 4 w (at + 5) → b ≡ y → f ≡ get_or w (at + 9 + wd) 0
-    → Puts w lim to (word_at wd (texts s w m) w (at + 9)) q w1 → Puts w1 lim q (line_text a b f) r w2 → Printable s w m wd lim to → PutsHead s w m wd at lim to r w2
-unfolding head_text
-head_put s w m wd at lim to x y a b f q r w1 w2 i j k l n u v g =
-    let z : word_at wd (texts s w m) w (at + 9) ++ line_text a b f ≡ word_at wd (texts s w m) w (at + 9) ++ line_text (le_at 4 w (at + 1)) (le_at 4 w (at + 5)) (get_or w (at + 9 + wd) 0) = cc (i, j, k, l, n) in
+pub head_put : (s w : List ℕ) (m : Map) (wd at lim to q r : ℕ) (d : NonterminalData) (w1 w2 : List ℕ) → d ≡ nonterminal_here wd w at
+    → Puts w lim to (word_at wd (texts s w m) w (at + 9)) q w1 → Puts w1 lim q (line_text d.span.0 d.span.1 d.flags) r w2 → Printable s w m wd lim to → PutsHead s w m wd at lim to r w2
+unfolding head_text span_in
+head_put s w m wd at lim to q r d w1 w2 i u v g =
+    let five : at + 1 + 4 ≡ at + 5 = omega arith in
+    let z : word_at wd (texts s w m) w (at + 9) ++ line_text d.span.0 d.span.1 d.flags ≡ head_text wd (texts s w m) w at = ap (λ (k : NonterminalData). word_at wd (texts s w m) w (at + 9) ++ line_text k.span.0 k.span.1 k.flags) i
+    ∙ ap (λ (k : ℕ). word_at wd (texts s w m) w (at + 9) ++ line_text (le_at 4 w (at + 1)) (le_at 4 w k) (get_or w (at + 9 + wd) 0)) five in
     let e : Puts w lim to (head_text wd (texts s w m) w at) r w2 = puts_as z (then u v) in
     record { puts = e; printable = printable_next s w m wd lim to g (head_text wd (texts s w m) w at) r w2 e }
 

@@ -1,9 +1,8 @@
--- The ways out of first_behind and list_item, and what they ask. Assumes nothing.
+-- The ways out of list_item, and what they ask. Assumes nothing.
 use mathlib.Core.Path.{◌≡◌, refl, sym, ap, ◌∙◌}
 use mathlib.Core.List.{List, [], ◌∷◌, ◌++◌, append_assoc}
 use Prim.Native.Nat.{ℕ, ◌+◌, ◌*◌, ◌^◌, ◌<◌, ◌≤◌}
 use native.Mathlib.Omega.{arith}
-use native.Mathlib.Nat.{mul-le-mul_right}
 use borrow.Author.Rules.{rules}
 use lib.ListN.{length, get_or}
 use mir.Syntax.{w64}
@@ -12,10 +11,11 @@ use Rattle.octets.specs.Plain.Numbers.{le_at}
 use Rattle.parse_tree.specs.Plain.Tree.{Text, Nonterminal, Item, item, terminal}
 use Rattle.parse_tree.specs.Plain.WriteTape.{bytes_of_each}
 use Rattle.parse_tree.specs.Working.Encode.{alternative_bytes, item_bytes}
+use Rattle.parse_tree.specs.Working.Nodes.{nonterminal_here}
+use Rattle.parse_tree.specs.declared.syntax.NonterminalData.{NonterminalData}
 use Rattle.texts.specs.declared.Map.{Map}
 use Rattle.texts.specs.Table.{texts}
 use Rattle.grades.specs.Annotations.{first_alternative}
-use Rattle.grades.proofs.AnnotationsCode.{few_fits, first-is}
 use Rattle.precedence.proofs.WriteLaws.{puts_none}
 use Rattle.settling.specs.declared.Printed.{Printed}
 use Rattle.settling.specs.Print.{Printable}
@@ -26,12 +26,6 @@ use Rattle.listing.specs.Tree.{head_text}
 use Rattle.listing.specs.Walk.{PutsHead, OneStands, SomeOne, SomeAll, ShowsOne, ShowsAll, AlternativeGood, ItemGood}
 use Rattle.listing.proofs.WalkLaws.{one_next}
 use Rattle.listing.proofs.ItemMean.{head_of, NonterminalReads, nonterminal_reads, terminal_reads}
-
--- ---- first_behind
-pub behind_fits : (wd n : ℕ) → wd ≤ 3 → n < 256 → (m at : ℕ) → m * 1 < 2 ^ 63 → at + 13 + wd ≤ m → Fits w64 (at + 13 + wd + (1 + wd) * n)
-behind_fits wd n h k m at l r = let z : (1 + wd) * n ≤ 4 * n = mul-le-mul_right {m = 1 + wd} {n = 4} n (omega arith) in omega (arith, z)
-
-pub ruleset behind = (rules, few_fits, behind_fits, first-is)
 
 -- ---- list_item
 
@@ -125,13 +119,16 @@ some_alternatives s w m wd at lim to q w1 o c h g = item_alternatives s w m wd a
 
 pub ruleset somewhere = (some_alternatives)
 
--- ---- list_rest
-pub rest_some : (s w : List ℕ) (m : Map) (wd at a j n z : ℕ) → SomeAll (AlternativeGood wd) (alternative_bytes wd) s w m (le_at 2 w (at + 11 + wd)) (first_alternative wd w at) z → a ≡ first_alternative wd w at
-    → n ≡ j → j ≡ le_at 2 w (at + 11 + wd) → SomeAll (AlternativeGood wd) (alternative_bytes wd) s w m n a z
-rest_some s w m wd at a j n z h e i y = rw (e, i, y) h
+-- ---- list_rest: d is the nonterminal's command
+module _ (s w : List ℕ) (m : Map) (wd at a n : ℕ) (d : NonterminalData) (e : a ≡ first_alternative wd w at) (i : n ≡ d.alternatives) (y : d ≡ nonterminal_here wd w at) where
+  many : n ≡ le_at 2 w (at + 11 + wd)
+  many = i ∙ ap (λ (k : NonterminalData). k.alternatives) y
 
-pub rest_shown : (s w : List ℕ) (m : Map) (wd at a j n lim to : ℕ) (r : Printed) (w1 : List ℕ) → ShowsAll (AlternativeGood wd) (alternative_bytes wd) s w m listed_alternative n a lim to r w1 → a ≡ first_alternative wd w at
-    → n ≡ j → j ≡ le_at 2 w (at + 11 + wd) → ShowsAll (AlternativeGood wd) (alternative_bytes wd) s w m listed_alternative (le_at 2 w (at + 11 + wd)) (first_alternative wd w at) lim to r w1
-rest_shown s w m wd at a j n lim to r w1 h e i y = rw (← e, ← y, ← i) h
+  pub rest_some : (z : ℕ) → SomeAll (AlternativeGood wd) (alternative_bytes wd) s w m (le_at 2 w (at + 11 + wd)) (first_alternative wd w at) z → SomeAll (AlternativeGood wd) (alternative_bytes wd) s w m n a z
+  rest_some z h = rw (e, many) h
+
+  pub rest_shown : (lim to : ℕ) (r : Printed) (w1 : List ℕ) → ShowsAll (AlternativeGood wd) (alternative_bytes wd) s w m listed_alternative n a lim to r w1
+      → ShowsAll (AlternativeGood wd) (alternative_bytes wd) s w m listed_alternative (le_at 2 w (at + 11 + wd)) (first_alternative wd w at) lim to r w1
+  rest_shown lim to r w1 h = rw (← e, ← many) h
 
 pub ruleset resting = (rules, rest_some, rest_shown)

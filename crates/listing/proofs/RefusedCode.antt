@@ -1,4 +1,4 @@
--- The ways out of put_led, put_run and list_refusal. Assumes nothing.
+-- The ways out of put_led and list_refusal. Assumes nothing.
 use mathlib.Core.List.{List, [], ◌∷◌}
 use Prim.Native.Nat.{ℕ, ◌-◌}
 use native.Mathlib.Omega.{arith}
@@ -15,10 +15,6 @@ use Rattle.listing.specs.Tree.{refused_word, refused_by, places_text}
 pub led_put : (w w1 w2 : List ℕ) (b v lim to q r : ℕ) → Puts w lim to (b ∷ []) q w1 → Puts w1 lim q (shown_number v) r w2 → Puts w lim to (b ∷ shown_number v) r w2
 led_put w w1 w2 b v lim to q r x y = then x y
 
-pub run_put : (w w1 t : List ℕ) (lim to r : ℕ) → Puts w lim to (part 0 (length t) t) r w1 → Puts w lim to t r w1
-unfolding part
-run_put w w1 t lim to r p = puts_as (take_all (length t - 0) t (omega arith)) p
-
 pub refused_put : (w : List ℕ) (lim to r : ℕ) (w1 : List ℕ) → Puts w lim to (114 ∷ 101 ∷ 102 ∷ 117 ∷ 115 ∷ 101 ∷ 100 ∷ []) r w1 → Puts w lim to refused_word r w1
 unfolding refused_word
 refused_put w lim to r w1 p = p
@@ -34,7 +30,5 @@ unfolding listed refused_by refused_word places_text
 refusal_put w w1 w2 w3 why lim to a b r p q u = then p (then q u)
 
 pub ruleset leading = (rules, led_put)
-
-pub ruleset running = (rules, run_put)
 
 pub ruleset refusing = (rules, refused_put, places-put, refusal_put)

@@ -7,28 +7,19 @@ ghost use Rattle.settling.specs.Print.{Printable};
 ghost use Rattle.listing.specs.Listing.{listed_alternative, listed_item};
 ghost use Rattle.listing.specs.Walk.{AlternativeGood, ItemGood, SomeOne, SomeAll, ShowsOne, ShowsAll};
 
-use crate::Page;
 use crate::alternatives::list_alternatives;
 use crate::head::put_head;
-use octets::numbers::{Width, u16_at};
-use settling::Printed;
-
-// Where the first alternative of the nonterminal at a place stands, also where work ends close behind its command.
-fn first_behind(work: &[u8], at: usize, width: Width) -> usize
-    requires { at + 13 + width.bytes ≤ length work.now }
-    ensures { result ≡ first_alternative width.bytes work.now at }
-{
-    let args = usize::from(work[at + 10 + width.bytes]);
-    at + 13 + width.bytes + (1 + width.bytes) * args
-}
+use grades::annotations::first_alternative;
+use parse_tree::node::whole_nonterminal;
+use settling::{Page, Printed};
 
 // The lines of the alternatives of the nonterminal at a place.
 fn list_rest(page: Page, work: &mut [u8], at: usize, to: usize) -> Printed
     requires { Printable page.tape.now work.old page.m page.width.bytes page.lim to × (at + 13 + page.width.bytes ≤ length work.old) × SomeAll (AlternativeGood page.width.bytes) (alternative_bytes page.width.bytes) page.tape.now work.old page.m (le_at 2 work.old (at + 11 + page.width.bytes)) (first_alternative page.width.bytes work.old at) to }
     ensures { ShowsAll (AlternativeGood page.entry.width.bytes) (alternative_bytes page.entry.width.bytes) page.entry.tape.now work.old page.entry.m listed_alternative (le_at 2 work.old (at + 11 + page.entry.width.bytes)) (first_alternative page.entry.width.bytes work.old at) page.entry.lim to result work.new }
 {
-    let n = usize::from(u16_at(work, at + 11 + page.width.bytes));
-    let a = first_behind(work, at, page.width);
+    let n = usize::from(whole_nonterminal(work, at, page.width).alternatives);
+    let a = first_alternative(work, at, page.width);
     list_alternatives(page, work, a, n, to)
 }
 
@@ -44,11 +35,12 @@ fn list_item(page: Page, work: &mut [u8], at: usize, to: usize) -> Printed
     }
     Printed {
         at: at + 9 + page.width.bytes,
-        to: to,
+        to,
     }
 }
 
-// Those of n items. The loop is that of list_alternatives; the clauses for a closure that changes work would be longer than it.
+// Those of n items. The loop is that of list_alternatives: one body for both would take a closure, and clauses longer than the loop would say what the
+// closure asks of any work, and leaves of it.
 pub fn list_items(page: Page, work: &mut [u8], at: usize, n: usize, to: usize) -> Printed
     requires { Printable page.tape.now work.old page.m page.width.bytes page.lim to × SomeAll (ItemGood page.width.bytes) (item_bytes page.width.bytes) page.tape.now work.old page.m n at to }
     ensures { ShowsAll (ItemGood page.entry.width.bytes) (item_bytes page.entry.width.bytes) page.entry.tape.now work.old page.entry.m listed_item n at page.entry.lim to result work.new }

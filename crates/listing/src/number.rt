@@ -4,7 +4,7 @@ ghost use Rattle.precedence.specs.Write.{Puts};
 ghost use Rattle.listing.specs.Listing.{shown_number};
 
 use grades::decimal::{number_size, put_digits};
-use precedence::write::fits;
+use precedence::write::put;
 use settling::put::put_byte;
 
 // A number, if it ends at lim or before.
@@ -12,10 +12,9 @@ pub fn put_number(work: &mut [u8], v: usize, lim: usize, to: usize) -> usize
     requires { lim ≤ length work.old }
     ensures { Puts work.old lim to (shown_number v) result work.new }
 {
-    if !fits(lim, to, number_size(v)) {
-        return lim + 1;
-    }
-    put_digits(work, to, v)
+    put(work, number_size(v), lim, to, move |w| {
+        put_digits(w, to, v);
+    })
 }
 
 // A byte, and a number behind it.

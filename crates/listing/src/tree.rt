@@ -3,10 +3,10 @@ ghost use Rattle.std.specs.Prelude.{false, ◌*◌, ◌≤◌, length};
 ghost use Rattle.validate.specs.Whole.{Valid};
 ghost use Rattle.listing.specs.Walk.{ListsTree};
 
-use crate::Page;
 use crate::items::list_items;
 use octets::numbers::Width;
 use octets::runs::copy;
+use settling::Page;
 use validate::Validated;
 use validate::entry::validate;
 use validate::regions::layout;
@@ -37,6 +37,7 @@ pub fn list_tree(tree: &[u8], work: &mut [u8]) -> usize
     ensures { ListsTree tree.now (length work.old) result work.new }
 {
     match validate(tree, work, Width { bytes: 2 }, false) {
+        // Nothing is listed: the place where a text would begin.
         Err(_) => 8 * tree.len(),
         Ok(v) => list_valid(tree, work, v),
     }

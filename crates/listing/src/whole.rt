@@ -18,10 +18,7 @@ fn list_yes(output: &[u8], work: &mut [u8], n: usize) -> Listed
     ensures { ListsFront output.now n (length work.old) result work.new }
 {
     let to = list_tree(&output[..n], work);
-    Listed {
-        from: 8 * n,
-        to: to,
-    }
+    Listed { from: 8 * n, to }
 }
 
 // Of a refusal.
@@ -30,7 +27,7 @@ fn list_no(work: &mut [u8], why: Refusal) -> Listed
 {
     let n = work.len();
     let to = list_refusal(work, why, n, 0);
-    Listed { from: 0, to: to }
+    Listed { from: 0, to }
 }
 
 pub fn listing(tape: &[u8], output: &mut [u8], work: &mut [u8]) -> Listed

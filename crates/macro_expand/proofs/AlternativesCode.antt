@@ -26,11 +26,11 @@ use Rattle.expander.specs.Ground.{top_of, list_place}
 use Rattle.expander.specs.Names.{named_in}
 use Rattle.appending.specs.declared.Appended.{Appended}
 use Rattle.appending.specs.declared.symbols.Copied.{Copied}
+use Rattle.appending.specs.declared.symbols.Coming.{Coming}
 use Rattle.appending.specs.Pieces.{plainly, then_piece, Appends}
 use Rattle.appending.proofs.PiecesLaws.{steady_plainly, appends_then, appends_is, appends_puts}
 use Rattle.appending.proofs.SymbolsStays.{texts-stay}
 use Rattle.macro_expand.specs.declared.arguments.Call.{Call}
-use Rattle.macro_expand.specs.declared.expand.Opened.{Opened}
 use Rattle.macro_expand.specs.PutIn.{syms_piece, Placed, Framed, Frame, SomeInsides, PutsInAll}
 use Rattle.macro_expand.specs.Alternatives.{alternative_piece, bare_out, SomeAlternative, OpensAlternative, PutsAlternative}
 use Rattle.macro_expand.proofs.FrameLaws.{placed_stays, frame_stays}
@@ -192,7 +192,7 @@ module _ (s w : List ℕ) (g : Ground) (n lim : ℕ) (c : Call) (p : ℕ) (v : A
 pub ruleset singling = (rules, single_count, single_head_lem, single_inside, single_cursor, single_ahead, single_before, single_room, single_opens)
 
 -- ---- expand_alternative
-module _ (s w : List ℕ) (g : Ground) (n lim : ℕ) (c : Call) (span p : ℕ) (v : Appended) (r : Opened) (w' : List ℕ) (O : OpensAlternative s w g n lim c span p v r w') where
+module _ (s w : List ℕ) (g : Ground) (n lim : ℕ) (c : Call) (span p : ℕ) (v : Appended) (r : Coming) (w' : List ℕ) (O : OpensAlternative s w g n lim c span p v r w') where
   pub opened_frame : Frame s w' g n lim c r.run.out
   opened_frame = O.frame
 

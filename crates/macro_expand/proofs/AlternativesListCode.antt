@@ -9,14 +9,14 @@ use lib.ListN.{length}
 use Rattle.octets.specs.Plain.Numbers.{le}
 use Rattle.parse_tree.specs.Plain.Tree.{Text, Syms, Alternative}
 use Rattle.parse_tree.specs.Plain.WriteTape.{bytes_of_each}
-use Rattle.parse_tree.specs.Working.Nodes.{span_bytes, span_in}
+use Rattle.parse_tree.specs.Working.Nodes.{span_bytes}
 use Rattle.parse_tree.specs.Working.Encode.{alternative_bytes}
 use Rattle.parse_tree.specs.Working.Within.{Each, AlternativeWithin}
 use Rattle.parse_tree.specs.declared.syntax.Span.{Span}
 use Rattle.texts.specs.Table.{texts}
 use Rattle.passes.specs.Outcome.{Outcome, yes, no}
 use Rattle.passes.specs.Macros.{evaluate_condition, expand_alternative}
-use Rattle.grades.specs.Annotations.{conditions_from, alternative_end}
+use Rattle.grades.specs.Annotations.{alternative_end}
 use Rattle.grades.proofs.AlternativesMean.{end_means}
 use Rattle.replacing.specs.Trees.{renamed_all}
 use Rattle.expander.specs.declared.Ground.{Ground}
@@ -24,7 +24,8 @@ use Rattle.appending.specs.declared.Appended.{Appended}
 use Rattle.appending.specs.Pieces.{Appends}
 use Rattle.appending.proofs.SymbolsStays.{texts-stay}
 use Rattle.macro_expand.specs.declared.arguments.Call.{Call}
-use Rattle.std.specs.Prelude.{Option, Some, None}
+use Rattle.macro_expand.specs.declared.arguments.NotLiteral.{NotLiteral}
+use Rattle.std.specs.Prelude.{Result, Ok, Err}
 use Rattle.macro_expand.specs.Arguments.{ReadableCall, holds_at}
 use Rattle.macro_expand.specs.PutIn.{Placed, Framed, Frame}
 use Rattle.macro_expand.specs.Alternatives.{alternatives_piece, held, SomeAlternative, PutsAlternative, PutsIf, SomeAlternatives, PutsHolding}
@@ -32,7 +33,7 @@ use Rattle.macro_expand.proofs.FrameLaws.{placed_split, placed_stays, frame_stay
 use Rattle.macro_expand.proofs.AlternativesTrees.{parted}
 use Rattle.macro_expand.proofs.AlternativesCode.{alternative_head_lem, alternative_upto}
 use Rattle.macro_expand.proofs.AlternativesSteady.{yields_none, yields_one, held_then}
-use Rattle.macro_expand.proofs.ConditionsMean.{outcome_of, holds-means}
+use Rattle.macro_expand.proofs.ConditionsMean.{told_by, holds-means}
 
 -- ---- expand_if
 module _ (s w : List ℕ) (g : Ground) (n lim : ℕ) (c : Call) (span p : ℕ) (v : Appended) where
@@ -48,30 +49,30 @@ module _ (s w : List ℕ) (g : Ground) (n lim : ℕ) (c : Call) (span p : ℕ) (
       I.upto,
     )
 
-  module _ (j : Option Bool) (d : j ≡ holds_at g c w p) where
+  module _ (j : Result Bool NotLiteral) (d : j ≡ holds_at g c w p) where
     -- what holds of it
     module _ (ps : List ℕ) (names : List Text) (args : Syms) (four : Bool) (e : ℕ) (a : Alternative) (sp : Span) (F : Framed s w g n lim c v ps names args) (W : AlternativeWithin four g.width.bytes (texts s w g.m) a)
         (P : Placed w g v p e (alternative_bytes g.width.bytes (texts s w g.m) a)) (u : e ≤ c.end) where
-      means : evaluate_condition names (renamed_all args) a.condition ≡ outcome_of j (span_in w (conditions_from g.width.bytes w p + 1))
-      means = holds-means s w g n lim c v ps names args F p e a four W (parted four g.width.bytes (texts s w g.m) w p e a W P.lies) u ∙ ap (λ (i : Option Bool). outcome_of i (span_in w (conditions_from g.width.bytes w p + 1))) (sym d)
+      means : evaluate_condition names (renamed_all args) a.condition ≡ told_by w j
+      means = holds-means s w g n lim c v ps names args F p e a four W (parted four g.width.bytes (texts s w g.m) w p e a W P.lies) u ∙ ap (told_by w) (sym d)
 
-      held-is : held sp names (renamed_all args) (a ∷ []) ≡ elim (outcome_of j (span_in w (conditions_from g.width.bytes w p + 1))) [ yes b ↦ cond b (expand_alternative sp names (renamed_all args) a ∷ []) [] | no k q ↦ [] ]
+      held-is : held sp names (renamed_all args) (a ∷ []) ≡ elim (told_by w j) [ yes b ↦ cond b (expand_alternative sp names (renamed_all args) a ∷ []) [] | no k q ↦ [] ]
       unfolding held
       held-is = ap (λ (o : Outcome Bool). elim o [ yes b ↦ cond b (expand_alternative sp names (renamed_all args) a ∷ []) [] | no k q ↦ [] ]) means
 
       none_held : held sp names (renamed_all args) (a ∷ []) ≡ [] → Appends s g n lim ps w v (alternatives_piece g.width.bytes (held sp names (renamed_all args) (a ∷ []))) v w
       none_held z = subst (λ (xs : List Alternative). Appends s g n lim ps w v (alternatives_piece g.width.bytes xs) v w) (sym z) (yields_none s g n lim ps w v F.going)
 
-    pub if_refused : j ≡ None → PutsIf s w g n lim c span p v v w
+    pub if_refused : (e : NotLiteral) → j ≡ Err e → PutsIf s w g n lim c span p v v w
     unfolding PutsIf
-    if_refused i ps names args four e a sp F W P u S =
-        none_held ps names args four e a sp F W P u (held-is ps names args four e a sp F W P u ∙ ap (λ (o : Option Bool). elim (outcome_of o (span_in w (conditions_from g.width.bytes w p + 1))) [ yes b ↦ cond b (expand_alternative sp names (renamed_all args) a ∷ []) [] | no k q ↦ [] ]) i)
+    if_refused z i ps names args four e a sp F W P u S =
+        none_held ps names args four e a sp F W P u (held-is ps names args four e a sp F W P u ∙ ap (λ (o : Result Bool NotLiteral). elim (told_by w o) [ yes b ↦ cond b (expand_alternative sp names (renamed_all args) a ∷ []) [] | no k q ↦ [] ]) i)
 
-    module _ (b : Bool) (i : j ≡ Some b) where
+    module _ (b : Bool) (i : j ≡ Ok b) where
       by : (ps : List ℕ) (names : List Text) (args : Syms) (four : Bool) (e : ℕ) (a : Alternative) (sp : Span) → Framed s w g n lim c v ps names args → AlternativeWithin four g.width.bytes (texts s w g.m) a
           → Placed w g v p e (alternative_bytes g.width.bytes (texts s w g.m) a) → e ≤ c.end → held sp names (renamed_all args) (a ∷ []) ≡ cond b (expand_alternative sp names (renamed_all args) a ∷ []) []
       by ps names args four e a sp F W P u =
-          held-is ps names args four e a sp F W P u ∙ ap (λ (o : Option Bool). elim (outcome_of o (span_in w (conditions_from g.width.bytes w p + 1))) [ yes t ↦ cond t (expand_alternative sp names (renamed_all args) a ∷ []) [] | no k q ↦ [] ]) i
+          held-is ps names args four e a sp F W P u ∙ ap (λ (o : Result Bool NotLiteral). elim (told_by w o) [ yes t ↦ cond t (expand_alternative sp names (renamed_all args) a ∷ []) [] | no k q ↦ [] ]) i
 
       pub if_not : b ≡ false → PutsIf s w g n lim c span p v v w
       unfolding PutsIf

@@ -5,12 +5,12 @@ use mathlib.Core.List.{List}
 use Prim.Native.Nat.{ℕ, suc, ◌+◌, ◌-◌, ◌^◌, ◌<◌, ◌≤◌}
 use native.Mathlib.Omega.{arith}
 use mir.Syntax.{w64}
-use mir.Val.{Fits}
+use mir.Val.{Fits, bool_byte}
 use borrow.Author.Rules.{rules}
 use borrow.Author.Tests.{eq-eqb, ne_eqb}
+use lib.Dec.{eqb}
 use lib.ListN.{length, get_or}
 use Rattle.std.specs.Prelude.{Some, None}
-use Rattle.octets.specs.Working.Choice.{pick}
 use Rattle.octets.specs.Plain.Runs.{Lies}
 use Rattle.octets.proofs.LiesLaws.{lies_first}
 use Rattle.parse_tree.specs.Plain.Tree.{Text, Sym, Syms, ambiguous, bare, quoted, regex, nonterminal, lookahead, lookbehind, error, repeat, choose, name, macro, group, leaf, around, over, nil, cons, count}
@@ -26,29 +26,20 @@ use Rattle.display.proofs.StandsLaws.{standing, first_stands, one_stands}
 use Rattle.expander.specs.declared.Ground.{Ground}
 use Rattle.expander.specs.Ground.{size_in}
 use Rattle.expander.specs.Replace.{StandAt}
-use Rattle.macro_expand.specs.NormUtil.{chosen_one, SomeDirect, Analyzes}
+use Rattle.macro_expand.specs.NormUtil.{SomeDirect, Analyzes}
 
--- ---- chosen_one
-module _ (c : ℕ) where
-  pub one_chosen_lem : c ≡ 39 → 1 ≡ chosen_one c
-  unfolding chosen_one pick
-  one_chosen_lem e = cc (eq-eqb c 39 e)
-
-  pub none_chosen : (c ≡ 39 → ⊥) → 0 ≡ chosen_one c
-  unfolding chosen_one pick
-  none_chosen e = cc (ne_eqb c 39 e)
-
-pub ruleset choosing = (rules, one_chosen_lem, none_chosen)
+at_most : (t : Bool) (j : ℕ) → j ≡ bool_byte t → j ≤ 1
+at_most true j e = omega (arith, e)
+at_most false j e = omega (arith, e)
 
 -- ---- a symbol told by the code of its command: whether it has a name, and whether it is chosen
 pub record Told (c : ℕ) (y : Sym) : Type 0 where
   pub named : c ≡ 40 → is_named y ≡ true
   pub other : (c ≡ 40 → ⊥) → is_named y ≡ false
-  pub one : chosen_one c ≡ cond (is_chosen y) 1 0
+  pub one : bool_byte (eqb c 39) ≡ cond (is_chosen y) 1 0
 
 module _ (wd : ℕ) (ts : List Text) (w : List ℕ) (at e : ℕ) where
   neither : (y : Sym) (k : ℕ) → (k ≡ 39 → ⊥) → (k ≡ 40 → ⊥) → is_named y ≡ false → is_chosen y ≡ false → get_or w at 0 ≡ k → Told (get_or w at 0) y
-  unfolding chosen_one pick
   neither y k a b n m z = record {
     named = λ f. absurd (b (sym z ∙ f));
     other = λ f. n;
@@ -56,7 +47,7 @@ module _ (wd : ℕ) (ts : List Text) (w : List ℕ) (at e : ℕ) where
   }
 
   pub told : (y : Sym) → Lies w at (sym_bytes wd ts y) e → Told (get_or w at 0) y
-  unfolding sym_bytes node_bytes symbol_bytes leaf_code leaf_node around_node over_node chosen_one pick
+  unfolding sym_bytes node_bytes symbol_bytes leaf_code leaf_node around_node over_node
   told (leaf s (ambiguous n)) l = neither (leaf s (ambiguous n)) 32 (λ f. omega (arith, f)) (λ f. omega (arith, f)) refl refl (lies_first w at 32 _ e l).1
   told (leaf s (bare n)) l = neither (leaf s (bare n)) 33 (λ f. omega (arith, f)) (λ f. omega (arith, f)) refl refl (lies_first w at 33 _ e l).1
   told (leaf s (quoted n)) l = neither (leaf s (quoted n)) 34 (λ f. omega (arith, f)) (λ f. omega (arith, f)) refl refl (lies_first w at 34 _ e l).1
@@ -68,10 +59,10 @@ module _ (wd : ℕ) (ts : List Text) (w : List ℕ) (at e : ℕ) where
   told (around s (repeat o) x) l = neither (around s (repeat o) x) 38 (λ f. omega (arith, f)) (λ f. omega (arith, f)) refl refl (lies_first w at 38 _ e l).1
   told (around s choose x) l =
       let z : get_or w at 0 ≡ 39 = (lies_first w at 39 _ e l).1 in
-      record { named = λ f. absurd (omega (arith, z, f)); other = λ f. refl; one = let q = eq-eqb (get_or w at 0) 39 z in cc }
+      record { named = λ f. absurd (omega (arith, z, f)); other = λ f. refl; one = let q = eq-eqb (get_or w at 0) 39 z in ap bool_byte q }
   told (around s (name m n) x) l =
       let z : get_or w at 0 ≡ 40 = (lies_first w at 40 _ e l).1 in
-      record { named = λ f. refl; other = λ f. absurd (f z); one = let q = ne_eqb (get_or w at 0) 39 (λ f. omega (arith, z, f)) in cc }
+      record { named = λ f. refl; other = λ f. absurd (f z); one = let q = ne_eqb (get_or w at 0) 39 (λ f. omega (arith, z, f)) in ap bool_byte q }
   told (over s (macro m) xs) l = neither (over s (macro m) xs) 37 (λ f. omega (arith, f)) (λ f. omega (arith, f)) refl refl (lies_first w at 37 _ e l).1
   told (over s group xs) l = neither (over s group xs) 41 (λ f. omega (arith, f)) (λ f. omega (arith, f)) refl refl (lies_first w at 41 _ e l).1
 
@@ -120,9 +111,9 @@ module _ (s w : List ℕ) (g : Ground) (p k : ℕ) where
         pub named : has_name ys ≡ (is_named first || has_name others)
         pub chosen-are : chosen ys ≡ c + cond (is_chosen first) (suc (chosen others)) (chosen others)
 
-      first_of : (four : Bool) (left e : ℕ) (ys : Syms) → e ≤ size_in g → Rest at i c four left e ys → First four left e ys
+      first_left : (four : Bool) (left e : ℕ) (ys : Syms) → e ≤ size_in g → Rest at i c four left e ys → First four left e ys
       unfolding count size_in
-      first_of four left e ys b r = go r.rest r.many r.stand r.named r.chosen-are
+      first_left four left e ys b r = go r.rest r.many r.stand r.named r.chosen-are
         where
           go : (zs : Syms) → count zs ≡ i → SymsStand s w g.m g.width.bytes four left at (g.from + e) zs → has_name ys ≡ has_name zs → chosen ys ≡ c + chosen zs → First four left e ys
           go nil m t n q = absurd (omega (arith, m))
@@ -143,22 +134,22 @@ module _ (s w : List ℕ) (g : Ground) (p k : ℕ) where
               }
 
       pub analyzing_inside : at < length w
-      analyzing_inside = (first_of h.four h.left h.end h.symbols h.inside one).inside
+      analyzing_inside = (first_left h.four h.left h.end h.symbols h.inside one).inside
 
       -- it has a name
       pub analyzing_named : get_or w at 0 ≡ 40 → Analyzes s w g p k None
       unfolding Analyzes
       analyzing_named e four left d ys m t b =
-          let f = first_of four left d ys b (A.each four left d ys m t b) in
+          let f = first_left four left d ys b (A.each four left d ys m t b) in
           let q : has_name ys ≡ true = f.named ∙ ap (λ (x : Bool). x || has_name f.others) (f.told_is.named e) in
           ap (λ (x : Bool). cond x None (Some (chosen ys))) (sym q)
 
       -- it has none
-      pub analyzing_next : (get_or w at 0 ≡ 40 → ⊥) → (j : ℕ) → j ≡ chosen_one (get_or w at 0) → j ≤ 1 → (r : ℕ) → r ≡ skip_out g.width.bytes g.end w at g.end 1 → Analyzing r (i - 1) (c + j)
-      analyzing_next o j u v r q = record {
+      pub analyzing_next : (get_or w at 0 ≡ 40 → ⊥) → (j : ℕ) → j ≡ bool_byte (eqb (get_or w at 0) 39) → (r : ℕ) → r ≡ skip_out g.width.bytes g.end w at g.end 1 → Analyzing r (i - 1) (c + j)
+      analyzing_next o j u r q = record {
         some = h;
-        few = omega (arith, A.few);
-        each = λ four left d ys m t b. next four left d ys (first_of four left d ys b (A.each four left d ys m t b));
+        few = omega (arith, A.few, at_most (eqb (get_or w at 0) 39) j u);
+        each = λ four left d ys m t b. next four left d ys (first_left four left d ys b (A.each four left d ys m t b));
       }
         where
           sums : (x : Bool) (n : ℕ) → c + cond x (suc n) n ≡ c + cond x 1 0 + n
@@ -174,8 +165,8 @@ module _ (s w : List ℕ) (g : Ground) (p k : ℕ) where
             chosen-are = f.chosen-are ∙ sums (is_chosen f.first) (chosen f.others) ∙ ap (λ (x : ℕ). c + x + chosen f.others) (sym (u ∙ f.told_is.one));
           }
 
-      pub analyzing_fits : (j : ℕ) → j ≤ 1 → k < 2 ^ 64 → Fits w64 (c + j)
-      analyzing_fits j v b = record { fits = omega (arith, A.few) }
+      pub analyzing_fits : (t : Bool) (j : ℕ) → j ≡ bool_byte t → k < 2 ^ 64 → Fits w64 (c + j)
+      analyzing_fits t j v b = record { fits = omega (arith, A.few, at_most t j v) }
 
     -- ---- none is left
     pub analyzing_done : i ≤ 0 → Analyzes s w g p k (Some c)

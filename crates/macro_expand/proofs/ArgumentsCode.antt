@@ -17,7 +17,10 @@ use Rattle.grades.specs.Annotations.{conditions_from, alternative_end}
 use Rattle.grades.proofs.AnnotationsCode.{times-attributes, sum_attributes}
 use Rattle.expander.specs.declared.Ground.{Ground}
 use Rattle.macro_expand.specs.declared.arguments.Call.{Call}
-use Rattle.std.specs.Prelude.{Ok, Err}
+use Rattle.macro_expand.specs.declared.arguments.NotLiteral.{NotLiteral}
+use Rattle.std.specs.Prelude.{Result, Ok, Err, ok_or}
+use mir.Syntax.{w64}
+use mir.Val.{Fits, bool_byte}
 use Rattle.macro_expand.specs.Arguments.{parameters_long, argument_in, ReadableCall, equal_by, argument_for, judged_by, judged_at, holds_at, hold_from}
 
 -- ---- the bytes of parameters
@@ -146,26 +149,16 @@ pub ruleset conditioning = (rules, times-attributes, sum_attributes, conditions-
 
 -- ---- holds
 module _ (g : Ground) (c : Call) (w : List ℕ) (p : ℕ) where
-  pub holds_plain : get_or w (p + 10) 0 ≡ 0 → Some true ≡ holds_at g c w p
+  pub holds_plain : get_or w (p + 10) 0 ≡ 0 → Ok true ≡ holds_at g c w p
   unfolding holds_at pick
   holds_plain e = cc (eq-eqb (get_or w (p + 10) 0) 0 e)
 
-  pub holds_asked : (get_or w (p + 10) 0 ≡ 0 → ⊥) → (q : ℕ) → q ≡ conditions_from g.width.bytes w p → (r : Option Bool) → r ≡ judged_at g c w q → r ≡ holds_at g c w p
+  pub holds_asked : (get_or w (p + 10) 0 ≡ 0 → ⊥) → (q : ℕ) → q ≡ conditions_from g.width.bytes w p → (o : Option Bool) → o ≡ judged_at g c w q → (r : Result Bool NotLiteral) → r ≡ ok_or o (record { at = q }) → r ≡ holds_at g c w p
   unfolding holds_at pick
-  holds_asked e q j r k = cc (ne_eqb (get_or w (p + 10) 0) 0 e)
+  holds_asked e q j None k r z = cc (ne_eqb (get_or w (p + 10) 0) 0 e)
+  holds_asked e q j (Some b) k r z = cc (ne_eqb (get_or w (p + 10) 0) 0 e)
 
 pub ruleset asking = (rules, holds_plain, holds_asked)
-
--- ---- counted
-pub counted_yes : (k : ℕ) (b : Bool) → b ≡ true → (k + 1 ≡ pick b (k + 1) k)
-unfolding pick
-counted_yes k b e = cc
-
-pub counted_no : (k : ℕ) (b : Bool) → b ≡ false → (k ≡ pick b (k + 1) k)
-unfolding pick
-counted_no k b e = cc
-
-pub ruleset counting = (rules, counted_yes, counted_no)
 
 -- ---- holding: i alternatives are to come, and k hold so far
 pub record Holds (g : Ground) (c : Call) (w : List ℕ) (n at i p k : ℕ) : Type 0 where
@@ -191,23 +184,25 @@ module _ (g : Ground) (c : Call) (w : List ℕ) (n at i p k : ℕ) (l : Holds g 
     turned : hold_from g c w (suc (i - 1)) p k ≡ hold_from g c w n at 0
     turned = let z : suc (i - 1) ≡ i = omega arith in ap (λ (j : ℕ). hold_from g c w j p k) z ∙ l.rest
 
-    pub hold_few : n < 65536 → k < 65536
-    hold_few m = omega (arith, l.few)
-
     pub hold_past : c.end ≤ p → Ok k ≡ hold_from g c w n at 0
     unfolding hold_from pick
     hold_past e = cc (le-leb c.end p e, turned)
 
-    module _ (b : p < c.end) (j : Option Bool) (d : j ≡ holds_at g c w p) where
+    module _ (b : p < c.end) (j : Result Bool NotLiteral) (d : j ≡ holds_at g c w p) where
       pub hold_room : p + 11 ≤ length w
       hold_room = omega (arith, l.readable.definition)
 
-      pub hold_refused : j ≡ None → (q : ℕ) → q ≡ conditions_from g.width.bytes w p → Err q ≡ hold_from g c w n at 0
+      pub hold_refused : (e : NotLiteral) → j ≡ Err e → Err e ≡ hold_from g c w n at 0
       unfolding hold_from pick
-      hold_refused e q z = cc (lt-leb c.end p b, turned)
+      hold_refused e z = cc (lt-leb c.end p b, turned)
 
-      pub hold_next : (t : Bool) → j ≡ Some t → (q : ℕ) → q ≡ alternative_end g.width.bytes w p c.end → (m : ℕ) → m ≡ pick t (k + 1) k → m ≤ k + 1 → Holds g c w n at (i - 1) q m
+      pub hold_fits : (t : Bool) (y : ℕ) → y ≡ bool_byte t → n < 65536 → Fits w64 (k + y)
+      hold_fits true y z m = record { fits = omega (arith, l.few) }
+      hold_fits false y z m = record { fits = omega (arith, l.few) }
+
+      pub hold_next : (t : Bool) → j ≡ Ok t → (q : ℕ) → q ≡ alternative_end g.width.bytes w p c.end → (y : ℕ) → y ≡ bool_byte t → Holds g c w n at (i - 1) q (k + y)
       unfolding hold_from pick
-      hold_next t e q z m y u = record { readable = l.readable; few = omega (arith, l.few); rest = cc (lt-leb c.end p b, turned) }
+      hold_next true e q z y u = let v : k + y ≡ k + 1 = omega (arith, u) in record { readable = l.readable; few = omega (arith, l.few); rest = cc (v, lt-leb c.end p b, turned) }
+      hold_next false e q z y u = let v : k + y ≡ k = omega (arith, u) in record { readable = l.readable; few = omega (arith, l.few); rest = cc (v, lt-leb c.end p b, turned) }
 
-pub ruleset upholding = (rules, hold_start, hold_readable, hold_definition, hold_done, hold_few, hold_past, hold_room, hold_refused, hold_next)
+pub ruleset upholding = (rules, hold_start, hold_readable, hold_definition, hold_done, hold_past, hold_room, hold_refused, hold_fits, hold_next)

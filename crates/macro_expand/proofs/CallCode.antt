@@ -10,12 +10,12 @@ use lib.ListN.{length, get_or, length-append}
 use Rattle.octets.specs.Plain.Numbers.{le}
 use Rattle.octets.specs.Plain.Runs.{Lies}
 use Rattle.octets.proofs.LiesLaws.{lies_split, lies_first, lies_from}
-use Rattle.octets.proofs.NumbersLaws.{length-le}
+use Rattle.octets.proofs.NumbersLaws.{length-le, low_bytes}
 use Rattle.parse_tree.specs.Plain.Tree.{Text, Sym, Syms, ambiguous, bare, quoted, regex, nonterminal, lookahead, lookbehind, error, repeat, choose, name, macro, leaf, around, over, Nonterminal, item}
 use Rattle.parse_tree.specs.Plain.Texts.{number, with_new}
 use Rattle.parse_tree.specs.Plain.Display.{print}
 use Rattle.parse_tree.specs.Plain.WriteTape.{bytes_of_each, bit}
-use Rattle.parse_tree.specs.Working.Nodes.{span_bytes, node_bytes, symbol_bytes, size_of}
+use Rattle.parse_tree.specs.Working.Nodes.{span_bytes, node_bytes, symbol_bytes, size_of, long_of}
 use Rattle.parse_tree.specs.Working.Encode.{over_node, argument_bytes, alternative_bytes, nonterminal_node, item_bytes}
 use Rattle.parse_tree.specs.Working.Within.{Each}
 use Rattle.parse_tree.specs.declared.syntax.Span.{Span}
@@ -25,7 +25,6 @@ use Rattle.laws.specs.Flat.{sym_node, children}
 use Rattle.laws.specs.Keys.{Expands}
 use Rattle.replacing.specs.Trees.{is_key}
 use Rattle.octets.specs.Working.Choice.{pick}
-use Rattle.resolve.specs.Commands.{long_of}
 use Rattle.resolve.proofs.GrammarLaws.{named, Headed, headed}
 use Rattle.precedence.specs.Write.{Puts}
 use Rattle.grades.proofs.AlternativesMean.{first_means}
@@ -49,7 +48,6 @@ use Rattle.macro_expand.specs.Expand.{Popped}
 use Rattle.macro_expand.specs.Call.{Calls, SomeCall}
 use Rattle.macro_expand.specs.PutIn.{Placed, Framed}
 use Rattle.macro_expand.specs.Macro.{ReadsCall, macro_piece, PutsHead}
-use Rattle.appending.proofs.SymbolsBytes.{low_bytes}
 
 -- ---- what is pushed has a reference of its own
 own-here : (wd : ℕ) (ts : List Text) (P : ℕ → Type 0) (sp : Span) (t : Text) (xs : Syms) (q : ℕ) → Each P (keys_of wd ts (over sp (macro t) xs) q) → Each P (keys_of_all wd ts xs (q + (10 + wd))) × P q

@@ -20,7 +20,7 @@ use Rattle.parse_tree.specs.Working.Encode.{leaf_node, around_node, over_node, c
 use Rattle.parse_tree.specs.Working.Within.{Each, SymWithin, ConditionWithin, AlternativeWithin}
 use Rattle.parse_tree.specs.declared.syntax.Span.{Span}
 use Rattle.parse_tree.proofs.FieldLaws.{byte_read, le-read_last}
-use Rattle.std.specs.Prelude.{Option as Maybe, Some, None}
+use Rattle.std.specs.Prelude.{Option as Maybe, Some, None, Result, Ok, Err}
 use Rattle.texts.specs.Table.{texts}
 use Rattle.passes.specs.Outcome.{Outcome, yes, no}
 use Rattle.passes.specs.Macros.{argument_of, quoted_in, evaluate_condition}
@@ -37,6 +37,7 @@ use Rattle.expander.specs.Ground.{size_in}
 use Rattle.expander.proofs.KeysLaws.{sym_length}
 use Rattle.appending.specs.declared.Appended.{Appended}
 use Rattle.macro_expand.specs.declared.arguments.Call.{Call}
+use Rattle.macro_expand.specs.declared.arguments.NotLiteral.{NotLiteral}
 use Rattle.macro_expand.specs.Arguments.{equal_by, argument_for, judged_by, judged_at, holds_at}
 use Rattle.macro_expand.specs.PutIn.{Framed}
 use Rattle.macro_expand.proofs.FrameLaws.{Answers, Finds, frame_finds, argument-renamed}
@@ -45,6 +46,11 @@ use Rattle.macro_expand.proofs.AlternativesTrees.{Parted}
 abbrev pub outcome_of : Maybe Bool → Span → Outcome Bool
 outcome_of (Some b) sp = yes b
 outcome_of None sp = no 17 sp
+
+-- of an alternative
+abbrev pub told_by : List ℕ → Result Bool NotLiteral → Outcome Bool
+told_by w (Ok b) = yes b
+told_by w (Err r) = no 17 (span_in w (r.at + 1))
 
 -- ---- a quoted literal
 abbrev is_quoted : Sym → Bool
@@ -198,17 +204,21 @@ module _ (s w : List ℕ) (g : Ground) (n lim : ℕ) (c : Call) (v : Appended) (
       ∙ ap (λ (j : Maybe Bool). outcome_of j k.span) (sym r)
       ∙ ap (outcome_of (judged_at g c w q)) (sym A.span)
 
+  told_is : (o : Maybe Bool) (q : ℕ) → told_by w (elim o [ Some b ↦ Ok b | None ↦ Err (record { at = q }) ]) ≡ outcome_of o (span_in w (q + 1))
+  told_is (Some b) q = refl
+  told_is None q = refl
+
   -- theorem: an alternative that stands at p
   pub holds-means : (p e : ℕ) (a : Alternative) (four : Bool) → AlternativeWithin four wd ts a → Parted four wd ts w p e a → e ≤ c.end
-      → evaluate_condition names (renamed_all args) a.condition ≡ outcome_of (holds_at g c w p) (span_in w (conditions_from wd w p + 1))
+      → evaluate_condition names (renamed_all args) a.condition ≡ told_by w (holds_at g c w p)
   unfolding holds_at pick bytes_of_each
   holds-means p e a four W D u = go a.condition W.condition D.asked D.condition
     where
       go : (o : Option Condition) → Each (ConditionWithin four wd ts) (conditions o) → get_or w (p + 10) 0 ≡ length (conditions o) → Lies w (conditions_from wd w p) (bytes_of_each (condition_bytes wd ts) (conditions o) ++ syms_bytes wd ts a.symbols) e
-          → evaluate_condition names (renamed_all args) o ≡ outcome_of (holds_at g c w p) (span_in w (conditions_from wd w p + 1))
+          → evaluate_condition names (renamed_all args) o ≡ told_by w (holds_at g c w p)
       go none h i l = rw i refl
       go (some k) h i l =
           let b = lies_split w (conditions_from wd w p) e (condition_bytes wd ts k ++ []) (syms_bytes wd ts a.symbols) l in
           let m = subst (λ (x : List ℕ). Lies w (conditions_from wd w p) x (conditions_from wd w p + length (condition_bytes wd ts k ++ []))) (append-nil (condition_bytes wd ts k)) b.0 in
-          let r : holds_at g c w p ≡ judged_at g c w (conditions_from wd w p) = rw i refl in
-          judged-means (conditions_from wd w p) _ k four h.0 m (omega (arith, b.1.end, condition_long wd ts k, length-append (condition_bytes wd ts k) [])) ∙ ap (λ (j : Maybe Bool). outcome_of j (span_in w (conditions_from wd w p + 1))) (sym r)
+          let r : told_by w (holds_at g c w p) ≡ outcome_of (judged_at g c w (conditions_from wd w p)) (span_in w (conditions_from wd w p + 1)) = rw i (told_is (judged_at g c w (conditions_from wd w p)) (conditions_from wd w p)) in
+          judged-means (conditions_from wd w p) _ k four h.0 m (omega (arith, b.1.end, condition_long wd ts k, length-append (condition_bytes wd ts k) [])) ∙ sym r

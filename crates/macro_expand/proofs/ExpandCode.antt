@@ -17,18 +17,17 @@ use Rattle.octets.specs.Plain.Runs.{part, Lies}
 use Rattle.octets.proofs.LiesLaws.{lies_part}
 use Rattle.parse_tree.specs.Plain.Tree.{Text, Sym, Syms, ambiguous, bare, quoted, regex, nonterminal, lookahead, lookbehind, error, leaf, around, over, count}
 use Rattle.parse_tree.specs.Plain.Texts.{number}
-use Rattle.parse_tree.specs.Working.Nodes.{span_bytes, node_bytes, symbol_bytes, leaf_code, leaf_operand, size_of}
+use Rattle.parse_tree.specs.Working.Nodes.{span_bytes, node_bytes, symbol_bytes, leaf_code, leaf_operand, size_of, long_of}
 use Rattle.parse_tree.specs.Working.Encode.{leaf_node, sym_bytes, syms_bytes}
 use Rattle.parse_tree.specs.Working.Within.{SpanWithin, SymWithin, SymsWithin}
 use Rattle.parse_tree.specs.declared.syntax.Span.{Span}
+use Rattle.parse_tree.specs.Working.Nested.{inside_at}
 use Rattle.std.specs.Prelude.{Option as Maybe, Some, None}
 use Rattle.texts.specs.Table.{texts}
 use Rattle.passes.specs.Macros.{at, argument_of, or_name, macro_expand_symbol, macro_expand_symbols}
 use Rattle.laws.specs.Flat.{sym_node, children}
 use Rattle.laws.proofs.Flat.{sym_bytes_lem, node_size}
-use Rattle.resolve.specs.Commands.{long_of}
 use Rattle.resolve.proofs.GrammarLaws.{named-last}
-use Rattle.grades.specs.Skip.{inside_at}
 use Rattle.precedence.specs.Write.{Puts}
 use Rattle.precedence.proofs.WriteMean.{span_there}
 use Rattle.display.proofs.StandsLaws.{Standing, standing}
@@ -37,11 +36,11 @@ use Rattle.expander.specs.declared.Ground.{Ground}
 use Rattle.expander.specs.Names.{named_in}
 use Rattle.appending.specs.declared.Appended.{Appended}
 use Rattle.appending.specs.declared.symbols.Copied.{Copied}
+use Rattle.appending.specs.declared.symbols.Coming.{Coming}
 use Rattle.appending.specs.Pieces.{plainly, then_piece, Appends}
 use Rattle.appending.proofs.PiecesLaws.{steady_plainly, appends_then, appends_is, appends_puts}
 use Rattle.appending.proofs.SymbolsStays.{texts-stay}
 use Rattle.macro_expand.specs.declared.arguments.Call.{Call}
-use Rattle.macro_expand.specs.declared.expand.Opened.{Opened}
 use Rattle.macro_expand.specs.Arguments.{ReadableCall, argument_for}
 use Rattle.macro_expand.specs.PutIn.{sym_piece, syms_piece, Placed, Framed, Frame, Argument, AnyArgument, PutsArgument, parameter_at, PutsHere, SomeInside, SomeInsides, PutsIn, PutsInAll, Opens}
 use Rattle.macro_expand.proofs.FrameLaws.{placed_split, placed_stays, frame_stays, Answers, Finds, frame_readable, frame_finds, argument-renamed}
@@ -303,8 +302,8 @@ module _ (s w : List ℕ) (g : Ground) (n lim : ℕ) (c : Call) (left : ℕ) (x 
   long : x.at + 9 ≤ I.end
   long = symbol_long s w g n lim c left x K.places K.names K.args I.four I.end I.symbol K.framed I.within I.placed
 
-  pub one_behind : x.at + 16 ≤ length w
-  one_behind = omega (arith, long, I.placed.behind)
+  pub one_behind : x.at + (10 + g.width.bytes) ≤ length w
+  one_behind = omega (arith, long, g.width.wide, I.placed.behind)
 
   pub one_far : x.at + 17 ≤ length w
   one_far = omega (arith, long, I.placed.behind)
@@ -358,7 +357,7 @@ module _ (s w : List ℕ) (g : Ground) (n lim : ℕ) (c : Call) (left : ℕ) (x 
     }
 
 -- what was opened
-module _ (s w : List ℕ) (g : Ground) (n lim : ℕ) (c : Call) (left : ℕ) (x : Copied) (r : Opened) (w' : List ℕ) (O : Opens s w g n lim c left x r w') where
+module _ (s w : List ℕ) (g : Ground) (n lim : ℕ) (c : Call) (left : ℕ) (x : Copied) (r : Coming) (w' : List ℕ) (O : Opens s w g n lim c left x r w') where
   pub opened_deep : 1 ≤ left
   opened_deep = O.deep
 

@@ -172,7 +172,7 @@ module _ (s w : List ℕ) (g : Ground) (n lim q : ℕ) (v : Appended) (K : SomeP
   pub expr_inside : g.from + q + 9 + 2 ≤ length w
   expr_inside = omega (arith, room)
 
-  pub expr_span : g.from + q + 1 + 8 ≤ length w
+  pub expr_span : g.from + q + 9 ≤ length w
   expr_span = omega (arith, room)
 
   pub expr_fits : Fits w64 (q + 11)
@@ -204,11 +204,11 @@ module _ (s w : List ℕ) (g : Ground) (n lim q : ℕ) (v : Appended) (K : SomeP
       analyzed ps four left e sp xs R = h four (left - 1) e xs (many ps four left e sp xs R) (group_stand s w g n lim ps four left q e sp xs v R) R.inside
 
       -- "Group without a direct name symbol? 19"
-      pub expr_refused : x ≡ None → (sp : Span) → sp ≡ span_in w (g.from + q + 1) → (why : Refusal) → why ≡ refusal_over 19 sp → ExpandsExpr s w g n lim q v (Err why) w
+      pub expr_refused : x ≡ None → (why : Refusal) → why ≡ refusal_over 19 (span_in w (g.from + q + 1)) → ExpandsExpr s w g n lim q v (Err why) w
       unfolding ExpandsExpr ExpandsTo
-      expr_refused t sp₀ d why f ps four left e sp xs R =
+      expr_refused t why f ps four left e sp xs R =
           let z : has_name (renamed_all xs) ≡ true = renamed_named xs ∙ named_none (has_name xs) (chosen xs) (sym (analyzed ps four left e sp xs R) ∙ t) in
-          let y : sp₀ ≡ sp = d ∙ group_span s w g n lim ps four left q e sp xs v R in
+          let y : span_in w (g.from + q + 1) ≡ sp = group_span s w g n lim ps four left q e sp xs v R in
           subst (λ (u : Outcome Nonterminal). ExpandsTo s w g n lim q v ps u (Err why) w) (sym (ap (λ (c : Bool). cond c (no 19 sp) (yes (made sp (print (over sp group xs)) true (simple sp (group_action (renamed_all xs)) (renamed_all xs) ∷ [])))) z))
           (ap Err (f ∙ ap (refusal_over 19) y))
 

@@ -5,8 +5,8 @@ use mathlib.Core.List.{List, [], ◌∷◌}
 use Prim.Native.Nat.{ℕ, suc, ◌+◌, ◌≤◌}
 use native.Mathlib.Omega.{arith}
 use borrow.Author.Tests.{lt-leb}
-use lib.Dec.{leb}
-use lib.ListN.{length}
+use lib.Dec.{eqb, leb}
+use lib.ListN.{length, get_or}
 use Rattle.octets.specs.Working.Choice.{pick}
 use Rattle.octets.specs.Plain.Runs.{Lies}
 use Rattle.octets.proofs.LiesLaws.{lies_split}
@@ -27,11 +27,12 @@ use Rattle.appending.specs.declared.Appended.{Appended}
 use Rattle.macro_expand.specs.declared.arguments.Call.{Call}
 use Rattle.std.specs.Prelude.{Option, Some, None}
 use Rattle.std.specs.Prelude.{Result, Ok, Err}
-use Rattle.macro_expand.specs.Arguments.{holds_at, hold_from}
+use Rattle.macro_expand.specs.declared.arguments.NotLiteral.{NotLiteral}
+use Rattle.macro_expand.specs.Arguments.{judged_at, holds_at, hold_from}
 use Rattle.macro_expand.specs.PutIn.{Framed}
 use Rattle.macro_expand.specs.Alternatives.{held}
 use Rattle.macro_expand.proofs.AlternativesTrees.{Parted, parted}
-use Rattle.macro_expand.proofs.ConditionsMean.{outcome_of, holds-means}
+use Rattle.macro_expand.proofs.ConditionsMean.{told_by, holds-means}
 
 module _ (s w : List ℕ) (g : Ground) (n lim : ℕ) (c : Call) (v : Appended) (ps : List ℕ) (names : List Text) (args : Syms) (F : Framed s w g n lim c v ps names args) (sp : Span) where
   abbrev ts : List Text
@@ -44,9 +45,9 @@ module _ (s w : List ℕ) (g : Ground) (n lim : ℕ) (c : Call) (v : Appended) (
   xs = renamed_all args
 
   -- k were counted before
-  abbrev pub Tells : List Alternative → ℕ → Result ℕ ℕ → Type 0
+  abbrev pub Tells : List Alternative → ℕ → Result ℕ NotLiteral → Type 0
   Tells as' k (Ok m) = (expand_alternatives sp names (renamed_all args) as' ≡ yes (held sp names (renamed_all args) as')) × (m ≡ k + length (held sp names (renamed_all args) as'))
-  Tells as' k (Err q) = (expand_alternatives sp names (renamed_all args) as' ≡ no 17 (span_in w (q + 1))) × (q ≤ c.end)
+  Tells as' k (Err r) = (expand_alternatives sp names (renamed_all args) as' ≡ no 17 (span_in w (r.at + 1))) × (r.at ≤ c.end)
 
   -- the first of them
   module _ (a : Alternative) (rest : List Alternative) (k p : ℕ) where
@@ -60,25 +61,39 @@ module _ (s w : List ℕ) (g : Ground) (n lim : ℕ) (c : Call) (v : Appended) (
         let f : expand_alternatives sp names xs (a ∷ rest) ≡ yes (cond b (expand_alternative sp names xs a ∷ held sp names xs rest) (held sp names xs rest)) = rw (e, x) refl in
         f ∙ ap (λ (l : List Alternative). yes l) (sym (held-is b e))
 
-    go_is : (b : Bool) → evaluate_condition names xs a.condition ≡ yes b → (u : Result ℕ ℕ) → Tells rest (pick b (k + 1) k) u → Tells (a ∷ rest) k u
+    go_is : (b : Bool) → evaluate_condition names xs a.condition ≡ yes b → (u : Result ℕ NotLiteral) → Tells rest (pick b (k + 1) k) u → Tells (a ∷ rest) k u
     unfolding expand_alternatives pick
     go_is true e (Ok m) (x, y) = (all_is true e x, omega (arith, ap (length {A = Alternative}) (held-is true e)))
     go_is false e (Ok m) (x, y) = (all_is false e x, omega (arith, ap (length {A = Alternative}) (held-is false e)))
     go_is b e (Err q) (x, y) = (rw (e, x) refl, y)
 
-    go_refused : (q : ℕ) → evaluate_condition names xs a.condition ≡ no 17 (span_in w (q + 1)) → q ≤ c.end → Tells (a ∷ rest) k (Err q)
+    go_refused : (r : NotLiteral) → evaluate_condition names xs a.condition ≡ no 17 (span_in w (r.at + 1)) → r.at ≤ c.end → Tells (a ∷ rest) k (Err r)
     unfolding expand_alternatives
-    go_refused q e l = (rw e refl, l)
+    go_refused r e l = (rw e refl, l)
 
   turn : (i p k e : ℕ) → leb c.end p ≡ false → alternative_end wd w p c.end ≡ e
       → hold_from g c w (suc i) p k ≡ elim (holds_at g c w p) [
-        | Some b ↦ hold_from g c w i e (pick b (k + 1) k)
-        | None ↦ Err (conditions_from wd w p)
+        | Ok b ↦ hold_from g c w i e (pick b (k + 1) k)
+        | Err r ↦ Err r
       ]
   unfolding hold_from pick
   turn i p k e z y =
-      let X : ℕ → Result ℕ ℕ = λ j. elim (holds_at g c w p) [ Some b ↦ hold_from g c w i j (pick b (k + 1) k) | None ↦ Err (conditions_from wd w p) ] in
+      let X : ℕ → Result ℕ NotLiteral = λ j. elim (holds_at g c w p) [ Ok b ↦ hold_from g c w i j (pick b (k + 1) k) | Err r ↦ Err r ] in
       ap (λ (b : Bool). pick b (Ok k) (X (alternative_end wd w p c.end))) z ∙ ap X y
+
+  -- what is refused begins before the definition ends
+  abbrev Before : Result Bool NotLiteral → Type 0
+  Before (Ok b) = Unit {0}
+  Before (Err r) = r.at ≤ c.end
+
+  refused_at : (p : ℕ) → conditions_from wd w p ≤ c.end → Before (holds_at g c w p)
+  unfolding holds_at pick
+  refused_at p l = go (eqb (get_or w (p + 10) 0) 0) (judged_at g c w (conditions_from wd w p))
+    where
+      go : (b : Bool) (o : Option Bool) → Before (pick b (Ok true) (elim o [ Some t ↦ Ok t | None ↦ Err (record { at = conditions_from wd w p }) ]))
+      go true o = tt
+      go false (Some t) = tt
+      go false None = l
 
   -- theorem: of alternatives that stand one behind another
   pub hold_means : (as' : List Alternative) (p e k : ℕ) (four : Bool) → Each (AlternativeWithin four wd ts) as' → Lies w p (bytes_of_each (alternative_bytes wd ts) as') e → e ≤ c.end
@@ -91,19 +106,19 @@ module _ (s w : List ℕ) (g : Ground) (n lim : ℕ) (c : Call) (v : Appended) (
       let z = lt-leb c.end p (omega (arith, D.ahead, D.condition.end, b.1.end)) in
       let q = end_means four wd ts w p c.end e a (bytes_of_each (alternative_bytes wd ts) rest) W.0 l (omega (arith, b.1.end)) in
       let m = holds-means s w g n lim c v ps names args F p (p + length (alternative_bytes wd ts a)) a four W.0 D (omega (arith, b.1.end)) in
-      subst (Tells (a ∷ rest) k) (sym (turn (length rest) p k (p + length (alternative_bytes wd ts a)) z q)) (go (holds_at g c w p) m (omega (arith, D.condition.end, condition_room four D, b.1.end)) (λ j. hold_means rest (p + length (alternative_bytes wd ts a)) e j four W.1 b.1 u))
+      subst (Tells (a ∷ rest) k) (sym (turn (length rest) p k (p + length (alternative_bytes wd ts a)) z q)) (go (holds_at g c w p) m (refused_at p (omega (arith, D.condition.end, condition_room four D, b.1.end))) (λ j. hold_means rest (p + length (alternative_bytes wd ts a)) e j four W.1 b.1 u))
     where
       condition_room : (f : Bool) → Parted f wd ts w p (p + length (alternative_bytes wd ts a)) a → conditions_from wd w p ≤ p + length (alternative_bytes wd ts a)
       condition_room f D = omega (arith, D.condition.end)
 
-      go : (j : Option Bool) → evaluate_condition names xs a.condition ≡ outcome_of j (span_in w (conditions_from wd w p + 1)) → conditions_from wd w p ≤ c.end
+      go : (j : Result Bool NotLiteral) → evaluate_condition names xs a.condition ≡ told_by w j → Before j
           → ((i : ℕ) → Tells rest i (hold_from g c w (length rest) (p + length (alternative_bytes wd ts a)) i))
           → Tells (a ∷ rest) k (elim j [
-            | Some b ↦ hold_from g c w (length rest) (p + length (alternative_bytes wd ts a)) (pick b (k + 1) k)
-            | None ↦ Err (conditions_from wd w p)
+            | Ok b ↦ hold_from g c w (length rest) (p + length (alternative_bytes wd ts a)) (pick b (k + 1) k)
+            | Err r ↦ Err r
           ])
-      go (Some b) m o f = go_is a rest k p b m (hold_from g c w (length rest) (p + length (alternative_bytes wd ts a)) (pick b (k + 1) k)) (f (pick b (k + 1) k))
-      go None m o f = go_refused a rest k p (conditions_from wd w p) m o
+      go (Ok b) m o f = go_is a rest k p b m (hold_from g c w (length rest) (p + length (alternative_bytes wd ts a)) (pick b (k + 1) k)) (f (pick b (k + 1) k))
+      go (Err r) m o f = go_refused a rest k p r m o
 
 -- those that hold are no more than there are
 pub held-few : (sp : Span) (names : List Text) (args : Syms) (as' : List Alternative) → length (held sp names args as') ≤ length as'

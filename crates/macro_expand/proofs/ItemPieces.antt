@@ -9,13 +9,13 @@ use Rattle.parse_tree.specs.Plain.Texts.{has, number, with_new}
 use Rattle.parse_tree.specs.Working.Nodes.{span_bytes, node_bytes}
 use Rattle.parse_tree.specs.declared.syntax.Span.{Span}
 use Rattle.parse_tree.specs.declared.syntax.Node.{Node}
-use Rattle.precedence.specs.Write.{Puts}
+use Rattle.precedence.specs.Write.{Puts, alternative_head}
 use Rattle.replacing.proofs.Going.{Extends, extends_number, new_extends, There}
 use Rattle.replacing.proofs.ThereBytes.{new_all}
 use Rattle.expander.specs.declared.Ground.{Ground}
 use Rattle.expander.specs.Names.{named_in}
 use Rattle.appending.specs.declared.Appended.{Appended}
-use Rattle.appending.specs.Commands.{item_head, alternative_head}
+use Rattle.appending.specs.Commands.{item_head}
 use Rattle.appending.specs.Pieces.{Piece, plainly, Steady, Appending, Appends}
 use Rattle.appending.proofs.PiecesLaws.{appends_then, appends_is, appends_puts}
 use Rattle.macro_expand.specs.Expand.{head_piece}

@@ -13,6 +13,7 @@ use lib.ListN.{length, get_or}
 use Rattle.octets.specs.Working.Choice.{pick}
 use Rattle.octets.specs.Plain.Numbers.{le_at, le, Bytes}
 use Rattle.octets.proofs.LiesLaws.{lies_first}
+use Rattle.octets.proofs.NumbersLaws.{low_bytes}
 use Rattle.parse_tree.specs.Plain.Tree.{Text, lookahead, lookbehind, leaf, nil, count, item, lookahead_action, lookbehind_action}
 use Rattle.parse_tree.specs.Plain.Texts.{number, with_new}
 use Rattle.parse_tree.specs.Plain.References.{action_texts, syms_texts}
@@ -22,19 +23,18 @@ use Rattle.parse_tree.specs.Working.Encode.{leaf_node, action_text, sym_bytes, s
 use Rattle.parse_tree.specs.declared.syntax.Span.{Span}
 use Rattle.passes.specs.Views.{Look, ahead, behind}
 use Rattle.passes.specs.Macros.{looking, symbol_of, expand_lookaround_symbol}
-use Rattle.precedence.specs.Write.{Puts}
+use Rattle.precedence.specs.Write.{Puts, alternative_head}
 use Rattle.expander.specs.declared.Ground.{Ground}
 use Rattle.expander.specs.declared.slots.Numbered.{Numbered}
 use Rattle.expander.specs.Ground.{Grounded}
 use Rattle.expander.specs.Names.{named_in, SomeNamed, NameRoom, NamesOne}
 use Rattle.appending.specs.declared.Appended.{Appended}
-use Rattle.appending.specs.Commands.{item_head, alternative_head}
+use Rattle.appending.specs.Commands.{item_head}
 use Rattle.appending.specs.Pieces.{item_piece}
 use Rattle.appending.proofs.PiecesLaws.{appends_is}
 use Rattle.macro_expand.specs.declared.look.Called.{Called}
 use Rattle.macro_expand.specs.Expand.{head_bytes, Popped, SomePopped, IsLook, look_act, act_of, CalledLook, CallsLook, ExpandsLook}
 use Rattle.macro_expand.proofs.PoppedLaws.{popped_room, popped_named, popped_names_room, popped_span}
-use Rattle.appending.proofs.SymbolsBytes.{low_bytes}
 use Rattle.macro_expand.proofs.ItemPieces.{item_head_lem, alternative_head_lem, told, appends_told}
 use Rattle.macro_expand.proofs.ItemTrees.{one_bytes, one_texts}
 use Rattle.macro_expand.proofs.BeginCode.{name_appended, name_number}
@@ -59,7 +59,7 @@ module _ (s w : List ℕ) (g : Ground) (n lim q : ℕ) (v : Appended) (ps : List
   act_is behind R = let z = (lies_first w (g.from + q) 43 _ (g.from + e) R.stands.lies).1 in ap (λ (c : ℕ). pick (eqb c 42) 3 4) z
 
   called : (k : Look) (R : Popped s w g n lim ps four left q e (symbol_of (looking sp k)) v) → Bytes w → (x : Numbered) (w1 : List ℕ) → NamesOne s w g n v.count q x w1
-      → CalledLook s w g n lim ps v sp k (record { span = le_at 8 w (g.from + q + 1); act = look_act w (g.from + q); name = x.number; count = x.count }) w1
+      → CalledLook s w g n lim ps v sp k (record { span = le_at 8 w (g.from + q + 1); act = look_act w (g.from + q); name = x }) w1
   called k R b x w1 N = record {
     span = span_is k R;
     act = act_is k R;
@@ -92,10 +92,10 @@ module _ (s w : List ℕ) (g : Ground) (n lim q : ℕ) (v : Appended) (K : SomeP
   call_room = popped_names_room s w g n lim K.places K.four K.left q K.end K.symbol v K.popped
 
   pub call_done : (x : Numbered) (w1 : List ℕ) → NamesOne s w g n v.count q x w1 → ((j : ℕ) → Bound.Fits w8 (get_or w j 0)) → (z : ℕ) → z ≡ le_at 8 w (g.from + q + 1) → (a : ℕ) → a ≡ look_act w (g.from + q)
-      → CallsLook s w g n lim q v (record { span = z; act = a; name = x.number; count = x.count }) w1
+      → CallsLook s w g n lim q v (record { span = z; act = a; name = x }) w1
   call_done x w1 N b z d a f =
-      subst (λ (u : ℕ). CallsLook s w g n lim q v (record { span = u; act = a; name = x.number; count = x.count }) w1) (sym d)
-      (subst (λ (u : ℕ). CallsLook s w g n lim q v (record { span = le_at 8 w (g.from + q + 1); act = u; name = x.number; count = x.count }) w1) (sym f)
+      subst (λ (u : ℕ). CallsLook s w g n lim q v (record { span = u; act = a; name = x }) w1) (sym d)
+      (subst (λ (u : ℕ). CallsLook s w g n lim q v (record { span = le_at 8 w (g.from + q + 1); act = u; name = x }) w1) (sym f)
       (record {
         narrow = K.popped.going.ground.narrow;
         wide = K.popped.going.ground.wide;
@@ -118,24 +118,24 @@ module _ (wd : ℕ) (ts : List Text) (sp : Span) (key : Text) where
   look_piece behind = (one_texts sp key true lookbehind_action nil, refl)
 
 module _ (s w : List ℕ) (g : Ground) (n lim q : ℕ) (v : Appended) (x : Called) (w1 : List ℕ) (C : CallsLook s w g n lim q v x w1) (k1 r : ℕ) (w2 : List ℕ)
-    (P : Puts w1 lim v.to (item_head g.width.bytes x.span k1 1 1 ++ alternative_head g.width.bytes x.span x.act 0 0) r w2) (d : k1 ≡ x.name % 4294967296) where
-  pub look_done : ExpandsLook s w g n lim q v (record { to = r; count = x.count; deep = v.deep }) w2
+    (P : Puts w1 lim v.to (item_head g.width.bytes x.span k1 1 1 ++ alternative_head g.width.bytes x.span x.act 0 0) r w2) (d : k1 ≡ x.name.number % 4294967296) where
+  pub look_done : ExpandsLook s w g n lim q v (record { to = r; count = x.name.count; deep = v.deep }) w2
   unfolding ExpandsLook head_bytes
   look_done ps four left e sp k R =
       let c = C.each ps four left e sp k R in
       let key = print (symbol_of (looking sp k)) in
-      let T = named_in s w1 g x.count in
+      let T = named_in s w1 g x.name.count in
       let f : List Text → List ℕ = λ ts. head_bytes g.width.bytes sp (number ts (print (symbol_of (looking sp k)))) 1 1 (act_of k) 0 0 in
-      let i : le g.width.bytes k1 ≡ le g.width.bytes (number (named_in s w1 g x.count) (print (symbol_of (looking sp k)))) =
-      ap (le g.width.bytes) d ∙ low_bytes g.width.bytes x.name C.narrow C.wide ∙ ap (le g.width.bytes) c.name in
-      let j : item_head g.width.bytes x.span k1 1 1 ++ alternative_head g.width.bytes x.span x.act 0 0 ≡ head_bytes g.width.bytes sp (number (named_in s w1 g x.count) (print (symbol_of (looking sp k)))) 1 1 (act_of k) 0 0 =
+      let i : le g.width.bytes k1 ≡ le g.width.bytes (number (named_in s w1 g x.name.count) (print (symbol_of (looking sp k)))) =
+      ap (le g.width.bytes) d ∙ low_bytes g.width.bytes x.name.number C.narrow C.wide ∙ ap (le g.width.bytes) c.name in
+      let j : item_head g.width.bytes x.span k1 1 1 ++ alternative_head g.width.bytes x.span x.act 0 0 ≡ head_bytes g.width.bytes sp (number (named_in s w1 g x.name.count) (print (symbol_of (looking sp k)))) 1 1 (act_of k) 0 0 =
       rw (
-        item_head_lem g.width.bytes x.span sp c.span (number (named_in s w1 g x.count) (print (symbol_of (looking sp k)))) k1 1 1 i,
+        item_head_lem g.width.bytes x.span sp c.span (number (named_in s w1 g x.name.count) (print (symbol_of (looking sp k)))) k1 1 1 i,
         alternative_head_lem g.width.bytes x.span sp c.span 0 0 x.act 0 refl,
         c.act,
       ) refl in
-      let a = appends_told s g n lim ps w v (key ∷ []) f (record { to = v.to; count = x.count; deep = v.deep }) w1 r w2 R.going c.appended (subst (λ (xs : List ℕ). Puts w1 lim v.to xs r w2) j P) in
-      let p = look_piece g.width.bytes (named_in s w2 g x.count) sp key k in
-      appends_is s g n lim ps w v (told (key ∷ []) f) _ w2 a (item_piece g.width.bytes (item (expand_lookaround_symbol sp key k))) (ap (with_new (named_in s w g v.count)) p.0) (look_bytes g.width.bytes (named_in s w2 g x.count) sp key k) p.1
+      let a = appends_told s g n lim ps w v (key ∷ []) f (record { to = v.to; count = x.name.count; deep = v.deep }) w1 r w2 R.going c.appended (subst (λ (xs : List ℕ). Puts w1 lim v.to xs r w2) j P) in
+      let p = look_piece g.width.bytes (named_in s w2 g x.name.count) sp key k in
+      appends_is s g n lim ps w v (told (key ∷ []) f) _ w2 a (item_piece g.width.bytes (item (expand_lookaround_symbol sp key k))) (ap (with_new (named_in s w g v.count)) p.0) (look_bytes g.width.bytes (named_in s w2 g x.name.count) sp key k) p.1
 
 pub ruleset looking_done = (rules, look_done)

@@ -2,9 +2,9 @@
 use mathlib.Core.Path.{◌≡◌, refl, sym, ap, ◌∙◌, subst}
 use mathlib.Core.Bool.{Bool, ◌&&◌}
 use mathlib.Core.List.{List, [], ◌∷◌, ◌++◌}
-use Prim.Native.Nat.{ℕ, ◌+◌, ◌*◌, ◌^◌, ◌%◌, ◌≤◌, ◌<◌}
+use Prim.Native.Nat.{ℕ, ◌+◌, ◌≤◌, ◌<◌}
 use native.Mathlib.Omega.{arith}
-use mir.Syntax.{w8, w64}
+use mir.Syntax.{w8}
 use mir.Val as Bound
 use borrow.Author.Rules.{rules}
 use borrow.Author.Tests.{lt-ltb}
@@ -36,9 +36,9 @@ use Rattle.appending.specs.Commands.{item_head}
 use Rattle.appending.specs.Pieces.{then_piece, item_piece, Steady, Appends}
 use Rattle.appending.proofs.PiecesLaws.{appends_then, appends_is}
 use Rattle.appending.proofs.SymbolsStays.{texts-stay}
-use Rattle.std.specs.Prelude.{Result, Ok, Err}
+use Rattle.std.specs.Prelude.{Result, Ok, Err, MatchResult, IsErrAnd}
+use Rattle.macro_expand.specs.declared.arguments.NotLiteral.{NotLiteral}
 use Rattle.macro_expand.specs.declared.call.Macro.{Macro}
-use Rattle.macro_expand.specs.declared.call.Started.{Started}
 use Rattle.macro_expand.specs.Arguments.{ReadableCall, hold_from}
 use Rattle.macro_expand.specs.Expand.{ExpandsTo}
 use Rattle.macro_expand.specs.Call.{Calls, SomeCall, ExpandsMacro}
@@ -88,7 +88,7 @@ module _ (s w : List ℕ) (g : Ground) (n lim q d : ℕ) (v : Appended) (ps : Li
     call_readable = frame_readable s w g n lim x.call v ps D.args xs F
 
     -- what was counted
-    call_tells : (u : Result ℕ ℕ) → u ≡ hold_from g x.call w x.many x.from 0 → Tells s w g n lim x.call v ps D.args xs F sp D.alternatives 0 u
+    call_tells : (u : Result ℕ NotLiteral) → u ≡ hold_from g x.call w x.many x.from 0 → Tells s w g n lim x.call v ps D.args xs F sp D.alternatives 0 u
     call_tells u i =
         subst (Tells s w g n lim x.call v ps D.args xs F sp D.alternatives 0) (sym (i ∙ ap (λ (j : ℕ). hold_from g x.call w j x.from 0) (sym many)))
         (hold_means s w g n lim x.call v ps D.args xs F sp D.alternatives x.from end 0 four' C.defines.within.alternatives P.lies upto)
@@ -145,9 +145,6 @@ module _ (s w : List ℕ) (g : Ground) (n lim q d : ℕ) (v : Appended) (K : Som
   unfolding size_in
   inside = omega (arith, call_inside s w g n lim q d v K.places K.four K.left K.end K.span K.name K.arguments K.four' K.behind K.definition C0, C0.popped.going.ground.ordered)
 
-  pub macro_span : g.from + q + 1 + 8 ≤ length w
-  macro_span = omega (arith, inside, C0.popped.going.behind)
-
   pub macro_call : g.from + q + 16 ≤ length w
   macro_call = omega (arith, inside, C0.popped.going.behind)
 
@@ -157,9 +154,6 @@ module _ (s w : List ℕ) (g : Ground) (n lim q d : ℕ) (v : Appended) (K : Som
   pub macro_definition : d + 16 ≤ length w
   macro_definition = omega (arith, ahead, C0.defines.behind)
 
-  pub macro_flags : d + 9 + g.width.bytes < length w
-  macro_flags = omega (arith, ahead, C0.defines.behind)
-
   module _ (x : Macro) (R : ReadsCall w g q d x) where
     pub macro_readable : ReadableCall g x.call w
     macro_readable = call_readable s w g n lim q d v K.places K.four K.left K.end K.span K.name K.arguments K.four' K.behind K.definition C0 x R
@@ -167,67 +161,78 @@ module _ (s w : List ℕ) (g : Ground) (n lim q d : ℕ) (v : Appended) (K : Som
     pub macro_few : x.many < 65536
     macro_few = R.few
 
-    module _ (b : (j : ℕ) → Bound.Fits w8 (get_or w j 0)) (span : ℕ) (i : span ≡ le_at 8 w (g.from + q + 1)) (m k : ℕ) (c : k ≡ m % 65536) (u : Appended) (w1 : List ℕ)
-        (H : PutsHead s w g n lim q span (get_or w (d + 9 + g.width.bytes) 0) k v u w1) where
+    module _ (b : (j : ℕ) → Bound.Fits w8 (get_or w j 0)) (m : ℕ) (u : Appended) (w1 : List ℕ)
+        (G : PutsHead s w g n lim q x.span x.flags m v u w1) where
+      H : PutsHead s w g n lim q x.span (get_or w (d + 9 + g.width.bytes) 0) m v u w1
+      H = subst (λ (f : ℕ). PutsHead s w g n lim q x.span f m v u w1) R.flags G
+
       macro_frame : Frame s w1 g n lim x.call u
       macro_frame = record {
         places = K.places;
         names = K.definition.args;
         args = K.arguments;
-        framed = item_framed s w g n lim q d v K.places K.four K.left K.end K.span K.name K.arguments K.four' K.behind K.definition C0 x R span (get_or w (d + 9 + g.width.bytes) 0) k u w1 H;
+        framed = item_framed s w g n lim q d v K.places K.four K.left K.end K.span K.name K.arguments K.four' K.behind K.definition C0 x R x.span (get_or w (d + 9 + g.width.bytes) 0) m u w1 H;
       }
 
-      macro_some : SomeAlternatives s w1 g x.call span x.many x.from u
+      macro_some : SomeAlternatives s w1 g x.call x.span x.many x.from u
       macro_some =
-          item_some s w g n lim q d v K.places K.four K.left K.end K.span K.name K.arguments K.four' K.behind K.definition C0 x R span (get_or w (d + 9 + g.width.bytes) 0) k u w1 H
-          (span_of s w g n lim q d v K.places K.four K.left K.end K.span K.name K.arguments K.four' K.behind K.definition C0 b span i)
+          item_some s w g n lim q d v K.places K.four K.left K.end K.span K.name K.arguments K.four' K.behind K.definition C0 x R x.span (get_or w (d + 9 + g.width.bytes) 0) m u w1 H
+          (span_of s w g n lim q d v K.places K.four K.left K.end K.span K.name K.arguments K.four' K.behind K.definition C0 b x.span R.span)
 
-      macro_put : m < 65536 → (r : Appended) (w2 : List ℕ) → PutsHolding s w1 g n lim x.call span x.many x.from u r w2 → PutsMacro s w g n lim q d m v r w2
+      macro_put : m < 65536 → (r : Appended) (w2 : List ℕ) → PutsHolding s w1 g n lim x.call x.span x.many x.from u r w2 → PutsMacro s w g n lim q d m v r w2
       unfolding PutsMacro
       macro_put l r w2 U ps four left e sp t xs four' end D C z =
-          let h : k ≡ m = omega (arith, c) in
-          item_whole s w g n lim q d v ps four left e sp t xs four' end D C x R span (get_or w (d + 9 + g.width.bytes) 0) k u w1 H
-          (span_of s w g n lim q d v ps four left e sp t xs four' end D C b span i) refl (h ∙ z) (omega arith) r w2 U
+          item_whole s w g n lim q d v ps four left e sp t xs four' end D C x R x.span (get_or w (d + 9 + g.width.bytes) 0) m u w1 H
+          (span_of s w g n lim q d v ps four left e sp t xs four' end D C b x.span R.span) refl z (omega arith) r w2 U
 
-      pub macro_starts : m < 65536 → StartsMacro s w g n lim q d x m v (record { span = span; out = u }) w1
+      pub macro_starts : m < 65536 → StartsMacro s w g n lim q d x m v u w1
       macro_starts l = record { frame = macro_frame; some = macro_some; carry = λ t w2 U. macro_put l t w2 U }
 
-pub ruleset starting_macro = (rules, macro_span, macro_flags, macro_starts)
+pub ruleset starting_macro = (rules, macro_starts)
 
 -- ---- put_macro
-module _ (s w : List ℕ) (g : Ground) (n lim q d : ℕ) (x : Macro) (m : ℕ) (v : Appended) (r : Started) (w' : List ℕ) (S : StartsMacro s w g n lim q d x m v r w') where
-  pub started-frame : Frame s w' g n lim x.call r.out
+module _ (s w : List ℕ) (g : Ground) (n lim q d : ℕ) (x : Macro) (m : ℕ) (v r : Appended) (w' : List ℕ) (S : StartsMacro s w g n lim q d x m v r w') where
+  pub started-frame : Frame s w' g n lim x.call r
   started-frame = S.frame
 
-  pub started-some : SomeAlternatives s w' g x.call r.span x.many x.from r.out
+  pub started-some : SomeAlternatives s w' g x.call x.span x.many x.from r
   started-some = S.some
 
-  pub started-carry : (t : Appended) (w'' : List ℕ) → PutsHolding s w' g n lim x.call r.span x.many x.from r.out t w'' → PutsMacro s w g n lim q d m v t w''
+  pub started-carry : (t : Appended) (w'' : List ℕ) → PutsHolding s w' g n lim x.call x.span x.many x.from r t w'' → PutsMacro s w g n lim q d m v t w''
   started-carry t w'' U = S.carry t w'' U
 
 pub ruleset putting_macro = (rules, started-frame, started-some, started-carry)
 
--- ---- expand_macro_symbol
-module _ (s w : List ℕ) (g : Ground) (n lim q d : ℕ) (v : Appended) (K : SomeCall s w g n lim q d v) (x : Macro) (R : ReadsCall w g q d x) (u : Result ℕ ℕ) (i : u ≡ hold_from g x.call w x.many x.from 0) where
+-- ---- expand_macro_symbol: what was handed on of what was counted
+abbrev ok_in : ℕ → Result ℕ Refusal → ℕ
+ok_in x (Ok y) = y
+ok_in x (Err r) = x
+
+pub of_ok : (u : Result ℕ NotLiteral) (o : Result ℕ Refusal) (Q : NotLiteral → Refusal → Type 0) → MatchResult u (λ x. o ≡ Ok x) (λ e. IsErrAnd o (Q e)) → (m : ℕ) → o ≡ Ok m → u ≡ Ok m
+of_ok (Ok x) o Q h m z = ap (λ (q : Result ℕ Refusal). Ok (ok_in x q)) (sym h ∙ z)
+of_ok (Err e) o Q h m z = absurd (subst (λ (q : Result ℕ Refusal). IsErrAnd q (Q e)) z h)
+
+pub of_err : (u : Result ℕ NotLiteral) (o : Result ℕ Refusal) (Q : NotLiteral → Refusal → Type 0) → MatchResult u (λ x. o ≡ Ok x) (λ e. IsErrAnd o (Q e)) → (r : Refusal) → o ≡ Err r → (e : NotLiteral) × (u ≡ Err e) × Q e r
+of_err (Ok x) o Q h r z = absurd (subst (λ (q : Result ℕ Refusal). IsErrAnd q (λ e. e ≡ e)) (sym z ∙ h) refl)
+of_err (Err e) o Q h r z = (e, refl, subst (λ (q : Result ℕ Refusal). IsErrAnd q (Q e)) z h)
+
+module _ (s w : List ℕ) (g : Ground) (n lim q d : ℕ) (v : Appended) (K : SomeCall s w g n lim q d v) (x : Macro) (R : ReadsCall w g q d x) (u : Result ℕ NotLiteral) (i : u ≡ hold_from g x.call w x.many x.from 0) where
   tells : Tells s w g n lim x.call v K.places K.definition.args K.arguments (F s w g n lim q d v K.places K.four K.left K.end K.span K.name K.arguments K.four' K.behind K.definition K.calls x R) K.span K.definition.alternatives 0 u
   tells = call_tells s w g n lim q d v K.places K.four K.left K.end K.span K.name K.arguments K.four' K.behind K.definition K.calls x R u i
 
   -- ---- refused
-  module _ (p : ℕ) (h : u ≡ Err p) where
-    pub expand_room : p + 1 + 8 ≤ length w
+  module _ (f : NotLiteral) (h : u ≡ Err f) where
+    pub expand_room : f.at + 9 ≤ length w
     expand_room =
         let z = subst (Tells s w g n lim x.call v K.places K.definition.args K.arguments (F s w g n lim q d v K.places K.four K.left K.end K.span K.name K.arguments K.four' K.behind K.definition K.calls x R) K.span K.definition.alternatives 0) h tells in
         omega (arith, z.1, R.end)
 
-    pub expand_add : length w * 1 < 2 ^ 63 → Bound.Fits w64 (p + 1)
-    expand_add l = record { fits = omega (arith, expand_room) }
-
-    pub expand_refused : (f : Span) → f ≡ span_in w (p + 1) → (o : Refusal) → o ≡ refusal_over 17 f → ExpandsMacro s w g n lim q d v (Err o) w
+    pub expand_refused : (o : Refusal) → o ≡ refusal_over 17 (span_in w (f.at + 1)) → ExpandsMacro s w g n lim q d v (Err o) w
     unfolding ExpandsMacro ExpandsTo
-    expand_refused f j o k ps four left e sp t xs four' end D C =
+    expand_refused o k ps four left e sp t xs four' end D C =
         let z = subst (Tells s w g n lim x.call v ps D.args xs (F s w g n lim q d v ps four left e sp t xs four' end D C x R) sp D.alternatives 0) h (call_tells s w g n lim q d v ps four left e sp t xs four' end D C x R u i) in
         subst (λ (a : Outcome (List Alternative)). ExpandsTo s w g n lim q v ps (after a (λ as'. yes (record { span = sp; name = print (over sp (macro t) xs); inline = D.inline; public = D.public; args = []; alternatives = as' }))) (Err o) w) (sym z.0)
-        (ap (λ (b : Refusal). Err b) (k ∙ ap (refusal_over 17) j))
+        (ap (λ (b : Refusal). Err b) k)
 
   -- ---- appended
   module _ (m : ℕ) (h : u ≡ Ok m) where
@@ -243,4 +248,4 @@ module _ (s w : List ℕ) (g : Ground) (n lim q d : ℕ) (v : Appended) (K : Som
         subst (λ (a : Outcome (List Alternative)). ExpandsTo s w g n lim q v ps (after a (λ as'. yes (record { span = sp; name = print (over sp (macro t) xs); inline = D.inline; public = D.public; args = []; alternatives = as' }))) (Ok r) w') (sym z.0)
         (r, refl, U ps four left e sp t xs four' end D C (omega (arith, z.1)))
 
-pub ruleset expanding_macro = (rules, macro_call, macro_definition, macro_readable, macro_few, expand_room, expand_add, expand_refused, expand_few, expand_is)
+pub ruleset expanding_macro = (rules, macro_call, macro_definition, macro_readable, macro_few, expand_room, expand_refused, expand_few, expand_is)

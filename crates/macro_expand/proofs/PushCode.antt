@@ -4,17 +4,15 @@ use mathlib.Core.Bool.{true}
 use mathlib.Core.List.{List, [], ◌∷◌, ◌++◌}
 use Prim.Native.Nat.{ℕ, ◌+◌, ◌-◌, ◌%◌, ◌≤◌}
 use native.Mathlib.Omega.{arith}
-use mir.Syntax.{w8}
-use mir.Val as Bound
 use borrow.Author.Rules.{rules}
-use lib.ListN.{length, get_or}
-use Rattle.octets.specs.Plain.Numbers.{le_at, le}
+use lib.ListN.{length}
+use Rattle.octets.specs.Plain.Numbers.{le}
+use Rattle.octets.proofs.NumbersLaws.{low_bytes}
 use Rattle.parse_tree.specs.Plain.Tree.{Text, plus, repeat, around, nil, cons, count, item}
 use Rattle.parse_tree.specs.Plain.Texts.{has, number, with_new}
 use Rattle.parse_tree.specs.Plain.Display.{print}
-use Rattle.parse_tree.specs.Working.Nodes.{span_bytes}
 use Rattle.passes.specs.Macros.{expand_repeat_symbol}
-use Rattle.precedence.specs.Write.{Puts}
+use Rattle.precedence.specs.Write.{Puts, alternative_head}
 use Rattle.precedence.proofs.WriteLaws.{puts_append}
 use Rattle.replacing.specs.Trees.{renamed}
 use Rattle.expander.specs.declared.Ground.{Ground}
@@ -24,7 +22,7 @@ use Rattle.expander.specs.Names.{named_in}
 use Rattle.appending.specs.declared.Appended.{Appended}
 use Rattle.appending.specs.declared.symbols.Copied.{Copied}
 use Rattle.appending.specs.Built.{built_text, Gives, SomeBuilt, GivesBuilt}
-use Rattle.appending.specs.Commands.{alternative_head, name_head}
+use Rattle.appending.specs.Commands.{name_head}
 use Rattle.appending.specs.Pieces.{naming, plainly, then_piece, symbols_piece, item_piece, Appending, Appends, SomeAppending}
 use Rattle.appending.specs.Symbols.{SomeReferring, PutsSymbols}
 use Rattle.appending.proofs.PiecesLaws.{steady_naming, steady_then, steady_symbols, appends_then, appends_is, appends_puts, appends_gives}
@@ -34,11 +32,9 @@ use Rattle.macro_expand.specs.declared.begin.Begun.{Begun}
 use Rattle.macro_expand.specs.declared.plus.Pushing.{Pushing}
 use Rattle.macro_expand.specs.Expand.{head_piece, all_named}
 use Rattle.macro_expand.specs.Repeat.{ExpandsAs, BeginsWith, GoesOn, NamedPush, NamesPush, push_head, push_piece, PutsSecond, PutsPush}
-use Rattle.macro_expand.proofs.PoppedLaws.{popped_span}
-use Rattle.appending.proofs.SymbolsBytes.{low_bytes}
 use Rattle.macro_expand.proofs.ItemPieces.{steady_head, appends_told, appends_has, appends_number}
 use Rattle.macro_expand.proofs.RepeatTrees.{repeat_referring, repeat_fits}
-use Rattle.macro_expand.proofs.RepeatCode.{span_inside, inside-fits}
+use Rattle.macro_expand.proofs.RepeatCode.{inside-fits}
 use Rattle.macro_expand.proofs.PushTrees.{new_later, steady_push, push-same, plus_bytes, plus_texts, plus_fits}
 
 -- ---- next_text
@@ -218,23 +214,21 @@ module _ (s w : List ℕ) (g : Ground) (n lim q : ℕ) (v : Appended) (x : Begun
   pub plus_there : SomeReferring s w1 g n lim (q + 10) 1 x.out
   plus_there = B.some
 
-  pub plus_done : (z : ℕ) (r : Appended) (w2 : List ℕ) → PutsPush s w1 g n lim (q + 10) z x.name x.out r w2 → z ≡ le_at 8 w (g.from + q + 1) → ((j : ℕ) → Bound.Fits w8 (get_or w j 0))
-      → ExpandsAs s w g n lim q v plus r w2
+  pub plus_done : (r : Appended) (w2 : List ℕ) → PutsPush s w1 g n lim (q + 10) x.span x.name.number x.out r w2 → ExpandsAs s w g n lim q v plus r w2
   unfolding ExpandsAs PutsPush
-  plus_done z r w2 P d b ps four left e sp o y R =
+  plus_done r w2 P ps four left e sp o y R =
       let key = print (around sp (repeat o) y) in
       let c = B.each ps four left e sp o y R in
       let h = c.appended in
-      let k : le 8 z ≡ span_bytes sp = ap (le 8) d ∙ popped_span s w g n lim ps four left q e (around sp (repeat o) y) v R (λ j. (b j).fits) in
       let H = head_piece g.width.bytes sp (print (around sp (repeat o) y)) 0 2 (built_text 2) 1 in
       let X = symbols_piece g.width.bytes (cons y nil) in
-      let N = then_piece (push_piece g.width.bytes z (print (around sp (repeat o) y))) (symbols_piece g.width.bytes (cons y nil)) in
+      let N = then_piece (push_piece g.width.bytes x.span (print (around sp (repeat o) y))) (symbols_piece g.width.bytes (cons y nil)) in
       let st = steady_then H X (steady_head g.width.bytes sp (print (around sp (repeat o) y)) 0 2 (built_text 2) 1) (steady_symbols g.width.bytes (cons y nil)) in
       let there = referring_stays s g n lim ps w v R.going (then_piece H X) x.out w1 h four (left - 1) (q + 10) e (cons y nil) (repeat_referring s w g n lim ps four left q e sp o y v R) in
       let f = P ps four (left - 1) e y key h.going there (appends_has s g n lim ps w v (then_piece H X) x.out w1 h).0 c.name in
       let a = appends_then s g n lim ps w v (then_piece H X) x.out w1 N r w2 st R.going h f in
       appends_is s g n lim ps w v (then_piece (then_piece H X) N) r w2 a (item_piece g.width.bytes (item (expand_repeat_symbol sp key plus (renamed y))))
-      (ap (with_new (named_in s w g v.count)) (plus_texts g.width.bytes sp key y)) (plus_bytes g.width.bytes sp key y (named_in s w2 g r.count) z k)
+      (ap (with_new (named_in s w g v.count)) (plus_texts g.width.bytes sp key y)) (plus_bytes g.width.bytes sp key y (named_in s w2 g r.count) x.span c.span)
       (plus_fits g.width.bytes sp key y (repeat_fits s w g n lim ps four left q e sp o y v R 64 (omega arith)) (repeat_fits s w g n lim ps four left q e sp o y v R 63 (omega arith)))
 
-pub ruleset plussing = (rules, span_inside, inside-fits, plus_there, plus_done)
+pub ruleset plussing = (rules, inside-fits, plus_there, plus_done)

@@ -19,7 +19,8 @@ use Rattle.passes.specs.Sizes.{sym_fits}
 use Rattle.replacing.proofs.Going.{extends_has, new_append, new_extends}
 use Rattle.replacing.specs.Trees.{renamed, renamed_all}
 use Rattle.appending.specs.Built.{built_text}
-use Rattle.appending.specs.Commands.{alternative_head, name_head}
+use Rattle.precedence.specs.Write.{alternative_head}
+use Rattle.appending.specs.Commands.{name_head}
 use Rattle.appending.specs.Pieces.{item_piece, Steady}
 use Rattle.macro_expand.specs.Expand.{head_bytes}
 use Rattle.macro_expand.specs.Repeat.{push_head, push_piece}

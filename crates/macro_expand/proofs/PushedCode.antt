@@ -42,16 +42,16 @@ use Rattle.macro_expand.proofs.KeyCodes.{key_code, key_code_lem, macro_there, re
 use Rattle.macro_expand.proofs.DrainLaws.{look_item, repeat_item, group_item, macro_item, row_at, within_at}
 
 -- ---- definition
-module _ (s w : List ℕ) (g : Ground) (t : Grammar) (q : ℕ) (k₀ k c₀ c : ℕ) (a₀ : k₀ ≡ le_at g.width.bytes w (g.from + q + 9)) (a : k ≡ k₀) (b₀ : c₀ ≡ cell_at w g.m.base k) (b : c ≡ c₀) where
+module _ (s w : List ℕ) (g : Ground) (t : Grammar) (q : ℕ) (k₀ k c : ℕ) (a₀ : k₀ ≡ le_at g.width.bytes w (g.from + q + 9)) (a : k ≡ k₀) (b : c ≡ cell_at w g.m.base k) where
   cell_is : (i : ℕ) → Definition s w g t q i → c % 2147483648 ≡ i + 1
-  cell_is i d = ap (λ (x : ℕ). x % 2147483648) (b ∙ b₀ ∙ ap (cell_at w g.m.base) (a ∙ a₀)) ∙ d.cell
+  cell_is i d = ap (λ (x : ℕ). x % 2147483648) (b ∙ ap (cell_at w g.m.base) (a ∙ a₀)) ∙ d.cell
 
   pub definition_some : SomeDefinition s w g t q → 1 ≤ c % 2147483648
   definition_some h = omega (arith, cell_is h.index h.definition)
 
-  pub definition_is : (r : ℕ) → r ≡ item_place_in t w (c % 2147483648 - 1) → IsDefinition s w g t q r
+  pub definition_is : (j : ℕ) → j ≡ c % 2147483648 - 1 → (r : ℕ) → r ≡ item_place_in t w j → IsDefinition s w g t q r
   unfolding IsDefinition
-  definition_is r e i d = let z : c % 2147483648 - 1 ≡ i = omega (arith, cell_is i d) in e ∙ ap (item_place_in t w) z
+  definition_is j f r e i d = let z : j ≡ i = omega (arith, cell_is i d, f) in e ∙ ap (item_place_in t w) z
 
 pub ruleset defining = (rules, definition_some, definition_is)
 

@@ -1,6 +1,6 @@
 -- Laws of `put_argument`: how deep the symbol for a parameter is nested, and which way it is appended. Assumes nothing.
 use mathlib.Core.Path.{◌≡◌, refl, sym, ap, ◌∙◌, subst}
-use mathlib.Core.Bool.{Bool, true, false, ◌&&◌}
+use mathlib.Core.Bool.{Bool, true, false, ◌&&◌, ◌||◌, not}
 use mathlib.Core.List.{List}
 use Prim.Native.Nat.{ℕ, zero, suc, ◌+◌, ◌-◌, ◌≤◌, ◌<◌}
 use native.Mathlib.Omega.{arith}
@@ -12,7 +12,7 @@ use Rattle.octets.specs.Working.Choice.{pick}
 use Rattle.octets.specs.Plain.Runs.{Lies}
 use Rattle.octets.proofs.LiesLaws.{lies_first, lies_split}
 use Rattle.parse_tree.specs.Plain.Tree.{Text, Leaf, Around, Sym, ambiguous, bare, quoted, regex, nonterminal, lookahead, lookbehind, error, repeat, choose, name, macro, group, leaf, around, over, nil}
-use Rattle.parse_tree.specs.Working.Nodes.{node_bytes, symbol_bytes, leaf_code}
+use Rattle.parse_tree.specs.Working.Nodes.{node_bytes, symbol_bytes, leaf_code, long_of}
 use Rattle.parse_tree.specs.Working.Encode.{leaf_node, around_node, over_node, syms_bytes}
 use Rattle.parse_tree.specs.declared.syntax.Span.{Span}
 use Rattle.texts.specs.declared.Map.{Map}
@@ -21,7 +21,6 @@ use Rattle.passes.specs.Sizes.{sym_fits}
 use Rattle.passes.specs.Macros.{at}
 use Rattle.laws.specs.Flat.{sym_node, children}
 use Rattle.laws.proofs.Flat.{sym_bytes_lem, node_size}
-use Rattle.resolve.specs.Commands.{long_of}
 use Rattle.display.specs.Standing.{SymStands}
 use Rattle.display.proofs.StandsLaws.{standing, first_stands, none_stand}
 use Rattle.replacing.specs.Trees.{renamed_leaf, renamed, is_key}
@@ -33,7 +32,7 @@ use Rattle.appending.specs.declared.Appended.{Appended}
 use Rattle.appending.specs.Symbols.{Nameable, PutsNamed}
 use Rattle.appending.specs.Pieces.{nested, then_piece, Appends}
 use Rattle.appending.proofs.PiecesLaws.{steady_nested, appends_then, appends_is, appends_nested}
-use Rattle.macro_expand.specs.PutIn.{symbol_piece, sym_piece, Argument, SomeArgument, AnyArgument, PutsOne, PutsArgument, wrapping, fits_at, deepened_by}
+use Rattle.macro_expand.specs.PutIn.{symbol_piece, sym_piece, Argument, SomeArgument, AnyArgument, PutsOne, PutsArgument, wrapping, fits_at}
 use Rattle.macro_expand.proofs.PutInNamed.{argument-stands, named-from, named_some, named_put}
 
 -- ---- how deep
@@ -126,7 +125,7 @@ and-true : (b : Bool) → b ≡ b && true
 and-true true = refl
 and-true false = refl
 
-module _ (s w : List ℕ) (g : Ground) (n lim p span levels : ℕ) (v : Appended) (f : Bool) (i : f ≡ fits_at g.width.bytes g.end w levels p) (u : Appended) (j : u ≡ deepened_by v f) where
+module _ (s w : List ℕ) (g : Ground) (n lim p span levels : ℕ) (v : Appended) (f : Bool) (i : f ≡ fits_at g.width.bytes g.end w levels p) (u : Appended) (j : u ≡ record { to = v.to; count = v.count; deep = v.deep || not f }) where
   module _ (ps : List ℕ) (four : Bool) (left from end : ℕ) (x : Sym) (sp : Span) (R : Argument s w g n lim p span v ps four left from end x sp) where
     stands : SymStands s w g.m g.width.bytes four left p (g.from + end) x
     stands = subst (λ (q : ℕ). SymStands s w g.m g.width.bytes four left q (g.from + end) x) (sym R.at) (argument-stands s w g n lim p span v ps four left from end x sp R)
@@ -142,7 +141,6 @@ module _ (s w : List ℕ) (g : Ground) (n lim p span levels : ℕ) (v : Appended
     fits_is = i ∙ fits_means s w g.m g.width.bytes four g.end x left p (g.from + end) levels stands upto ∙ sym (at-fits sp (renamed x) levels)
 
     asked : Appends s g n lim ps w v (nested f) u w
-    unfolding deepened_by
     asked = subst (λ (y : Appended). Appends s g n lim ps w v (nested f) y w) (sym j) (appends_nested s g n lim ps w v f R.going)
 
     pub any_now : Argument s w g n lim p span u ps four left from end x sp
@@ -196,6 +194,6 @@ module _ (s w : List ℕ) (g : Ground) (n lim p span levels : ℕ) (v : Appended
 pub any_here : (s w : List ℕ) (g : Ground) (n lim p span : ℕ) (v : Appended) → AnyArgument s w g n lim p span v → p < length w
 any_here s w g n lim p span v K =
     let S = K.some in
-    omega (arith, any_long s w g n lim p span 0 v (fits_at g.width.bytes g.end w 0 p) refl (deepened_by v (fits_at g.width.bytes g.end w 0 p)) refl S.places S.four S.left S.from S.end S.symbol S.span_of S.is, S.is.going.behind)
+    omega (arith, any_long s w g n lim p span 0 v (fits_at g.width.bytes g.end w 0 p) refl (record { to = v.to; count = v.count; deep = v.deep || not (fits_at g.width.bytes g.end w 0 p) }) refl S.places S.four S.left S.from S.end S.symbol S.span_of S.is, S.is.going.behind)
 
 pub ruleset putting_any = (rules, any_some, any_put, any_from, any_named, any_name_put, any_here)

@@ -1,11 +1,11 @@
 -- Laws of the small functions that put an argument in: the ways out. Assumes nothing.
 use mathlib.Core.Path.{◌≡◌, refl, sym, ap, ◌∙◌}
-use mathlib.Core.Bool.{Bool, true, false, ◌||◌, not}
+use mathlib.Core.Bool.{Bool, true, false}
 use mathlib.Core.List.{List, ◌∷◌, ◌++◌}
 use Prim.Native.Nat.{ℕ, suc, ◌+◌, ◌-◌, ◌*◌, ◌≤◌, ◌<◌, ◌^◌}
 use native.Mathlib.Omega.{arith}
 use borrow.Author.Rules.{rules}
-use borrow.Author.Tests.{le-leb, lt-leb}
+use borrow.Author.Tests.{le-leb, lt-leb, ne_eqb}
 use mir.Val.{Fits}
 use mir.Syntax.{w64}
 use lib.ListN.{length, get_or, length-append}
@@ -17,11 +17,10 @@ use Rattle.octets.proofs.NumbersLaws.{length-le}
 use Rattle.octets.proofs.PartLaws.{part_length}
 use Rattle.octets.proofs.StoreLaws.{store-append, length_store, get_d_store_before}
 use Rattle.texts.proofs.TableStays.{part-agree}
-use Rattle.resolve.specs.Commands.{long_of}
+use Rattle.parse_tree.specs.Working.Nodes.{long_of}
 use Rattle.precedence.specs.Write.{Puts}
 use Rattle.precedence.proofs.WriteLaws.{puts_whole, puts_not}
-use Rattle.appending.specs.declared.Appended.{Appended}
-use Rattle.macro_expand.specs.PutIn.{wrapping, fits_at, deepened_by}
+use Rattle.macro_expand.specs.PutIn.{wrapping, fits_at}
 
 -- ---- put_spanned
 module _ (w : List ℕ) (code span a e lim to : ℕ) (o : a ≤ e) (b : e ≤ to) (i : lim ≤ length w) where
@@ -60,26 +59,11 @@ pub wraps_40 : (c : ℕ) → c ≡ 40 → true ≡ wrapping c
 unfolding wrapping pick
 wraps_40 c e = rw e refl
 
-pub ruleset wrapped = (rules, wraps_39, wraps_40)
+pub wraps_not : (c : ℕ) → (c ≡ 39 → ⊥) → (c ≡ 40 → ⊥) → false ≡ wrapping c
+unfolding wrapping pick
+wraps_not c e f = rw (ne_eqb c 39 e) (sym (ne_eqb c 40 f))
 
--- ---- deepened
-pub deep_fits : (v : Appended) (b : Bool) → b ≡ true → v ≡ deepened_by v b
-unfolding deepened_by
-deep_fits v b e = rw e (ap (λ (d : Bool). record { to = v.to; count = v.count; deep = d }) (go v.deep))
-  where
-    go : (d : Bool) → d ≡ d || not true
-    go true = refl
-    go false = refl
-
-pub deep_not : (v : Appended) (b : Bool) → b ≡ false → record { to = v.to; count = v.count; deep = true } ≡ deepened_by v b
-unfolding deepened_by
-deep_not v b e = rw e (ap (λ (d : Bool). record { to = v.to; count = v.count; deep = d }) (go v.deep))
-  where
-    go : (d : Bool) → true ≡ d || not false
-    go true = refl
-    go false = refl
-
-pub ruleset deepening = (rules, deep_fits, deep_not)
+pub ruleset wrapped = (rules, wraps_39, wraps_40, wraps_not)
 
 -- ---- fits: i levels are left at q
 pub record Fitting (width e : ℕ) (w : List ℕ) (left p q i : ℕ) : Type 0 where

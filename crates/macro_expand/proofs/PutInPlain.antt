@@ -12,17 +12,16 @@ use Rattle.octets.proofs.LiesLaws.{lies_first, lies_split, lies_from, lies_part}
 use Rattle.parse_tree.specs.Plain.Tree.{Text, Leaf, Sym, Syms, ambiguous, bare, quoted, regex, nonterminal, lookahead, lookbehind, error, repeat, choose, name, leaf, around, over, nil, cons, count}
 use Rattle.parse_tree.specs.Plain.Texts.{with_new}
 use Rattle.parse_tree.specs.Plain.References.{sym_texts, syms_texts}
-use Rattle.parse_tree.specs.Working.Nodes.{span_bytes, node_bytes, symbol_bytes, size_of}
+use Rattle.parse_tree.specs.Working.Nodes.{span_bytes, node_bytes, symbol_bytes, size_of, long_of}
 use Rattle.parse_tree.specs.Working.Encode.{around_node, sym_bytes, syms_bytes}
 use Rattle.parse_tree.specs.Working.Within.{Each, SpanWithin, SymWithin}
 use Rattle.parse_tree.specs.declared.syntax.Span.{Span}
+use Rattle.parse_tree.specs.Working.Nested.{inside_at}
 use Rattle.parse_tree.proofs.SizeLaws.{length_span}
 use Rattle.texts.specs.Table.{texts}
 use Rattle.passes.specs.Macros.{at}
 use Rattle.laws.specs.Flat.{sym_node, children, joined}
 use Rattle.laws.proofs.Flat.{Step, SymsFits, syms_fit_lem, sym_bytes_lem, step}
-use Rattle.resolve.specs.Commands.{long_of}
-use Rattle.grades.specs.Skip.{inside_at}
 use Rattle.grades.proofs.CodesMean.{Codes, first_codes}
 use Rattle.precedence.specs.Write.{Puts}
 use Rattle.replacing.specs.Slots.{among}
@@ -210,8 +209,8 @@ module _ (s w : List ℕ) (g : Ground) (n lim p span : ℕ) (v : Appended) (K : 
   pub one_here : p < length w
   one_here = omega (arith, in_items, some_long_lem, K.is.going.behind)
 
-  pub one_behind : p + 16 ≤ length w
-  one_behind = omega (arith, in_items, some_long_lem, K.is.going.behind)
+  pub one_behind : p + (10 + g.width.bytes) ≤ length w
+  one_behind = omega (arith, in_items, some_long_lem, g.width.wide, K.is.going.behind)
 
   pub one_room : lim ≤ length w
   one_room = K.is.going.inside

@@ -4,11 +4,12 @@ use mathlib.Core.Bool.{Bool, true, ◌&&◌}
 use mathlib.Core.List.{List, [], ◌∷◌, ◌++◌, append-nil, append_assoc}
 use Prim.Native.Nat.{ℕ, ◌+◌, ◌-◌, ◌%◌, ◌≤◌}
 use native.Mathlib.Omega.{arith}
-use mir.Syntax.{w8, w64}
+use mir.Syntax.{w64}
 use mir.Val as Bound
 use borrow.Author.Rules.{rules}
-use lib.ListN.{length, get_or}
-use Rattle.octets.specs.Plain.Numbers.{le_at, le}
+use lib.ListN.{length}
+use Rattle.octets.specs.Plain.Numbers.{le}
+use Rattle.octets.proofs.NumbersLaws.{low_bytes}
 use Rattle.parse_tree.specs.Plain.Tree.{Text, Op, Sym, question, repeat, around, nil, cons, count, user, item}
 use Rattle.parse_tree.specs.Plain.Texts.{number, with_new}
 use Rattle.parse_tree.specs.Plain.References.{action_texts, syms_texts}
@@ -18,7 +19,7 @@ use Rattle.parse_tree.specs.Working.Encode.{action_text, syms_bytes, item_bytes}
 use Rattle.parse_tree.specs.declared.syntax.Span.{Span}
 use Rattle.passes.specs.Macros.{expand_repeat_symbol, some_text, none_text}
 use Rattle.passes.specs.Sizes.{sym_fits}
-use Rattle.precedence.specs.Write.{Puts}
+use Rattle.precedence.specs.Write.{Puts, alternative_head}
 use Rattle.replacing.specs.Trees.{renamed, renamed_all}
 use Rattle.expander.specs.declared.Ground.{Ground}
 use Rattle.expander.specs.declared.slots.Numbered.{Numbered}
@@ -27,7 +28,6 @@ use Rattle.expander.specs.Names.{named_in}
 use Rattle.appending.specs.declared.Appended.{Appended}
 use Rattle.appending.specs.declared.symbols.Copied.{Copied}
 use Rattle.appending.specs.Built.{built_text, Gives, SomeBuilt, GivesBuilt}
-use Rattle.appending.specs.Commands.{alternative_head}
 use Rattle.appending.specs.Pieces.{naming, then_piece, symbols_piece, item_piece, Appending, Appends, SomeAppending}
 use Rattle.appending.specs.Symbols.{Referring, SomeReferring, PutsSymbols}
 use Rattle.appending.proofs.PiecesLaws.{steady_then, steady_symbols, appends_then, appends_is, appends_gives}
@@ -35,8 +35,7 @@ use Rattle.appending.proofs.SymbolsStays.{referring_stays}
 use Rattle.macro_expand.specs.declared.begin.Begun.{Begun}
 use Rattle.macro_expand.specs.Expand.{head_bytes, head_piece, Popped, SomePopped, IsAny, IsRepeat, Begins}
 use Rattle.macro_expand.specs.Repeat.{ExpandsAs, BeganWith, BeginsWith, by_number, bare_head, PutsBy}
-use Rattle.macro_expand.proofs.PoppedLaws.{popped_room, popped_span}
-use Rattle.appending.proofs.SymbolsBytes.{low_bytes}
+use Rattle.macro_expand.proofs.PoppedLaws.{popped_room}
 use Rattle.macro_expand.proofs.ItemPieces.{alternative_head_lem, steady_head, appends_told, appends_has, appends_number}
 use Rattle.macro_expand.proofs.ItemTrees.{simple_node, two_bytes, two_texts, two_fits}
 use Rattle.macro_expand.proofs.RepeatTrees.{text_some, text_nothing, repeat_referring, repeat_fits}
@@ -77,9 +76,6 @@ module _ (s w : List ℕ) (g : Ground) (n lim q : ℕ) (v : Appended) (K : SomeP
   pub inside-fits : Bound.Fits w64 (q + 10)
   inside-fits = record { fits = omega (arith, room, K.popped.going.behind, K.popped.going.ground.short) }
 
-  pub span_inside : g.from + q + 1 + 8 ≤ length w
-  span_inside = omega (arith, room, K.popped.going.ground.inside)
-
 -- ---- begin_with
 module _ (s w : List ℕ) (g : Ground) (n lim q : ℕ) (v : Appended) (flags i symbols : ℕ) (x : Begun) (w1 : List ℕ) (B : Begins s w g n lim q v flags 2 i symbols x w1) where
   -- the symbol inside still stands there
@@ -107,7 +103,7 @@ module _ (s w : List ℕ) (g : Ground) (n lim q : ℕ) (v : Appended) (flags i :
     abbrev key : Text
     key = print (around sp (repeat o) y)
 
-    begun : (x.name ≡ number (named_in s w1 g x.out.count) key) × Appends s g n lim ps w v (head_piece g.width.bytes sp key flags 2 (built_text i) 1) x.out w1
+    begun : ((le 8 x.span ≡ span_bytes sp) × (x.name.number ≡ number (named_in s w1 g x.out.count) key)) × Appends s g n lim ps w v (head_piece g.width.bytes sp key flags 2 (built_text i) 1) x.out w1
     unfolding Begins
     begun = B ps four left e (around sp (repeat o) y) R
 
@@ -124,9 +120,10 @@ module _ (s w : List ℕ) (g : Ground) (n lim q : ℕ) (v : Appended) (flags i :
       still : Referring s w2 g ps four (left - 1) (q + 10) e (cons y nil)
       still = referring_stays s g n lim ps w1 x.out begun.1.going (symbols_piece g.width.bytes (cons y nil)) c.out w2 copied four (left - 1) (q + 10) e (cons y nil) there
 
-      with_symbol : BeganWith s w g n lim q v ps flags i sp key y (record { name = x.name; out = c.out }) w2
+      with_symbol : BeganWith s w g n lim q v ps flags i sp key y (record { span = x.span; name = x.name; out = c.out }) w2
       with_symbol = record {
-        name = begun.0 ∙ sym (appends_number s g n lim ps w1 x.out (symbols_piece g.width.bytes (cons y nil)) c.out w2 copied key (appends_has s g n lim ps w v _ x.out w1 begun.1).0);
+        span = begun.0.0;
+        name = begun.0.1 ∙ sym (appends_number s g n lim ps w1 x.out (symbols_piece g.width.bytes (cons y nil)) c.out w2 copied key (appends_has s g n lim ps w v _ x.out w1 begun.1).0);
         appended =
             appends_then s g n lim ps w v (head_piece g.width.bytes sp key flags 2 (built_text i) 1) x.out w1 (symbols_piece g.width.bytes (cons y nil)) c.out w2 (steady_head g.width.bytes sp key flags 2 (built_text i) 1) R.going
             begun.1 copied;
@@ -136,7 +133,7 @@ module _ (s w : List ℕ) (g : Ground) (n lim q : ℕ) (v : Appended) (flags i :
     I : Inner s w g n lim q v
     I = inner s w g n lim q v K
 
-    pub with_done : (c : Copied) (w2 : List ℕ) → PutsSymbols s w1 g n lim (q + 10) 1 x.out c w2 → BeginsWith s w g n lim q v flags i (record { name = x.name; out = c.out }) w2
+    pub with_done : (c : Copied) (w2 : List ℕ) → PutsSymbols s w1 g n lim (q + 10) 1 x.out c w2 → BeginsWith s w g n lim q v flags i (record { span = x.span; name = x.name; out = c.out }) w2
     unfolding count
     with_done c w2 P = record {
       some = record {
@@ -225,20 +222,19 @@ pub with_appending : (s w : List ℕ) (g : Ground) (n lim q : ℕ) (v : Appended
 with_appending s w g n lim q v flags i x w1 B = record { places = B.some.places; going = B.some.going }
 
 module _ (s w : List ℕ) (g : Ground) (n lim q : ℕ) (v : Appended) (x : Begun) (w1 : List ℕ) (B : BeginsWith s w g n lim q v 1 5 x w1) where
-  pub question_done : (z : ℕ) (r : Appended) (w2 : List ℕ) → PutsBy s w1 g n lim x.out (built_text 6) (bare_head g.width.bytes z) r w2 → z ≡ le_at 8 w (g.from + q + 1) → ((j : ℕ) → Bound.Fits w8 (get_or w j 0))
-      → ExpandsAs s w g n lim q v question r w2
+  pub question_done : (r : Appended) (w2 : List ℕ) → PutsBy s w1 g n lim x.out (built_text 6) (bare_head g.width.bytes x.span) r w2 → ExpandsAs s w g n lim q v question r w2
   unfolding ExpandsAs PutsBy
-  question_done z r w2 P d b ps four left e sp o y R =
+  question_done r w2 P ps four left e sp o y R =
       let key = print (around sp (repeat o) y) in
       let h = (B.each ps four left e sp o y R).appended in
-      let k : le 8 z ≡ span_bytes sp = ap (le 8) d ∙ popped_span s w g n lim ps four left q e (around sp (repeat o) y) v R (λ j. (b j).fits) in
+      let k = (B.each ps four left e sp o y R).span in
       let H = head_piece g.width.bytes sp (print (around sp (repeat o) y)) 1 2 (built_text 5) 1 in
       let X = symbols_piece g.width.bytes (cons y nil) in
-      let N = by_number (built_text 6) (bare_head g.width.bytes z) in
+      let N = by_number (built_text 6) (bare_head g.width.bytes x.span) in
       let st = steady_then H X (steady_head g.width.bytes sp (print (around sp (repeat o) y)) 1 2 (built_text 5) 1) (steady_symbols g.width.bytes (cons y nil)) in
       let a = appends_then s g n lim ps w v (then_piece H X) x.out w1 N r w2 st R.going h (P ps h.going) in
       appends_is s g n lim ps w v (then_piece (then_piece H X) N) r w2 a (item_piece g.width.bytes (item (expand_repeat_symbol sp key question (renamed y))))
-      (ap (with_new (named_in s w g v.count)) (question_texts g.width.bytes sp key y)) (question_bytes g.width.bytes sp key y (named_in s w2 g r.count) z k)
+      (ap (with_new (named_in s w g v.count)) (question_texts g.width.bytes sp key y)) (question_bytes g.width.bytes sp key y (named_in s w2 g r.count) x.span k)
       (question_fits g.width.bytes sp key y (repeat_fits s w g n lim ps four left q e sp o y v R 64 (omega arith)))
 
-pub ruleset questioning = (rules, span_inside, with_appending, question_done)
+pub ruleset questioning = (rules, with_appending, question_done)

@@ -4,17 +4,14 @@ use mathlib.Core.Bool.{Bool, true, false, ◌||◌, not}
 use mathlib.Core.List.{List, ◌++◌}
 use Prim.Native.Nat.{ℕ, ◌+◌, ◌-◌, ◌%◌, ◌≤◌}
 use native.Mathlib.Omega.{arith}
-use mir.Syntax.{w8}
-use mir.Val as Bound
 use borrow.Author.Rules.{rules}
-use lib.ListN.{length, get_or}
-use Rattle.octets.specs.Plain.Numbers.{le_at, le}
+use lib.ListN.{length}
+use Rattle.octets.proofs.NumbersLaws.{low_bytes}
 use Rattle.parse_tree.specs.Plain.Tree.{star, repeat, around, nil, cons, count, item}
 use Rattle.parse_tree.specs.Plain.Display.{print}
-use Rattle.parse_tree.specs.Working.Nodes.{span_bytes}
 use Rattle.passes.specs.Macros.{expand_repeat_symbol}
 use Rattle.passes.specs.Sizes.{sym_fits}
-use Rattle.precedence.specs.Write.{Puts}
+use Rattle.precedence.specs.Write.{Puts, alternative_head}
 use Rattle.precedence.proofs.WriteLaws.{puts_append}
 use Rattle.replacing.specs.Trees.{renamed}
 use Rattle.expander.specs.declared.Ground.{Ground}
@@ -24,17 +21,14 @@ use Rattle.expander.specs.Names.{named_in}
 use Rattle.appending.specs.declared.Appended.{Appended}
 use Rattle.appending.specs.declared.symbols.Copied.{Copied}
 use Rattle.appending.specs.Built.{built_text, GivesBuilt}
-use Rattle.appending.specs.Commands.{alternative_head, name_head, plus_head}
+use Rattle.appending.specs.Commands.{name_head, plus_head}
 use Rattle.appending.specs.Pieces.{nested, then_piece, symbols_piece, item_piece, Appending, Appends, SomeAppending}
 use Rattle.appending.specs.Symbols.{SomeReferring, PutsSymbols}
 use Rattle.appending.proofs.PiecesLaws.{steady_then, steady_symbols, appends_then, appends_is, appends_nested}
 use Rattle.appending.proofs.SymbolsStays.{referring_stays}
 use Rattle.macro_expand.specs.declared.begin.Begun.{Begun}
-use Rattle.macro_expand.specs.declared.star.Starred.{Starred}
 use Rattle.macro_expand.specs.Expand.{head_piece, SomePopped, IsRepeat, Begins}
-use Rattle.macro_expand.specs.Repeat.{ExpandsAs, by_number, PutsBy, star_head, star_piece, PutsStar, BeginsStar, ReadsStar}
-use Rattle.macro_expand.proofs.PoppedLaws.{popped_span, popped_room}
-use Rattle.appending.proofs.SymbolsBytes.{low_bytes}
+use Rattle.macro_expand.specs.Repeat.{ExpandsAs, by_number, PutsBy, star_head, star_piece, PutsStar, BeginsStar}
 use Rattle.macro_expand.proofs.ItemPieces.{steady_head}
 use Rattle.macro_expand.proofs.RepeatTrees.{repeat_inner, repeat_referring}
 use Rattle.macro_expand.proofs.RepeatCode.{inside-fits, popped_any, by_ground, by_built, by_inside, put_by, begun_there}
@@ -86,10 +80,10 @@ module _ (s w : List ℕ) (g : Ground) (n lim p span : ℕ) (v r : Appended) (w1
             referring_stays s g n lim K.places w v K.going (by_number (built_text 1) (star_head g.width.bytes span)) r w1 a K.four K.left p K.end K.symbols K.referring;
       }
 
-  pub star_rest_done : (c : Copied) (w2 : List ℕ) → PutsSymbols s w1 g n lim p 1 r c w2 → (deep d : Bool) → d ≡ c.out.deep || deep
-      → PutsStar s w g n lim p span deep v (record { to = c.out.to; count = c.out.count; deep = d }) w2
+  pub star_rest_done : (c : Copied) (w2 : List ℕ) → PutsSymbols s w1 g n lim p 1 r c w2 → (deep : Bool) (u : Appended) → u ≡ record { to = c.out.to; count = c.out.count; deep = c.out.deep || deep }
+      → PutsStar s w g n lim p span deep v u w2
   unfolding PutsStar PutsSymbols count
-  star_rest_done c w2 Q deep d z ps four left e x h R =
+  star_rest_done c w2 Q deep y z ps four left e x h R =
       let D = by_number (built_text 1) (star_head g.width.bytes span) in
       let X = symbols_piece g.width.bytes (cons x nil) in
       let a = first_put ps h in
@@ -97,23 +91,10 @@ module _ (s w : List ℕ) (g : Ground) (n lim p span : ℕ) (v r : Appended) (w1
       let both = appends_then s g n lim ps w v D r w1 X c.out w2 (steady_number (built_text 1) (star_head g.width.bytes span)) h a f in
       let k = appends_nested s g n lim ps w2 c.out (not deep) both.going in
       let st = steady_then D X (steady_number (built_text 1) (star_head g.width.bytes span)) (steady_symbols g.width.bytes (cons x nil)) in
-      subst (λ (u : Bool). Appends s g n lim ps w v (star_piece g.width.bytes span x deep) (record { to = c.out.to; count = c.out.count; deep = u }) w2) (not-not c.out.deep deep ∙ sym z)
+      subst (λ (u : Appended). Appends s g n lim ps w v (star_piece g.width.bytes span x deep) u w2) (ap (λ (b : Bool). record { to = c.out.to; count = c.out.count; deep = b }) (not-not c.out.deep deep) ∙ sym z)
       (appends_then s g n lim ps w v (then_piece D X) c.out w2 (nested (not deep)) (record { to = c.out.to; count = c.out.count; deep = c.out.deep || not (not deep) }) w2 st h both k)
 
-pub or_yes : (a b : Bool) → a ≡ true → true ≡ a || b
-or_yes a b e = rw e refl
-
-pub or_no : (a b : Bool) → a ≡ false → b ≡ a || b
-or_no a b e = rw e refl
-
-pub ruleset star_resting = (or_yes, or_no, rules, rest_appending, star_there, star_rest_done)
-
--- ---- read_star
-pub starred_done : (w : List ℕ) (g : Ground) (q z : ℕ) (deep : Bool) → z ≡ le_at 8 w (g.from + q + 1) → deep ≡ not (fits_at g.width.bytes g.end w 62 (g.from + (q + 10))) → ((j : ℕ) → Bound.Fits w8 (get_or w j 0))
-    → ReadsStar w g q (record { span = z; deep = deep })
-starred_done w g q z deep d t b = record { bytes = λ j. (b j).fits; span_is = d; deep_is = t }
-
-pub ruleset reading_star = (rules, starred_done)
+pub ruleset star_resting = (rules, rest_appending, star_there, star_rest_done)
 
 -- ---- begin_star
 pub star_begun : (s w : List ℕ) (g : Ground) (n lim q : ℕ) (v : Appended) (x : Begun) (w1 : List ℕ) → Begins s w g n lim q v 1 2 0 0 x w1 → SomePopped IsRepeat s w g n lim q v → BeginsStar s w g n lim q v x w1
@@ -126,18 +107,16 @@ module _ (s w : List ℕ) (g : Ground) (n lim q : ℕ) (v : Appended) (K : SomeP
   pub star_end : g.end + 16 ≤ length w
   star_end = K.popped.going.behind
 
-  pub star_place : g.from + q + 10 ≤ length w
-  star_place = omega (arith, popped_room s w g n lim K.places K.four K.left q K.end K.symbol v K.popped, K.popped.going.behind)
-
-pub star_done : (s w : List ℕ) (g : Ground) (n lim q : ℕ) (v : Appended) (x : Begun) (w1 : List ℕ) → BeginsStar s w g n lim q v x w1 → (y : Starred) (r : Appended) (w2 : List ℕ)
-    → PutsStar s w1 g n lim (q + 10) y.span y.deep x.out r w2 → ReadsStar w g q y → ExpandsAs s w g n lim q v star r w2
+pub star_done : (s w : List ℕ) (g : Ground) (n lim q : ℕ) (v : Appended) (x : Begun) (w1 : List ℕ) → BeginsStar s w g n lim q v x w1 → (f : Bool) → f ≡ fits_at g.width.bytes g.end w 62 (g.from + (q + 10)) → (r : Appended) (w2 : List ℕ)
+    → PutsStar s w1 g n lim (q + 10) x.span (not f) x.out r w2 → ExpandsAs s w g n lim q v star r w2
 unfolding ExpandsAs PutsStar Begins size_in
-star_done s w g n lim q v x w1 B u r w2 P S ps four left e sp o y R =
-    let z = u.span in
-    let deep = u.deep in
+star_done s w g n lim q v x w1 B fit S r w2 P ps four left e sp o y R =
+    let z = x.span in
+    let deep = not fit in
     let key = print (around sp (repeat o) y) in
-    let h = (B.begins ps four left e (around sp (repeat o) y) R).1 in
-    let k : le 8 u.span ≡ span_bytes sp = ap (le 8) S.span_is ∙ popped_span s w g n lim ps four left q e (around sp (repeat o) y) v R S.bytes in
+    let b = B.begins ps four left e (around sp (repeat o) y) R in
+    let h = b.1 in
+    let k = b.0.0 in
     let H = head_piece g.width.bytes sp (print (around sp (repeat o) y)) 1 2 (built_text 0) 0 in
     let there = referring_stays s g n lim ps w v R.going H x.out w1 h four (left - 1) (q + 10) e (cons y nil) (repeat_referring s w g n lim ps four left q e sp o y v R) in
     let f = P ps four (left - 1) e y h.going there in
@@ -145,10 +124,10 @@ star_done s w g n lim q v x w1 B u r w2 P S ps four left e sp o y R =
     let i = fits_means s w g.m g.width.bytes four g.end y (left - 1) (g.from + (q + 10)) (g.from + e) 62 (repeat_inner s w g n lim ps four left q e sp o y v R) (omega (arith, R.inside, R.going.ground.ordered)) in
     appends_is s g n lim ps w v (then_piece H (star_piece g.width.bytes z y deep)) r w2 a (item_piece g.width.bytes (item (expand_repeat_symbol sp key star (renamed y))))
     (star_texts g.width.bytes sp key y (named_in s w g v.count) z deep) (star_bytes g.width.bytes sp key y (named_in s w2 g r.count) z deep k)
-    (star_fits g.width.bytes sp key y z deep (flip u.deep (sym_fits (renamed y) 62) (S.deep_is ∙ ap not i)))
+    (star_fits g.width.bytes sp key y z deep (flip (not fit) (sym_fits (renamed y) 62) (ap not (S ∙ i))))
   where
     flip : (d c : Bool) → d ≡ not c → not d ≡ c
     flip d true h = ap not h
     flip d false h = ap not h
 
-pub ruleset starring = (rules, inside-fits, star_end, star_place, star_done)
+pub ruleset starring = (rules, inside-fits, star_end, star_done)

@@ -19,7 +19,8 @@ use Rattle.replacing.proofs.Going.{new_append}
 use Rattle.replacing.proofs.ThereBytes.{new_all}
 use Rattle.replacing.specs.Trees.{renamed, renamed_all}
 use Rattle.appending.specs.Built.{built_text}
-use Rattle.appending.specs.Commands.{alternative_head, name_head, plus_head}
+use Rattle.precedence.specs.Write.{alternative_head}
+use Rattle.appending.specs.Commands.{name_head, plus_head}
 use Rattle.appending.specs.Pieces.{item_piece, Steady}
 use Rattle.macro_expand.specs.Expand.{head_bytes}
 use Rattle.macro_expand.specs.Repeat.{by_number, star_head, star_piece}

@@ -18,8 +18,8 @@ use Rattle.expander.specs.declared.Ground.{Ground}
 use Rattle.appending.specs.declared.Appended.{Appended}
 use Rattle.appending.specs.Pieces.{Piece, Appends}
 use Rattle.appending.specs.declared.symbols.Copied.{Copied}
+use Rattle.appending.specs.declared.symbols.Coming.{Coming}
 use Rattle.macro_expand.specs.declared.arguments.Call.{Call}
-use Rattle.macro_expand.specs.declared.expand.Opened.{Opened}
 use Rattle.macro_expand.specs.PutIn.{Placed, Framed, Frame, SomeInsides, PutsInAll}
 
 abbrev pub alternative_piece : ℕ → Alternative → Piece
@@ -47,7 +47,7 @@ PutsAlternative s w g n lim c span p v r w' = (ps : List ℕ) (names : List Text
     → Appends s g n lim ps w v (alternative_piece g.width.bytes (expand_alternative sp names (renamed_all args) a)) r w'
 
 -- its command was appended, and its symbols are to come
-pub record OpensAlternative (s w : List ℕ) (g : Ground) (n lim : ℕ) (c : Call) (span p : ℕ) (v : Appended) (r : Opened) (w' : List ℕ) : Type 0 where
+pub record OpensAlternative (s w : List ℕ) (g : Ground) (n lim : ℕ) (c : Call) (span p : ℕ) (v : Appended) (r : Coming) (w' : List ℕ) : Type 0 where
   pub frame : Frame s w' g n lim c r.run.out
   pub insides : SomeInsides s w' g 64 r.many r.run
   pub carry : (t : Copied) (w'' : List ℕ) → PutsInAll s w' g n lim c 64 r.many r.run t w'' → PutsAlternative s w g n lim c span p v t.out w''

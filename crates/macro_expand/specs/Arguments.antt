@@ -7,6 +7,7 @@ use Rattle.grades.specs.Skip.{skip_out}
 use Rattle.grades.specs.Annotations.{conditions_from, alternative_end}
 use Rattle.expander.specs.declared.Ground.{Ground}
 use Rattle.macro_expand.specs.declared.arguments.Call.{Call}
+use Rattle.macro_expand.specs.declared.arguments.NotLiteral.{NotLiteral}
 use Rattle.std.specs.Prelude.{Result, Ok, Err}
 
 -- the bytes of n parameters
@@ -43,13 +44,13 @@ module _ (g : Ground) (c : Call) (w : List ℕ) where
   judged_at at = pick (leb c.end at) None (judged_by at (argument_for (le_at g.width.bytes w (at + 9))))
 
   -- ---- whether the alternative at p holds
-  unfoldable pub holds_at : ℕ → Option Bool
-  holds_at p = pick (eqb (get_or w (p + 10) 0) 0) (Some true) (judged_at (conditions_from g.width.bytes w p))
+  unfoldable pub holds_at : ℕ → Result Bool NotLiteral
+  holds_at p = pick (eqb (get_or w (p + 10) 0) 0) (Ok true) (elim (judged_at (conditions_from g.width.bytes w p)) [ Some b ↦ Ok b | None ↦ Err (record { at = conditions_from g.width.bytes w p }) ])
 
   -- how many of n from p on hold, with k before
-  unfoldable pub hold_from : ℕ → ℕ → ℕ → Result ℕ ℕ
+  unfoldable pub hold_from : ℕ → ℕ → ℕ → Result ℕ NotLiteral
   hold_from zero p k = Ok k
   hold_from (suc n) p k = pick (leb c.end p) (Ok k) (elim (holds_at p) [
-    | Some b ↦ hold_from n (alternative_end g.width.bytes w p c.end) (pick b (k + 1) k)
-    | None ↦ Err (conditions_from g.width.bytes w p)
+    | Ok b ↦ hold_from n (alternative_end g.width.bytes w p c.end) (pick b (k + 1) k)
+    | Err r ↦ Err r
   ])

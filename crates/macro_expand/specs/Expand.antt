@@ -71,7 +71,7 @@ module _ (s w : List ℕ) (g : Ground) (n lim q : ℕ) (v : Appended) where
   -- the action is the i-th built-in text
   unfoldable pub Begins : ℕ → ℕ → ℕ → ℕ → Begun → List ℕ → Type 0
   Begins flags alternatives i symbols r w' = (ps : List ℕ) (four : Bool) (left e : ℕ) (y : Sym) → Popped s w g n lim ps four left q e y v
-      → (r.name ≡ number (named_in s w' g r.out.count) (print y)) × Appends s g n lim ps w v (head_piece g.width.bytes (sym_span y) (print y) flags alternatives (built_text i) symbols) r.out w'
+      → ((le 8 r.span ≡ span_bytes (sym_span y)) × (r.name.number ≡ number (named_in s w' g r.out.count) (print y))) × Appends s g n lim ps w v (head_piece g.width.bytes (sym_span y) (print y) flags alternatives (built_text i) symbols) r.out w'
 
   -- ---- whole items
 
@@ -120,9 +120,9 @@ all_named us = record { texts = us; bytes = λ ts. []; fits = true }
 -- the print of a symbol at sp and the i-th built-in text have numbers
 pub record NamedBoth (s w : List ℕ) (g : Ground) (n lim : ℕ) (ps : List ℕ) (v : Appended) (sp : Span) (key t : Text) (r : Named) (w' : List ℕ) : Type 0 where
   pub span : le 8 r.span ≡ span_bytes sp
-  pub name : r.name ≡ number (named_in s w' g r.count) key
-  pub text : r.text ≡ number (named_in s w' g r.count) t
-  pub appended : Appends s g n lim ps w v (all_named (key ∷ t ∷ [])) (record { to = v.to; count = r.count; deep = v.deep }) w'
+  pub name : r.name.number ≡ number (named_in s w' g r.text.count) key
+  pub text : r.text.number ≡ number (named_in s w' g r.text.count) t
+  pub appended : Appends s g n lim ps w v (all_named (key ∷ t ∷ [])) (record { to = v.to; count = r.text.count; deep = v.deep }) w'
 
 -- of every symbol that was taken off the pile
 pub record NamesBoth (s w : List ℕ) (g : Ground) (n lim q : ℕ) (v : Appended) (i : ℕ) (r : Named) (w' : List ℕ) : Type 0 where
@@ -145,8 +145,8 @@ act_of behind = 4
 pub record CalledLook (s w : List ℕ) (g : Ground) (n lim : ℕ) (ps : List ℕ) (v : Appended) (sp : Span) (k : Look) (r : Called) (w' : List ℕ) : Type 0 where
   pub span : le 8 r.span ≡ span_bytes sp
   pub act : r.act ≡ act_of k
-  pub name : r.name ≡ number (named_in s w' g r.count) (print (symbol_of (looking sp k)))
-  pub appended : Appends s g n lim ps w v (all_named (print (symbol_of (looking sp k)) ∷ [])) (record { to = v.to; count = r.count; deep = v.deep }) w'
+  pub name : r.name.number ≡ number (named_in s w' g r.name.count) (print (symbol_of (looking sp k)))
+  pub appended : Appends s g n lim ps w v (all_named (print (symbol_of (looking sp k)) ∷ [])) (record { to = v.to; count = r.name.count; deep = v.deep }) w'
 
 -- of every one that was taken off the pile
 pub record CallsLook (s w : List ℕ) (g : Ground) (n lim q : ℕ) (v : Appended) (r : Called) (w' : List ℕ) : Type 0 where

@@ -12,7 +12,6 @@ use Rattle.appending.specs.declared.Appended.{Appended}
 use Rattle.appending.specs.Commands.{item_head}
 use Rattle.appending.specs.Pieces.{Piece, item_piece, Appends}
 use Rattle.macro_expand.specs.declared.call.Macro.{Macro}
-use Rattle.macro_expand.specs.declared.call.Started.{Started}
 use Rattle.macro_expand.specs.Expand.{Popped}
 use Rattle.macro_expand.specs.PutIn.{Frame}
 use Rattle.macro_expand.specs.Call.{Calls}
@@ -24,6 +23,8 @@ pub record ReadsCall (w : List ℕ) (g : Ground) (q d : ℕ) (r : Macro) : Type 
   pub many : r.call.many ≡ get_or w (d + 10 + g.width.bytes) 0
   pub args : r.call.args ≡ g.from + q + (10 + g.width.bytes)
   pub end : r.call.end + 16 ≡ length w
+  pub span : r.span ≡ le_at 8 w (g.from + q + 1)
+  pub flags : r.flags ≡ get_or w (d + 9 + g.width.bytes) 0
   pub alternatives : r.many ≡ le_at 2 w (d + 11 + g.width.bytes)
   pub first : r.from ≡ first_alternative g.width.bytes w d
   pub few : r.many < 65536
@@ -46,7 +47,7 @@ PutsMacro s w g n lim q d m v r w' = (ps : List ℕ) (four : Bool) (left e : ℕ
     → Appends s g n lim ps w v (item_piece g.width.bytes (item (expanded_by sp (print (over sp (macro t) xs)) (renamed_all xs) D))) r w'
 
 -- the item's command was appended, and its alternatives are to come
-pub record StartsMacro (s w : List ℕ) (g : Ground) (n lim q d : ℕ) (x : Macro) (m : ℕ) (v : Appended) (r : Started) (w' : List ℕ) : Type 0 where
-  pub frame : Frame s w' g n lim x.call r.out
-  pub some : SomeAlternatives s w' g x.call r.span x.many x.from r.out
-  pub carry : (t : Appended) (w'' : List ℕ) → PutsHolding s w' g n lim x.call r.span x.many x.from r.out t w'' → PutsMacro s w g n lim q d m v t w''
+pub record StartsMacro (s w : List ℕ) (g : Ground) (n lim q d : ℕ) (x : Macro) (m : ℕ) (v r : Appended) (w' : List ℕ) : Type 0 where
+  pub frame : Frame s w' g n lim x.call r
+  pub some : SomeAlternatives s w' g x.call x.span x.many x.from r
+  pub carry : (t : Appended) (w'' : List ℕ) → PutsHolding s w' g n lim x.call x.span x.many x.from r t w'' → PutsMacro s w g n lim q d m v t w''

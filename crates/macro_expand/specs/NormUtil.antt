@@ -1,16 +1,11 @@
 -- The direct symbols of a group: how many are chosen, if none has a name. s is the tape, w is work. Assumes nothing: these are definitions.
-use Rattle.std.specs.Prelude.{◌≡◌, Bool, cond, List, ℕ, ◌+◌, ◌≤◌, eqb, length}
-use Rattle.octets.specs.Working.Choice.{pick}
+use Rattle.std.specs.Prelude.{◌≡◌, Bool, cond, List, ℕ, ◌+◌, ◌≤◌, length}
 use Rattle.parse_tree.specs.Plain.Tree.{Syms, count}
 use Rattle.passes.specs.Macros.{has_name, chosen}
 use Rattle.expander.specs.declared.Ground.{Ground}
 use Rattle.expander.specs.Ground.{size_in, Grounded}
 use Rattle.expander.specs.Replace.{StandAt}
 use Rattle.std.specs.Prelude.{Option, Some, None}
-
--- 1 for the code of a choose
-unfoldable pub chosen_one : ℕ → ℕ
-chosen_one c = pick (eqb c 39) 1 0
 
 -- k symbols stand at p
 pub record SomeDirect (s w : List ℕ) (g : Ground) (p k : ℕ) : Type 0 where

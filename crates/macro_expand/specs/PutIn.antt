@@ -1,5 +1,5 @@
 -- Symbols of a macro's definition with a call's arguments put in. s is the tape, w is work; places in the definition are those in work. Assumes nothing: these are definitions.
-use Rattle.std.specs.Prelude.{◌≡◌, Bool, true, false, ◌||◌, not, ◌⊎◌, List, ℕ, zero, suc, ◌+◌, ◌-◌, ◌≤◌, eqb, leb, length, get_or}
+use Rattle.std.specs.Prelude.{◌≡◌, Bool, true, false, ◌⊎◌, List, ℕ, zero, suc, ◌+◌, ◌-◌, ◌≤◌, eqb, leb, length, get_or}
 use Rattle.octets.specs.Working.Choice.{pick}
 use Rattle.octets.specs.Plain.Runs.{part, Lies}
 use Rattle.parse_tree.specs.Plain.Tree.{Text, Sym, Syms, nil, cons, count}
@@ -9,23 +9,22 @@ use Rattle.parse_tree.specs.Plain.WriteTape.{bytes_of_each}
 use Rattle.parse_tree.specs.Working.Encode.{argument_bytes, sym_bytes, syms_bytes}
 use Rattle.parse_tree.specs.Working.Within.{Each, SpanWithin, Uses, SymWithin, SymsWithin}
 use Rattle.parse_tree.specs.declared.syntax.Span.{Span}
-use Rattle.parse_tree.specs.Working.Nodes.{span_bytes}
+use Rattle.parse_tree.specs.Working.Nodes.{span_bytes, long_of}
 use Rattle.octets.specs.Plain.Numbers.{le_at, le}
 use Rattle.std.specs.Prelude.{Option, None}
 use Rattle.texts.specs.Table.{texts}
 use Rattle.passes.specs.Sizes.{sym_fits, syms_fit}
 use Rattle.passes.specs.Macros.{at, macro_expand_symbol, macro_expand_symbols}
-use Rattle.resolve.specs.Commands.{long_of}
 use Rattle.precedence.specs.Write.{Puts}
 use Rattle.replacing.specs.Trees.{is_key, renamed, renamed_all}
 use Rattle.expander.specs.declared.Ground.{Ground}
 use Rattle.expander.specs.Ground.{top_of, list_place}
 use Rattle.appending.specs.declared.Appended.{Appended}
 use Rattle.appending.specs.declared.symbols.Copied.{Copied}
+use Rattle.appending.specs.declared.symbols.Coming.{Coming}
 use Rattle.appending.specs.Pieces.{Piece, Appending, Appends}
 use Rattle.appending.specs.Symbols.{Referring}
 use Rattle.macro_expand.specs.declared.arguments.Call.{Call}
-use Rattle.macro_expand.specs.declared.expand.Opened.{Opened}
 use Rattle.macro_expand.specs.Arguments.{argument_for}
 
 -- ---- pieces
@@ -111,9 +110,6 @@ unfoldable pub fits_at : ℕ → ℕ → List ℕ → ℕ → ℕ → Bool
 fits_at wd e w zero p = false
 fits_at wd e w (suc left) p = pick (leb e p) true (pick (wrapping (get_or w p 0)) (fits_at wd e w left (p + long_of wd (get_or w p 0))) true)
 
-unfoldable pub deepened_by : Appended → Bool → Appended
-deepened_by v b = record { to = v.to; count = v.count; deep = v.deep || not b }
-
 -- ---- a command of the definition, as it stands
 pub record PutsHere (w : List ℕ) (g : Ground) (lim : ℕ) (x r : Copied) (w' : List ℕ) : Type 0 where
   pub at : r.at ≡ x.at + long_of g.width.bytes (get_or w x.at 0)
@@ -152,7 +148,7 @@ PutsInAll s w g n lim c left k x r w' = (ps : List ℕ) (names : List Text) (arg
     → (r.at ≡ e) × Appends s g n lim ps w x.out (syms_piece g.width.bytes (macro_expand_symbols names (renamed_all args) ys) left) r.out w'
 
 -- a command was appended, and the symbols inside are to come
-pub record Opens (s w : List ℕ) (g : Ground) (n lim : ℕ) (c : Call) (left : ℕ) (x : Copied) (r : Opened) (w' : List ℕ) : Type 0 where
+pub record Opens (s w : List ℕ) (g : Ground) (n lim : ℕ) (c : Call) (left : ℕ) (x : Copied) (r : Coming) (w' : List ℕ) : Type 0 where
   pub deep : 1 ≤ left
   pub frame : Frame s w' g n lim c r.run.out
   pub insides : SomeInsides s w' g (left - 1) r.many r.run

@@ -1,9 +1,10 @@
 -- The items of repeats, made of pieces. s is the tape, w is work; the repeat stands at q, counted from the first item, and the symbol inside it at q + 10. Assumes nothing: these are definitions.
 use Rattle.std.specs.Prelude.{◌≡◌, Bool, true, false, not, List, [], ◌∷◌, ◌++◌, ℕ, ◌+◌, eqb, length}
-use Rattle.octets.specs.Plain.Numbers.{le_at, le, Bytes}
+use Rattle.octets.specs.Plain.Numbers.{le}
 use Rattle.parse_tree.specs.Plain.Tree.{Text, Op, star, plus, question, Sym, repeat, around, nil, cons, item}
 use Rattle.parse_tree.specs.Plain.Texts.{has, number}
 use Rattle.parse_tree.specs.Plain.Display.{print}
+use Rattle.parse_tree.specs.Working.Nodes.{span_bytes}
 use Rattle.parse_tree.specs.declared.syntax.Span.{Span}
 use Rattle.passes.specs.Macros.{expand_repeat_symbol}
 use Rattle.replacing.specs.Trees.{renamed}
@@ -13,13 +14,12 @@ use Rattle.expander.specs.Ground.{Grounded}
 use Rattle.expander.specs.Names.{named_in}
 use Rattle.appending.specs.declared.Appended.{Appended}
 use Rattle.appending.specs.Built.{built_text, SomeBuilt, GivesBuilt}
-use Rattle.appending.specs.Commands.{alternative_head, name_head, plus_head}
+use Rattle.precedence.specs.Write.{alternative_head}
+use Rattle.appending.specs.Commands.{name_head, plus_head}
 use Rattle.appending.specs.Pieces.{Piece, nested, then_piece, symbols_piece, item_piece, Appending, Appends}
 use Rattle.appending.specs.Symbols.{Referring, SomeReferring}
 use Rattle.macro_expand.specs.declared.begin.Begun.{Begun}
 use Rattle.macro_expand.specs.declared.plus.Pushing.{Pushing}
-use Rattle.macro_expand.specs.declared.star.Starred.{Starred}
-use Rattle.macro_expand.specs.PutIn.{fits_at}
 use Rattle.macro_expand.specs.Expand.{head_piece, Popped, all_named, Begins}
 
 -- the operator of a code
@@ -34,7 +34,8 @@ module _ (s w : List ℕ) (g : Ground) (n lim q : ℕ) (v : Appended) where
 
   -- the beginning of an item whose first alternative has the symbol inside
   pub record BeganWith (ps : List ℕ) (flags : ℕ) (i : ℕ) (sp : Span) (key : Text) (x : Sym) (r : Begun) (w' : List ℕ) : Type 0 where
-    pub name : r.name ≡ number (named_in s w' g r.out.count) key
+    pub span : le 8 r.span ≡ span_bytes sp
+    pub name : r.name.number ≡ number (named_in s w' g r.out.count) key
     pub appended : Appends s g n lim ps w v (then_piece (head_piece g.width.bytes sp key flags 2 (built_text i) 1) (symbols_piece g.width.bytes (cons x nil))) r.out w'
 
   pub record BeginsWith (flags i : ℕ) (r : Begun) (w' : List ℕ) : Type 0 where
@@ -115,9 +116,3 @@ PutsStar s w g n lim p span deep v r w' = (ps : List ℕ) (four : Bool) (left e 
 pub record BeginsStar (s w : List ℕ) (g : Ground) (n lim q : ℕ) (v : Appended) (r : Begun) (w' : List ℕ) : Type 0 where
   pub some : SomeReferring s w' g n lim (q + 10) 1 r.out
   pub begins : Begins s w g n lim q v 1 2 0 0 r w'
-
--- what is read of the repeat at q
-pub record ReadsStar (w : List ℕ) (g : Ground) (q : ℕ) (r : Starred) : Type 0 where
-  pub bytes : Bytes w
-  pub span_is : r.span ≡ le_at 8 w (g.from + q + 1)
-  pub deep_is : r.deep ≡ not (fits_at g.width.bytes g.end w 62 (g.from + (q + 10)))

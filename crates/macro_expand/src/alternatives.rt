@@ -4,11 +4,11 @@ ghost use Rattle.precedence.specs.Write.{Puts};
 ghost use Rattle.macro_expand.specs.PutIn.{Frame};
 ghost use Rattle.macro_expand.specs.Alternatives.{bare_out, SomeAlternative, OpensAlternative, PutsAlternative, PutsIf, SomeAlternatives, PutsHolding};
 
-use crate::arguments::{Call, conditions, holds};
-use crate::expand::{Opened, macro_expand_symbols};
+use crate::arguments::{conditions, holds};
+use crate::expand::{Expansion, macro_expand_symbols};
 use crate::put_in::put_spanned;
-use appending::symbols::Copied;
-use appending::{Appended, Round};
+use appending::Appended;
+use appending::symbols::{Coming, Copied};
 use grades::annotations::{alternative_end, symbols};
 use octets::numbers::u16_at;
 use precedence::write::{put_byte, put_run};
@@ -24,24 +24,17 @@ fn put_bare(work: &mut [u8], p: usize, e: usize, span: u64, lim: usize, to: usiz
 }
 
 // The command of the alternative at p, and how many symbols it has.
-fn open_alternative(
-    tape: &[u8],
-    work: &mut [u8],
-    round: Round,
-    c: Call,
-    span: u64,
-    p: usize,
-    v: Appended,
-) -> Opened
-    requires { Frame tape.now work.old round.g round.n round.lim c v × SomeAlternative tape.now work.old round.g c p v }
-    ensures { OpensAlternative tape.now work.old round.g round.n round.lim c span p v result work.new }
+fn open_alternative(tape: &[u8], work: &mut [u8], c: Expansion, p: usize, v: Appended) -> Coming
+    requires { Frame tape.now work.old c.round.g c.round.n c.round.lim c.call v × SomeAlternative tape.now work.old c.round.g c.call p v }
+    ensures { OpensAlternative tape.now work.old c.round.g c.round.n c.round.lim c.call c.span p v result work.new }
 {
-    let many = usize::from(u16_at(work, p + 12 + round.g.width.bytes));
-    let at = symbols(work, p, round.g.width);
-    let e = conditions(work, p, round.g.width);
-    let to = put_bare(work, p, e, span, round.lim, v.to);
+    // One field, read by its place: a reader would read the whole command.
+    let many = usize::from(u16_at(work, p + 12 + c.round.g.width.bytes));
+    let at = symbols(work, p, c.round.g.width);
+    let e = conditions(work, p, c.round.g.width);
+    let to = put_bare(work, p, e, c.span, c.round.lim, v.to);
     let out = Appended { to, ..v };
-    Opened {
+    Coming {
         many,
         run: Copied { at, out },
     }
@@ -51,36 +44,27 @@ fn open_alternative(
 pub fn expand_alternative(
     tape: &[u8],
     work: &mut [u8],
-    round: Round,
-    c: Call,
-    span: u64,
+    c: Expansion,
     p: usize,
     v: Appended,
 ) -> Appended
-    requires { Frame tape.now work.old round.g round.n round.lim c v × SomeAlternative tape.now work.old round.g c p v }
-    ensures { PutsAlternative tape.now work.old round.g round.n round.lim c span p v result work.new }
+    requires { Frame tape.now work.old c.round.g c.round.n c.round.lim c.call v × SomeAlternative tape.now work.old c.round.g c.call p v }
+    ensures { PutsAlternative tape.now work.old c.round.g c.round.n c.round.lim c.call c.span p v result work.new }
 {
-    let h = open_alternative(tape, work, round, c, span, p, v);
-    let r = macro_expand_symbols(tape, work, round, c, 64, h.many, h.run);
+    let h = open_alternative(tape, work, c, p, v);
+    let r = macro_expand_symbols(tape, work, c, 64, h.many, h.run);
     r.out
 }
 
 // The alternative at p, if it holds.
-fn expand_if(
-    tape: &[u8],
-    work: &mut [u8],
-    round: Round,
-    c: Call,
-    span: u64,
-    p: usize,
-    v: Appended,
-) -> Appended
-    requires { Frame tape.now work.old round.g round.n round.lim c v × SomeAlternative tape.now work.old round.g c p v }
-    ensures { PutsIf tape.now work.old round.g round.n round.lim c span p v result work.new }
+fn expand_if(tape: &[u8], work: &mut [u8], c: Expansion, p: usize, v: Appended) -> Appended
+    requires { Frame tape.now work.old c.round.g c.round.n c.round.lim c.call v × SomeAlternative tape.now work.old c.round.g c.call p v }
+    ensures { PutsIf tape.now work.old c.round.g c.round.n c.round.lim c.call c.span p v result work.new }
 {
-    match holds(work, round.g, c, p) {
-        Some(true) => expand_alternative(tape, work, round, c, span, p, v),
-        _ => v,
+    match holds(c.call.arguments(work, c.round.g), p) {
+        Ok(true) => expand_alternative(tape, work, c, p, v),
+        // None is refused here: `holding` asked them all.
+        Ok(false) | Err(_) => v,
     }
 }
 
@@ -88,21 +72,19 @@ fn expand_if(
 pub fn expand_alternatives(
     tape: &[u8],
     work: &mut [u8],
-    round: Round,
-    c: Call,
-    span: u64,
+    c: Expansion,
     k: usize,
     at: usize,
     v: Appended,
 ) -> Appended
-    requires { Frame tape.now work.old round.g round.n round.lim c v × SomeAlternatives tape.now work.old round.g c span k at v }
-    ensures { PutsHolding tape.now work.old round.g round.n round.lim c span k at v result work.new }
+    requires { Frame tape.now work.old c.round.g c.round.n c.round.lim c.call v × SomeAlternatives tape.now work.old c.round.g c.call c.span k at v }
+    ensures { PutsHolding tape.now work.old c.round.g c.round.n c.round.lim c.call c.span k at v result work.new }
 {
     let mut p = at;
     let mut r = v;
     for _ in 0..k {
-        let e = alternative_end(work, p, c.end, round.g.width);
-        r = expand_if(tape, work, round, c, span, p, r);
+        let e = alternative_end(work, p, c.call.end, c.round.g.width);
+        r = expand_if(tape, work, c, p, r);
         p = e;
     }
     r

@@ -1,7 +1,6 @@
 // The arguments of a macro call, looked up by the names of the macro's parameters; and the conditions of its alternatives.
 ghost use Rattle.std.specs.Prelude.{◌≡◌, ◌+◌, ◌≤◌, ◌<◌, length};
 ghost use Rattle.grades.specs.Annotations.{conditions_from};
-ghost use Rattle.octets.specs.Working.Choice.{pick};
 ghost use Rattle.macro_expand.specs.Arguments.{ReadableCall, argument_for, equal_by, judged_at, holds_at, hold_from};
 
 use expander::Ground;
@@ -18,20 +17,48 @@ pub struct Call {
     pub end: usize,
 }
 
+// What is read where arguments are looked up.
+#[derive(Clone, Copy)]
+pub struct Arguments<'a> {
+    pub work: &'a [u8],
+    pub g: Ground,
+    pub call: Call,
+    pub ghost readable: { ReadableCall g call work.now },
+}
+
+impl Call {
+    // What is read of this call.
+    pub fn arguments<'a>(self, work: &'a [u8], g: Ground) -> Arguments<'a>
+        requires { ReadableCall g self work.now }
+        ensures { (result.work.now ≡ work.now) × (result.g ≡ g) × (result.call ≡ self) }
+    {
+        Arguments {
+            work,
+            g,
+            call: self,
+        }
+    }
+}
+
+// The place of a condition whose argument is no quoted literal.
+#[derive(Clone, Copy)]
+pub struct NotLiteral {
+    pub at: usize,
+}
+
 // Where the symbol for the parameter stands whose name has the number k.
-pub fn argument(work: &[u8], g: Ground, c: Call, k: u32) -> Option<usize>
-    requires { ReadableCall g c work.now }
-    ensures { result ≡ argument_for g c work.now k }
+pub fn argument(x: Arguments, k: u32) -> Option<usize>
+    ensures { result ≡ argument_for x.entry.g x.entry.call x.entry.work.now k }
 {
-    let size = 1 + g.width.bytes;
-    let mut a = c.params;
-    let mut p = c.args;
-    for _ in 0..c.many {
-        if k == atom_at(work, a + 1, g.width) {
+    let size = 1 + x.g.width.bytes;
+    let mut a = x.call.params;
+    let mut p = x.call.args;
+    for _ in 0..x.call.many {
+        if k == atom_at(x.work, a + 1, x.g.width) {
             return Some(p);
         }
         a += size;
-        p = skip(work, p, g.end, 1, g.width);
+        p = skip(x.work, p, x.g.end, 1, x.g.width);
     }
     None
 }
@@ -46,22 +73,21 @@ fn is_equal(work: &[u8], width: Width, p: usize, at: usize) -> bool
 }
 
 // Whether the condition at a place holds, if its argument is a quoted literal.
-pub fn evaluate_cond(work: &[u8], g: Ground, c: Call, at: usize) -> Option<bool>
-    requires { ReadableCall g c work.now }
-    ensures { result ≡ judged_at g c work.now at }
+pub fn evaluate_cond(x: Arguments, at: usize) -> Option<bool>
+    ensures { result ≡ judged_at x.entry.g x.entry.call x.entry.work.now at }
 {
-    if c.end <= at {
+    if x.call.end <= at {
         return None;
     }
-    let p = argument(work, g, c, atom_at(work, at + 9, g.width))?;
-    if p < g.end && work[p] == 34 {
-        Some(is_equal(work, g.width, p, at))
+    let p = argument(x, atom_at(x.work, at + 9, x.g.width))?;
+    if p < x.g.end && x.work[p] == 34 {
+        Some(is_equal(x.work, x.g.width, p, at))
     } else {
         None
     }
 }
 
-// Where the conditions of the alternative at p begin.
+// Where the conditions of the alternative at p begin. One field, read by its place, here and below: a reader would read the whole command.
 pub fn conditions(work: &[u8], p: usize, width: Width) -> usize
     requires { p + 11 ≤ length work.now }
     ensures { result ≡ conditions_from width.bytes work.now p }
@@ -71,40 +97,30 @@ pub fn conditions(work: &[u8], p: usize, width: Width) -> usize
 }
 
 // Whether the alternative at p holds, as `evaluate_cond` says it.
-pub fn holds(work: &[u8], g: Ground, c: Call, p: usize) -> Option<bool>
-    requires { ReadableCall g c work.now × (p < c.end) }
-    ensures { result ≡ holds_at g c work.now p }
+pub fn holds(x: Arguments, p: usize) -> Result<bool, NotLiteral>
+    requires { p < x.call.end }
+    ensures { result ≡ holds_at x.entry.g x.entry.call x.entry.work.now p }
 {
-    if work[p + 10] == 0 {
-        Some(true)
-    } else {
-        evaluate_cond(work, g, c, conditions(work, p, g.width))
+    if x.work[p + 10] == 0 {
+        return Ok(true);
     }
+    let at = conditions(x.work, p, x.g.width);
+    evaluate_cond(x, at).ok_or(NotLiteral { at })
 }
 
-fn counted(k: usize, b: bool) -> usize
-    requires { k < 65536 }
-    ensures { (result ≡ pick b (k + 1) k) × (result ≤ k + 1) }
-{
-    if b { k + 1 } else { k }
-}
-
-// How many of n alternatives from a place on hold, or the place of the first condition that is refused.
-pub fn holding(work: &[u8], g: Ground, c: Call, n: usize, at: usize) -> Result<usize, usize>
-    requires { ReadableCall g c work.now × (n < 65536) }
-    ensures { result ≡ hold_from g c work.now n at 0 }
+// How many of n alternatives from a place on hold, if no condition is refused.
+pub fn holding(x: Arguments, n: usize, at: usize) -> Result<usize, NotLiteral>
+    requires { n < 65536 }
+    ensures { result ≡ hold_from x.entry.g x.entry.call x.entry.work.now n at 0 }
 {
     let mut p = at;
     let mut k = 0;
     for _ in 0..n {
-        if c.end <= p {
+        if x.call.end <= p {
             return Ok(k);
         }
-        let Some(b) = holds(work, g, c, p) else {
-            return Err(conditions(work, p, g.width));
-        };
-        p = alternative_end(work, p, c.end, g.width);
-        k = counted(k, b);
+        k += usize::from(holds(x, p)?);
+        p = alternative_end(x.work, p, x.call.end, x.g.width);
     }
     Ok(k)
 }

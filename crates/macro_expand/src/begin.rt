@@ -1,8 +1,8 @@
 // The beginning of an item that is appended: the number of its name, its command, and that of its first alternative, whose action is a built-in text.
 ghost use Rattle.std.specs.Prelude.{◌++◌, ◌≤◌, length};
-ghost use Rattle.precedence.specs.Write.{Puts};
+ghost use Rattle.precedence.specs.Write.{Puts, alternative_head};
 ghost use Rattle.appending.specs.Built.{number_of};
-ghost use Rattle.appending.specs.Commands.{item_head, alternative_head};
+ghost use Rattle.appending.specs.Commands.{item_head};
 ghost use Rattle.macro_expand.specs.Expand.{IsAny, IsRepeat, SomePopped, NamesBoth, Begins};
 ghost use Rattle.macro_expand.specs.Repeat.{BeginsWith};
 
@@ -10,23 +10,36 @@ use appending::built::{BuiltIn, built};
 use appending::commands::{put_alternative, put_item};
 use appending::symbols::put_symbols;
 use appending::{Appended, Round};
-use expander::slots::number;
-use octets::numbers::{Width, u64_at};
+use expander::slots::{Numbered, number};
+use octets::numbers::u64_at;
 
-// The number of the item's name, and what is appended.
+// The item's span, the number of its name, and what is appended.
 #[derive(Clone, Copy)]
 pub struct Begun {
-    pub name: usize,
+    pub span: u64,
+    pub name: Numbered,
     pub out: Appended,
 }
 
-// The symbol's span, the numbers of its print and of a built-in text, and how many texts are new.
+// The symbol's span, and the numbers of its print and of a built-in text.
 #[derive(Clone, Copy)]
 struct Named {
     span: u64,
-    name: usize,
-    text: usize,
-    count: usize,
+    name: Numbered,
+    text: Numbered,
+}
+
+// The commands of an item and of its first alternative: the item's span, the number of its name, its flags and how many alternatives it has; the action, the number of its text, and how many
+// symbols the alternative has.
+#[derive(Clone, Copy)]
+pub struct Head {
+    pub span: u64,
+    pub name: u32,
+    pub flags: u8,
+    pub alternatives: u16,
+    pub action: u8,
+    pub text: u32,
+    pub symbols: u16,
 }
 
 fn names(tape: &[u8], work: &mut [u8], round: Round, q: usize, text: BuiltIn, v: Appended) -> Named
@@ -38,31 +51,36 @@ fn names(tape: &[u8], work: &mut [u8], round: Round, q: usize, text: BuiltIn, v:
     let t = built(tape, work, round.g, round.n, x.count, text);
     Named {
         span,
-        name: x.number,
-        text: t.number,
-        count: t.count,
+        name: x,
+        text: t,
     }
 }
 
-// Both commands: k is the number of the name, act and t are the action and the number of its text.
-pub fn put_head(
-    work: &mut [u8],
-    span: u64,
-    k: u32,
-    flags: u8,
-    alternatives: u16,
-    act: u8,
-    t: u32,
-    symbols: u16,
-    width: Width,
-    lim: usize,
-    to: usize,
-) -> usize
-    requires { lim ≤ length work.old }
-    ensures { Puts work.old lim to (item_head width.bytes span k flags alternatives ++ alternative_head width.bytes span act t symbols) result work.new }
+// Both commands.
+pub fn put_head(work: &mut [u8], round: Round, x: Head, to: usize) -> usize
+    requires { round.lim ≤ length work.old }
+    ensures { Puts work.old round.lim to (item_head round.g.width.bytes x.span x.name x.flags x.alternatives ++ alternative_head round.g.width.bytes x.span x.action x.text x.symbols) result work.new }
 {
-    let first = put_item(work, span, k, flags, alternatives, width, lim, to);
-    put_alternative(work, span, act, t, symbols, width, lim, first)
+    let first = put_item(
+        work,
+        x.span,
+        x.name,
+        x.flags,
+        x.alternatives,
+        round.g.width,
+        round.lim,
+        to,
+    );
+    put_alternative(
+        work,
+        x.span,
+        x.action,
+        x.text,
+        x.symbols,
+        round.g.width,
+        round.lim,
+        first,
+    )
 }
 
 // The item of the symbol at q, whose first alternative's action is a built-in text.
@@ -81,24 +99,22 @@ pub fn begin(
     ensures { Begins tape.now work.old round.g round.n round.lim q v flags alternatives (number_of text) symbols result work.new }
 {
     let x = names(tape, work, round, q, text, v);
-    let to = put_head(
-        work,
-        x.span,
-        (x.name % 4294967296) as u32,
+    let head = Head {
+        span: x.span,
+        name: x.name.atom(),
         flags,
         alternatives,
-        1,
-        (x.text % 4294967296) as u32,
+        action: 1,
+        text: x.text.atom(),
         symbols,
-        round.g.width,
-        round.lim,
-        v.to,
-    );
+    };
+    let to = put_head(work, round, head, v.to);
     Begun {
+        span: x.span,
         name: x.name,
         out: Appended {
             to,
-            count: x.count,
+            count: x.text.count,
             ..v
         },
     }
@@ -119,8 +135,5 @@ pub fn begin_with(
 {
     let x = begin(tape, work, round, q, flags, 2, text, 1, v);
     let y = put_symbols(tape, work, round, q + 10, 1, x.out);
-    Begun {
-        name: x.name,
-        out: y.out,
-    }
+    Begun { out: y.out, ..x }
 }

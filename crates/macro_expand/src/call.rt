@@ -5,50 +5,49 @@ ghost use Rattle.macro_expand.specs.Macro.{ReadsCall, PutsHead, StartsMacro, Put
 
 use crate::alternatives::expand_alternatives;
 use crate::arguments::{Call, holding};
+use crate::expand::Expansion;
 use appending::commands::put_item;
 use appending::{Appended, Round};
 use expander::Ground;
 use expander::slots::number;
 use grades::annotations::first_alternative;
-use octets::numbers::{u16_at, u64_at};
-use parse_tree::node::span_at;
+use octets::numbers::u64_at;
+use parse_tree::node::whole_nonterminal;
 use parse_tree::refusal;
-use parse_tree::refusal::Refusal;
+use parse_tree::refusal::{Question, Refusal};
 
-// A call, how many alternatives the definition has, and where they begin.
+// A call and its span, the definition's flags, how many alternatives it has, and where they begin.
 #[derive(Clone, Copy)]
 pub struct Macro {
     pub call: Call,
+    pub span: u64,
+    pub flags: u8,
     pub many: usize,
     pub from: usize,
-}
-
-// The span of the call, and what is appended.
-#[derive(Clone, Copy)]
-pub struct Started {
-    pub span: u64,
-    pub out: Appended,
 }
 
 fn read_call(work: &[u8], g: Ground, q: usize, d: usize) -> Macro
     requires { (d + 16 ≤ length work.now) × (g.from + q + 16 ≤ length work.now) }
     ensures { ReadsCall work.now g q d result }
 {
+    let definition = whole_nonterminal(work, d, g.width);
     let c = Call {
         params: d + 13 + g.width.bytes,
-        many: usize::from(work[d + 10 + g.width.bytes]),
+        many: usize::from(definition.args),
         args: g.from + q + (10 + g.width.bytes),
         end: work.len() - 16,
     };
     Macro {
         call: c,
-        many: usize::from(u16_at(work, d + 11 + g.width.bytes)),
+        span: u64_at(work, g.from + q + 1),
+        flags: definition.flags,
+        many: usize::from(definition.alternatives),
         from: first_alternative(work, d, g.width),
     }
 }
 
 // The command of the item, whose name is the print of the call at q.
-fn put_head(
+fn put_named_item(
     tape: &[u8],
     work: &mut [u8],
     round: Round,
@@ -66,7 +65,7 @@ fn put_head(
     let to = put_item(
         work,
         span,
-        (x.number % 4294967296) as u32,
+        x.atom(),
         flags,
         m,
         round.g.width,
@@ -90,15 +89,11 @@ fn start(
     x: Macro,
     m: usize,
     v: Appended,
-) -> Started
+) -> Appended
     requires { SomeCall tape.now work.old round.g round.n round.lim q d v × ReadsCall work.old round.g q d x × (m < 65536) }
     ensures { StartsMacro tape.now work.old round.g round.n round.lim q d x m v result work.new }
 {
-    let span = u64_at(work, round.g.from + q + 1);
-    let flags = work[d + 9 + round.g.width.bytes];
-    let k = (m % 65536) as u16;
-    let out = put_head(tape, work, round, q, d, span, flags, k, v);
-    Started { span, out }
+    put_named_item(tape, work, round, q, d, x.span, x.flags, m as u16, v)
 }
 
 // The item, with m alternatives that hold.
@@ -115,8 +110,13 @@ fn put_macro(
     requires { SomeCall tape.now work.old round.g round.n round.lim q d v × ReadsCall work.old round.g q d x × (m < 65536) }
     ensures { PutsMacro tape.now work.old round.g round.n round.lim q d m v result work.new }
 {
-    let b = start(tape, work, round, q, d, x, m, v);
-    expand_alternatives(tape, work, round, x.call, b.span, x.many, x.from, b.out)
+    let first = start(tape, work, round, q, d, x, m, v);
+    let c = Expansion {
+        round,
+        call: x.call,
+        span: x.span,
+    };
+    expand_alternatives(tape, work, c, x.many, x.from, first)
 }
 
 // The call at q, counted from the first item, of the macro that is defined at d.
@@ -132,8 +132,7 @@ pub fn expand_macro_symbol(
     ensures { ExpandsMacro tape.now work.old round.g round.n round.lim q d v result work.new }
 {
     let x = read_call(work, round.g, q, d);
-    match holding(work, round.g, x.call, x.many, x.from) {
-        Err(p) => Err(refusal::over(17, span_at(work, p + 1))),
-        Ok(m) => Ok(put_macro(tape, work, round, q, d, x, m, v)),
-    }
+    let held = holding(x.call.arguments(work, round.g), x.many, x.from);
+    let m = held.map_err(|why| refusal::of_command(Question::Literal, work, why.at))?;
+    Ok(put_macro(tape, work, round, q, d, x, m, v))
 }

@@ -8,6 +8,7 @@ use crate::look::expand_lookaround_symbol;
 use crate::repeat::expand_repeat_symbol;
 use appending::{Appended, Round};
 use expander::Ground;
+use expander::cells::TextCell;
 use octets::numbers::atom_at;
 use parse_tree::refusal::Refusal;
 use resolve::Grammar;
@@ -15,13 +16,13 @@ use resolve::items::place;
 use texts::fields::{cell, mark};
 
 // The place of the definition of the macro that is called at q.
-fn definition<'a>(tape: &'a [u8], work: &'a [u8], g: Ground, t: Grammar, q: usize) -> usize
+fn definition(tape: &[u8], work: &[u8], g: Ground, t: Grammar, q: usize) -> usize
     requires { SomeDefinition tape.now work.now g t q }
     ensures { IsDefinition tape.now work.now g t q result }
 {
     let k = atom_at(work, g.from + q + 9, g.width) as usize;
-    let c = cell(work, g.m.base, k) as usize;
-    place(work, t, c % 2147483648 - 1)
+    let c = TextCell(cell(work, g.m.base, k));
+    place(work, t, c.macro_index())
 }
 
 // The item of the j-th pushed symbol, which stands at q with the code c and is no macro call.

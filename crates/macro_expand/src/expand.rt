@@ -1,39 +1,39 @@
 // Symbols of a macro's definition, appended with a call's arguments put in. Places in the definition are those in work.
 ghost use Rattle.std.specs.Prelude.{◌≡◌, ◌+◌, ◌≤◌, length, get_or};
-ghost use Rattle.resolve.specs.Commands.{long_of};
-ghost use Rattle.macro_expand.specs.Arguments.{ReadableCall};
+ghost use Rattle.parse_tree.specs.Working.Nodes.{long_of};
 ghost use Rattle.macro_expand.specs.PutIn.{parameter_at, PutsHere, Opens, Frame, SomeInside, SomeInsides, PutsIn, PutsInAll};
 
-use crate::arguments::{Call, argument};
+use crate::arguments::{Arguments, Call, argument};
 use crate::put_in::put_argument;
-use appending::symbols::Copied;
+use appending::symbols::{Coming, Copied};
 use appending::{Appended, Round};
 use expander::Ground;
-use grades::skip::inside;
 use octets::numbers::{atom_at, u64_at};
+use parse_tree::nested::inside_at;
 use precedence::write::put_run;
 use resolve::commands::long;
 
-// How many symbols are to come, and from where on.
+// What stays as it is while a call's definition is put in: the round, the call, and its span. What is known of them (`Frame`) holds of work and of what is appended as well.
 #[derive(Clone, Copy)]
-pub struct Opened {
-    pub many: usize,
-    pub run: Copied,
+pub struct Expansion {
+    pub round: Round,
+    pub call: Call,
+    pub span: u64,
 }
 
 // Where the symbol for the parameter at a place stands, if there is one.
-fn parameter(work: &[u8], g: Ground, c: Call, at: usize) -> Option<usize>
-    requires { ReadableCall g c work.now × (at + 16 ≤ length work.now) }
-    ensures { result ≡ parameter_at g c work.now at }
+fn parameter(x: Arguments, at: usize) -> Option<usize>
+    requires { at + 16 ≤ length x.work.now }
+    ensures { result ≡ parameter_at x.entry.g x.entry.call x.entry.work.now at }
 {
-    if work[at] == 36 {
-        argument(work, g, c, atom_at(work, at + 9, g.width))
+    if x.work[at] == 36 {
+        argument(x, atom_at(x.work, at + 9, x.g.width))
     } else {
         None
     }
 }
 
-// The command at x.at, as it stands. `put_command` of appending is the same from another place on: what both do is `put_run`, and a common form is no shorter.
+// The command at x.at, as it stands. `copy_command` of appending is the same from another place on: what both do is `put_run`, and a common form is no shorter.
 fn put_here(work: &mut [u8], g: Ground, lim: usize, x: Copied) -> Copied
     requires { (x.at + long_of g.width.bytes (get_or work.old x.at 0) ≤ x.out.to) × (lim ≤ length work.old) × (x.at + 17 ≤ length work.old) }
     ensures { PutsHere work.old g lim x result work.new }
@@ -51,29 +51,28 @@ fn put_here(work: &mut [u8], g: Ground, lim: usize, x: Copied) -> Copied
 fn put_parameter(
     tape: &[u8],
     work: &mut [u8],
-    round: Round,
-    c: Call,
+    c: Expansion,
     left: usize,
     x: Copied,
     p: usize,
 ) -> Copied
-    requires { Frame tape.now work.old round.g round.n round.lim c x.out × SomeInside tape.now work.old round.g left x × (Some p ≡ parameter_at round.g c work.old x.at) }
-    ensures { PutsIn tape.now work.old round.g round.n round.lim c left x result work.new }
+    requires { Frame tape.now work.old c.round.g c.round.n c.round.lim c.call x.out × SomeInside tape.now work.old c.round.g left x × (Some p ≡ parameter_at c.round.g c.call work.old x.at) }
+    ensures { PutsIn tape.now work.old c.round.g c.round.n c.round.lim c.call left x result work.new }
 {
-    let e = x.at + (9 + round.g.width.bytes);
+    let e = x.at + (9 + c.round.g.width.bytes);
     let span = u64_at(work, x.at + 1);
-    let out = put_argument(tape, work, round, p, span, left, x.out);
+    let out = put_argument(tape, work, c.round, p, span, left, x.out);
     Copied { at: e, out }
 }
 
 // The command at x.at, which is no parameter, and how many symbols stand straight inside.
-fn open(tape: &[u8], work: &mut [u8], round: Round, c: Call, left: usize, x: Copied) -> Opened
-    requires { Frame tape.now work.old round.g round.n round.lim c x.out × SomeInside tape.now work.old round.g left x × (None ≡ parameter_at round.g c work.old x.at) }
-    ensures { Opens tape.now work.old round.g round.n round.lim c left x result work.new }
+fn open(tape: &[u8], work: &mut [u8], c: Expansion, left: usize, x: Copied) -> Coming
+    requires { Frame tape.now work.old c.round.g c.round.n c.round.lim c.call x.out × SomeInside tape.now work.old c.round.g left x × (None ≡ parameter_at c.round.g c.call work.old x.at) }
+    ensures { Opens tape.now work.old c.round.g c.round.n c.round.lim c.call left x result work.new }
 {
-    let many = inside(work, x.at, round.g.width);
-    let run = put_here(work, round.g, round.lim, x);
-    Opened { many, run }
+    let many = inside_at(work, x.at, c.round.g.width);
+    let run = put_here(work, c.round.g, c.round.lim, x);
+    Coming { many, run }
 }
 
 // The symbol at x.at; `left` levels of nesting are left.
@@ -81,20 +80,19 @@ fn open(tape: &[u8], work: &mut [u8], round: Round, c: Call, left: usize, x: Cop
 pub fn macro_expand_symbol(
     tape: &[u8],
     work: &mut [u8],
-    round: Round,
-    c: Call,
+    c: Expansion,
     left: usize,
     x: Copied,
 ) -> Copied
-    requires { Frame tape.now work.old round.g round.n round.lim c x.out × SomeInside tape.now work.old round.g left x }
-    ensures { PutsIn tape.now work.old round.g round.n round.lim c left x result work.new }
+    requires { Frame tape.now work.old c.round.g c.round.n c.round.lim c.call x.out × SomeInside tape.now work.old c.round.g left x }
+    ensures { PutsIn tape.now work.old c.round.g c.round.n c.round.lim c.call left x result work.new }
 {
     let at = x.at;
-    match parameter(work, round.g, c, at) {
-        Some(p) => put_parameter(tape, work, round, c, left, x, p),
+    match parameter(c.call.arguments(work, c.round.g), at) {
+        Some(p) => put_parameter(tape, work, c, left, x, p),
         None => {
-            let h = open(tape, work, round, c, left, x);
-            macro_expand_symbols(tape, work, round, c, left - 1, h.many, h.run)
+            let h = open(tape, work, c, left, x);
+            macro_expand_symbols(tape, work, c, left - 1, h.many, h.run)
         }
     }
 }
@@ -104,18 +102,17 @@ pub fn macro_expand_symbol(
 pub fn macro_expand_symbols(
     tape: &[u8],
     work: &mut [u8],
-    round: Round,
-    c: Call,
+    c: Expansion,
     left: usize,
     k: usize,
     x: Copied,
 ) -> Copied
-    requires { Frame tape.now work.old round.g round.n round.lim c x.out × SomeInsides tape.now work.old round.g left k x }
-    ensures { PutsInAll tape.now work.old round.g round.n round.lim c left k x result work.new }
+    requires { Frame tape.now work.old c.round.g c.round.n c.round.lim c.call x.out × SomeInsides tape.now work.old c.round.g left k x }
+    ensures { PutsInAll tape.now work.old c.round.g c.round.n c.round.lim c.call left k x result work.new }
 {
     let mut r = x;
     for _ in 0..k {
-        r = macro_expand_symbol(tape, work, round, c, left, r);
+        r = macro_expand_symbol(tape, work, c, left, r);
     }
     r
 }

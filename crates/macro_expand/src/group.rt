@@ -10,17 +10,15 @@ use appending::built::BuiltIn;
 use appending::symbols::put_symbols;
 use appending::{Appended, Round};
 use octets::numbers::u16_at;
-use parse_tree::node::span_at;
 use parse_tree::refusal;
-use parse_tree::refusal::Refusal;
+use parse_tree::refusal::{Question, Refusal};
 
 // The built-in text of the action, where some of k symbols are chosen.
 fn group_action(chosen: usize, k: usize) -> BuiltIn
     ensures { number_of result ≡ group_text chosen k }
 {
     match (chosen, k) {
-        (0, 1) => BuiltIn::Chosen,
-        (1, _) => BuiltIn::Chosen,
+        (0, 1) | (1, _) => BuiltIn::Chosen,
         _ => BuiltIn::All,
     }
 }
@@ -57,11 +55,9 @@ pub fn expand_expr_symbol(
     let at = round.g.from + q;
     let m = u16_at(work, at + 9);
     let k = usize::from(m);
-    match analyze_expr(tape, work, round.g, q + 11, k) {
-        None => Err(refusal::over(19, span_at(work, at + 1))),
-        Some(chosen) => {
-            let text = group_action(chosen, k);
-            Ok(put_group(tape, work, round, q, text, m, v))
-        }
-    }
+    let Some(chosen) = analyze_expr(tape, work, round.g, q + 11, k) else {
+        return Err(refusal::of_command(Question::Group, work, at));
+    };
+    let text = group_action(chosen, k);
+    Ok(put_group(tape, work, round, q, text, m, v))
 }

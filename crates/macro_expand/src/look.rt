@@ -2,18 +2,17 @@
 ghost use Rattle.std.specs.Prelude.{◌≡◌, ◌<◌, length};
 ghost use Rattle.macro_expand.specs.Expand.{IsLook, SomePopped, look_act, CallsLook, ExpandsLook};
 
-use crate::begin::put_head;
+use crate::begin::{Head, put_head};
 use appending::{Appended, Round};
-use expander::slots::number;
+use expander::slots::{Numbered, number};
 use octets::numbers::u64_at;
 
-// The symbol's span, its action, the number of its print, and how many texts are new.
+// The symbol's span, its action, and the number of its print.
 #[derive(Clone, Copy)]
 struct Called {
     span: u64,
     act: u8,
-    name: usize,
-    count: usize,
+    name: Numbered,
 }
 
 // The action of the symbol at a place.
@@ -35,8 +34,7 @@ fn name_look(tape: &[u8], work: &mut [u8], round: Round, q: usize, v: Appended) 
     Called {
         span,
         act: a,
-        name: x.number,
-        count: x.count,
+        name: x,
     }
 }
 
@@ -52,22 +50,19 @@ pub fn expand_lookaround_symbol(
     ensures { ExpandsLook tape.now work.old round.g round.n round.lim q v result work.new }
 {
     let x = name_look(tape, work, round, q, v);
-    let to = put_head(
-        work,
-        x.span,
-        (x.name % 4294967296) as u32,
-        1,
-        1,
-        x.act,
-        0,
-        0,
-        round.g.width,
-        round.lim,
-        v.to,
-    );
+    let head = Head {
+        span: x.span,
+        name: x.name.atom(),
+        flags: 1,
+        alternatives: 1,
+        action: x.act,
+        text: 0,
+        symbols: 0,
+    };
+    let to = put_head(work, round, head, v.to);
     Appended {
         to,
-        count: x.count,
+        count: x.name.count,
         ..v
     }
 }

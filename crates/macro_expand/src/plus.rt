@@ -14,9 +14,8 @@ use appending::built::{BuiltIn, built};
 use appending::commands::{put_alternative, put_name, put_nonterminal};
 use appending::symbols::put_symbols;
 use appending::{Appended, Round};
-use expander::Ground;
 use expander::slots::Numbered;
-use octets::numbers::{Width, u64_at};
+use octets::numbers::Width;
 
 // The numbers of the texts of the second alternative of `X+`, and how many texts are new.
 #[derive(Clone, Copy)]
@@ -27,25 +26,25 @@ struct Pushing {
     count: usize,
 }
 
-// The number of a built-in text; c texts are new.
-fn next_text(tape: &[u8], work: &mut [u8], g: Ground, n: usize, c: usize, text: BuiltIn) -> Numbered
-    requires { Grounded tape.now work.old g × SomeBuilt tape.now work.old g n c }
-    ensures { GoesOn tape.now work.old g n c (number_of text) result work.new }
+// `built` again, saying as well that the next one can be asked (`GoesOn`).
+fn next_text(tape: &[u8], work: &mut [u8], round: Round, c: usize, text: BuiltIn) -> Numbered
+    requires { Grounded tape.now work.old round.g × SomeBuilt tape.now work.old round.g round.n c }
+    ensures { GoesOn tape.now work.old round.g round.n c (number_of text) result work.new }
 {
-    built(tape, work, g, n, c, text)
+    built(tape, work, round.g, round.n, c, text)
 }
 
-fn push_texts(tape: &[u8], work: &mut [u8], g: Ground, n: usize, c: usize) -> Pushing
-    requires { Grounded tape.now work.old g × SomeBuilt tape.now work.old g n c }
-    ensures { NamesPush tape.now work.old g n c result work.new }
+fn push_texts(tape: &[u8], work: &mut [u8], round: Round, c: usize) -> Pushing
+    requires { Grounded tape.now work.old round.g × SomeBuilt tape.now work.old round.g round.n c }
+    ensures { NamesPush tape.now work.old round.g round.n c result work.new }
 {
-    let push = next_text(tape, work, g, n, c, BuiltIn::Pushed);
-    let v = next_text(tape, work, g, n, push.count, BuiltIn::Vector);
-    let e = next_text(tape, work, g, n, v.count, BuiltIn::Element);
+    let push = next_text(tape, work, round, c, BuiltIn::Pushed);
+    let v = next_text(tape, work, round, push.count, BuiltIn::Vector);
+    let e = next_text(tape, work, round, v.count, BuiltIn::Element);
     Pushing {
-        push: (push.number % 4294967296) as u32,
-        v: (v.number % 4294967296) as u32,
-        e: (e.number % 4294967296) as u32,
+        push: push.atom(),
+        v: v.atom(),
+        e: e.atom(),
         count: e.count,
     }
 }
@@ -75,22 +74,14 @@ fn put_second(
     work: &mut [u8],
     round: Round,
     span: u64,
-    name: usize,
+    name: Numbered,
     v: Appended,
 ) -> Appended
     requires { SomeAppending tape.now work.old round.g round.n round.lim v }
-    ensures { PutsSecond tape.now work.old round.g round.n round.lim span name v result work.new }
+    ensures { PutsSecond tape.now work.old round.g round.n round.lim span name.number v result work.new }
 {
-    let t = push_texts(tape, work, round.g, round.n, v.count);
-    let to = put_push(
-        work,
-        span,
-        (name % 4294967296) as u32,
-        t,
-        round.g.width,
-        round.lim,
-        v.to,
-    );
+    let t = push_texts(tape, work, round, v.count);
+    let to = put_push(work, span, name.atom(), t, round.g.width, round.lim, v.to);
     Appended {
         to,
         count: t.count,
@@ -105,11 +96,11 @@ fn push_rest(
     round: Round,
     p: usize,
     span: u64,
-    name: usize,
+    name: Numbered,
     v: Appended,
 ) -> Appended
     requires { SomeReferring tape.now work.old round.g round.n round.lim p 1 v }
-    ensures { PutsPush tape.now work.old round.g round.n round.lim p span name v result work.new }
+    ensures { PutsPush tape.now work.old round.g round.n round.lim p span name.number v result work.new }
 {
     let first = put_second(tape, work, round, span, name, v);
     let x = put_symbols(tape, work, round, p, 1, first);
@@ -121,8 +112,6 @@ pub fn expand_plus(tape: &[u8], work: &mut [u8], round: Round, q: usize, v: Appe
     requires { SomePopped IsRepeat tape.now work.old round.g round.n round.lim q v }
     ensures { ExpandsAs tape.now work.old round.g round.n round.lim q v plus result work.new }
 {
-    let span = u64_at(work, round.g.from + q + 1);
-    let p = q + 10;
     let x = begin_with(tape, work, round, q, 0, BuiltIn::VecOfOne, v);
-    push_rest(tape, work, round, p, span, x.name, x.out)
+    push_rest(tape, work, round, q + 10, x.span, x.name, x.out)
 }

@@ -3,17 +3,18 @@ ghost use Rattle.std.specs.Prelude.{◌≡◌, false, ◌∷◌, ◌++◌, ◌+�
 ghost use Rattle.octets.specs.Plain.Numbers.{le};
 ghost use Rattle.octets.specs.Plain.Runs.{part};
 ghost use Rattle.precedence.specs.Write.{Puts};
-ghost use Rattle.macro_expand.specs.PutIn.{wrapping, fits_at, deepened_by, SomeArgument, AnyArgument, PutsOne, PutsArgument};
+ghost use Rattle.macro_expand.specs.PutIn.{wrapping, fits_at, SomeArgument, AnyArgument, PutsOne, PutsArgument};
 
 use appending::symbols::{put_named, put_symbols};
 use appending::{Appended, Round};
 use expander::replace::is_expanded;
-use grades::skip::inside;
 use octets::numbers::Width;
+use parse_tree::nested::inside_at;
 use precedence::write::{copy_within, put_command};
 use resolve::commands::long;
 
-// A code, a span, and the bytes from a up to e, if they end at lim or before. Not by `put` of appending: 9 + (e - a) is known to be a number only behind the first test.
+// A code, a span, and the bytes from a up to e, if they end at lim or before. Not by `put`: 9 + (e - a) is known to be a number only behind the first test. Nor by `put` and then `put_run`, which
+// asks that e is at its cursor or before: that cursor is lim + 1 where the first did not fit, and e may be behind it.
 pub fn put_spanned(
     work: &mut [u8],
     code: u8,
@@ -62,12 +63,6 @@ pub fn fits(work: &[u8], p: usize, e: usize, left: usize, width: Width) -> bool
     false
 }
 
-fn deepened(v: Appended, b: bool) -> Appended
-    ensures { result ≡ deepened_by v b }
-{
-    if b { v } else { Appended { deep: true, ..v } }
-}
-
 // The symbol at p, which is not expanded: its command, then what stands inside.
 fn put_plain(
     tape: &[u8],
@@ -81,7 +76,7 @@ fn put_plain(
     ensures { PutsOne false tape.now work.old round.g round.n round.lim p span v result work.new }
 {
     let c = work[p];
-    let k = inside(work, p, round.g.width);
+    let k = inside_at(work, p, round.g.width);
     let e = p + long(c, round.g.width);
     let to = put_spanned(work, c, span, p + 9, e, round.lim, v.to);
     let u = Appended { to, ..v };
@@ -102,8 +97,8 @@ pub fn put_argument(
     requires { AnyArgument tape.now work.old round.g round.n round.lim p span v }
     ensures { PutsArgument tape.now work.old round.g round.n round.lim p span levels v result work.new }
 {
-    let f = fits(work, p, round.g.end, levels, round.g.width);
-    let u = deepened(v, f);
+    let deep = !fits(work, p, round.g.end, levels, round.g.width);
+    let u = v.deepened(deep);
     if is_expanded(work[p]) {
         put_named(tape, work, round, p - round.g.from, span, u)
     } else {

@@ -11,9 +11,9 @@ use crate::star::expand_star;
 use appending::built::{BuiltIn, built};
 use appending::commands::put_alternative;
 use appending::{Appended, Round};
-use octets::numbers::u64_at;
 
-// An alternative without symbols, whose action is a built-in text.
+// An alternative without symbols, whose action is a built-in text; the shape is that of `put_v` (star).
+// One body would take a closure for the writer, and clauses longer than both bodies would say what it writes of any work.
 fn put_bare(
     tape: &[u8],
     work: &mut [u8],
@@ -26,16 +26,7 @@ fn put_bare(
     ensures { PutsBy tape.now work.old round.g round.n round.lim v (built_text (number_of text)) (bare_head round.g.width.bytes span) result work.new }
 {
     let t = built(tape, work, round.g, round.n, v.count, text);
-    let to = put_alternative(
-        work,
-        span,
-        1,
-        (t.number % 4294967296) as u32,
-        0,
-        round.g.width,
-        round.lim,
-        v.to,
-    );
+    let to = put_alternative(work, span, 1, t.atom(), 0, round.g.width, round.lim, v.to);
     Appended {
         to,
         count: t.count,
@@ -48,9 +39,8 @@ fn expand_question(tape: &[u8], work: &mut [u8], round: Round, q: usize, v: Appe
     requires { SomePopped IsRepeat tape.now work.old round.g round.n round.lim q v }
     ensures { ExpandsAs tape.now work.old round.g round.n round.lim q v question result work.new }
 {
-    let span = u64_at(work, round.g.from + q + 1);
     let x = begin_with(tape, work, round, q, 1, BuiltIn::SomeOfOne, v);
-    put_bare(tape, work, round, span, BuiltIn::Nothing, x.out)
+    put_bare(tape, work, round, x.span, BuiltIn::Nothing, x.out)
 }
 
 // The item that the repeat at q has as one of this operator.

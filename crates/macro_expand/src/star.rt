@@ -1,12 +1,12 @@
 // The items of `X*`. The symbol inside a repeat stands ten bytes behind it.
-ghost use Rattle.std.specs.Prelude.{◌+◌, ◌≤◌, length};
+ghost use Rattle.std.specs.Prelude.{◌≤◌, length};
 ghost use Rattle.parse_tree.specs.Plain.Tree.{star};
 ghost use Rattle.precedence.specs.Write.{Puts};
 ghost use Rattle.appending.specs.Built.{built_text};
 ghost use Rattle.appending.specs.Pieces.{SomeAppending};
 ghost use Rattle.appending.specs.Symbols.{SomeReferring};
 ghost use Rattle.macro_expand.specs.Expand.{IsRepeat, SomePopped};
-ghost use Rattle.macro_expand.specs.Repeat.{ExpandsAs, PutsBy, star_head, PutsStar, BeginsStar, ReadsStar};
+ghost use Rattle.macro_expand.specs.Repeat.{ExpandsAs, PutsBy, star_head, PutsStar, BeginsStar};
 
 use crate::begin::{Begun, begin};
 use crate::put_in::fits;
@@ -14,8 +14,7 @@ use appending::built::{BuiltIn, built};
 use appending::commands::{put_alternative, put_name, put_plus};
 use appending::symbols::put_symbols;
 use appending::{Appended, Round};
-use expander::Ground;
-use octets::numbers::{Width, u64_at};
+use octets::numbers::Width;
 
 // The commands of the second alternative of `X*` but the symbol's.
 fn put_star(work: &mut [u8], span: u64, k: u32, width: Width, lim: usize, to: usize) -> usize
@@ -27,20 +26,14 @@ fn put_star(work: &mut [u8], span: u64, k: u32, width: Width, lim: usize, to: us
     put_plus(work, span, lim, b)
 }
 
-// The same with the number of `v`.
+// The same with the number of `v`; the shape is that of `put_bare` (repeat).
+// One body would take a closure for the writer, and clauses longer than both bodies would say what it writes of any work.
 fn put_v(tape: &[u8], work: &mut [u8], round: Round, span: u64, v: Appended) -> Appended
     requires { SomeAppending tape.now work.old round.g round.n round.lim v }
     ensures { PutsBy tape.now work.old round.g round.n round.lim v (built_text 1) (star_head round.g.width.bytes span) result work.new }
 {
     let t = built(tape, work, round.g, round.n, v.count, BuiltIn::Vector);
-    let to = put_star(
-        work,
-        span,
-        (t.number % 4294967296) as u32,
-        round.g.width,
-        round.lim,
-        v.to,
-    );
+    let to = put_star(work, span, t.atom(), round.g.width, round.lim, v.to);
     Appended {
         to,
         count: t.count,
@@ -63,26 +56,7 @@ fn star_rest(
 {
     let first = put_v(tape, work, round, span, v);
     let x = put_symbols(tape, work, round, p, 1, first);
-    Appended {
-        deep: x.out.deep || deep,
-        ..x.out
-    }
-}
-
-// The span of the repeat at q, and whether more than 62 symbols are nested inside, as they are written again.
-#[derive(Clone, Copy)]
-struct Starred {
-    span: u64,
-    deep: bool,
-}
-
-fn read_star(work: &[u8], g: Ground, q: usize) -> Starred
-    requires { (g.end + 16 ≤ length work.now) × (g.from + q + 10 ≤ length work.now) }
-    ensures { ReadsStar work.now g q result }
-{
-    let span = u64_at(work, g.from + q + 1);
-    let deep = !fits(work, g.from + (q + 10), g.end, 62, g.width);
-    Starred { span, deep }
+    x.out.deepened(deep)
 }
 
 // The item and its first alternative.
@@ -93,13 +67,13 @@ fn begin_star(tape: &[u8], work: &mut [u8], round: Round, q: usize, v: Appended)
     begin(tape, work, round, q, 1, 2, BuiltIn::EmptyVec, 0, v)
 }
 
-// `X*`: nothing, or one or more. What is written for X is nested in two symbols more.
+// `X*`: nothing, or one or more. What is written for X is nested in two symbols more, so it is too deep where more than 62 are nested.
 pub fn expand_star(tape: &[u8], work: &mut [u8], round: Round, q: usize, v: Appended) -> Appended
     requires { SomePopped IsRepeat tape.now work.old round.g round.n round.lim q v }
     ensures { ExpandsAs tape.now work.old round.g round.n round.lim q v star result work.new }
 {
-    let y = read_star(work, round.g, q);
     let p = q + 10;
+    let deep = !fits(work, round.g.from + p, round.g.end, 62, round.g.width);
     let x = begin_star(tape, work, round, q, v);
-    star_rest(tape, work, round, p, y.span, y.deep, x.out)
+    star_rest(tape, work, round, p, x.span, deep, x.out)
 }

@@ -2,10 +2,10 @@
 use mathlib.Core.Path.{◌≡◌, refl, sym, ap, ◌∙◌}
 use mathlib.Core.Bool.{Bool, true, false}
 use mathlib.Core.List.{List}
-use Prim.Native.Nat.{ℕ, ◌+◌, ◌*◌, ◌≤◌}
+use Prim.Native.Nat.{ℕ, ◌+◌, ◌*◌, ◌≤◌, ◌<◌}
 use native.Mathlib.Omega.{arith}
 use borrow.Author.Rules.{rules}
-use borrow.Author.Tests.{leb-true}
+use borrow.Author.Tests.{leb-true, leb-false, lt-leb, le-leb}
 use lib.Dec.{leb}
 use Rattle.parse_tree.specs.Plain.ReadTape.{read_tape}
 use Rattle.std.specs.Prelude.{cond}
@@ -27,29 +27,34 @@ use Rattle.stages.specs.Expanding.{expanded_of}
 use Rattle.stages.specs.Whole.{again_stages, whole_of}
 use Rattle.normalize.specs.Calls.{in_room}
 
--- ---- `call`: ok is what `enough` answered, x what the pass leaves
-module _ (s o w : List ℕ) (ok : Bool) (i : ok ≡ leb (8 * (length s + length o)) (length w)) where
-  pub call_short : (x : Outcome Stage) (why : Refusal) → why ≡ refusal_at 1 0 → ok ≡ false → Called (in_room s (length o) (length w) x) s o w (Err why) o w
+-- ---- `room`: ok is what `enough` answered
+module _ (t o w : ℕ) (ok : Bool) (i : ok ≡ leb (8 * (t + o)) w) where
+  pub room_is : ok ≡ true → 8 * (t + o) ≤ w
+  room_is e = leb-true (8 * (t + o)) w (sym i ∙ e)
+
+  pub room_not : ok ≡ false → w < 8 * (t + o)
+  room_not e = leb-false (8 * (t + o)) w (sym i ∙ e)
+
+pub ruleset rooming = (rules, room_is, room_not)
+
+-- ---- `call`: x is what the pass leaves
+module _ (s o w : List ℕ) where
+  pub call_short : (x : Outcome Stage) (why : Refusal) → why ≡ refusal_at 1 0 → length w < 8 * (length s + length o) → Called (in_room s (length o) (length w) x) s o w (Err why) o w
   unfolding refusal_at in_room answer_of written work_after
-  call_short x why u e = let z : leb (8 * (length s + length o)) (length w) ≡ false = cc in record { answered = rw (z, u); tree = rw z; zeroed = rw z }
+  call_short x why u h = let z = lt-leb (8 * (length s + length o)) (length w) h in record { answered = rw (z, u); tree = rw z; zeroed = rw z }
 
-  module _ (e : ok ≡ true) where
-    long : leb (8 * (length s + length o)) (length w) ≡ true
-    long = sym i ∙ e
+  -- r is its answer, o' and w₁ what it left
+  pub call_done : 8 * (length s + length o) ≤ length w → (x : Outcome Stage) (r : Result ℕ Refusal) (o' w₁ w₂ : List ℕ) → Staged x o r o' → length w₁ ≡ length w → w₂ ≡ replicate (length w₁) 0 → Called (in_room s (length o) (length w) x) s o w r o' w₂
+  unfolding in_room work_after
+  call_done h x r o' w₁ w₂ d l q =
+      let z = le-leb (8 * (length s + length o)) (length w) h in
+      record {
+        answered = rw z d.answered;
+        tree = rw z d.tree;
+        zeroed = rw z (q ∙ ap (λ (n : ℕ). replicate n 0) l);
+      }
 
-    pub call_room : 8 * (length s + length o) ≤ length w
-    call_room = leb-true (8 * (length s + length o)) (length w) long
-
-    -- r is its answer, o' and w₁ what it left
-    pub call_done : (x : Outcome Stage) (r : Result ℕ Refusal) (o' w₁ w₂ : List ℕ) → Staged x o r o' → length w₁ ≡ length w → w₂ ≡ replicate (length w₁) 0 → Called (in_room s (length o) (length w) x) s o w r o' w₂
-    unfolding in_room work_after
-    call_done x r o' w₁ w₂ d l q = record {
-      answered = rw long d.answered;
-      tree = rw long d.tree;
-      zeroed = rw long (q ∙ ap (λ (n : ℕ). replicate n 0) l);
-    }
-
-pub ruleset calling = (rules, call_short, call_room, call_done)
+pub ruleset calling = (rules, call_short, call_done)
 
 -- ---- what is asked of each call's definition
 after-after : {A B C : Type 0} (x : Outcome A) (f : A → Outcome B) (g : B → Outcome C) → after x (λ a. after (f a) g) ≡ after (after x f) g
@@ -94,19 +99,17 @@ module _ (s : List ℕ) (limit cap work : ℕ) where
       go false = refl
 
 -- ---- `validate`, which has no output
-module _ (s w : List ℕ) (ok : Bool) (i : ok ≡ leb (8 * (length s + 0)) (length w)) where
-  pub check_short : (why : Refusal) → why ≡ refusal_at 1 0 → ok ≡ false → Checked (validate_call true 2 s 0 (length w)) s w (Err why) w
+module _ (s w : List ℕ) where
+  pub check_short : (why : Refusal) → why ≡ refusal_at 1 0 → length w < 8 * (length s + 0) → Checked (validate_call true 2 s 0 (length w)) s w (Err why) w
   unfolding refusal_at validate_call answer_of work_after
-  check_short why u e = let z : leb (8 * (length s + 0)) (length w) ≡ false = cc in record { answered = rw (z, u); zeroed = rw z }
+  check_short why u h = let z = lt-leb (8 * (length s + 0)) (length w) h in record { answered = rw (z, u); zeroed = rw z }
 
-  module _ (e : ok ≡ true) where
+  module _ (h : 8 * (length s + 0) ≤ length w) where
     pub check_room : 8 * length s ≤ length w
-    check_room = let z = leb-true (8 * (length s + 0)) (length w) (sym i ∙ e) in omega arith
+    check_room = omega arith
 
     pub check_done : (r : Result ℕ Refusal) (w' : List ℕ) → Judged s w r w' → Checked (validate_call true 2 s 0 (length w)) s w r w'
     unfolding validate_call work_after
-    check_done r w' d =
-        let z : leb (8 * (length s + 0)) (length w) ≡ true = sym i ∙ e in
-        record { answered = rw z d.answered; zeroed = rw z d.zeroed }
+    check_done r w' d = let z = le-leb (8 * (length s + 0)) (length w) h in record { answered = rw z d.answered; zeroed = rw z d.zeroed }
 
 pub ruleset checking = (rules, check_short, check_room, check_done)

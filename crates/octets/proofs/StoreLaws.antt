@@ -2,8 +2,10 @@
 use mathlib.Core.Path.{◌≡◌, refl, sym, ap, ◌∙◌}
 use mathlib.Core.Logic.{◌⊎◌, inl, inr}
 use mathlib.Core.List.{List, [], ◌∷◌, ◌++◌, append_assoc}
-use Prim.Native.Nat.{ℕ, zero, suc, ◌+◌, ◌^◌, ◌≤◌, ◌<◌}
+use Prim.Native.Nat.{ℕ, zero, suc, ◌+◌, ◌/◌, ◌%◌, ◌^◌, ◌≤◌, ◌<◌}
 use native.Mathlib.Omega.{arith}
+use native.Mathlib.Numerals.{add-one}
+use borrow.Author.Rules.{rules}
 use lib.ListN.{length, take, drop, set, get_or}
 use lib.Seq.{sets, sets-eq, length-sets, get_or-set_other, length-take-le, drop_at, drop-drop, drop-set-lt, drop-append_seam}
 use Rattle.octets.specs.Plain.Numbers.{le_at, le}
@@ -52,6 +54,23 @@ store-part s ys a k h e =
 -- the same with what was copied there
 pub store-copied : (s ys zs : List ℕ) (a k : ℕ) → ys ≡ zs → a + k ≤ length s → k ≡ length zs → take a s ++ (ys ++ drop k (drop a s)) ≡ store s a zs
 store-copied s ys zs a k p h e = rw p (store-part s zs a k h e)
+
+-- ---- an atom's number: b is the bytes of v
+module _ (s b : List ℕ) (at wd v : ℕ) (j : b ≡ v % 256 ∷ v / 256 % 256 ∷ v / 65536 % 256 ∷ v / 16777216 % 256 ∷ []) where
+  pub put_two : 2 ≤ wd → wd ≤ 3 → (wd ≡ 3 → ⊥) → set (set s at (get_or b 0 0)) (at + 1) (get_or b 1 0) ≡ store s at (le wd v)
+  unfolding store le
+  put_two g h n =
+      let z : wd ≡ 2 = omega arith in
+      rw (z, j, add-one at) refl
+
+  pub put_three : wd ≡ 3 → set (set (set s at (get_or b 0 0)) (at + 1) (get_or b 1 0)) (at + 2) (get_or b 2 0) ≡ store s at (le wd v)
+  unfolding store le
+  put_three z =
+      let d : v / 256 / 256 ≡ v / 65536 = omega arith in
+      let two : at + 2 ≡ suc (suc at) = omega arith in
+      rw (z, j, add-one at, two, d) refl
+
+pub ruleset putting_atom = (rules, put_two, put_three)
 
 -- ---- what is read after a store
 sets_before : (vs s : List ℕ) (at i : ℕ) → i < at → get_or (sets s at vs) i 0 ≡ get_or s i 0

@@ -116,7 +116,7 @@ module _ (s w : List ℕ) (at n cap : ℕ) (m : Map) (from end : ℕ) (K : SomeL
 
 pub hand_done : (s w o : List ℕ) (at n : ℕ) (m : Map) (from end : ℕ) (o₁ : List ℕ) → o₁ ≡ store o 0 (part 0 at s) → (q : ℕ) (o₂ : List ℕ)
     → PutsNames o₁ at (bytes_of_each (atom_bytes 2) (drop n (texts s w m))) q o₂ → (o₃ : List ℕ) → o₃ ≡ store o₂ q (part (from) (end) w)
-    → HandsLast s w at n m from end o (Ok (q + (end - from))) o₃
+    → HandsLast s w at n m from end o (q + (end - from)) o₃
 unfolding HandsLast answer_of written
 hand_done s w o at n m from end o₁ x q o₂ p o₃ y g L =
     let new = bytes_of_each (atom_bytes 2) L.past in

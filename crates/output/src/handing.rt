@@ -17,10 +17,10 @@ pub fn hand_over(tape: &[u8], at: usize, work: &[u8], a: usize, output: &mut [u8
 }
 
 // The same with the names of levels behind the tape's atoms.
-pub fn hand_over_levels<'a>(
-    tape: &'a [u8],
+pub fn hand_over_levels(
+    tape: &[u8],
     at: usize,
-    work: &'a [u8],
+    work: &[u8],
     m: Map,
     room: Room,
     v: Written,

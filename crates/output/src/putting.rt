@@ -10,14 +10,7 @@ use texts::Map;
 use texts::text::{put_atom, text};
 
 // Text k of the table as an atom, to out from `to` on; says the place behind.
-fn put_text<'a>(
-    tape: &'a [u8],
-    work: &'a [u8],
-    m: Map,
-    k: usize,
-    out: &mut [u8],
-    to: usize,
-) -> usize
+fn put_text(tape: &[u8], work: &[u8], m: Map, k: usize, out: &mut [u8], to: usize) -> usize
     requires { Table tape.now work.now m × (k < m.count) × (length (numbered_text tape.now work.now m k) < 65536) × (to + 3 + length (numbered_text tape.now work.now m k) ≤ length out.old) }
     ensures { PutsNames out.old to (atom_bytes 2 (numbered_text tape.now work.now m k)) result out.new }
 {
@@ -27,14 +20,7 @@ fn put_text<'a>(
 }
 
 // The texts from the n-th on, by number.
-pub fn put_texts<'a>(
-    tape: &'a [u8],
-    work: &'a [u8],
-    m: Map,
-    n: usize,
-    out: &mut [u8],
-    to: usize,
-) -> usize
+pub fn put_texts(tape: &[u8], work: &[u8], m: Map, n: usize, out: &mut [u8], to: usize) -> usize
     requires { TextsFit tape.now work.now m n (length out.old) to }
     ensures { PutsNames out.old to (bytes_of_each (atom_bytes 2) (drop n (texts tape.now work.now m))) result out.new }
 {

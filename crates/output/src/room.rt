@@ -3,8 +3,8 @@ ghost use Rattle.std.specs.Prelude.{◌≡◌, ◌+◌, ◌*◌, ◌≤◌, ◌<
 ghost use Rattle.output.specs.Working.Judging.{sized, room_of, sized_levels};
 
 use levels::{Room, Written};
-use parse_tree::refusal;
 use parse_tree::refusal::Refusal;
+use rounds::judge::{judge_counts, judge_length};
 
 // "Is work at least 8 × (tape + output) bytes?" The sum may wrap, so it isn't made.
 pub fn enough(tape: usize, output: usize, work: usize) -> bool
@@ -15,16 +15,11 @@ pub fn enough(tape: usize, output: usize, work: usize) -> bool
 }
 
 // "atoms at most 65,536 .. 20. Tape no longer than the output buffer? 21": a stage of so many atoms and n bytes.
-pub fn judge(atoms: usize, n: usize, output: usize) -> Result<usize, Refusal>
+pub fn judge(atoms: usize, n: usize, output: usize) -> Result<(), Refusal>
     ensures { result ≡ sized atoms n output }
 {
-    if 65536 < atoms {
-        Err(refusal::at(20, 0))
-    } else if output < n {
-        Err(refusal::at(21, 0))
-    } else {
-        Ok(n)
-    }
+    judge_counts(atoms, false)?;
+    judge_length(n, output)
 }
 
 // Where levels are written, for a tape of so many bytes of which n are its items': behind the tape's share of work the records of new names, the arrays, and
@@ -36,7 +31,7 @@ pub fn levels_room(tape: usize, n: usize, output: usize) -> Room
     let at = 8 * tape + 6 * output - 2 * (output / 9);
     Room {
         arrays: 8 * tape + 2 * n,
-        at: at,
+        at,
         lim: at + output,
     }
 }
@@ -52,15 +47,9 @@ pub fn judge_levels(
     requires { (room.at ≤ v.to) × IfSome fresh (λ bytes. at + bytes + v.to < 18446744073709551616) }
     ensures { result ≡ sized_levels v room at fresh output }
 {
-    match fresh {
-        None => Err(refusal::at(20, 0)),
-        Some(bytes) => {
-            // Atoms that are too many come first: `judge` says so of them.
-            if room.lim < v.to && v.count <= 65536 {
-                Err(refusal::at(21, 0))
-            } else {
-                judge(v.count, at + bytes + (v.to - room.at), output)
-            }
-        }
-    }
+    judge_counts(v.count, fresh.is_none())?;
+    judge_length(v.to, room.lim)?;
+    let n = at + fresh.unwrap_or(0) + (v.to - room.at);
+    judge_length(n, output)?;
+    Ok(n)
 }

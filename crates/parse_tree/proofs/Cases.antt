@@ -16,7 +16,7 @@ use Rattle.parse_tree.specs.Working.Questions.{leaf_defined, symbol_defined, alt
 use Rattle.parse_tree.specs.Plain.Reading.{got, then, times}
 use Rattle.parse_tree.specs.Working.Expect.{expect_item, expect_argument, expect_alternative, expect_attribute, expect_condition, expect_symbol}
 use Rattle.parse_tree.specs.Working.Operands.{op_from, inside_of, leaf_of, around_of, over_of, action_from, attribute_of, condition_of, alternative_of, nonterminal_of, terminal_of}
-use Rattle.parse_tree.specs.Working.Decode.{ask, read_sym, read_argument, read_attribute, read_condition, alternative_parts, read_alternative, nonterminal_parts, read_item, read_items, read_atoms, decode_by, decode}
+use Rattle.parse_tree.specs.Working.Decode.{ask_of, ask, read_sym, read_argument, read_attribute, read_condition, alternative_parts, read_alternative, nonterminal_parts, read_item, read_items, read_atoms, decode_by, decode}
 use Rattle.parse_tree.specs.Working.Encode.{atom_bytes, leaf_node, around_node, over_node, action_text, alternative_node, attribute_node, condition_node, nonterminal_node, sym_bytes, argument_bytes, attribute_bytes, condition_bytes, alternative_bytes, item_bytes, stage_bytes, encode}
 use Rattle.parse_tree.specs.Plain.WriteTape.{bytes_of_each}
 use Rattle.parse_tree.specs.Plain.References.{texts_of_each, leaf_texts, around_texts, over_texts, sym_texts, action_texts, attribute_texts, condition_texts, alternative_texts, item_texts, stage_of}
@@ -52,5 +52,5 @@ items =
     ∷ []
 
 back : decode (encode 2 [] items) ≡ got (stage_of [] items) (length (encode 2 [] items))
-unfolding pick le le_at part same_as count syms_of every starts_name in_name name_bytes is_name is_literal is_ascii has number with_new span_bytes leaf_code leaf_operand symbol_bytes node_bytes size_of if_whole span_in named_leaf bare_leaf symbol_node_at text_node nonterminal_node_at terminal_node_at argument_node_at alternative_node_at attribute_node_at condition_node_at node_by node_at class_of table allowed_at leaf_defined symbol_defined alternative_defined attribute_defined defined leaf_suits symbol_suits suits then times expect_item expect_argument expect_alternative expect_attribute expect_condition expect_symbol op_from inside_of leaf_of around_of over_of action_from attribute_of condition_of alternative_of nonterminal_of terminal_of ask read_sym read_argument read_attribute read_condition alternative_parts read_alternative nonterminal_parts read_item read_items read_atoms decode_by decode bytes_of_each atom_bytes leaf_node around_node over_node action_text alternative_node attribute_node condition_node nonterminal_node sym_bytes argument_bytes attribute_bytes condition_bytes alternative_bytes item_bytes stage_bytes texts_of_each leaf_texts around_texts over_texts sym_texts action_texts attribute_texts condition_texts alternative_texts item_texts stage_of encode
+unfolding pick le le_at part same_as count syms_of every starts_name in_name name_bytes is_name is_literal is_ascii has number with_new span_bytes leaf_code leaf_operand symbol_bytes node_bytes size_of if_whole span_in named_leaf bare_leaf symbol_node_at text_node nonterminal_node_at terminal_node_at argument_node_at alternative_node_at attribute_node_at condition_node_at node_by node_at class_of table allowed_at leaf_defined symbol_defined alternative_defined attribute_defined defined leaf_suits symbol_suits suits then times expect_item expect_argument expect_alternative expect_attribute expect_condition expect_symbol op_from inside_of leaf_of around_of over_of action_from attribute_of condition_of alternative_of nonterminal_of terminal_of ask_of ask read_sym read_argument read_attribute read_condition alternative_parts read_alternative nonterminal_parts read_item read_items read_atoms decode_by decode bytes_of_each atom_bytes leaf_node around_node over_node action_text alternative_node attribute_node condition_node nonterminal_node sym_bytes argument_bytes attribute_bytes condition_bytes alternative_bytes item_bytes stage_bytes texts_of_each leaf_texts around_texts over_texts sym_texts action_texts attribute_texts condition_texts alternative_texts item_texts stage_of encode
 back = refl

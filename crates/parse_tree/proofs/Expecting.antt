@@ -28,7 +28,6 @@ module _ {B : Type 0} (P : Node → Type 0) (a d : ℕ) (y : B) (e : ℕ) where
   item_wanted f g (Node.Attribute k) h p i j = absurd (never p)
   item_wanted f g (Node.Condition k) h p i j = absurd (never p)
   item_wanted f g (Node.Symbol s k) h p i j = absurd (never p)
-  item_wanted f g Node.Unknown h p i j = absurd (never p)
 
   pub argument-wanted : (f : NonterminalString → ℕ → Reading B) (n : Node) → P n → expect_argument a f n d ≡ got y e → {R : Type 0} → ((k : NonterminalString) → P (Node.Argument k) → f k d ≡ got y e → R) → R
   unfolding expect_argument
@@ -40,7 +39,6 @@ module _ {B : Type 0} (P : Node → Type 0) (a d : ℕ) (y : B) (e : ℕ) where
   argument-wanted f (Node.Attribute k) h p i = absurd (never p)
   argument-wanted f (Node.Condition k) h p i = absurd (never p)
   argument-wanted f (Node.Symbol s k) h p i = absurd (never p)
-  argument-wanted f Node.Unknown h p i = absurd (never p)
 
   pub alternative_wanted : (f : Alternative → ℕ → Reading B) (n : Node) → P n → expect_alternative a f n d ≡ got y e → {R : Type 0} → ((k : Alternative) → P (Node.Alternative k) → f k d ≡ got y e → R) → R
   unfolding expect_alternative
@@ -52,7 +50,6 @@ module _ {B : Type 0} (P : Node → Type 0) (a d : ℕ) (y : B) (e : ℕ) where
   alternative_wanted f (Node.Attribute k) h p i = absurd (never p)
   alternative_wanted f (Node.Condition k) h p i = absurd (never p)
   alternative_wanted f (Node.Symbol s k) h p i = absurd (never p)
-  alternative_wanted f Node.Unknown h p i = absurd (never p)
 
   pub attribute_wanted : (f : Attribute → ℕ → Reading B) (n : Node) → P n → expect_attribute a f n d ≡ got y e → {R : Type 0} → ((k : Attribute) → P (Node.Attribute k) → f k d ≡ got y e → R) → R
   unfolding expect_attribute
@@ -64,7 +61,6 @@ module _ {B : Type 0} (P : Node → Type 0) (a d : ℕ) (y : B) (e : ℕ) where
   attribute_wanted f (Node.Attribute k) h p i = i k h p
   attribute_wanted f (Node.Condition k) h p i = absurd (never p)
   attribute_wanted f (Node.Symbol s k) h p i = absurd (never p)
-  attribute_wanted f Node.Unknown h p i = absurd (never p)
 
   pub condition_wanted : (f : Condition → ℕ → Reading B) (n : Node) → P n → expect_condition a f n d ≡ got y e → {R : Type 0} → ((k : Condition) → P (Node.Condition k) → f k d ≡ got y e → R) → R
   unfolding expect_condition
@@ -76,7 +72,6 @@ module _ {B : Type 0} (P : Node → Type 0) (a d : ℕ) (y : B) (e : ℕ) where
   condition_wanted f (Node.Attribute k) h p i = absurd (never p)
   condition_wanted f (Node.Condition k) h p i = i k h p
   condition_wanted f (Node.Symbol s k) h p i = absurd (never p)
-  condition_wanted f Node.Unknown h p i = absurd (never p)
 
   pub symbol_wanted : (f : Span → SymbolKind → ℕ → Reading B) (n : Node) → P n → expect_symbol a f n d ≡ got y e → {R : Type 0} → ((s : Span) (k : SymbolKind) → P (Node.Symbol s k) → f s k d ≡ got y e → R) → R
   unfolding expect_symbol
@@ -88,4 +83,3 @@ module _ {B : Type 0} (P : Node → Type 0) (a d : ℕ) (y : B) (e : ℕ) where
   symbol_wanted f (Node.Attribute k) h p i = absurd (never p)
   symbol_wanted f (Node.Condition k) h p i = absurd (never p)
   symbol_wanted f (Node.Symbol s k) h p i = i s k h p
-  symbol_wanted f Node.Unknown h p i = absurd (never p)

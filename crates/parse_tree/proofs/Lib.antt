@@ -9,6 +9,7 @@ mod NodeCode
 mod PlacesCode
 mod Refusing
 pub mod SizeLaws
+pub mod NestedCode
 -- Trees and their tapes; RoundTrip has the theorems.
 pub mod DisplayLaws
 pub mod TextLaws

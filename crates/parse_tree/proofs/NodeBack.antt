@@ -5,6 +5,7 @@ use mathlib.Core.List.{List, ◌∷◌, ◌++◌, append-nil}
 use Prim.Native.Nat.{ℕ, ◌+◌, ◌-◌, ◌^◌, ◌<◌, ◌≤◌}
 use native.Mathlib.Omega.{arith}
 use lib.ListN.{length}
+use Rattle.std.specs.Prelude.{Some}
 use borrow.Author.Tests.{le-ltb, lt-leb}
 use Rattle.octets.specs.Working.Choice.{pick}
 use Rattle.octets.specs.Plain.Numbers.{le_at, le}
@@ -36,34 +37,34 @@ module _ (w : ℕ) (s : List ℕ) (a e : ℕ) where
       let f = lies_first s a c ys e l in
       (simp (lt-leb (length s) a f.0, f.1), lies_inside s a e (c ∷ ys) (omega arith) l, f.2)
 
-  is_whole : (n : ℕ) (x : Node) → a + n ≤ length s → if_whole s a n x ≡ x
+  is_whole : (n : ℕ) (x : Node) → a + n ≤ length s → if_whole s a n x ≡ Some x
   unfolding if_whole pick
   is_whole n x h = simp (le-ltb (length s - a) n (omega arith))
 
   -- a code and a span, or a code, a span and a number: `g` makes the command of them
   spanned : (c : ℕ) (sp : Span) (g : Span → Node) → node_by w c s a ≡ if_whole s a 9 (g (span_in s (a + 1))) → SpanWithin sp → Lies s a (c ∷ span_bytes sp) e
-      → node_at w s a ≡ g sp
+      → node_at w s a ≡ Some (g sp)
   spanned c sp g q f l =
       let x0 = front c _ l in
       let x1 = span_back s (a + 1) e sp f x0.2 in
       x0.0 ∙ q ∙ is_whole 9 _ (omega (arith, length_span sp, x0.2.end)) ∙ simp x1
 
   numbered : (c : ℕ) (sp : Span) (v : ℕ) (g : Span → ℕ → Node) → node_by w c s a ≡ if_whole s a (9 + w) (g (span_in s (a + 1)) (le_at w s (a + 9))) → SpanWithin sp → v < 256 ^ w
-      → Lies s a (c ∷ (span_bytes sp ++ le w v)) e → node_at w s a ≡ g sp v
+      → Lies s a (c ∷ (span_bytes sp ++ le w v)) e → node_at w s a ≡ Some (g sp v)
   numbered c sp v g q f h l =
       let x0 = front c _ l in
       let x1 = span_read s e (a + 1) (a + 9) (omega arith) f x0.2 in
       let x2 = le-read_last s e (a + 9) w h x1.1 in
       x0.0 ∙ q ∙ is_whole (9 + w) _ (omega arith) ∙ simp (x1.0, x2.0)
 
-  text_back : (k : ℕ) → k < 65536 → a + 3 + k ≤ length s → Lies s a (node_bytes w (Node.Text k)) e → node_at w s a ≡ Node.Text k
+  text_back : (k : ℕ) → k < 65536 → a + 3 + k ≤ length s → Lies s a (node_bytes w (Node.Text k)) e → node_at w s a ≡ Some (Node.Text k)
   unfolding node_bytes node_by pick text_node
   text_back k f t l =
       let x0 = front 1 _ l in
       let x1 = le-read_last s e (a + 1) 2 f x0.2 in
-      x0.0 ∙ is_whole 3 _ (omega arith) ∙ rw x1.0 (is_whole (3 + k) _ (omega arith))
+      x0.0 ∙ simp (le-ltb (length s - a) 3 (omega arith), x1.0) (is_whole (3 + k) _ (omega arith))
 
-  nonterminal_back : (d : NonterminalData) → NodeFits w (Node.Nonterminal d) → Lies s a (node_bytes w (Node.Nonterminal d)) e → node_at w s a ≡ Node.Nonterminal d
+  nonterminal_back : (d : NonterminalData) → NodeFits w (Node.Nonterminal d) → Lies s a (node_bytes w (Node.Nonterminal d)) e → node_at w s a ≡ Some (Node.Nonterminal d)
   unfolding node_bytes node_by pick nonterminal_node_at
   nonterminal_back d f l =
       let x0 = front 16 _ l in
@@ -79,19 +80,19 @@ module _ (w : ℕ) (s : List ℕ) (a e : ℕ) where
   terminal_by c (inl q) = rw q
   terminal_by c (inr q) = rw q
 
-  terminal_back : (t : TerminalData) → NodeFits w (Node.Terminal t) → Lies s a (node_bytes w (Node.Terminal t)) e → node_at w s a ≡ Node.Terminal t
+  terminal_back : (t : TerminalData) → NodeFits w (Node.Terminal t) → Lies s a (node_bytes w (Node.Terminal t)) e → node_at w s a ≡ Some (Node.Terminal t)
   unfolding node_bytes terminal_node_at
   terminal_back t f l =
       numbered t.source t.span t.name.0 (λ sp v. Node.Terminal (record { span = sp; name = record { 0 = v }; source = t.source })) (terminal_by t.source f.2) f.0 f.1 l
 
-  argument-back : (n : NonterminalString) → NodeFits w (Node.Argument n) → Lies s a (node_bytes w (Node.Argument n)) e → node_at w s a ≡ Node.Argument n
+  argument-back : (n : NonterminalString) → NodeFits w (Node.Argument n) → Lies s a (node_bytes w (Node.Argument n)) e → node_at w s a ≡ Some (Node.Argument n)
   unfolding node_bytes node_by pick argument_node_at
   argument-back n f l =
       let x0 = front 17 _ l in
       let x1 = le-read_last s e (a + 1) w f x0.2 in
       x0.0 ∙ is_whole (1 + w) _ (omega arith) ∙ simp x1.0
 
-  alternative_back : (d : Alternative) → NodeFits w (Node.Alternative d) → Lies s a (node_bytes w (Node.Alternative d)) e → node_at w s a ≡ Node.Alternative d
+  alternative_back : (d : Alternative) → NodeFits w (Node.Alternative d) → Lies s a (node_bytes w (Node.Alternative d)) e → node_at w s a ≡ Some (Node.Alternative d)
   unfolding node_bytes node_by pick alternative_node_at
   alternative_back d f l =
       let x0 = front 18 _ l in
@@ -103,7 +104,7 @@ module _ (w : ℕ) (s : List ℕ) (a e : ℕ) where
       let x6 = le-read_last s e (a + 12 + w) 2 f.5 x5.1 in
       x0.0 ∙ is_whole (14 + w) _ (omega arith) ∙ simp (x1.0, x2.0, x3.0, x4.0, x5.0, x6.0)
 
-  attribute_back : (d : Attribute) → NodeFits w (Node.Attribute d) → Lies s a (node_bytes w (Node.Attribute d)) e → node_at w s a ≡ Node.Attribute d
+  attribute_back : (d : Attribute) → NodeFits w (Node.Attribute d) → Lies s a (node_bytes w (Node.Attribute d)) e → node_at w s a ≡ Some (Node.Attribute d)
   unfolding node_bytes node_by pick attribute_node_at
   attribute_back d f l =
       let x0 = front 19 _ l in
@@ -113,7 +114,7 @@ module _ (w : ℕ) (s : List ℕ) (a e : ℕ) where
       let x4 = le-read_last s e (a + 2 + w + w) w f.3 x3.1 in
       x0.0 ∙ is_whole (2 + w + w + w) _ (omega arith) ∙ simp (x1.0, x2.0, x3.0, x4.0)
 
-  condition_back : (d : Condition) → NodeFits w (Node.Condition d) → Lies s a (node_bytes w (Node.Condition d)) e → node_at w s a ≡ Node.Condition d
+  condition_back : (d : Condition) → NodeFits w (Node.Condition d) → Lies s a (node_bytes w (Node.Condition d)) e → node_at w s a ≡ Some (Node.Condition d)
   unfolding node_bytes node_by pick condition_node_at
   condition_back d f l =
       let x0 = front 20 _ l in
@@ -123,7 +124,7 @@ module _ (w : ℕ) (s : List ℕ) (a e : ℕ) where
       let x4 = le-read_last s e (a + 10 + w) w f.3 x3.1 in
       x0.0 ∙ is_whole (10 + w + w) _ (omega arith) ∙ simp (x1.0, x2.0, x3.0, x4.0)
 
-  leaf_back : (sp : Span) (x : Leaf) → SpanWithin sp → LeafFits w x → Lies s a (symbol_bytes w sp (SymbolKind.Leaf x)) e → node_at w s a ≡ Node.Symbol sp (SymbolKind.Leaf x)
+  leaf_back : (sp : Span) (x : Leaf) → SpanWithin sp → LeafFits w x → Lies s a (symbol_bytes w sp (SymbolKind.Leaf x)) e → node_at w s a ≡ Some (Node.Symbol sp (SymbolKind.Leaf x))
   unfolding symbol_bytes leaf_code leaf_operand node_by pick symbol_node_at named_leaf bare_leaf
   leaf_back sp (Leaf.AmbiguousId n) f h l = numbered 32 sp n.0 (λ sp v. Node.Symbol sp (SymbolKind.Leaf (Leaf.AmbiguousId (record { 0 = v })))) refl f h l
   leaf_back sp (Leaf.Bare n) f h l = numbered 33 sp n.0 (λ sp v. Node.Symbol sp (SymbolKind.Leaf (Leaf.Bare (record { 0 = v })))) refl f h l
@@ -134,7 +135,7 @@ module _ (w : ℕ) (s : List ℕ) (a e : ℕ) where
   leaf_back sp Leaf.Lookbehind f h l = spanned 43 sp (λ sp. Node.Symbol sp (SymbolKind.Leaf Leaf.Lookbehind)) refl f (rw append-nil at l)
   leaf_back sp Leaf.Error f h l = spanned 44 sp (λ sp. Node.Symbol sp (SymbolKind.Leaf Leaf.Error)) refl f (rw append-nil at l)
 
-  symbol_back : (sp : Span) (k : SymbolKind) → SpanWithin sp → KindFits w k → Lies s a (symbol_bytes w sp k) e → node_at w s a ≡ Node.Symbol sp k
+  symbol_back : (sp : Span) (k : SymbolKind) → SpanWithin sp → KindFits w k → Lies s a (symbol_bytes w sp k) e → node_at w s a ≡ Some (Node.Symbol sp k)
   unfolding symbol_bytes node_by pick symbol_node_at
   symbol_back sp (SymbolKind.Leaf x) f h l = leaf_back sp x f h l
   symbol_back sp (SymbolKind.Around (Around.Repeat op)) f h l =
@@ -161,7 +162,7 @@ module _ (w : ℕ) (s : List ℕ) (a e : ℕ) where
       let x2 = le-read_last s e (a + 9) 2 h x1.1 in
       x0.0 ∙ is_whole 11 _ (omega arith) ∙ simp (x1.0, x2.0)
 
-pub node_back : (w : ℕ) (s : List ℕ) (a e : ℕ) (n : Node) → NodeFits w n → TextFits s a n → Lies s a (node_bytes w n) e → node_at w s a ≡ n
+pub node_back : (w : ℕ) (s : List ℕ) (a e : ℕ) (n : Node) → NodeFits w n → TextFits s a n → Lies s a (node_bytes w n) e → node_at w s a ≡ Some n
 unfolding node_bytes
 node_back w s a e (Node.Text k) f t l = text_back w s a e k f t l
 node_back w s a e (Node.Nonterminal d) f t l = nonterminal_back w s a e d f l
@@ -171,4 +172,3 @@ node_back w s a e (Node.Alternative d) f t l = alternative_back w s a e d f l
 node_back w s a e (Node.Attribute d) f t l = attribute_back w s a e d f l
 node_back w s a e (Node.Condition d) f t l = condition_back w s a e d f l
 node_back w s a e (Node.Symbol sp k) f t l = symbol_back w s a e sp k f.0 f.1 l
-node_back w s a e Node.Unknown f t l = absurd f

@@ -4,6 +4,7 @@ use mathlib.Core.Logic.{◌⊎◌}
 use Prim.Native.Nat.{ℕ, ◌+◌, ◌^◌, ◌<◌, ◌≤◌}
 use mathlib.Core.List.{List}
 use lib.ListN.{length}
+use Rattle.std.specs.Prelude.{Option, Some, None}
 use Rattle.octets.specs.Plain.Runs.{Lies}
 use Rattle.parse_tree.specs.Working.Nodes.{node_bytes, size_of}
 use Rattle.parse_tree.specs.Working.Within.{SpanWithin}
@@ -41,7 +42,6 @@ NodeFits w (Node.Alternative a) = SpanWithin a.span × (a.attributes < 256) × (
 NodeFits w (Node.Attribute a) = (a.id.0 < 256 ^ w) × (a.kind < 256) × (a.key.0 < 256 ^ w) × (a.value.0 < 256 ^ w)
 NodeFits w (Node.Condition c) = SpanWithin c.span × (c.lhs.0 < 256 ^ w) × (c.op < 256) × (c.rhs.0 < 256 ^ w)
 NodeFits w (Node.Symbol s k) = SpanWithin s × KindFits w k
-NodeFits w Node.Unknown = ⊥
 
 -- an atom's text stands behind its command
 abbrev pub TextFits : List ℕ → ℕ → Node → Type 0
@@ -53,7 +53,6 @@ TextFits s a (Node.Alternative n) = Unit {0}
 TextFits s a (Node.Attribute n) = Unit {0}
 TextFits s a (Node.Condition c) = Unit {0}
 TextFits s a (Node.Symbol sp k) = Unit {0}
-TextFits s a Node.Unknown = Unit {0}
 
 -- a command n that lies at a
 pub record Stands (w : ℕ) (s : List ℕ) (a : ℕ) (n : Node) : Type 0 where
@@ -62,13 +61,6 @@ pub record Stands (w : ℕ) (s : List ℕ) (a : ℕ) (n : Node) : Type 0 where
   pub text : TextFits s a n
 
 -- what reading at a says: nothing where no command is known
-abbrev pub NodeSays : ℕ → List ℕ → ℕ → Node → Type 0
-NodeSays w s a (Node.Text k) = Stands w s a (Node.Text k)
-NodeSays w s a (Node.Nonterminal d) = Stands w s a (Node.Nonterminal d)
-NodeSays w s a (Node.Terminal t) = Stands w s a (Node.Terminal t)
-NodeSays w s a (Node.Argument n) = Stands w s a (Node.Argument n)
-NodeSays w s a (Node.Alternative n) = Stands w s a (Node.Alternative n)
-NodeSays w s a (Node.Attribute n) = Stands w s a (Node.Attribute n)
-NodeSays w s a (Node.Condition c) = Stands w s a (Node.Condition c)
-NodeSays w s a (Node.Symbol sp k) = Stands w s a (Node.Symbol sp k)
-NodeSays w s a Node.Unknown = Unit {0}
+abbrev pub NodeSays : ℕ → List ℕ → ℕ → Option Node → Type 0
+NodeSays w s a None = Unit {0}
+NodeSays w s a (Some n) = Stands w s a n

@@ -1,10 +1,11 @@
--- What is read is what stands there: the command that `node_at` gives lies at its place, if_whole, and each operand fits its width. Assumes nothing.
+-- What is read is what stands there: the command that `node_at` gives lies at its place, whole, and each operand fits its width. Assumes nothing.
 use mathlib.Core.Path.{◌≡◌, refl, sym}
 use mathlib.Core.Logic.{◌⊎◌, inl, inr}
 use mathlib.Core.List.{List, []}
 use Prim.Native.Nat.{ℕ, ◌+◌, ◌-◌, ◌^◌, ◌<◌, ◌≤◌}
 use native.Mathlib.Omega.{arith}
 use lib.ListN.{length, get_or}
+use Rattle.std.specs.Prelude.{Option}
 use lib.Dec.{ltb, eqb}
 use borrow.Author.Tests.{ltb-true, ltb-false, leb-false, eqb-true, eqb-false}
 use Rattle.octets.specs.Working.Choice.{pick}
@@ -42,35 +43,23 @@ bare_says w c l h =
     by_pick (LeafSays w c []) _ (λ p. (sym (eqb-true c 43 p), refl, tt)) (λ n3.
     (omega (arith, eqb-false c 42 n2, eqb-false c 43 n3), refl, tt)))
 
--- NodeSays is Stands at each command that is known
-says : (w : ℕ) (s : List ℕ) (a : ℕ) (n : Node) → Stands w s a n → NodeSays w s a n
-says w s a (Node.Text k) x = x
-says w s a (Node.Nonterminal d) x = x
-says w s a (Node.Terminal t) x = x
-says w s a (Node.Argument n) x = x
-says w s a (Node.Alternative n) x = x
-says w s a (Node.Attribute n) x = x
-says w s a (Node.Condition c) x = x
-says w s a (Node.Symbol sp k) x = x
-says w s a Node.Unknown x = tt
-
 module _ (w : ℕ) (s : List ℕ) (a : ℕ) (b : Bytes s) (inside : a < length s) where
-  if_whole_lem : (n : ℕ) (x : Node) → (a + n ≤ length s → NodeSays w s a x) → NodeSays w s a (if_whole s a n x)
+  if_whole_lem : (n : ℕ) (x : Node) → (a + n ≤ length s → Stands w s a x) → NodeSays w s a (if_whole s a n x)
   unfolding if_whole
   if_whole_lem n x f = by_pick (NodeSays w s a) _ (λ _. tt) (λ h. let k = ltb-false (length s - a) n h in f (omega arith))
 
-  stands : (n : ℕ) (x : Node) → NodeFits w x → TextFits s a x → Lies s a (node_bytes w x) (a + n) → NodeSays w s a x
+  stands : (n : ℕ) (x : Node) → NodeFits w x → TextFits s a x → Lies s a (node_bytes w x) (a + n) → Stands w s a x
   unfolding size_of
-  stands n x f t l = says w s a x (record { lies = lies_to l.end l; fits = f; text = t })
+  stands n x f t l = record { lies = lies_to l.end l; fits = f; text = t }
 
-  -- a command that is if_whole in n bytes
+  -- a command that is whole in n bytes
   known : (n : ℕ) (x : Node) → NodeFits w x → TextFits s a x → (a + n ≤ length s → Lies s a (node_bytes w x) (a + n)) → NodeSays w s a (if_whole s a n x)
   known n x f t l = if_whole_lem n x (λ h. stands n x f t (l h))
 
   text_says : get_or s a 0 ≡ 1 → NodeSays w s a (text_node s a)
   unfolding text_node node_bytes
   text_says c =
-      if_whole_lem 3 _ (λ h. if_whole_lem _ _ (λ k.
+      by_pick (NodeSays w s a) _ (λ _. tt) (λ z. let h : a + 3 ≤ length s = let y = ltb-false (length s - a) 3 z in omega arith in if_whole_lem _ _ (λ k.
       stands 3 (Node.Text (le_at 2 s (a + 1))) (le_at-lt 2 s (a + 1) b) (omega arith) (byte_then b h (a + 1) refl c (le-last b h 2 (omega arith)))))
 
   nonterminal_says_lem : get_or s a 0 ≡ 16 → NodeSays w s a (nonterminal_node_at w s a)
@@ -151,10 +140,10 @@ module _ (w : ℕ) (s : List ℕ) (a : ℕ) (b : Bytes s) (inside : a < length s
       byte_then b h (a + 1) refl c (span_then b h (a + 9) (omega arith) (le-last b h 2 (omega arith))))
 
   -- ---- by the code
-  is_code : (k : ℕ) (x y : Node) → (get_or s a 0 ≡ k → NodeSays w s a x) → ((get_or s a 0 ≡ k → ⊥) → NodeSays w s a y) → NodeSays w s a (pick (eqb (get_or s a 0) k) x y)
+  is_code : (k : ℕ) (x y : Option Node) → (get_or s a 0 ≡ k → NodeSays w s a x) → ((get_or s a 0 ≡ k → ⊥) → NodeSays w s a y) → NodeSays w s a (pick (eqb (get_or s a 0) k) x y)
   is_code k x y f g = by_pick (NodeSays w s a) _ (λ p. f (eqb-true (get_or s a 0) k p)) (λ p. g (eqb-false (get_or s a 0) k p))
 
-  under : (k : ℕ) (x y : Node) → (get_or s a 0 < k → NodeSays w s a x) → (k ≤ get_or s a 0 → NodeSays w s a y) → NodeSays w s a (pick (ltb (get_or s a 0) k) x y)
+  under : (k : ℕ) (x y : Option Node) → (get_or s a 0 < k → NodeSays w s a x) → (k ≤ get_or s a 0 → NodeSays w s a y) → NodeSays w s a (pick (ltb (get_or s a 0) k) x y)
   under k x y f g = by_pick (NodeSays w s a) _ (λ p. f (ltb-true (get_or s a 0) k p)) (λ p. g (ltb-false (get_or s a 0) k p))
 
   symbol_says : 32 ≤ get_or s a 0 → get_or s a 0 < 45 → NodeSays w s a (symbol_node_at w (get_or s a 0) s a)

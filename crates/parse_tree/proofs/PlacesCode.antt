@@ -1,7 +1,12 @@
--- The code's numbers of the places and the classes are the table's. Assumes nothing.
-use mathlib.Core.Path.{◌≡◌, refl}
+-- The code's numbers of the places and the classes are the table's, and what it may is where the table has 1. Assumes nothing.
+use mathlib.Core.Path.{◌≡◌, refl, ap, ◌∙◌}
+use mathlib.Core.Bool.{Bool, false}
+use mathlib.Core.List.{List, [], map}
+use Prim.Native.Nat.{ℕ}
+use lib.Dec.{eqb}
+use lib.ListN.{get_or, get_or-map}
 use denote.Enum.Declared.{tag_of}
-use Rattle.parse_tree.specs.Working.Places.{row, column}
+use Rattle.parse_tree.specs.Working.Places.{row, column, table, allowed_at}
 use Rattle.parse_tree.specs.declared.places.Place.{Place}
 use Rattle.parse_tree.specs.declared.places.Class.{Class}
 use Rattle.parse_tree.specs.contracts.places.Place as places
@@ -26,4 +31,11 @@ column_is Class.Alternative = refl
 column_is Class.Attribute = refl
 column_is Class.Condition = refl
 column_is Class.Symbol = refl
-column_is Class.Unknown = refl
+
+-- the code's table
+abbrev pub ones : List (List Bool)
+ones = map (map (λ (n : ℕ). eqb n 1)) table
+
+pub allowed_is : (i j : ℕ) → get_or (get_or ones i []) j false ≡ allowed_at i j
+unfolding allowed_at
+allowed_is i j = ap (λ (x : List Bool). get_or x j false) (get_or-map (map (λ (n : ℕ). eqb n 1)) table i []) ∙ get_or-map (λ (n : ℕ). eqb n 1) (get_or table i []) j 0

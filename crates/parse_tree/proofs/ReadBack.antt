@@ -7,6 +7,7 @@ use native.Mathlib.Omega.{arith}
 use borrow.Author.Tests.{le-leb, lt-leb}
 use lib.ListN.{length, length-append}
 use lib.Seq.{drop-length, append_snoc}
+use Rattle.std.specs.Prelude.{None}
 use Rattle.octets.specs.Working.Choice.{pick}
 use Rattle.octets.specs.Plain.Runs.{Lies}
 use Rattle.octets.proofs.LiesLaws.{lies_split, lies_from, lies_to, lies_inside, lies_part}
@@ -69,7 +70,7 @@ module _ (four : Bool) (w : ℕ) (s : List ℕ) where
       )
 
   -- where items begin, or the tape ends, no atom stands
-  node_none : (a : ℕ) → length s ≤ a → node_at w s a ≡ Node.Unknown
+  node_none : (a : ℕ) → length s ≤ a → node_at w s a ≡ None
   unfolding node_at pick
   node_none a h = cc (le-leb (length s) a h)
 

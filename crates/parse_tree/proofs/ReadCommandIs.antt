@@ -8,6 +8,7 @@ use native.Mathlib.Omega.{arith}
 use borrow.Author.Tests.{eqb-true, ltb-true, ltb-false, lt-leb}
 use lib.Dec.{eqb, ltb, leb}
 use lib.ListN.{length, get_or}
+use Rattle.std.specs.Prelude.{Option, Some, None}
 use Rattle.octets.specs.Working.Choice.{pick}
 use Rattle.octets.proofs.ChoiceLaws.{by_pick}
 use Rattle.parse_tree.specs.Plain.Tree.{Text}
@@ -15,7 +16,7 @@ use Rattle.parse_tree.specs.Working.Nodes.{size_of, if_whole, symbol_node_at, te
 use Rattle.parse_tree.specs.Working.Places.{class_of, allowed_at}
 use Rattle.parse_tree.specs.Working.Questions.{defined, suits}
 use Rattle.parse_tree.specs.Plain.Reading.{Reading, refused, then}
-use Rattle.parse_tree.specs.Working.Decode.{ask}
+use Rattle.parse_tree.specs.Working.Decode.{ask_of, ask}
 use Rattle.parse_tree.specs.declared.syntax.Node.{Node}
 use Rattle.parse_tree.specs.Plain.ReadTape.{asked}
 
@@ -62,13 +63,13 @@ CodeOf (Node.Alternative a) c = c ≡ 18
 CodeOf (Node.Attribute a) c = c ≡ 19
 CodeOf (Node.Condition x) c = c ≡ 20
 CodeOf (Node.Symbol sp k) c = (32 ≤ c) × (c < 45)
-CodeOf Node.Unknown c = Unit {0}
 
 module _ (w : ℕ) (s : List ℕ) (at : ℕ) where
-  abbrev Coded : Node → Type 0
-  Coded n = CodeOf n (get_or s at 0)
+  abbrev pub Coded : Option Node → Type 0
+  Coded None = Unit {0}
+  Coded (Some n) = CodeOf n (get_or s at 0)
 
-  whole_code : (n : ℕ) (x : Node) → Coded x → Coded (if_whole s at n x)
+  whole_code : (n : ℕ) (x : Node) → CodeOf x (get_or s at 0) → Coded (if_whole s at n x)
   unfolding if_whole
   whole_code n x h = by_pick Coded (ltb (length s - at) n) (λ _. tt) (λ _. h)
 
@@ -87,7 +88,7 @@ module _ (w : ℕ) (s : List ℕ) (at : ℕ) where
   node_code =
       by_pick Coded (leb (length s) at) (λ _. tt) (λ _.
       by_pick Coded (ltb (get_or s at 0) 32) (λ _.
-      by_pick Coded (eqb (get_or s at 0) 1) (λ e. whole_code _ _ (whole_code _ (Node.Text _) (eqb-true (get_or s at 0) 1 e))) (λ _.
+      by_pick Coded (eqb (get_or s at 0) 1) (λ e. by_pick Coded (ltb (length s - at) 3) (λ _. tt) (λ _. whole_code _ (Node.Text _) (eqb-true (get_or s at 0) 1 e))) (λ _.
       by_pick Coded (eqb (get_or s at 0) 16) (λ e. whole_code _ (Node.Nonterminal _) (eqb-true (get_or s at 0) 16 e)) (λ _.
       by_pick Coded (eqb (get_or s at 0) 17) (λ e. whole_code _ (Node.Argument _) (eqb-true (get_or s at 0) 17 e)) (λ _.
       by_pick Coded (eqb (get_or s at 0) 18) (λ e. whole_code _ (Node.Alternative _) (eqb-true (get_or s at 0) 18 e)) (λ _.
@@ -100,19 +101,23 @@ module _ (w : ℕ) (s : List ℕ) (at : ℕ) where
 -- ---- the questions of one command, and what is read behind them
 module _ (four : Bool) (w : ℕ) (s : List ℕ) (ts : List Text) (place left at : ℕ) {B : Type 0} (K : Node → ℕ → Reading B) where
   -- no command that may stand there
-  pub asks_other : allowed_at place (class_of (node_at w s at)) ≡ false → then (ask four w s ts place left at) K ≡ refused 2 at
-  unfolding ask then pick
-  asks_other e = cc (e)
+  pub asks_other : ((n : Node) → CodeOf n (get_or s at 0) → allowed_at place (class_of n) ≡ false) → then (ask four w s ts place left at) K ≡ refused 2 at
+  unfolding ask ask_of then pick
+  asks_other f = go (node_at w s at) (node_code w s at)
+    where
+      go : (o : Option Node) → Coded w s at o → then (ask_of four w s ts place left at o) K ≡ refused 2 at
+      go None h = refl
+      go (Some n) h = cc (f n h)
 
   -- the command x of m bytes
-  pub asks_is : (x : Node) (m : ℕ) (good fits : Bool) (r : Reading B) → node_at w s at ≡ if_whole s at m x → allowed_at place 8 ≡ false → allowed_at place (class_of x) ≡ true
+  pub asks_is : (x : Node) (m : ℕ) (good fits : Bool) (r : Reading B) → node_at w s at ≡ if_whole s at m x → allowed_at place (class_of x) ≡ true
       → (defined (length ts) x && leb 1 left) ≡ good → suits ts x ≡ fits → size_of w x ≡ m → K x (at + m) ≡ r → then (ask four w s ts place left at) K ≡ asked four w s at m good fits r
-  unfolding ask then pick if_whole class_of asked
-  asks_is x m good fits r n never may g f z k = go (ltb (length s - at) m) refl good g four refl fits f
+  unfolding ask ask_of then pick if_whole class_of asked
+  asks_is x m good fits r n may g f z k = go (ltb (length s - at) m) refl good g four refl fits f
     where
       go : (a : Bool) → ltb (length s - at) m ≡ a → (b : Bool) → (defined (length ts) x && leb 1 left) ≡ b → (c : Bool) → four ≡ c → (d : Bool) → suits ts x ≡ d
           → then (ask four w s ts place left at) K ≡ cond a (refused 2 at) (cond b (cond (cond c d true) r (refused 4 at)) (refused 3 at))
-      go true e b h c i d j = cc (n, e, never)
+      go true e b h c i d j = cc (n, e)
       go false e true h true i true j = cc (n, e, may, h, i, j, z, k)
       go false e true h true i false j = cc (n, e, may, h, i, j)
       go false e true h false i d j = cc (n, e, may, h, i, z, k)

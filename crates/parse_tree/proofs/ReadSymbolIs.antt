@@ -7,6 +7,7 @@ use native.Mathlib.Omega.{arith}
 use borrow.Author.Tests.{eqb-false}
 use lib.Dec.{eqb, leb}
 use lib.ListN.{length, get_or}
+use Rattle.std.specs.Prelude.{Option, Some, None}
 use Rattle.octets.specs.Working.Choice.{pick}
 use Rattle.octets.specs.Plain.Numbers.{le_at}
 use Rattle.parse_tree.specs.Plain.Tree.{Text, Sym, syms_of}
@@ -17,7 +18,7 @@ use Rattle.parse_tree.specs.Working.Questions.{defined, leaf_defined, symbol_def
 use Rattle.parse_tree.specs.Plain.Reading.{Reading, got, refused, then, times}
 use Rattle.parse_tree.specs.Working.Expect.{expect_symbol}
 use Rattle.parse_tree.specs.Working.Operands.{op_from, leaf_of, around_of, over_of, inside_of}
-use Rattle.parse_tree.specs.Working.Decode.{ask, read_sym}
+use Rattle.parse_tree.specs.Working.Decode.{ask_of, ask, read_sym}
 use Rattle.parse_tree.specs.declared.syntax.Leaf.{Leaf}
 use Rattle.parse_tree.specs.declared.syntax.Around.{Around}
 use Rattle.parse_tree.specs.declared.syntax.Over.{Over}
@@ -25,7 +26,7 @@ use Rattle.parse_tree.specs.declared.syntax.SymbolKind.{SymbolKind}
 use Rattle.parse_tree.specs.declared.syntax.Node.{Node}
 use Rattle.parse_tree.proofs.SizeLaws.{ambiguous_size, bare_size, quoted_size, regex_size, nonterminal_leaf_size, lookahead_size, lookbehind_size, error_size, leaf_size, repeat_size, choose_size, name_size, macro_size, group_size}
 use Rattle.parse_tree.specs.Plain.ReadTape as Plain
-use Rattle.parse_tree.proofs.ReadCommandIs.{node_by_lem, CodeOf, node_code, by_code, pick-if, asks_other, asks_is}
+use Rattle.parse_tree.proofs.ReadCommandIs.{node_by_lem, CodeOf, by_code, pick-if, asks_other, asks_is}
 
 op_is : (k : ℕ) → op_from k ≡ Plain.op_of k
 unfolding op_from
@@ -60,14 +61,13 @@ module _ (four : Bool) (w : ℕ) (s : List ℕ) (ts : List Text) (inside : ℕ �
   no_symbol (Node.Attribute a) c e = refl
   no_symbol (Node.Condition x) c e = refl
   no_symbol (Node.Symbol sp k) c e = absurd (e c.0 c.1)
-  no_symbol Node.Unknown c e = refl
 
   -- the command x of m bytes, of a symbol
   symbol_asks : (x : SymbolKind) (m : ℕ) (good fits : Bool) (r : Reading Sym) → node_at w s at ≡ if_whole s at m (Node.Symbol (span_in s (at + 1)) x)
       → (symbol_defined (length ts) x && leb 1 left) ≡ good → symbol_suits ts x ≡ fits → m ≡ size_of w (Node.Symbol (span_in s (at + 1)) x)
       → behind (Node.Symbol (span_in s (at + 1)) x) (at + m) ≡ r → Plain.asked four w s at m good fits r ≡ then (ask four w s ts symbols_place left at) behind
   unfolding allowed_at table class_of defined suits
-  symbol_asks x m good fits r n g f z k = sym (asks_is four w s ts symbols_place left at behind (Node.Symbol (span_in s (at + 1)) x) m good fits r n refl refl g f (sym z) k)
+  symbol_asks x m good fits r n g f z k = sym (asks_is four w s ts symbols_place left at behind (Node.Symbol (span_in s (at + 1)) x) m good fits r n refl g f (sym z) k)
 
   pub symbol_by : Plain.symbol_from four w s ts inside left at (Plain.command_at four w s ts at) ≡ then (ask four w s ts symbols_place left at) behind
   unfolding Plain.command_at expect_symbol node_by pick symbol_node_at named_leaf bare_leaf symbol_defined leaf_defined symbol_suits leaf_suits leaf_of around_of over_of inside_of span_in
@@ -85,20 +85,24 @@ module _ (four : Bool) (w : ℕ) (s : List ℕ) (ts : List Text) (inside : ℕ �
       by_code (Plain.symbol_from four w s ts inside left at) code 42 _ _ _ (λ e. symbol_asks (SymbolKind.Leaf Leaf.Lookahead) (9) _ _ _ (node_by_lem w s at 41 e) refl refl (leaf_size w _ _ _ refl _ 0 refl (lookahead_size w _ refl)) refl) (λ n42.
       by_code (Plain.symbol_from four w s ts inside left at) code 43 _ _ _ (λ e. symbol_asks (SymbolKind.Leaf Leaf.Lookbehind) (9) _ _ _ (node_by_lem w s at 42 e) refl refl (leaf_size w _ _ _ refl _ 0 refl (lookbehind_size w _ refl)) refl) (λ n43.
       by_code (Plain.symbol_from four w s ts inside left at) code 44 _ _ _ (λ e. symbol_asks (SymbolKind.Leaf Leaf.Error) (9) _ _ _ (node_by_lem w s at 43 e) refl refl (leaf_size w _ _ _ refl _ 0 refl (error_size w _ refl)) refl) (λ n44.
-      sym (asks_other four w s ts symbols_place left at behind (no_symbol (node_at w s at) (node_code w s at) (λ lo hi.
+      sym (asks_other four w s ts symbols_place left at behind (λ n h. no_symbol n h (λ lo hi.
       under code 45 (past code 44 (past code 43 (past code 42 (past code 41 (past code 40 (past code 39 (past code 38 (past code 37 (past code 36 (past code 35 (past code 34 (past code 33 (past code 32 lo (eqb-false code 32 n32)) (eqb-false code 33 n33)) (eqb-false code 34 n34)) (eqb-false code 35 n35)) (eqb-false code 36 n36)) (eqb-false code 37 n37)) (eqb-false code 38 n38)) (eqb-false code 39 n39)) (eqb-false code 40 n40)) (eqb-false code 41 n41)) (eqb-false code 42 n42)) (eqb-false code 43 n43)) (eqb-false code 44 n44)) hi))))))))))))))))
 
 -- without nesting left no symbol is read, whatever would come
 none_left : (four : Bool) (w : ℕ) (s : List ℕ) (ts : List Text) (at : ℕ) (K K' : Node → ℕ → Reading Sym) → then (ask four w s ts symbols_place zero at) K ≡ then (ask four w s ts symbols_place zero at) K'
-unfolding ask pick then
-none_left four w s ts at K K' = go (allowed_at symbols_place (class_of (node_at w s at))) (defined (length ts) (node_at w s at))
+unfolding ask ask_of pick then
+none_left four w s ts at K K' = go (node_at w s at)
   where
-    go : (a d : Bool)
-        → then (pick a (pick (d && leb 1 zero) (pick (pick four (suits ts (node_at w s at)) true) (got (node_at w s at) (at + size_of w (node_at w s at))) (refused 4 at)) (refused 3 at)) (refused 2 at)) K
-        ≡ then (pick a (pick (d && leb 1 zero) (pick (pick four (suits ts (node_at w s at)) true) (got (node_at w s at) (at + size_of w (node_at w s at))) (refused 4 at)) (refused 3 at)) (refused 2 at)) K'
-    go true true = refl
-    go true false = refl
-    go false d = refl
+    picked : (n : Node) (a d : Bool)
+        → then (pick a (pick (d && leb 1 zero) (pick (pick four (suits ts n) true) (got n (at + size_of w n)) (refused 4 at)) (refused 3 at)) (refused 2 at)) K
+        ≡ then (pick a (pick (d && leb 1 zero) (pick (pick four (suits ts n) true) (got n (at + size_of w n)) (refused 4 at)) (refused 3 at)) (refused 2 at)) K'
+    picked n true true = refl
+    picked n true false = refl
+    picked n false d = refl
+
+    go : (o : Option Node) → then (ask_of four w s ts symbols_place zero at o) K ≡ then (ask_of four w s ts symbols_place zero at o) K'
+    go None = refl
+    go (Some n) = picked n (allowed_at symbols_place (class_of n)) (defined (length ts) n)
 
 pub symbol_is : (four : Bool) (w : ℕ) (s : List ℕ) (ts : List Text) (left at : ℕ) → Plain.symbol_at four w s ts left at ≡ read_sym four w s ts left at
 unfolding Plain.symbol_at read_sym

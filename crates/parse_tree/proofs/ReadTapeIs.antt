@@ -9,6 +9,7 @@ use native.Mathlib.Omega.{arith}
 use borrow.Author.Tests.{eqb-true, eqb-false, ltb-true, lt-ltb}
 use lib.Dec.{eqb, ltb, leb}
 use lib.ListN.{length, get_or}
+use Rattle.std.specs.Prelude.{Option as Optional, Some, None}
 use Rattle.octets.specs.Working.Choice.{pick}
 use Rattle.octets.specs.Plain.Numbers.{le_at}
 use Rattle.octets.specs.Plain.Runs.{part}
@@ -26,7 +27,7 @@ use Rattle.parse_tree.specs.declared.syntax.Node.{Node}
 use Rattle.parse_tree.proofs.SizeLaws.{argument-size, attribute_size, condition_size, alternative_size, nonterminal_size, terminal_size}
 use Rattle.parse_tree.specs.Plain.ReadTape as Plain
 use Rattle.parse_tree.proofs.ReadSymbolIs.{symbol_is}
-use Rattle.parse_tree.proofs.ReadCommandIs.{and-true, pick-if, pick-or, by_code, node_by_lem, CodeOf, node_code, asks_other, asks_is}
+use Rattle.parse_tree.proofs.ReadCommandIs.{and-true, pick-if, pick-or, by_code, node_by_lem, CodeOf, Coded, node_code, asks_other, asks_is}
 
 module _ (four : Bool) (w : ℕ) (s : List ℕ) (ts : List Text) (at : ℕ) where
   abbrev code : ℕ
@@ -43,7 +44,6 @@ module _ (four : Bool) (w : ℕ) (s : List ℕ) (ts : List Text) (at : ℕ) wher
   no_argument (Node.Attribute a) c e = refl
   no_argument (Node.Condition x) c e = refl
   no_argument (Node.Symbol sp k) c e = refl
-  no_argument Node.Unknown c e = refl
 
   no_attribute : (n : Node) → CodeOf n code → eqb code 19 ≡ false → allowed_at attributes_place (class_of n) ≡ false
   unfolding allowed_at table class_of
@@ -55,7 +55,6 @@ module _ (four : Bool) (w : ℕ) (s : List ℕ) (ts : List Text) (at : ℕ) wher
   no_attribute (Node.Attribute a) c e = absurd (eqb-false code 19 e c)
   no_attribute (Node.Condition x) c e = refl
   no_attribute (Node.Symbol sp k) c e = refl
-  no_attribute Node.Unknown c e = refl
 
   no_condition : (n : Node) → CodeOf n code → eqb code 20 ≡ false → allowed_at conditions_place (class_of n) ≡ false
   unfolding allowed_at table class_of
@@ -67,7 +66,6 @@ module _ (four : Bool) (w : ℕ) (s : List ℕ) (ts : List Text) (at : ℕ) wher
   no_condition (Node.Attribute a) c e = refl
   no_condition (Node.Condition x) c e = absurd (eqb-false code 20 e c)
   no_condition (Node.Symbol sp k) c e = refl
-  no_condition Node.Unknown c e = refl
 
   no_alternative : (n : Node) → CodeOf n code → eqb code 18 ≡ false → allowed_at alternatives_place (class_of n) ≡ false
   unfolding allowed_at table class_of
@@ -79,14 +77,13 @@ module _ (four : Bool) (w : ℕ) (s : List ℕ) (ts : List Text) (at : ℕ) wher
   no_alternative (Node.Attribute a) c e = refl
   no_alternative (Node.Condition x) c e = refl
   no_alternative (Node.Symbol sp k) c e = refl
-  no_alternative Node.Unknown c e = refl
 
   pub argument_is : Plain.argument_at four w s ts at ≡ read_argument four w s ts at
   unfolding Plain.argument_at read_argument expect_argument node_by pick argument_node_at allowed_at table class_of defined suits
   argument_is =
       by_code (λ r. r) code 17 _ _ _ (λ e. sym (asks_is four w s ts arguments_place 1 at _ (Node.Argument (record { 0 = le_at w s (at + 1) })) (1 + w) _ _ _
-      (node_by_lem w s at 16 e) refl refl (and-true _) refl (sym (argument-size w _ _ refl)) refl)) (λ e.
-      sym (asks_other four w s ts arguments_place 1 at _ (no_argument (node_at w s at) (node_code w s at) e)))
+      (node_by_lem w s at 16 e) refl (and-true _) refl (sym (argument-size w _ _ refl)) refl)) (λ e.
+      sym (asks_other four w s ts arguments_place 1 at _ (λ n h. no_argument n h e)))
 
   pub attribute_is : Plain.attribute_at four w s ts at ≡ read_attribute four w s ts at
   unfolding Plain.attribute_at read_attribute expect_attribute node_by pick attribute_node_at allowed_at table class_of defined attribute_defined suits attribute_of
@@ -97,10 +94,10 @@ module _ (four : Bool) (w : ℕ) (s : List ℕ) (ts : List Text) (at : ℕ) wher
         key = record { 0 = le_at w s (at + 2 + w) };
         value = record { 0 = le_at w s (at + 2 + w + w) };
       })) (2 + w + w + w) _ _ _
-      (node_by_lem w s at 18 e) refl refl (and-true _ ∙ ap (λ (b : Bool). ltb (le_at w s (at + 1)) (length ts) && (leb (get_or s (at + 1 + w) 0) 1 && b)) (pick-if (eqb (get_or s (at + 1 + w) 0) 1) (ltb (le_at w s (at + 2 + w)) (length ts) && ltb (le_at w s (at + 2 + w + w)) (length ts)) (eqb (le_at w s (at + 2 + w)) 0 && eqb (le_at w s (at + 2 + w + w)) 0)))
+      (node_by_lem w s at 18 e) refl (and-true _ ∙ ap (λ (b : Bool). ltb (le_at w s (at + 1)) (length ts) && (leb (get_or s (at + 1 + w) 0) 1 && b)) (pick-if (eqb (get_or s (at + 1 + w) 0) 1) (ltb (le_at w s (at + 2 + w)) (length ts) && ltb (le_at w s (at + 2 + w + w)) (length ts)) (eqb (le_at w s (at + 2 + w)) 0 && eqb (le_at w s (at + 2 + w + w)) 0)))
       (ap (λ (b : Bool). is_name (get_or ts (le_at w s (at + 1)) []) && b) (pick-if (eqb (get_or s (at + 1 + w) 0) 1) (is_ascii (get_or ts (le_at w s (at + 2 + w)) []) && is_ascii (get_or ts (le_at w s (at + 2 + w + w)) [])) true)) (sym (attribute_size w _ _ refl))
       (ap (λ (o : Option (Text × Text)). got (record { id = get_or ts (le_at w s (at + 1)) []; argument = o }) (at + (2 + w + w + w))) (pick-if (eqb (get_or s (at + 1 + w) 0) 1) (some (get_or ts (le_at w s (at + 2 + w)) [], get_or ts (le_at w s (at + 2 + w + w)) [])) none)))) (λ e.
-      sym (asks_other four w s ts attributes_place 1 at _ (no_attribute (node_at w s at) (node_code w s at) e)))
+      sym (asks_other four w s ts attributes_place 1 at _ (λ n h. no_attribute n h e)))
 
   pub condition_is : Plain.condition_at four w s ts at ≡ read_condition four w s ts at
   unfolding Plain.condition_at read_condition expect_condition node_by pick condition_node_at allowed_at table class_of defined suits condition_of span_in
@@ -110,8 +107,8 @@ module _ (four : Bool) (w : ℕ) (s : List ℕ) (ts : List Text) (at : ℕ) wher
         lhs = record { 0 = le_at w s (at + 9) };
         op = get_or s (at + 9 + w) 0;
         rhs = record { 0 = le_at w s (at + 10 + w) };
-      })) (10 + w + w) _ _ _ (node_by_lem w s at 19 e) refl refl (and-true _) refl (sym (condition_size w _ _ refl)) refl)) (λ e.
-      sym (asks_other four w s ts conditions_place 1 at _ (no_condition (node_at w s at) (node_code w s at) e)))
+      })) (10 + w + w) _ _ _ (node_by_lem w s at 19 e) refl (and-true _) refl (sym (condition_size w _ _ refl)) refl)) (λ e.
+      sym (asks_other four w s ts conditions_place 1 at _ (λ n h. no_condition n h e)))
 
 -- ---- alternatives
 first-is : (cs : List Condition) → first_of cs ≡ Plain.first_of cs
@@ -159,10 +156,10 @@ module _ (four : Bool) (w : ℕ) (s : List ℕ) (ts : List Text) (at : ℕ) wher
         action = get_or s (at + 11) 0;
         text = record { 0 = le_at w s (at + 12) };
         symbols = le_at 2 s (at + 12 + w);
-      })) (14 + w) _ _ _ (node_by_lem w s at 17 e) refl refl
+      })) (14 + w) _ _ _ (node_by_lem w s at 17 e) refl
       (and-true _ ∙ ap (λ (b : Bool). leb (get_or s (at + 10) 0) 1 && (leb (get_or s (at + 11) 0) 4 && b)) (text_if (ltb (le_at w s (at + 12)) (length ts)) (eqb (le_at w s (at + 12)) 0)))
       (text_if (is_ascii (get_or ts (le_at w s (at + 12)) [])) true) (sym (alternative_size w _ _ refl)) in_alternative_lem)) (λ e.
-      sym (asks_other four w s ts alternatives_place 1 at _ (no_alternative four w s ts at (node_at w s at) (node_code w s at) e)))
+      sym (asks_other four w s ts alternatives_place 1 at _ (λ n h. no_alternative four w s ts at n h e)))
     where
       text_if : (x y : Bool) → pick (pick (eqb (get_or s (at + 11) 0) 1) true (eqb (get_or s (at + 11) 0) 2)) x y ≡ cond (eqb (get_or s (at + 11) 0) 1 || eqb (get_or s (at + 11) 0) 2) x y
       text_if x y = pick-if (pick (eqb (get_or s (at + 11) 0) 1) true (eqb (get_or s (at + 11) 0) 2)) x y ∙ ap (λ (b : Bool). cond b x y) (pick-or (eqb (get_or s (at + 11) 0) 1) (eqb (get_or s (at + 11) 0) 2))
@@ -180,7 +177,6 @@ module _ (four : Bool) (w : ℕ) (s : List ℕ) (ts : List Text) (at : ℕ) wher
   no_item (Node.Attribute a) c e f g = refl
   no_item (Node.Condition x) c e f g = refl
   no_item (Node.Symbol sp k) c e f g = refl
-  no_item Node.Unknown c e f g = refl
 
   -- what stands inside a nonterminal, by what reads it
   abbrev in_nonterminal : (ℕ → Reading Text) → (ℕ → Reading Alternative) → Bool → Reading Item
@@ -205,12 +201,12 @@ module _ (four : Bool) (w : ℕ) (s : List ℕ) (ts : List Text) (at : ℕ) wher
         flags = get_or s (at + 9 + w) 0;
         args = get_or s (at + 10 + w) 0;
         alternatives = le_at 2 s (at + 11 + w);
-      })) (13 + w) _ _ _ (node_by_lem w s at 15 e) refl refl (and-true _) refl (sym (nonterminal_size w _ _ refl)) in_nonterminal_lem)) (λ n16.
+      })) (13 + w) _ _ _ (node_by_lem w s at 15 e) refl (and-true _) refl (sym (nonterminal_size w _ _ refl)) in_nonterminal_lem)) (λ n16.
       by_code (λ r. r) (get_or s at 0) 48 _ _ _ (λ e. sym (asks_is four w s ts items_place 1 at _ (Node.Terminal (record { span = span_in s (at + 1); name = record { 0 = le_at w s (at + 9) }; source = 48 }))
-      (9 + w) _ _ _ (node_by_lem w s at 47 e) refl refl (and-true _) refl (sym (terminal_size w _ _ refl)) refl)) (λ n48.
+      (9 + w) _ _ _ (node_by_lem w s at 47 e) refl (and-true _) refl (sym (terminal_size w _ _ refl)) refl)) (λ n48.
       by_code (λ r. r) (get_or s at 0) 49 _ _ _ (λ e. sym (asks_is four w s ts items_place 1 at _ (Node.Terminal (record { span = span_in s (at + 1); name = record { 0 = le_at w s (at + 9) }; source = 49 }))
-      (9 + w) _ _ _ (node_by_lem w s at 48 e) refl refl (and-true _) refl (sym (terminal_size w _ _ refl)) refl)) (λ n49.
-      sym (asks_other four w s ts items_place 1 at _ (no_item (node_at w s at) (node_code w s at) n16 n48 n49)))))
+      (9 + w) _ _ _ (node_by_lem w s at 48 e) refl (and-true _) refl (sym (terminal_size w _ _ refl)) refl)) (λ n49.
+      sym (asks_other four w s ts items_place 1 at _ (λ n h. no_item n h n16 n48 n49)))))
 
 -- ---- tapes
 module _ (four : Bool) (w : ℕ) (s : List ℕ) where
@@ -229,31 +225,31 @@ module _ (four : Bool) (w : ℕ) (s : List ℕ) where
           ∙ ap (λ (k : ℕ → Reading (List Item)). then (read_item four w s ts at) (λ i e. then (k e) (λ is f. got (i ∷ is) f))) ih
 
   -- what is read behind a command among the atoms: the next atom, or no more of them
-  abbrev next_atom : (List Text → ℕ → Reading (List Text)) → List Text → ℕ → Node → Reading (List Text)
+  abbrev next_atom : (List Text → ℕ → Reading (List Text)) → List Text → ℕ → Optional Node → Reading (List Text)
   next_atom more ts at n = elim n [
-    | Node.Text k ↦ elim (has (part (at + 3) (at + 3 + k) s) ts) [ true ↦ refused 3 at | false ↦ more (ts ++ (part (at + 3) (at + 3 + k) s ∷ [])) (at + 3 + k) ]
-    | Node.Nonterminal d ↦ got ts at
-    | Node.Terminal t ↦ got ts at
-    | Node.Argument a ↦ got ts at
-    | Node.Alternative a ↦ got ts at
-    | Node.Attribute a ↦ got ts at
-    | Node.Condition c ↦ got ts at
-    | Node.Symbol sp k ↦ got ts at
-    | Node.Unknown ↦ got ts at
+    | None ↦ got ts at
+    | Some (Node.Text k) ↦ elim (has (part (at + 3) (at + 3 + k) s) ts) [ true ↦ refused 3 at | false ↦ more (ts ++ (part (at + 3) (at + 3 + k) s ∷ [])) (at + 3 + k) ]
+    | Some (Node.Nonterminal d) ↦ got ts at
+    | Some (Node.Terminal t) ↦ got ts at
+    | Some (Node.Argument a) ↦ got ts at
+    | Some (Node.Alternative a) ↦ got ts at
+    | Some (Node.Attribute a) ↦ got ts at
+    | Some (Node.Condition c) ↦ got ts at
+    | Some (Node.Symbol sp k) ↦ got ts at
   ]
 
-  no_atom : (more : List Text → ℕ → Reading (List Text)) (ts : List Text) (at : ℕ) (n : Node) → CodeOf n (get_or s at 0) → eqb (get_or s at 0) 1 ≡ false → next_atom more ts at n ≡ got ts at
-  no_atom more ts at (Node.Text k) c e = absurd (eqb-false (get_or s at 0) 1 e c)
-  no_atom more ts at (Node.Nonterminal d) c e = refl
-  no_atom more ts at (Node.Terminal t) c e = refl
-  no_atom more ts at (Node.Argument a) c e = refl
-  no_atom more ts at (Node.Alternative a) c e = refl
-  no_atom more ts at (Node.Attribute a) c e = refl
-  no_atom more ts at (Node.Condition x) c e = refl
-  no_atom more ts at (Node.Symbol sp k) c e = refl
-  no_atom more ts at Node.Unknown c e = refl
+  no_atom : (more : List Text → ℕ → Reading (List Text)) (ts : List Text) (at : ℕ) (n : Optional Node) → Coded w s at n → eqb (get_or s at 0) 1 ≡ false → next_atom more ts at n ≡ got ts at
+  no_atom more ts at None c e = refl
+  no_atom more ts at (Some (Node.Text k)) c e = absurd (eqb-false (get_or s at 0) 1 e c)
+  no_atom more ts at (Some (Node.Nonterminal d)) c e = refl
+  no_atom more ts at (Some (Node.Terminal t)) c e = refl
+  no_atom more ts at (Some (Node.Argument a)) c e = refl
+  no_atom more ts at (Some (Node.Alternative a)) c e = refl
+  no_atom more ts at (Some (Node.Attribute a)) c e = refl
+  no_atom more ts at (Some (Node.Condition x)) c e = refl
+  no_atom more ts at (Some (Node.Symbol sp k)) c e = refl
 
-  -- an atom that is if_whole with its command is if_whole with its bytes
+  -- an atom that is whole with its bytes is whole with its command
   whole_atom : (at : ℕ) → ltb (length s - at) 3 ≡ true → ltb (length s - at) (3 + le_at 2 s (at + 1)) ≡ true
   whole_atom at e = let z = ltb-true (length s - at) 3 e in lt-ltb (length s - at) (3 + le_at 2 s (at + 1)) (omega arith)
 
@@ -268,7 +264,7 @@ module _ (four : Bool) (w : ℕ) (s : List ℕ) where
   atom_is more ts at = go (eqb (get_or s at 0) 1) refl
     where
       text : (a b : Bool) → ltb (length s - at) 3 ≡ a → ltb (length s - at) (3 + le_at 2 s (at + 1)) ≡ b
-          → of_atom more ts at (not b) ≡ next_atom more ts at (pick a Node.Unknown (pick b Node.Unknown (Node.Text (le_at 2 s (at + 1)))))
+          → of_atom more ts at (not b) ≡ next_atom more ts at (pick a None (pick b None (Some (Node.Text (le_at 2 s (at + 1))))))
       text true true e f = refl
       text true false e f = absurd (true≢false (sym (whole_atom at e) ∙ f))
       text false true e f = refl

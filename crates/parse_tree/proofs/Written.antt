@@ -8,6 +8,7 @@ use borrow.Author.Tests.{leb-true}
 use lib.Dec.{leb}
 use lib.ListN.{length}
 use lib.Seq.{drop-length}
+use Rattle.std.specs.Prelude.{Option, Some, None}
 use Rattle.octets.specs.Plain.Numbers.{Bytes}
 use Rattle.octets.specs.Plain.Runs.{part, Lies}
 use Rattle.octets.proofs.LiesLaws.{lies_none, lies_append, lies_to, lies_inside, part_lies}
@@ -97,31 +98,31 @@ module _ (four : Bool) (w : ℕ) (s : List ℕ) (b : Bytes s) where
       new k true q x y f = absurd (never y)
       new k false q x y f = f (ts ++ (part (a + 3) (a + 3 + k) s ∷ [])) (a + 3 + k) (atoms_more ts a k h x q) y
 
-      go : (c : Node) → NodeSays w s a c
+      go : (c : Option Node) → NodeSays w s a c
           → elim c [
-            | Node.Text k ↦ elim (has (part (a + 3) (a + 3 + k) s) ts) [
+            | None ↦ got ts a
+            | Some (Node.Text k) ↦ elim (has (part (a + 3) (a + 3 + k) s) ts) [
               | true ↦ refused 3 a
               | false ↦ read_atoms four w s n (ts ++ (part (a + 3) (a + 3 + k) s ∷ [])) (a + 3 + k)
             ]
-            | Node.Nonterminal k ↦ got ts a
-            | Node.Terminal k ↦ got ts a
-            | Node.Argument k ↦ got ts a
-            | Node.Alternative k ↦ got ts a
-            | Node.Attribute k ↦ got ts a
-            | Node.Condition k ↦ got ts a
-            | Node.Symbol sp k ↦ got ts a
-            | Node.Unknown ↦ got ts a
+            | Some (Node.Nonterminal k) ↦ got ts a
+            | Some (Node.Terminal k) ↦ got ts a
+            | Some (Node.Argument k) ↦ got ts a
+            | Some (Node.Alternative k) ↦ got ts a
+            | Some (Node.Attribute k) ↦ got ts a
+            | Some (Node.Condition k) ↦ got ts a
+            | Some (Node.Symbol sp k) ↦ got ts a
           ] ≡ got us e
           → ((vs : List Text) (m : ℕ) → Atoms vs m → read_atoms four w s n vs m ≡ got us e → Atoms us e) → Atoms us e
-      go (Node.Text k) x y f = new k (has (part (a + 3) (a + 3 + k) s) ts) refl x y f
-      go (Node.Nonterminal k) x y f = got_as Atoms y h
-      go (Node.Terminal k) x y f = got_as Atoms y h
-      go (Node.Argument k) x y f = got_as Atoms y h
-      go (Node.Alternative k) x y f = got_as Atoms y h
-      go (Node.Attribute k) x y f = got_as Atoms y h
-      go (Node.Condition k) x y f = got_as Atoms y h
-      go (Node.Symbol sp k) x y f = got_as Atoms y h
-      go Node.Unknown x y f = got_as Atoms y h
+      go (Some (Node.Text k)) x y f = new k (has (part (a + 3) (a + 3 + k) s) ts) refl x y f
+      go (Some (Node.Nonterminal k)) x y f = got_as Atoms y h
+      go (Some (Node.Terminal k)) x y f = got_as Atoms y h
+      go (Some (Node.Argument k)) x y f = got_as Atoms y h
+      go (Some (Node.Alternative k)) x y f = got_as Atoms y h
+      go (Some (Node.Attribute k)) x y f = got_as Atoms y h
+      go (Some (Node.Condition k)) x y f = got_as Atoms y h
+      go (Some (Node.Symbol sp k)) x y f = got_as Atoms y h
+      go None x y f = got_as Atoms y h
 
   atoms_none : Atoms [] 0
   unfolding bytes_of_each distinct

@@ -1,6 +1,7 @@
 -- Commands as values, the table of places, and reading and writing by them.
 pub mod Refusals
 pub mod Nodes
+pub mod Nested
 pub mod Places
 pub mod Questions
 pub mod Expect

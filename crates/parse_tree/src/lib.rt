@@ -1,6 +1,7 @@
 // One command of a tape, as an enum; which command may stand where; how long a command is.
 #![tactic(auto)]
 
+pub mod nested;
 pub mod node;
 pub mod places;
 pub mod refusal;

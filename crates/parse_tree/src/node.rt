@@ -1,9 +1,11 @@
 // One command of a tape, read: the operands stand as in specs/Nodes. That there is one is asked at each call: the place differs from one to the next.
-ghost use Rattle.std.specs.Prelude.{◌≡◌, ◌+◌, ◌≤◌, ◌<◌, length, get_or};
+ghost use Rattle.std.specs.Prelude.{◌≡◌, ◌≢◌, ◌+◌, ◌≤◌, ◌<◌, length, Some, option_map};
 ghost use Rattle.octets.specs.Plain.Numbers.{le_at};
-ghost use Rattle.parse_tree.specs.Working.Nodes.{node_at, text_node, nonterminal_node_at, terminal_node_at, argument_node_at, alternative_node_at, attribute_node_at, condition_node_at, nonterminal_here, alternative_here, attribute_here};
-ghost use Rattle.parse_tree.specs.Working.Nodes.{if_whole, span_in, symbol_node_at, named_leaf, bare_leaf};
+ghost use Rattle.parse_tree.specs.Working.Nodes.{node_at, node_by, text_node, terminal_node_at, condition_node_at, nonterminal_here, alternative_here, attribute_here};
+ghost use Rattle.parse_tree.specs.declared.syntax.Node.{Node};
+ghost use Rattle.parse_tree.specs.Working.Nodes.{code_size, span_in, symbol_node_at, named_leaf, bare_leaf};
 
+use crate::size::size_by_code;
 use crate::syntax::{
     Alternative, Around, Atom, Attribute, Condition, Leaf, Node, NonterminalData,
     NonterminalString, Over, Span, SymbolKind, TerminalData, TerminalString,
@@ -18,23 +20,21 @@ pub fn span_at(tape: &[u8], at: usize) -> Span
     Span(u32_at(tape, at), u32_at(tape, at + 4))
 }
 
-// An atom: if_whole with its text.
-fn text_node(tape: &[u8], at: usize) -> Node
+// How many bytes the text of the atom at a place has, if the atom is whole with them. Its code is asked before.
+pub fn text_size(tape: &[u8], at: usize) -> Option<u16>
     requires { at < length tape.now }
-    ensures { result ≡ text_node tape.now at }
+    ensures { option_map Node.Text result ≡ text_node tape.now at }
 {
     let room = tape.len() - at;
     if room < 3 {
-        return Node::Unknown;
+        return None;
     }
     let n = u16_at(tape, at + 1);
     if room < 3 + usize::from(n) {
-        return Node::Unknown;
+        return None;
     }
-    Node::Text(n)
+    Some(n)
 }
-
-// Each reader below tests its length by itself: a closure for the rest of it would be no plainer.
 
 // The nonterminal at a place where its command is whole.
 pub fn whole_nonterminal(tape: &[u8], at: usize, width: Width) -> NonterminalData
@@ -48,40 +48,6 @@ pub fn whole_nonterminal(tape: &[u8], at: usize, width: Width) -> NonterminalDat
         args: tape[at + 10 + width.bytes],
         alternatives: u16_at(tape, at + 11 + width.bytes),
     }
-}
-
-fn nonterminal_at(tape: &[u8], at: usize, width: Width) -> Node
-    requires { at < length tape.now }
-    ensures { result ≡ nonterminal_node_at width.bytes tape.now at }
-{
-    if tape.len() - at < 13 + width.bytes {
-        return Node::Unknown;
-    }
-    Node::Nonterminal(whole_nonterminal(tape, at, width))
-}
-
-fn terminal_at(tape: &[u8], at: usize, width: Width, code: u8) -> Node
-    requires { at < length tape.now }
-    ensures { result ≡ terminal_node_at width.bytes code tape.now at }
-{
-    if tape.len() - at < 9 + width.bytes {
-        return Node::Unknown;
-    }
-    Node::Terminal(TerminalData {
-        span: span_at(tape, at + 1),
-        name: TerminalString(atom_at(tape, at + 9, width)),
-        source: code,
-    })
-}
-
-fn argument_at(tape: &[u8], at: usize, width: Width) -> Node
-    requires { at < length tape.now }
-    ensures { result ≡ argument_node_at width.bytes tape.now at }
-{
-    if tape.len() - at < 1 + width.bytes {
-        return Node::Unknown;
-    }
-    Node::Argument(NonterminalString(atom_at(tape, at + 1, width)))
 }
 
 // The alternative at a place where its command is whole.
@@ -99,16 +65,6 @@ pub fn whole_alternative(tape: &[u8], at: usize, width: Width) -> Alternative
     }
 }
 
-fn alternative_at(tape: &[u8], at: usize, width: Width) -> Node
-    requires { at < length tape.now }
-    ensures { result ≡ alternative_node_at width.bytes tape.now at }
-{
-    if tape.len() - at < 14 + width.bytes {
-        return Node::Unknown;
-    }
-    Node::Alternative(whole_alternative(tape, at, width))
-}
-
 // The attribute at a place where its command is whole.
 pub fn whole_attribute(tape: &[u8], at: usize, width: Width) -> Attribute
     requires { at + (2 + width.bytes + width.bytes + width.bytes) ≤ length tape.now }
@@ -122,23 +78,23 @@ pub fn whole_attribute(tape: &[u8], at: usize, width: Width) -> Attribute
     }
 }
 
-fn attribute_at(tape: &[u8], at: usize, width: Width) -> Node
-    requires { at < length tape.now }
-    ensures { result ≡ attribute_node_at width.bytes tape.now at }
+// The terminal, 30 or 31, at a place where its command is whole.
+fn terminal_at(tape: &[u8], at: usize, width: Width, code: u8) -> Node
+    requires { at + (9 + width.bytes) ≤ length tape.now }
+    ensures { Some result ≡ terminal_node_at width.bytes code tape.now at }
 {
-    if tape.len() - at < 2 + width.bytes + width.bytes + width.bytes {
-        return Node::Unknown;
-    }
-    Node::Attribute(whole_attribute(tape, at, width))
+    Node::Terminal(TerminalData {
+        span: span_at(tape, at + 1),
+        name: TerminalString(atom_at(tape, at + 9, width)),
+        source: code,
+    })
 }
 
+// The condition at a place where its command is whole.
 fn condition_at(tape: &[u8], at: usize, width: Width) -> Node
-    requires { at < length tape.now }
-    ensures { result ≡ condition_node_at width.bytes tape.now at }
+    requires { at + (10 + width.bytes + width.bytes) ≤ length tape.now }
+    ensures { Some result ≡ condition_node_at width.bytes tape.now at }
 {
-    if tape.len() - at < 10 + width.bytes + width.bytes {
-        return Node::Unknown;
-    }
     Node::Condition(Condition {
         span: span_at(tape, at + 1),
         lhs: NonterminalString(atom_at(tape, at + 9, width)),
@@ -171,148 +127,56 @@ fn bare_leaf(code: u8) -> Leaf
     }
 }
 
-// 20 to 24.
-fn named_at(tape: &[u8], at: usize, width: Width, code: u8) -> Node
-    requires { at < length tape.now }
-    ensures { result ≡ if_whole tape.now at (9 + width.bytes)
-        (Node.Symbol (span_in tape.now (at + 1))
-        (SymbolKind.Leaf (named_leaf code (le_at width.bytes tape.now (at + 9))))) }
+// The kind of the symbol, 20 to 2c, at a place where its command is whole.
+fn kind_at(tape: &[u8], at: usize, width: Width, code: u8) -> SymbolKind
+    requires { (32 ≤ code) × (code < 45) × (at + code_size width.bytes code ≤ length tape.now) }
+    ensures { Some (Node.Symbol (span_in tape.now (at + 1)) result) ≡ symbol_node_at width.bytes code tape.now at }
 {
-    if tape.len() - at < 9 + width.bytes {
-        return Node::Unknown;
-    }
-    Node::Symbol(
-        span_at(tape, at + 1),
-        SymbolKind::Leaf(named_leaf(code, atom_at(tape, at + 9, width))),
-    )
-}
-
-// 25.
-fn macro_at(tape: &[u8], at: usize, width: Width) -> Node
-    requires { at < length tape.now }
-    ensures { result ≡ if_whole tape.now at (10 + width.bytes)
-        (Node.Symbol (span_in tape.now (at + 1))
-        (SymbolKind.Over (Over.Macro (record { 0 = le_at width.bytes tape.now (at + 9) }) (get_or tape.now (at + 9 + width.bytes) 0)))) }
-{
-    if tape.len() - at < 10 + width.bytes {
-        return Node::Unknown;
-    }
-    Node::Symbol(
-        span_at(tape, at + 1),
-        SymbolKind::Over(Over::Macro(
+    match code {
+        0..=36 => SymbolKind::Leaf(named_leaf(code, atom_at(tape, at + 9, width))),
+        37 => SymbolKind::Over(Over::Macro(
             NonterminalString(atom_at(tape, at + 9, width)),
             tape[at + 9 + width.bytes],
         )),
-    )
-}
-
-// 26.
-fn repeat_at(tape: &[u8], at: usize) -> Node
-    requires { at < length tape.now }
-    ensures { result ≡ if_whole tape.now at 10
-        (Node.Symbol (span_in tape.now (at + 1))
-        (SymbolKind.Around (Around.Repeat (get_or tape.now (at + 9) 0)))) }
-{
-    if tape.len() - at < 10 {
-        return Node::Unknown;
+        38 => SymbolKind::Around(Around::Repeat(tape[at + 9])),
+        39 => SymbolKind::Around(Around::Choose),
+        40 => SymbolKind::Around(Around::Name(tape[at + 9], Atom(atom_at(tape, at + 10, width)))),
+        41 => SymbolKind::Over(Over::Group(u16_at(tape, at + 9))),
+        _ => SymbolKind::Leaf(bare_leaf(code)),
     }
-    Node::Symbol(
-        span_at(tape, at + 1),
-        SymbolKind::Around(Around::Repeat(tape[at + 9])),
-    )
 }
 
-// 27.
-fn choose_at(tape: &[u8], at: usize) -> Node
-    requires { at < length tape.now }
-    ensures { result ≡ if_whole tape.now at 9
-        (Node.Symbol (span_in tape.now (at + 1))
-        (SymbolKind.Around Around.Choose)) }
-{
-    if tape.len() - at < 9 {
-        return Node::Unknown;
-    }
-    Node::Symbol(span_at(tape, at + 1), SymbolKind::Around(Around::Choose))
-}
-
-// 28.
-fn name_at(tape: &[u8], at: usize, width: Width) -> Node
-    requires { at < length tape.now }
-    ensures { result ≡ if_whole tape.now at (10 + width.bytes)
-        (Node.Symbol (span_in tape.now (at + 1))
-        (SymbolKind.Around (Around.Name (get_or tape.now (at + 9) 0) (record { 0 = le_at width.bytes tape.now (at + 10) })))) }
-{
-    if tape.len() - at < 10 + width.bytes {
-        return Node::Unknown;
-    }
-    Node::Symbol(
-        span_at(tape, at + 1),
-        SymbolKind::Around(Around::Name(tape[at + 9], Atom(atom_at(tape, at + 10, width)))),
-    )
-}
-
-// 29.
-fn group_at(tape: &[u8], at: usize) -> Node
-    requires { at < length tape.now }
-    ensures { result ≡ if_whole tape.now at 11
-        (Node.Symbol (span_in tape.now (at + 1))
-        (SymbolKind.Over (Over.Group (le_at 2 tape.now (at + 9))))) }
-{
-    if tape.len() - at < 11 {
-        return Node::Unknown;
-    }
-    Node::Symbol(
-        span_at(tape, at + 1),
-        SymbolKind::Over(Over::Group(u16_at(tape, at + 9))),
-    )
-}
-
-// 2a, 2b, 2c.
-fn bare_at(tape: &[u8], at: usize, code: u8) -> Node
-    requires { at < length tape.now }
-    ensures { result ≡ if_whole tape.now at 9
-        (Node.Symbol (span_in tape.now (at + 1))
-        (SymbolKind.Leaf (bare_leaf code))) }
-{
-    if tape.len() - at < 9 {
-        return Node::Unknown;
-    }
-    Node::Symbol(span_at(tape, at + 1), SymbolKind::Leaf(bare_leaf(code)))
-}
-
-// The command of a symbol, 20 to 2c.
-fn symbol_at(tape: &[u8], at: usize, width: Width, code: u8) -> Node
-    requires { at < length tape.now }
-    ensures { result ≡ symbol_node_at width.bytes code tape.now at }
+// The command, no atom, at a place where all that its code says is inside.
+fn command_at(tape: &[u8], at: usize, width: Width, code: u8) -> Option<Node>
+    requires { (code ≢ 1) × (at + code_size width.bytes code ≤ length tape.now) }
+    ensures { result ≡ node_by width.bytes code tape.now at }
 {
     match code {
-        0..=36 => named_at(tape, at, width, code),
-        37 => macro_at(tape, at, width),
-        38 => repeat_at(tape, at),
-        39 => choose_at(tape, at),
-        40 => name_at(tape, at, width),
-        41 => group_at(tape, at),
-        _ => bare_at(tape, at, code),
+        16 => Some(Node::Nonterminal(whole_nonterminal(tape, at, width))),
+        17 => Some(Node::Argument(NonterminalString(atom_at(tape, at + 1, width)))),
+        18 => Some(Node::Alternative(whole_alternative(tape, at, width))),
+        19 => Some(Node::Attribute(whole_attribute(tape, at, width))),
+        20 => Some(condition_at(tape, at, width)),
+        32..=44 => Some(Node::Symbol(span_at(tape, at + 1), kind_at(tape, at, width, code))),
+        48 | 49 => Some(terminal_at(tape, at, width, code)),
+        _ => None,
     }
 }
 
-// The command at a place.
-pub fn node(tape: &[u8], at: usize, width: Width) -> Node
+// The command at a place, if one that is known stands there whole.
+pub fn node(tape: &[u8], at: usize, width: Width) -> Option<Node>
     ensures { result ≡ node_at width.bytes tape.now at }
 {
     if at >= tape.len() {
-        return Node::Unknown;
+        return None;
     }
     let code = tape[at];
-    match code {
-        1 => text_node(tape, at),
-        16 => nonterminal_at(tape, at, width),
-        17 => argument_at(tape, at, width),
-        18 => alternative_at(tape, at, width),
-        19 => attribute_at(tape, at, width),
-        20 => condition_at(tape, at, width),
-        32..=44 => symbol_at(tape, at, width, code),
-        48 | 49 => terminal_at(tape, at, width, code),
-        _ => Node::Unknown,
+    if code == 1 {
+        let n = text_size(tape, at)?;
+        return Some(Node::Text(n));
     }
+    if tape.len() - at < size_by_code(code, width) {
+        return None;
+    }
+    command_at(tape, at, width, code)
 }

@@ -27,47 +27,46 @@ pub enum Class {
     Attribute,
     Condition,
     Symbol,
-    Unknown,
 }
 
-// The class of a command: the column of the table.
-pub fn class_of(n: Node) -> Class
-    ensures { column result ≡ class_of n }
-{
-    match n {
-        Node::Text(_) => Class::Text,
-        Node::Nonterminal(_) => Class::Nonterminal,
-        Node::Terminal(_) => Class::Terminal,
-        Node::Argument(_) => Class::Argument,
-        Node::Alternative(_) => Class::Alternative,
-        Node::Attribute(_) => Class::Attribute,
-        Node::Condition(_) => Class::Condition,
-        Node::Symbol(_, _) => Class::Symbol,
-        Node::Unknown => Class::Unknown,
+impl From<Node> for Class {
+    ghost from_gives = { λ n c. column c ≡ class_of n };
+
+    fn from(n: Node) -> Class {
+        match n {
+            Node::Text(_) => Class::Text,
+            Node::Nonterminal(_) => Class::Nonterminal,
+            Node::Terminal(_) => Class::Terminal,
+            Node::Argument(_) => Class::Argument,
+            Node::Alternative(_) => Class::Alternative,
+            Node::Attribute(_) => Class::Attribute,
+            Node::Condition(_) => Class::Condition,
+            Node::Symbol(_, _) => Class::Symbol,
+        }
     }
 }
 
-// 1 where a command of the class may stand.
-const ALLOWED: [[u8; 9]; 7] = [
+// Whether a command of the class may stand there.
+const ALLOWED: [[bool; 8]; 7] = [
     // atoms: texts
-    [1, 0, 0, 0, 0, 0, 0, 0, 0],
+    [true, false, false, false, false, false, false, false],
     // items: nonterminals and terminals
-    [0, 1, 1, 0, 0, 0, 0, 0, 0],
+    [false, true, true, false, false, false, false, false],
     // arguments of a nonterminal
-    [0, 0, 0, 1, 0, 0, 0, 0, 0],
+    [false, false, false, true, false, false, false, false],
     // alternatives of a nonterminal
-    [0, 0, 0, 0, 1, 0, 0, 0, 0],
+    [false, false, false, false, true, false, false, false],
     // attributes of an alternative
-    [0, 0, 0, 0, 0, 1, 0, 0, 0],
+    [false, false, false, false, false, true, false, false],
     // the condition of an alternative
-    [0, 0, 0, 0, 0, 0, 1, 0, 0],
+    [false, false, false, false, false, false, true, false],
     // symbols
-    [0, 0, 0, 0, 0, 0, 0, 1, 0],
+    [false, false, false, false, false, false, false, true],
 ];
 
 // Whether a command of a class may stand at a place.
 pub fn allowed(place: Place, class: Class) -> bool
     ensures { result ≡ allowed_at (row place) (column class) }
 {
-    ALLOWED[place as usize][class as usize] == 1
+    ALLOWED[place as usize][class as usize]
 }

@@ -1,6 +1,6 @@
 // How long a command is.
-ghost use Rattle.std.specs.Prelude.{◌≡◌, ◌+◌, ◌≤◌, length};
-ghost use Rattle.parse_tree.specs.Working.Nodes.{leaf_operand, size_of};
+ghost use Rattle.std.specs.Prelude.{◌≡◌, ◌+◌, ◌≤◌, ◌<◌, length};
+ghost use Rattle.parse_tree.specs.Working.Nodes.{code_size, leaf_operand, size_of};
 
 use crate::syntax::{Around, Leaf, Node, Over, SymbolKind};
 use octets::numbers::Width;
@@ -19,7 +19,7 @@ fn leaf_size(l: Leaf, width: Width) -> usize
     }
 }
 
-// The bytes of a command; the text of an atom stands behind them and is not counted.
+// The bytes of a command; the text of an atom stands behind them and is not counted. By the node beside `size_by_code`: `ask` says its length so, that of an atom too.
 pub fn size(n: Node, width: Width) -> usize
     ensures { (result ≡ size_of width.bytes n) × (result ≤ 20) }
 {
@@ -43,6 +43,29 @@ pub fn size(n: Node, width: Width) -> usize
                 Over::Group(_) => 11,
             },
         },
-        Node::Unknown => 0,
+    }
+}
+
+// The same by its code, an atom aside; 9 for a code that no command has. Mostly one arm to a code, as in `resolve::commands::long`, where a range was tried: five machine instructions more for each command.
+pub fn size_by_code(code: u8, width: Width) -> usize
+    ensures { (result ≡ code_size width.bytes code) × (0 < result) × (result ≤ 17) }
+{
+    match code {
+        16 => 13 + width.bytes,
+        17 => 1 + width.bytes,
+        18 => 14 + width.bytes,
+        19 => 2 + width.bytes + width.bytes + width.bytes,
+        20 => 10 + width.bytes + width.bytes,
+        32 => 9 + width.bytes,
+        33 => 9 + width.bytes,
+        34 => 9 + width.bytes,
+        35 => 9 + width.bytes,
+        36 => 9 + width.bytes,
+        37 | 40 => 10 + width.bytes,
+        38 => 10,
+        41 => 11,
+        48 => 9 + width.bytes,
+        49 => 9 + width.bytes,
+        _ => 9,
     }
 }

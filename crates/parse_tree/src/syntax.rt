@@ -1,4 +1,5 @@
-// The commands of a tape as values. Names of one kind are a type of their own, as in the Rust's parse tree.
+// The commands of a tape as values. Names of one kind are a type of their own, as in the Rust's parse tree. Codes and operands stay the bytes of
+// document 01: a run over work tests one byte, and an enum would be made for one test.
 
 #[derive(Clone, Copy)]
 pub struct Span(pub u32, pub u32);
@@ -97,7 +98,7 @@ pub struct TerminalData {
     pub source: u8,
 }
 
-// A whole command, with its operands as they stand; Unknown where no known command stands whole.
+// A whole command, with its operands as they stand.
 #[derive(Clone, Copy)]
 pub enum Node {
     Text(u16),
@@ -108,5 +109,4 @@ pub enum Node {
     Attribute(Attribute),
     Condition(Condition),
     Symbol(Span, SymbolKind),
-    Unknown,
 }

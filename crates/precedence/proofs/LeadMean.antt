@@ -27,12 +27,13 @@ use Rattle.laws.specs.Sort.{key_of, level_keys}
 use Rattle.grades.specs.declared.Assoc.{Assoc}
 use Rattle.grades.specs.Grade.{assoc_of}
 use Rattle.grades.specs.Sort.{keys_at}
-use Rattle.grades.specs.Alternatives.{side_number}
+use Rattle.grades.specs.Key.{side_number}
 use Rattle.grades.proofs.AscendsMean.{code_of, side_few}
 use Rattle.grades.proofs.AlternativesLaws.{level_of_small}
 use Rattle.grades.proofs.AlternativesWholeMean.{places_from}
 use Rattle.grades.proofs.LowestMean.{SpanAt}
-use Rattle.precedence.specs.Level.{key_side, key_place, key_end}
+use Rattle.grades.specs.Key.{key_side}
+use Rattle.precedence.specs.Level.{key_place, key_end}
 use Rattle.precedence.proofs.SubstituteMean.{side_meant}
 use Rattle.precedence.proofs.WriteLaws.{fits_or_not}
 use Rattle.precedence.proofs.LevelKeysMean.{side_code, key_reads, KeyMeans, KeysMean}

@@ -1,5 +1,5 @@
 -- The ways out of put_number, put_named and put_nonterminal_head. Assumes nothing.
-use mathlib.Core.Path.{◌≡◌, sym, ◌∙◌}
+use mathlib.Core.Path.{◌≡◌, ◌∙◌}
 use mathlib.Core.Logic.{inl}
 use mathlib.Core.List.{List, ◌++◌}
 use Prim.Native.Nat.{ℕ, ◌+◌, ◌^◌, ◌<◌, ◌≤◌}
@@ -10,25 +10,12 @@ use borrow.Author.Rules.{rules}
 use lib.ListN.{length}
 use Rattle.octets.specs.Plain.Numbers.{le}
 use Rattle.octets.specs.Plain.Runs.{part}
-use Rattle.octets.specs.Working.Stores.{store}
-use Rattle.octets.proofs.NumbersLaws.{length-le}
 use Rattle.texts.proofs.TableStays.{part-agree}
 use Rattle.grades.specs.Annotations.{first_alternative}
 use Rattle.precedence.specs.Write.{Puts}
 use Rattle.precedence.specs.Level.{named_out, nonterminal_out}
-use Rattle.precedence.proofs.WriteLaws.{puts_beside, puts_on, puts_append, puts_whole, puts_not}
-use Rattle.precedence.proofs.WriteCode.{fits_not, fits_so}
+use Rattle.precedence.proofs.WriteLaws.{puts_beside, puts_on, puts_append}
 use Rattle.precedence.proofs.WriteWholeCode.{behind_two}
-
--- ---- put_number
-module _ (w : List ℕ) (v wd lim to : ℕ) where
-  pub number-over : lim < to + wd → Puts w lim to (le wd v) (lim + 1) w
-  number-over z = puts_not w lim to (le wd v) (omega (arith, length-le wd v))
-
-  pub number-whole : to + wd ≤ lim → (w1 : List ℕ) → w1 ≡ store w to (le wd v) → Puts w lim to (le wd v) (to + wd) w1
-  number-whole y w1 j = puts_whole w lim to (le wd v) w1 wd (sym (length-le wd v)) (omega arith) j
-
-pub ruleset numbering = (rules, fits_not, fits_so, number-over, number-whole)
 
 -- ---- three runs one behind another, the last of which stands below
 three_put : (w w1 w2 w3 : List ℕ) (lim to : ℕ) (xs ys : List ℕ) (a e q r s : ℕ) → e ≤ to → to ≤ lim + 1 → lim + 16 ≤ length w
@@ -56,9 +43,8 @@ module _ (w : List ℕ) (wd p lim to : ℕ) (h : first_alternative wd w p ≤ to
   unfolding first_alternative
   arguments_before = omega arith
 
-  pub sixteen_inside : p + 16 ≤ length w
-  unfolding first_alternative
-  sixteen_inside = omega arith
+  pub command_inside : p + 13 + wd ≤ length w
+  command_inside = omega (arith, arguments_before)
 
   pub command_before : p + 11 + wd ≤ to
   command_before = omega (arith, arguments_before)
@@ -84,7 +70,7 @@ module _ (w : List ℕ) (wd p lim to : ℕ) (h : first_alternative wd w p ≤ to
         let v : Puts w2 lim r (part (p + 13 + wd) (first_alternative wd w p) w2) s w3 = rw z at u in
         three_put w w1 w2 w3 lim to (named_out wd w p name) (le 2 many) (p + 13 + wd) (first_alternative wd w p) q r s h k l x y v
 
-pub ruleset heading_level = (rules, sixteen_inside, command_before, count_fits, arguments_fit, nonterminal_head)
+pub ruleset heading_level = (rules, command_inside, command_before, count_fits, arguments_fit, nonterminal_head)
 
 pub ruleset beginning = (rules, arguments_upto)
 

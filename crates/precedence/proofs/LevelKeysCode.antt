@@ -120,7 +120,7 @@ module _ (wd : ℕ) (ids : Ids) (places keys target : ℕ) (l : Level) (lim to :
         pub levelling_next : (r : ℕ) (w1 : List ℕ) → PutsKey wd ids places target l lim k out q r w1 → Levelling wd ids places keys target l lim to w w1 (i + 1) r
         levelling_next r w1 p =
             let inside = levelling_inside in
-            let b : Between q lim out w1 = renamed_between wd out _ _ _ _ _ _ _ _ lim q r w1 g.narrow inside.symbols (omega (arith, inside.upto, g.stop, levelling_room)) g.stop p.puts in
+            let b : Between q lim out w1 = renamed_between wd out _ _ _ _ lim q r w1 g.narrow inside.symbols (omega (arith, inside.upto, g.stop, levelling_room)) g.stop p.puts in
             let s : l.last - i ≡ suc (l.last - (i + 1)) = omega arith in
             let p2 : PutsKey wd ids places target l lim (le_at 8 out (keys + 8 * i)) out q r w1 = rw z at p in
             record {

@@ -14,6 +14,7 @@ use Rattle.parse_tree.specs.Plain.Texts.{has, number}
 use Rattle.parse_tree.specs.Plain.WriteTape.{bytes_of_each}
 use Rattle.parse_tree.specs.Working.Encode.{alternative_bytes}
 use Rattle.parse_tree.specs.Working.Within.{AlternativeWithin}
+use Rattle.texts.specs.Table.{found_in}
 use Rattle.passes.specs.Outcome.{with_attributes}
 use Rattle.passes.specs.Grades.{precedence, assoc, without_first, Graded}
 use Rattle.passes.specs.Levels.{Group, lower_name, substitute}
@@ -22,12 +23,13 @@ use Rattle.resolve.specs.Whole.{Apart}
 use Rattle.resolve.proofs.CellsLaws.{lies_agree}
 use Rattle.octets.specs.Working.Choice.{pick}
 use Rattle.grades.specs.declared.Assoc.{Assoc}
+use Rattle.grades.specs.Key.{key_side}
 use Rattle.grades.specs.Annotations.{first_with, first_index}
-use Rattle.grades.specs.Ids.{id_of, ids_in}
+use Rattle.grades.specs.Ids.{ids_in}
 use Rattle.grades.proofs.AlternativesMean.{alternative_means as read-means}
 use Rattle.precedence.specs.declared.level.Level.{Level}
 use Rattle.precedence.specs.Write.{Puts}
-use Rattle.precedence.specs.Level.{key_side, key_entry, key_place, key_end, KeyInside, PutsKey, PutsKeys, KeysInside}
+use Rattle.precedence.specs.Level.{key_entry, key_place, key_end, KeyInside, PutsKey, PutsKeys, KeysInside}
 use Rattle.precedence.proofs.SubstituteMean.{side_meant}
 use Rattle.precedence.proofs.WriteLaws.{fits_or_not, puts_beside, puts_on, puts_upto, puts_append, puts_none}
 use Rattle.precedence.proofs.WriteWholeMean.{symbols_upto, alternative_means}
@@ -118,11 +120,11 @@ module _ (four : Bool) (wd : ℕ) (ts : List Text) (places : ℕ) where
     key_means w k to r w1 g room m q =
         let a = m.source in
         let p = key_place w places k in
-        let v = read-means four wd ts narrow w p (key_end w places k) a [] m.within (rw (append-nil (alternative_bytes wd ts a)) m.lies) in
+        let v = read-means four wd ts w p (key_end w places k) a [] m.within (rw (append-nil (alternative_bytes wd ts a)) m.lies) in
         let c : p + 14 + wd ≡ p + (14 + wd) = omega arith in
         let n = v.many in
-        let i : first_with wd (id_of ts precedence) w (p + (14 + wd)) (get_or w (p + 9) 0) ≡ first_index precedence a.attributes = rw (← c, n) v.level.index in
-        let j : first_with wd (id_of ts assoc) w (p + (14 + wd)) (get_or w (p + 9) 0) ≡ first_index assoc a.attributes = rw (← c, n) v.side.index in
+        let i : first_with wd (found_in ts precedence) w (p + (14 + wd)) (get_or w (p + 9) 0) ≡ first_index precedence a.attributes = rw (← c, n) v.level.index in
+        let j : first_with wd (found_in ts assoc) w (p + (14 + wd)) (get_or w (p + 9) 0) ≡ first_index assoc a.attributes = rw (← c, n) v.side.index in
         alternative_means wd ts E group g a known (syms_fit_lem wd ts four a.symbols 64 m.within.symbols) m.is (key_side k) m.sided w p (key_end w places k) lim to r w1 m.lies room
         (rw (i, j, lower, named) at q.puts)
 

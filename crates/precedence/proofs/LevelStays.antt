@@ -16,11 +16,13 @@ use Rattle.octets.specs.Working.Stores.{store}
 use Rattle.octets.proofs.NumbersLaws.{length-le}
 use Rattle.octets.proofs.PartLaws.{part_length}
 use Rattle.octets.proofs.StoreLaws.{length_store, get_d_store_before, get_d_store_after}
-use Rattle.resolve.specs.Commands.{long_of}
+use Rattle.parse_tree.specs.Working.Nodes.{long_of}
 use Rattle.grades.specs.declared.Assoc.{Assoc}
 use Rattle.grades.specs.Skip.{names_at}
 use Rattle.grades.specs.Annotations.{conditions_from, symbols_from}
+use Rattle.grades.specs.declared.Indices.{Indices}
 use Rattle.precedence.specs.declared.substitute.Marks.{Marks}
+use Rattle.precedence.specs.declared.substitute.Renaming.{Renaming}
 use Rattle.precedence.specs.Substitute.{marked_at, MarksIn, replace_out, replace_all, name_out, substitute_out}
 use Rattle.precedence.specs.Write.{kept_bytes, head_out, fewer_by, stripped_out, PutsRenamed}
 use Rattle.precedence.proofs.WriteLaws.{fits_or_not, puts_beside}
@@ -100,37 +102,37 @@ module _ (wd a e : ℕ) (narrow : wd ≤ 3) where
       go false = (all_ran target here w h).bytes
 
 -- what is put holds the symbols
-stripped_long : (wd : ℕ) (w : List ℕ) (p e i j : ℕ) → symbols_from wd w p ≤ e → e ≤ length w → e - symbols_from wd w p ≤ length (stripped_out wd w p e i j)
+stripped_long : (wd : ℕ) (w : List ℕ) (p e : ℕ) (f : Indices) → symbols_from wd w p ≤ e → e ≤ length w → e - symbols_from wd w p ≤ length (stripped_out wd w p e f)
 unfolding stripped_out symbols_from
-stripped_long wd w p e i j h k =
+stripped_long wd w p e f h k =
     let n = get_or w (p + 9) 0 in
-    let H = head_out wd w p (fewer_by (fewer_by n n i) n j) in
-    let K = kept_bytes wd w (p + (14 + wd)) n 0 i j in
+    let H = head_out wd w p (fewer_by (fewer_by n f.precedence) f.assoc) in
+    let K = kept_bytes wd w (p + (14 + wd)) n 0 f in
     let P = part (conditions_from wd w p) e w in
     let x = length-append H (K ++ P) in
     let y = length-append K P in
     omega (arith, part_length (conditions_from wd w p) e w (omega arith))
 
 -- theorem: bytes below the cursor and from lim + 16 on stay, and the cursor goes on
-pub renamed_between : (wd : ℕ) (w : List ℕ) (p e i j target here below : ℕ) (side : Assoc) (lim to r : ℕ) (w1 : List ℕ) → wd ≤ 3 → symbols_from wd w p ≤ e → e ≤ length w → to ≤ lim + 1
-    → PutsRenamed wd w p e i j target here below side lim to r w1 → Between to lim w w1
+pub renamed_between : (wd : ℕ) (w : List ℕ) (p e : ℕ) (f : Indices) (v : Renaming) (lim to r : ℕ) (w1 : List ℕ) → wd ≤ 3 → symbols_from wd w p ≤ e → e ≤ length w → to ≤ lim + 1
+    → PutsRenamed wd w p e f v lim to r w1 → Between to lim w w1
 unfolding pick
-renamed_between wd w p e i j target here below side lim to r w1 narrow h k l q = go (fits_or_not r lim)
+renamed_between wd w p e f v lim to r w1 narrow h k l q = go (fits_or_not r lim)
   where
     put : Between to lim w q.work
     put = record { long = q.puts.long; same = λ i o. puts_beside w q.work lim to _ r q.puts i (elim o [ inl x ↦ inl x | inr x ↦ inr (omega arith) ]) }
 
     low : r ≤ lim → to ≤ r - (e - symbols_from wd w p)
-    low o = elim (fits_or_not (to + length (stripped_out wd w p e i j)) lim) [
-      | inl x ↦ omega (arith, q.puts.after x, stripped_long wd w p e i j h k)
+    low o = elim (fits_or_not (to + length (stripped_out wd w p e f)) lim) [
+      | inl x ↦ omega (arith, q.puts.after x, stripped_long wd w p e f h k)
       | inr x ↦ absurd (omega (arith, q.puts.over x))
     ]
 
     go : (r ≤ lim) ⊎ (lim < r) → Between to lim w w1
     go (inl o) =
         let z = le-leb r lim o in
-        let y : w1 ≡ substitute_out wd q.work (r - (e - symbols_from wd w p)) r target here below side = rw z at q.renamed in
-        let b = substitute-between wd (r - (e - symbols_from wd w p)) r narrow q.work target here below side (omega arith) in
+        let y : w1 ≡ substitute_out wd q.work (r - (e - symbols_from wd w p)) r v.target v.here v.below v.side = rw z at q.renamed in
+        let b = substitute-between wd (r - (e - symbols_from wd w p)) r narrow q.work v.target v.here v.below v.side (omega arith) in
         between-both to lim w q.work w1 put (rw y (record { long = b.long; same = λ i u. b.same i (elim u [ inl x ↦ inl (omega (arith, low o)) | inr x ↦ inr (omega arith) ]) }))
     go (inr o) =
         let z = lt-leb r lim o in

@@ -10,7 +10,7 @@ mod SubstituteRuns
 mod SubstituteMean
 pub mod WriteLaws
 mod ShortCode
-mod WriteCode
+pub mod WriteCode
 mod WriteWholeCode
 pub mod WriteMean
 mod WriteCountMean

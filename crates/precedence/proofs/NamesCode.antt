@@ -2,30 +2,23 @@
 use mathlib.Core.Path.{◌≡◌, refl, sym, ap, ◌∙◌}
 use mathlib.Core.Bool.{Bool, true, false}
 use mathlib.Core.List.{List, [], ◌∷◌}
-use Prim.Native.Nat.{ℕ, zero, suc, ◌+◌, ◌-◌, ◌/◌, ◌%◌, ◌≤◌, ◌<◌}
+use Prim.Native.Nat.{ℕ, zero, suc, ◌+◌, ◌-◌, ◌/◌, ◌%◌, ◌^◌, ◌<◌}
 use native.Mathlib.Omega.{arith}
 use borrow.Author.Rules.{rules}
-use borrow.Author.Tests.{ltb-true, ltb-false}
-use lib.Dec.{ltb}
+use native.Mathlib.Nat.{div-div-eq-div-mul, pow-succ', one-le-pow}
+use borrow.Author.Tests.{ne_eqb, ltb-true, ltb-false}
+use lib.Dec.{eqb, ltb}
 use lib.ListN.{length, get_or}
 use lib.Seq.{ext_get_or}
+use Rattle.std.specs.Bool.{MatchBool}
+use Rattle.std.specs.List.{AllWithin, HoldsAt, range_with_len}
+use Rattle.std.proofs.lemmas.List.FromFn.{length-range_with_len, get_or-range_with_len}
 use Rattle.octets.specs.Plain.Runs.{same_as}
 use Rattle.octets.proofs.SameLaws.{same_as-eq, eq_same_as}
 use Rattle.grades.specs.Grade.{level_digits}
 use Rattle.grades.proofs.DecimalLaws.{last, size_by, front, digits-front, size_is}
 
--- ---- digit_at: the first i + k digits are those of q; k is n + 1 - j in the loop
-pub record Digiting (v i k q : ℕ) : Type 0 where
-  pub behind : List ℕ
-  pub some : 0 < k
-  pub rest : front (i + k) q behind ≡ level_digits v
-
-pub digit_start : (v i n j : ℕ) → i < length (level_digits v) → n ≡ length (level_digits v) → j ≡ i + 1 → Digiting v i (n + 1 - j) v
-digit_start v i n j h e q = record {
-  behind = [];
-  some = omega arith;
-  rest = let z : i + (n + 1 - j) ≡ size_by 10 v = omega (arith, size_is v) in ap (λ (j : ℕ). front j v []) z ∙ sym (digits-front v);
-}
+-- ---- digit_at
 
 -- what stands behind the digits
 front_after : (n q : ℕ) (r : List ℕ) (i : ℕ) → get_or (front n q r) (n + i) 0 ≡ get_or r i 0
@@ -36,29 +29,36 @@ front_after (suc n) q r i = let z : suc n + i ≡ n + suc i = omega arith in ap 
 front_behind : (n q : ℕ) (r : List ℕ) → get_or (front n q r) n 0 ≡ get_or r 0 0
 front_behind n q r = let z : n ≡ n + 0 = omega arith in ap (λ (j : ℕ). get_or (front n q r) j 0) z ∙ front_after n q r 0
 
-module _ (v i n j q : ℕ) (c : Digiting v i (n + 1 - j) q) where
-  pub digit_next : j < n → Digiting v i (n + 1 - (j + 1)) (q / 10)
-  unfolding front
-  digit_next h =
-      let k = n + 1 - (j + 1) in
-      let z : i + (n + 1 - j) ≡ suc (i + k) = omega arith in
-      let y : front (suc (i + k)) q c.behind ≡ level_digits v = ap (λ (j : ℕ). front j q c.behind) (sym z) ∙ c.rest in
-      record { behind = last q ∷ c.behind; some = omega arith; rest = y }
+-- the i-th of n digits is what so many tens behind it leave
+front_digit : (n q : ℕ) (r : List ℕ) (i : ℕ) → i < n → get_or (front n q r) i 0 ≡ last (q / 10 ^ (n - 1 - i))
+unfolding front
+front_digit zero q r i h = absurd (omega arith)
+front_digit (suc n) q r i h = go (ltb i n) refl (front_digit n (q / 10) (last q ∷ r) i)
+  where
+    go : (b : Bool) → ltb i n ≡ b → (i < n → get_or (front n (q / 10) (last q ∷ r)) i 0 ≡ last (q / 10 / 10 ^ (n - 1 - i))) → get_or (front n (q / 10) (last q ∷ r)) i 0 ≡ last (q / 10 ^ (suc n - 1 - i))
+    go true e f =
+        let l = ltb-true i n e in
+        let z : suc n - 1 - i ≡ suc (n - 1 - i) = omega arith in
+        let y : q / 10 / 10 ^ (n - 1 - i) ≡ q / 10 ^ (suc n - 1 - i) = div-div-eq-div-mul q 10 (10 ^ (n - 1 - i)) ∙ ap (λ (k : ℕ). q / k) (sym (pow-succ' 10 (n - 1 - i))) ∙ ap (λ (k : ℕ). q / 10 ^ k) (sym z) in
+        f l ∙ ap last y
+    go false e f =
+        let z : i ≡ n = omega (arith, ltb-false i n e) in
+        let y : suc n - 1 - i ≡ 0 = omega arith in
+        let x : q ≡ q / 10 ^ 0 = omega arith in
+        ap (λ (j : ℕ). get_or (front n (q / 10) (last q ∷ r)) j 0) z ∙ front_behind n (q / 10) (last q ∷ r) ∙ ap last (x ∙ ap (λ (k : ℕ). q / 10 ^ k) (sym y))
 
-  pub digit_done : (d : ℕ) → n ≤ j → d ≡ 48 + q % 10 → d ≡ get_or (level_digits v) i 0
-  unfolding front
-  digit_done d h e =
-      let z : i + (n + 1 - j) ≡ suc i = omega (arith, c.some) in
-      let y : front (suc i) q c.behind ≡ level_digits v = ap (λ (j : ℕ). front j q c.behind) (sym z) ∙ c.rest in
-      e ∙ sym (front_behind i (q / 10) (last q ∷ c.behind)) ∙ ap (λ (l : List ℕ). get_or l i 0) y
+module _ (v i n p : ℕ) (e : p ≡ 10 ^ (n - 1 - i)) where
+  pub tens_some : 0 < p
+  tens_some = rw e (one-le-pow (n - 1 - i) 10 (omega arith))
 
-pub ruleset digiting = (rules, digit_start, digit_next, digit_done)
+  pub digit_done : i < length (level_digits v) → n ≡ length (level_digits v) → (d : ℕ) → d ≡ 48 + v / p % 10 → d ≡ get_or (level_digits v) i 0
+  digit_done h s d r =
+      let k : n ≡ size_by 10 v = s ∙ size_is v in
+      r ∙ ap (λ (j : ℕ). last (v / j)) (e ∙ ap (λ (j : ℕ). 10 ^ (j - 1 - i)) k) ∙ sym (front_digit (size_by 10 v) v [] i (omega (arith, k))) ∙ ap (λ (l : List ℕ). get_or l i 0) (sym (digits-front v))
 
--- ---- two lists compared: the first i bytes are the same
-pub record Alike (x y : List ℕ) (i : ℕ) : Type 0 where
-  pub long : length x ≡ length y
-  pub same : (j : ℕ) → j < i → get_or x j 0 ≡ get_or y j 0
+pub ruleset digiting = (rules, tens_some, digit_done)
 
+-- ---- same_names: two lists compared
 pub unlike : (x y : List ℕ) → (x ≡ y → ⊥) → false ≡ same_as x y
 unlike x y n = go (same_as x y) refl
   where
@@ -66,36 +66,22 @@ unlike x y n = go (same_as x y) refl
     go true e = absurd (n (same_as-eq x y e))
     go false e = refl
 
-alike_start : (x y : List ℕ) → length x ≡ length y → Alike x y 0
-alike_start x y e = record { long = e; same = λ j h. absurd (omega arith) }
-
-alike_next : (x y : List ℕ) (i : ℕ) → Alike x y i → get_or x i 0 ≡ get_or y i 0 → Alike x y (i + 1)
-alike_next x y i c e = record { long = c.long; same = λ j h. go j (ltb j i) refl h }
-  where
-    go : (j : ℕ) (t : Bool) → ltb j i ≡ t → j < i + 1 → get_or x j 0 ≡ get_or y j 0
-    go j true u h = c.same j (ltb-true j i u)
-    go j false u h = let z : j ≡ i = omega (arith, ltb-false j i u) in rw z e
-
-alike_done : (x y : List ℕ) (i : ℕ) → Alike x y i → length y ≤ i → true ≡ same_as x y
-alike_done x y i c h = sym (eq_same_as x y (ext_get_or 0 x y c.long (λ j k. c.same j (omega (arith, c.long)))))
-
--- ---- same_names
 module _ (x y : List ℕ) where
-  pub not_long : (m n : ℕ) → m ≡ length x → n ≡ length y → (m ≡ n → ⊥) → false ≡ same_as x y
-  not_long m n p q d = unlike x y (λ e. d (p ∙ ap length e ∙ sym q))
+  pub not_long : (m n : ℕ) → m ≡ length x → n ≡ length y → (m ≡ n → ⊥) → eqb m n ≡ same_as x y
+  not_long m n p q d = ne_eqb m n d ∙ unlike x y (λ e. d (p ∙ ap length e ∙ sym q))
 
-  pub both_long : (m n : ℕ) → m ≡ length x → n ≡ length y → m ≡ n → Alike x y 0
-  both_long m n p q e = alike_start x y (sym p ∙ e ∙ q)
+  abbrev pub Same : ℕ → Type 0
+  Same i = get_or x i 0 ≡ get_or y i 0
 
-  module _ (i : ℕ) (c : Alike x y i) where
-    module _ (a b : ℕ) (p : a ≡ get_or x i 0) (q : b ≡ get_or y i 0) where
-      pub same_not : (a ≡ b → ⊥) → false ≡ same_as x y
-      same_not d = unlike x y (λ z. d (p ∙ ap (λ (l : List ℕ). get_or l i 0) z ∙ sym q))
+  abbrev pub Unlike : ℕ → Type 0
+  Unlike i = Same i → ⊥
 
-      pub same_more : a ≡ b → Alike x y (i + 1)
-      same_more e = alike_next x y i c (sym p ∙ e ∙ q)
-
-    pub alike_end : (n : ℕ) → n ≡ length y → n ≤ i → true ≡ same_as x y
-    alike_end n q h = alike_done x y i c (omega arith)
-
-pub ruleset comparing = (rules, not_long, both_long, same_not, same_more, alike_end)
+  pub compared : (n : ℕ) (r : Bool) → n ≡ length x → n ≡ length y
+      → MatchBool r (AllWithin Same (range_with_len 0 n) 0 (length (range_with_len 0 n))) ((k : ℕ) × (k < length (range_with_len 0 n)) × HoldsAt Unlike (range_with_len 0 n) k) → r ≡ same_as x y
+  compared n true p q g = sym (eq_same_as x y (ext_get_or 0 x y (sym p ∙ q) each))
+    where
+      each : (i : ℕ) → i < length x → Same i
+      each i l =
+          let e : get_or (range_with_len 0 n) i 0 ≡ i = get_or-range_with_len 0 n i 0 (omega arith) ∙ omega arith in
+          rw e at (g i 0 (omega arith) (omega (arith, length-range_with_len 0 n)))
+  compared n false p q (k, l, h) = unlike x y (λ e. h 0 (ap (λ (u : List ℕ). get_or u (get_or (range_with_len 0 n) k 0) 0) e))

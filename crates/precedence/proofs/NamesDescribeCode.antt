@@ -122,7 +122,10 @@ module _ (s w : List ℕ) (m : Map) (n b v : ℕ) (g : Describing s w m n b v) w
           };
         }
 
-pub ruleset describing = (rules, describe-hash, describe-done)
+    pub describe_marked : (x : ℕ) (w1 w2 : List ℕ) → x ≡ b * 4294967296 + v → RecordWritten w m.base n x h 0 w1 → Linked w1 m.base m.buckets n (bucket_of h m.buckets) w2 → Described s w m n b v w2
+    describe_marked x w1 w2 e a l = describe-done w1 (rw e at a) w2 l
+
+pub ruleset describing = (rules, describe-hash, describe_marked)
 
 -- ---- level_name
 module _ (s w : List ℕ) (m : Map) (n b v : ℕ) (g : Describing s w m n b v) where

@@ -2,7 +2,7 @@
 use mathlib.Core.Path.{◌≡◌, refl, sym, ap, ◌∙◌}
 use mathlib.Core.Bool.{Bool, true}
 use mathlib.Core.List.{List, [], ◌∷◌, ◌++◌}
-use Prim.Native.Nat.{ℕ, ◌+◌, ◌*◌, ◌-◌, ◌/◌, ◌%◌, ◌≤◌, ◌<◌}
+use Prim.Native.Nat.{ℕ, zero, suc, ◌+◌, ◌*◌, ◌-◌, ◌/◌, ◌%◌, ◌≤◌, ◌<◌}
 use native.Mathlib.Omega.{arith}
 use borrow.Author.Rules.{rules}
 use borrow.Author.Tests.{lt-ltb, le-ltb, ne_eqb}
@@ -11,6 +11,7 @@ use lib.ListN.{length, get_or}
 use lib.Seq.{take_all}
 use mir.Syntax.{w8}
 use mir.Val.{Fits}
+use Rattle.std.specs.List.{fold, range_with_len}
 use Rattle.octets.specs.Working.Choice.{pick}
 use Rattle.octets.specs.Plain.Numbers.{le_at}
 use Rattle.octets.specs.Plain.Runs.{part, same_as}
@@ -24,7 +25,7 @@ use Rattle.texts.specs.Fields.{mark_at, hash_at}
 use Rattle.texts.specs.Atoms.{atom_end, atom_text}
 use Rattle.texts.specs.Texts.{holder, place_at, marked_text, Whole}
 use Rattle.texts.specs.Table.{texts}
-use Rattle.texts.proofs.HashLaws.{from_none, from_more, step_small}
+use Rattle.texts.proofs.HashLaws.{from_none, from_more}
 use Rattle.texts.proofs.TextCode.{texts-at}
 use Rattle.grades.specs.Grade.{level_digits}
 use Rattle.precedence.specs.Names.{Based, Spelled, BaseText, level_text, described_text, named_text}
@@ -60,35 +61,23 @@ module _ (s w : List ℕ) (m : Map) (k : ℕ) (c : Based s w m k) where
 
 pub ruleset basing = (rules, base_whole, base_done)
 
--- ---- level_hash: h is the hash of the text and i digits
+-- ---- level_hash
 append_from : (h : ℕ) (xs ys : Text) → hash_from h (xs ++ ys) ≡ hash_from (hash_from h xs) ys
 unfolding hash_from hash_by
 append_from h [] ys = refl
 append_from h (x ∷ xs) ys = append_from ((h + x) * 2654435761 % 4294967296) xs ys
 
-pub record DigitHash (x v h i : ℕ) : Type 0 where
-  pub rest : hash_from h (part i (length (level_digits v)) (level_digits v)) ≡ hash_from x (level_digits v)
-  pub small : h < 4294967296
-  pub upto : i ≤ length (level_digits v)
+-- ---- add_digits: a fold over the digits by place
+module _ (xs : List ℕ) where
+  folds_from : (k n h : ℕ) → k + n ≡ length xs → fold (λ (a i : ℕ). hash_step a (get_or xs i 0)) h (range_with_len k n) ≡ hash_from h (part k (length xs) xs)
+  folds_from k zero h e = cc (part_none k (length xs) xs (omega arith), from_none h)
+  folds_from k (suc n) h e =
+      folds_from (k + 1) n (hash_step h (get_or xs k 0)) (omega arith) ∙ sym (from_more h (get_or xs k 0) (part (k + 1) (length xs) xs))
+      ∙ ap (hash_from h) (sym (part-one k (length xs) xs (omega arith) (omega arith)))
 
-pub digits-start : (x v : ℕ) → x < 4294967296 → DigitHash x v x 0
-unfolding part
-digits-start x v l = record { rest = ap (hash_from x) (take_all (length (level_digits v) - 0) (level_digits v) (omega arith)); small = l; upto = omega arith }
-
-module _ (x v h i z : ℕ) (g : DigitHash x v h i) (e : z ≡ length (level_digits v)) where
-  pub digits-next : (r d : ℕ) → i < z → d ≡ get_or (level_digits v) i 0 → r ≡ hash_step h d → DigitHash x v r (i + 1)
-  digits-next r d l p q =
-      let ds = level_digits v in
-      record {
-        rest = cc (part-one i (length ds) ds (omega arith) (omega arith), from_more h (get_or ds i 0) (part (i + 1) (length ds) ds), g.rest);
-        small = rw q (step_small h d);
-        upto = omega arith;
-      }
-
-  pub digits-done : z ≤ i → h ≡ hash_from x (level_digits v)
-  digits-done l = cc (part_none i (length (level_digits v)) (level_digits v) (omega arith), from_none h, g.rest)
-
-pub ruleset digit_hashing = (rules, digits-start, digits-next, digits-done)
+  pub digits_fold : (n h : ℕ) → n ≡ length xs → fold (λ (a i : ℕ). hash_step a (get_or xs i 0)) h (range_with_len 0 n) ≡ hash_from h xs
+  unfolding part
+  digits_fold n h e = folds_from 0 n h (omega arith) ∙ ap (hash_from h) (take_all (length xs - 0) xs (omega arith))
 
 -- ---- level_hash
 module _ (s w : List ℕ) (m : Map) (b v : ℕ) where

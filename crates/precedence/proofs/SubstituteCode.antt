@@ -1,20 +1,19 @@
--- Substituting: the ways out of names, put_atom, marked, replace_symbols, rename and substitute. Assumes nothing.
+-- Substituting: the ways out of names, marked, replace_symbols, rename and substitute. Assumes nothing.
 use mathlib.Core.Path.{◌≡◌, refl, sym, ap, ◌∙◌}
 use mathlib.Core.Bool.{Bool, true, false}
-use mathlib.Core.List.{List, [], ◌∷◌, ◌++◌}
-use Prim.Native.Nat.{ℕ, zero, suc, ◌+◌, ◌-◌, ◌/◌, ◌%◌, ◌≤◌, ◌<◌}
+use mathlib.Core.List.{List}
+use Prim.Native.Nat.{ℕ, zero, suc, ◌+◌, ◌-◌, ◌≤◌, ◌<◌}
 use native.Mathlib.Omega.{arith}
 use borrow.Author.Rules.{rules}
 use borrow.Author.Tests.{le-leb, lt-leb, ne_eqb, eq-eqb}
 use lib.Dec.{eqb}
-use lib.ListN.{length, get_or, set}
+use lib.ListN.{length, get_or}
 use Rattle.std.specs.Prelude.{Option, Some, None}
 use Rattle.octets.specs.Working.Choice.{pick}
 use Rattle.octets.specs.Plain.Numbers.{le_at, le}
 use Rattle.octets.specs.Working.Stores.{store}
-use Rattle.octets.proofs.StoreLaws.{length_store, store-append}
-use Rattle.octets.proofs.NumbersLaws.{length-le}
-use Rattle.resolve.specs.Commands.{long_of}
+use Rattle.octets.proofs.StoreLaws.{length_store}
+use Rattle.parse_tree.specs.Working.Nodes.{long_of}
 use Rattle.grades.specs.declared.Assoc.{Assoc}
 use Rattle.grades.specs.Skip.{names_at}
 use Rattle.precedence.specs.declared.substitute.Marks.{Marks}
@@ -31,35 +30,6 @@ module _ (wd target : ℕ) (w : List ℕ) (at : ℕ) where
   names_other h = cc (ne_eqb (get_or w at 0) 36 h)
 
 pub ruleset naming = (rules, names_asked, names_other)
-
--- ---- put_atom
-le-two : (v : ℕ) → le 2 (v % 65536) ≡ le 2 v
-unfolding le
-le-two v =
-    let a : v % 256 ≡ v % 65536 % 256 = omega arith in
-    let c : v / 256 / 256 ≡ v / 65536 = omega arith in
-    let b : v % 65536 / 256 ≡ v / 256 % 256 = omega arith in
-    let d : v % 65536 / 256 % 256 ≡ v % 65536 / 256 = omega arith in
-    cc
-
-le-three : (v : ℕ) → le 3 v ≡ le 2 v ++ (v / 65536 % 256 ∷ [])
-unfolding le
-le-three v =
-    let a : v / 256 / 256 % 256 ≡ v / 65536 % 256 = omega arith in
-    cc
-
-store-one : (s : List ℕ) (at v : ℕ) → set s at v ≡ store s at (v ∷ [])
-unfolding store
-store-one s at v = refl
-
-module _ (s m : List ℕ) (at wd v : ℕ) (j : m ≡ store s at (le 2 (v % 65536))) where
-  pub atom_two : 2 ≤ wd → wd ≤ 3 → (wd ≡ 3 → ⊥) → m ≡ store s at (le wd v)
-  atom_two h k n = let z : wd ≡ 2 = omega arith in cc (le-two v)
-
-  pub atom_three : wd ≡ 3 → set m (at + 2) (v / 65536 % 256) ≡ store s at (le wd v)
-  atom_three z = cc (store-one m (at + 2) (v / 65536 % 256), store-append s at (at + 2) (le 2 v) (v / 65536 % 256 ∷ []) (omega (arith, length-le 2 v)), le-two v, le-three v)
-
-pub ruleset putting = (rules, atom_two, atom_three)
 
 -- ---- marked
 pub marked_first : (p : ℕ) → record { first = p; last = p } ≡ marked_at p None

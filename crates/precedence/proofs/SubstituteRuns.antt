@@ -15,7 +15,7 @@ use Rattle.octets.specs.Working.Stores.{store}
 use Rattle.octets.proofs.NumbersLaws.{length-le}
 use Rattle.parse_tree.specs.Plain.Tree.{Text, Leaf, Sym, Syms, ambiguous, bare, quoted, regex, nonterminal, lookahead, lookbehind, error, leaf, around, over, nil, cons, count}
 use Rattle.parse_tree.specs.Plain.Texts.{number}
-use Rattle.parse_tree.specs.Working.Nodes.{leaf_operand, symbol_bytes, node_bytes, size_of}
+use Rattle.parse_tree.specs.Working.Nodes.{leaf_operand, symbol_bytes, node_bytes, size_of, long_of}
 use Rattle.parse_tree.specs.Working.Encode.{leaf_node, around_node, over_node, sym_bytes, syms_bytes}
 use Rattle.parse_tree.specs.declared.syntax.Span.{Span}
 use Rattle.parse_tree.specs.declared.syntax.SymbolKind.{SymbolKind}
@@ -25,7 +25,6 @@ use Rattle.laws.specs.Flat.{sym_node, children, joined, fold_sym, fold_syms}
 use Rattle.laws.specs.Rename.{rename_leaf, rename}
 use Rattle.laws.proofs.Flat.{SymsFits, step, lies_kept, fold_step}
 use Rattle.octets.proofs.StoreLaws.{store-drop}
-use Rattle.resolve.specs.Commands.{long_of}
 use Rattle.grades.specs.Skip.{names_at}
 use Rattle.grades.proofs.CodesMean.{node_names, first_codes}
 use Rattle.precedence.specs.declared.substitute.Marks.{Marks}

@@ -2,13 +2,11 @@
 use mathlib.Core.Path.{◌≡◌, refl, sym, ap, ◌∙◌}
 use mathlib.Core.Bool.{Bool, true, false, cond}
 use mathlib.Core.List.{List, [], ◌∷◌}
-use Prim.Native.Nat.{ℕ, suc, ◌+◌, ◌-◌, ◌*◌, ◌<◌, ◌≤◌}
+use Prim.Native.Nat.{ℕ, suc, ◌+◌, ◌*◌}
 use native.Mathlib.Omega.{arith}
 use native.Mathlib.Nat.{suc-mul}
-use borrow.Author.Tests.{le-leb, lt-leb}
-use lib.Dec.{leb}
 use lib.ListN.{length, length-append}
-use Rattle.octets.specs.Working.Choice.{pick}
+use Rattle.std.specs.Prelude.{Option, Some, None, is_some, option_map}
 use Rattle.octets.specs.Plain.Runs.{same_as}
 use Rattle.octets.proofs.SameLaws.{same_as-eq}
 use Rattle.parse_tree.specs.Plain.Tree.{Text, Attribute}
@@ -16,7 +14,6 @@ use Rattle.parse_tree.specs.Plain.WriteTape.{bytes_of_each}
 use Rattle.passes.specs.Grades.{precedence, assoc, without_first}
 use Rattle.grades.specs.Annotations.{first_index}
 use Rattle.precedence.specs.Write.{fewer_by}
-use Rattle.precedence.proofs.WriteMean.{first_here, first_later}
 
 -- items of one length
 pub each_long : {A : Type 0} (f : A → List ℕ) (s : ℕ) → ((x : A) → length (f x) ≡ s) → (xs : List A) → length (bytes_of_each f xs) ≡ length xs * s
@@ -32,31 +29,26 @@ there id (a ∷ xs) = cond (same_as id a.id) true (there id xs)
 one_if : Bool → ℕ
 one_if b = cond b 1 0
 
-there_before : (id : Text) (xs : List Attribute) → there id xs ≡ true → first_index id xs < length xs
-unfolding there
-there_before id [] z = let y : ◌≡◌ {A = ℕ} 0 1 = ap {B = ℕ} (λ (b : Bool). cond b 1 0) z in absurd (omega arith)
-there_before id (a ∷ xs) z = go (same_as id a.id) refl (there_before id xs) z
+there_is : (id : Text) (xs : List Attribute) → is_some (first_index id xs) ≡ there id xs
+unfolding there first_index
+there_is id [] = refl
+there_is id (a ∷ xs) = go (same_as id a.id) (there_is id xs)
   where
-    go : (b : Bool) → same_as id a.id ≡ b → (there id xs ≡ true → first_index id xs < length xs) → cond b true (there id xs) ≡ true → first_index id (a ∷ xs) < suc (length xs)
-    go true y more t = omega (arith, first_here id a xs y)
-    go false y more t = omega (arith, first_later id a xs y, more t)
+    some_later : (o : Option ℕ) → is_some (option_map suc o) ≡ is_some o
+    some_later None = refl
+    some_later (Some i) = refl
 
-there_behind : (id : Text) (xs : List Attribute) → there id xs ≡ false → length xs ≤ first_index id xs
-unfolding there
-there_behind id [] z = omega arith
-there_behind id (a ∷ xs) z = go (same_as id a.id) refl (there_behind id xs) z
-  where
-    go : (b : Bool) → same_as id a.id ≡ b → (there id xs ≡ false → length xs ≤ first_index id xs) → cond b true (there id xs) ≡ false → suc (length xs) ≤ first_index id (a ∷ xs)
-    go true y more t = let u : ◌≡◌ {A = ℕ} 1 0 = ap {B = ℕ} (λ (c : Bool). cond c 1 0) t in absurd (omega arith)
-    go false y more t = omega (arith, first_later id a xs y, more t)
+    go : (b : Bool) → is_some (first_index id xs) ≡ there id xs → is_some (cond b (Some 0) (option_map suc (first_index id xs))) ≡ cond b true (there id xs)
+    go true more = refl
+    go false more = some_later (first_index id xs) ∙ more
 
-fewer_is : (id : Text) (xs : List Attribute) (m l : ℕ) → l + one_if (there id xs) ≡ m → fewer_by m (length xs) (first_index id xs) ≡ l
-unfolding fewer_by pick one_if
-fewer_is id xs m l h = go (there id xs) refl h
+fewer_is : (id : Text) (xs : List Attribute) (m l : ℕ) → l + one_if (there id xs) ≡ m → fewer_by m (first_index id xs) ≡ l
+unfolding fewer_by one_if
+fewer_is id xs m l h = go (first_index id xs) (ap (λ (b : Bool). l + cond b 1 0) (there_is id xs) ∙ h)
   where
-    go : (b : Bool) → there id xs ≡ b → l + cond b 1 0 ≡ m → pick (leb (length xs) (first_index id xs)) m (m - 1) ≡ l
-    go true z k = let y = lt-leb (length xs) (first_index id xs) (there_before id xs z) in rw y (omega arith)
-    go false z k = let y = le-leb (length xs) (first_index id xs) (there_behind id xs z) in rw y (omega arith)
+    go : (o : Option ℕ) → l + cond (is_some o) 1 0 ≡ m → fewer_by m o ≡ l
+    go None k = omega arith
+    go (Some i) k = omega arith
 
 without_long : (id : Text) (xs : List Attribute) → length (without_first id xs) + one_if (there id xs) ≡ length xs
 unfolding there one_if
@@ -79,7 +71,7 @@ module _ (P A : Text) (apart : P ≡ A → ⊥) where
       go false c y z more = ap (cond (same_as A a.id) true) more
 
 -- theorem: the count that is written is that of the attributes that are left
-pub count_left : (xs : List Attribute) → fewer_by (fewer_by (length xs) (length xs) (first_index precedence xs)) (length xs) (first_index assoc xs) ≡ length (without_first assoc (without_first precedence xs))
+pub count_left : (xs : List Attribute) → fewer_by (fewer_by (length xs) (first_index precedence xs)) (first_index assoc xs) ≡ length (without_first assoc (without_first precedence xs))
 count_left xs =
     let a = fewer_is precedence xs (length xs) (length (without_first precedence xs)) (without_long precedence xs) in
     let s = there_still precedence assoc (λ z. absurd (omega (arith, ap (length {A = ℕ}) z))) xs in

@@ -99,3 +99,11 @@ puts_whole w lim to xs w1 n z h e = record {
 
 pub puts_not : (w : List ℕ) (lim to : ℕ) (xs : List ℕ) → lim < to + length xs → Puts w lim to xs (lim + 1) w
 puts_not w lim to xs h = record { long = refl; whole = λ k. absurd (omega arith); after = λ k. absurd (omega arith); over = λ k. refl; others = λ k i b. refl }
+
+-- what `put` says, of bytes of that length
+pub put_ends : (w xs : List ℕ) (n lim to r : ℕ) (w1 : List ℕ) → length xs ≡ n → (to + n ≤ lim → (r ≡ to + n) × (w1 ≡ store w to xs)) → (lim < to + n → (r ≡ lim + 1) × (w1 ≡ w)) → Puts w lim to xs r w1
+put_ends w xs n lim to r w1 l a b = go (fits_or_not (to + n) lim)
+  where
+    go : (to + n ≤ lim) ⊎ (lim < to + n) → Puts w lim to xs r w1
+    go (inl h) = let (f, g) = a h in rw f (puts_whole w lim to xs w1 n (sym l) h g)
+    go (inr h) = let (f, g) = b h in rw (f, g) (puts_not w lim to xs (omega (arith, l)))

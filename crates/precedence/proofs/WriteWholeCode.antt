@@ -10,31 +10,24 @@ use mir.Val.{Fits}
 use borrow.Author.Rules.{rules}
 use borrow.Author.Tests.{le-leb, lt-leb}
 use lib.ListN.{length, set, get_or}
+use Rattle.std.specs.Prelude.{Option, Some, None}
 use Rattle.octets.specs.Working.Choice.{pick}
 use Rattle.octets.specs.Plain.Runs.{part}
 use Rattle.octets.specs.Working.Stores.{store}
 use Rattle.texts.proofs.TableStays.{part-agree}
-use Rattle.grades.specs.declared.Assoc.{Assoc}
+use Rattle.grades.specs.declared.Indices.{Indices}
 use Rattle.grades.specs.Annotations.{conditions_from, symbols_from}
 use Rattle.grades.proofs.AnnotationsCode.{times-attributes}
+use Rattle.precedence.specs.declared.substitute.Renaming.{Renaming}
 use Rattle.precedence.specs.Substitute.{substitute_out}
 use Rattle.precedence.specs.Write.{Puts, kept_bytes, head_out, fewer_by, stripped_out, PutsRenamed}
-use Rattle.precedence.proofs.WriteLaws.{puts_beside, puts_on, puts_upto, puts_append, puts_whole, puts_not}
-use Rattle.precedence.proofs.WriteCode.{kept-agree, fits_not, fits_so}
+use Rattle.precedence.proofs.WriteLaws.{puts_beside, puts_on, puts_upto, puts_append}
+use Rattle.precedence.proofs.WriteCode.{kept-agree}
 
 -- ---- put_byte
-set_store : (s : List ℕ) (at v : ℕ) → set s at v ≡ store s at (v ∷ [])
+pub set_store : (s : List ℕ) (at v : ℕ) → set s at v ≡ store s at (v ∷ [])
 unfolding store
 set_store s at v = refl
-
-module _ (w : List ℕ) (b lim to : ℕ) where
-  pub byte_over : lim < to + 1 → Puts w lim to (b ∷ []) (lim + 1) w
-  byte_over h = puts_not w lim to (b ∷ []) (omega arith)
-
-  pub byte_put : to + 1 ≤ lim → Puts w lim to (b ∷ []) (to + 1) (set w to b)
-  byte_put h = puts_whole w lim to (b ∷ []) (set w to b) 1 refl (omega arith) (set_store w to b)
-
-pub ruleset byting = (rules, fits_not, fits_so, byte_over, byte_put)
 
 -- ---- what stands below stays, and there is room
 module _ (w w1 : List ℕ) (lim to : ℕ) (xs : List ℕ) (q : ℕ) (g : Puts w lim to xs q w1) where
@@ -50,13 +43,13 @@ module _ (w w1 : List ℕ) (lim to : ℕ) (xs : List ℕ) (q : ℕ) (g : Puts w 
   part-one_stays : (a e : ℕ) → e ≤ to → e ≤ length w → part a e w1 ≡ part a e w
   part-one_stays a e h k = part-agree w w1 a e g.long k (λ x l m. below_one x (omega arith))
 
-  kept-stays : (wd a n k i j : ℕ) → a + n * (2 + 3 * wd) ≤ to → to ≤ length w → kept_bytes wd w1 a n k i j ≡ kept_bytes wd w a n k i j
+  kept-stays : (wd a n k : ℕ) (f : Indices) → a + n * (2 + 3 * wd) ≤ to → to ≤ length w → kept_bytes wd w1 a n k f ≡ kept_bytes wd w a n k f
   unfolding kept_bytes
-  kept-stays wd a zero k i j h l = refl
-  kept-stays wd a (suc n) k i j h l =
+  kept-stays wd a zero k f h l = refl
+  kept-stays wd a (suc n) k f h l =
       let z = suc-mul n (2 + 3 * wd) in
-      let y = kept-agree w w1 a (a + (2 + 3 * wd)) k i j g.long (omega arith) (λ x m. below_one x (omega arith)) in
-      let t = kept-stays wd (a + (2 + 3 * wd)) n (k + 1) i j (omega arith) l in
+      let y = kept-agree w w1 a (a + (2 + 3 * wd)) k f g.long (omega arith) (λ x m. below_one x (omega arith)) in
+      let t = kept-stays wd (a + (2 + 3 * wd)) n (k + 1) f (omega arith) l in
       rw (y, t)
 
 -- ---- put_head
@@ -74,18 +67,18 @@ module _ (w w1 w2 w3 : List ℕ) (wd p count lim to q r s : ℕ) where
 pub ruleset heading = (rules, puts_upto, behind_one, room_one, head_put)
 
 -- ---- fewer
-module _ (m n i : ℕ) where
-  pub fewer_none : n ≤ i → m ≡ fewer_by m n i
-  unfolding fewer_by pick
-  fewer_none h = cc (le-leb n i h)
+module _ (m : ℕ) (i : Option ℕ) where
+  pub fewer_none : i ≡ None → m ≡ fewer_by m i
+  unfolding fewer_by
+  fewer_none h = cc
 
-  pub fewer_zero : i < n → m ≡ 0 → m ≡ fewer_by m n i
-  unfolding fewer_by pick
-  fewer_zero h z = let y = lt-leb n i h in rw y (omega arith)
+  pub fewer_zero : (k : ℕ) → i ≡ Some k → m ≡ 0 → m ≡ fewer_by m i
+  unfolding fewer_by
+  fewer_zero k h z = rw (h, z) refl
 
-  pub fewer_one : i < n → m - 1 ≡ fewer_by m n i
-  unfolding fewer_by pick
-  fewer_one h = cc (lt-leb n i h)
+  pub fewer_one : (k : ℕ) → i ≡ Some k → m - 1 ≡ fewer_by m i
+  unfolding fewer_by
+  fewer_one k h = cc
 
 pub ruleset lessening = (rules, fewer_none, fewer_zero, fewer_one)
 
@@ -116,20 +109,20 @@ module _ (w : List ℕ) (wd p e lim to : ℕ) (c : conditions_from wd w p ≤ e)
     pub attributes_below : (xs : List ℕ) (q : ℕ) (w1 : List ℕ) → Puts w lim to xs q w1 → p + (14 + wd) + n * (2 + 3 * wd) ≤ q
     attributes_below xs q w1 g = omega (arith, conditions-fit, puts_on w w1 lim to xs q g k)
 
-    pub parts_put : (i j f g q r s : ℕ) (w1 w2 w3 : List ℕ) → f ≡ fewer_by (get_or w (p + 9) 0) n i → g ≡ fewer_by f n j
-        → Puts w lim to (head_out wd w p g) q w1 → Puts w1 lim q (kept_bytes wd w1 (p + (14 + wd)) n 0 i j) r w2
-        → Puts w2 lim r (part (p + (14 + wd) + n * (2 + 3 * wd)) e w2) s w3 → Puts w lim to (stripped_out wd w p e i j) s w3
+    pub parts_put : (v : Indices) (f g q r s : ℕ) (w1 w2 w3 : List ℕ) → f ≡ fewer_by (get_or w (p + 9) 0) v.precedence → g ≡ fewer_by f v.assoc
+        → Puts w lim to (head_out wd w p g) q w1 → Puts w1 lim q (kept_bytes wd w1 (p + (14 + wd)) n 0 v) r w2
+        → Puts w2 lim r (part (p + (14 + wd) + n * (2 + 3 * wd)) e w2) s w3 → Puts w lim to (stripped_out wd w p e v) s w3
     unfolding stripped_out conditions_from
-    parts_put i j f g q r s w1 w2 w3 x y a b t =
+    parts_put v f g q r s w1 w2 w3 x y a b t =
         let o = conditions-fit in
-        let h : fewer_by (fewer_by (get_or w (p + 9) 0) (get_or w (p + 9) 0) i) (get_or w (p + 9) 0) j ≡ g = cc in
+        let h : fewer_by (fewer_by (get_or w (p + 9) 0) v.precedence) v.assoc ≡ g = cc in
         let u = puts_on w w1 lim to (head_out wd w p g) q a k in
-        let kb = kept-stays w w1 lim to (head_out wd w p g) q a wd (p + (14 + wd)) n 0 i j (omega arith) (omega arith) in
-        let p2 = part-one_stays w1 w2 lim q (kept_bytes wd w1 (p + (14 + wd)) n 0 i j) r b (p + (14 + wd) + n * (2 + 3 * wd)) e (omega arith) (omega (arith, a.long)) in
+        let kb = kept-stays w w1 lim to (head_out wd w p g) q a wd (p + (14 + wd)) n 0 v (omega arith) (omega arith) in
+        let p2 = part-one_stays w1 w2 lim q (kept_bytes wd w1 (p + (14 + wd)) n 0 v) r b (p + (14 + wd) + n * (2 + 3 * wd)) e (omega arith) (omega (arith, a.long)) in
         let p1 = part-one_stays w w1 lim to (head_out wd w p g) q a (p + (14 + wd) + n * (2 + 3 * wd)) e d (omega arith) in
-        let both = puts_append w1 w2 lim q (kept_bytes wd w1 (p + (14 + wd)) n 0 i j) r b (part (p + (14 + wd) + n * (2 + 3 * wd)) e w2) s w3 t in
-        let whole = puts_append w w1 lim to (head_out wd w p g) q a (kept_bytes wd w1 (p + (14 + wd)) n 0 i j ++ part (p + (14 + wd) + n * (2 + 3 * wd)) e w2) s w3 both in
-        let same : head_out wd w p g ++ (kept_bytes wd w1 (p + (14 + wd)) n 0 i j ++ part (p + (14 + wd) + n * (2 + 3 * wd)) e w2) ≡ stripped_out wd w p e i j = cc in
+        let both = puts_append w1 w2 lim q (kept_bytes wd w1 (p + (14 + wd)) n 0 v) r b (part (p + (14 + wd) + n * (2 + 3 * wd)) e w2) s w3 t in
+        let whole = puts_append w w1 lim to (head_out wd w p g) q a (kept_bytes wd w1 (p + (14 + wd)) n 0 v ++ part (p + (14 + wd) + n * (2 + 3 * wd)) e w2) s w3 both in
+        let same : head_out wd w p g ++ (kept_bytes wd w1 (p + (14 + wd)) n 0 v ++ part (p + (14 + wd) + n * (2 + 3 * wd)) e w2) ≡ stripped_out wd w p e v = cc in
         rw same at whole
 
 pub behind_two : (w w1 w2 : List ℕ) (lim to : ℕ) (xs ys : List ℕ) (q r n : ℕ) → Puts w lim to xs q w1 → Puts w1 lim q ys r w2 → to ≤ lim + 1 → n ≤ to → n ≤ r
@@ -168,13 +161,13 @@ module _ (w : List ℕ) (wd p e lim to : ℕ) (c : symbols_from wd w p ≤ e) (d
       pub rename_room : q ≤ lim → q + 16 ≤ length w1
       rename_room h = omega (arith, g.long)
 
-  module _ (i j target here below : ℕ) (side : Assoc) (q : ℕ) (w1 : List ℕ) (g : Puts w lim to (stripped_out wd w p e i j) q w1) where
-    pub renamed_put : (s : ℕ) (w2 : List ℕ) → s ≡ symbols_from wd w p → q ≤ lim → w2 ≡ substitute_out wd w1 (q - (e - s)) q target here below side
-        → PutsRenamed wd w p e i j target here below side lim to q w2
+  module _ (f : Indices) (v : Renaming) (q : ℕ) (w1 : List ℕ) (g : Puts w lim to (stripped_out wd w p e f) q w1) where
+    pub renamed_put : (s : ℕ) (w2 : List ℕ) → s ≡ symbols_from wd w p → q ≤ lim → w2 ≡ substitute_out wd w1 (q - (e - s)) q v.target v.here v.below v.side
+        → PutsRenamed wd w p e f v lim to q w2
     unfolding pick
     renamed_put s w2 z h y = record { work = w1; puts = g; renamed = cc (le-leb q lim h) }
 
-    pub renamed_not : lim < q → PutsRenamed wd w p e i j target here below side lim to q w1
+    pub renamed_not : lim < q → PutsRenamed wd w p e f v lim to q w1
     unfolding pick
     renamed_not h = record { work = w1; puts = g; renamed = cc (lt-leb q lim h) }
 

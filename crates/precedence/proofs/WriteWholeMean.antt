@@ -27,6 +27,7 @@ use Rattle.laws.proofs.Flat.{SymsFits}
 use Rattle.laws.proofs.Rename.{renamed_all_length}
 use Rattle.resolve.proofs.CellsLaws.{store-over}
 use Rattle.grades.specs.declared.Assoc.{Assoc}
+use Rattle.grades.specs.declared.Indices.{Indices}
 use Rattle.grades.specs.Annotations.{conditions_from, symbols_from, first_index}
 use Rattle.precedence.specs.Substitute.{substitute_out}
 use Rattle.precedence.specs.Write.{Puts, head_out, stripped_out, PutsRenamed}
@@ -34,6 +35,10 @@ use Rattle.precedence.proofs.SubstituteMean.{side_meant, substitute-means}
 use Rattle.precedence.proofs.WriteLaws.{fits_or_not}
 use Rattle.precedence.proofs.WriteMean.{attribute_long, span_long, kept-means, annotations_gone}
 use Rattle.precedence.proofs.WriteCountMean.{each_long, count_left}
+
+-- the indices of its first `precedence` and its first `assoc`
+abbrev pub annotations_of : Alternative → Indices
+annotations_of a = record { precedence = first_index precedence a.attributes; assoc = first_index assoc a.attributes }
 
 condition_long : (wd : ℕ) (ts : List Text) (c : Condition) → length (condition_bytes wd ts c) ≡ 10 + 2 * wd
 unfolding condition_bytes condition_node node_bytes span_bytes
@@ -106,17 +111,15 @@ module _ (wd : ℕ) (ts : List Text) (a : Alternative) where
 
   -- theorem: what is put is the alternative with them
   pub stripped_means : (w : List ℕ) (p e : ℕ) → Lies w p (alternative_bytes wd ts a) e
-      → stripped_out wd w p e (first_index precedence a.attributes) (first_index assoc a.attributes) ≡ alternative_bytes wd ts (with_attributes a Left)
+      → stripped_out wd w p e (annotations_of a) ≡ alternative_bytes wd ts (with_attributes a Left)
   unfolding stripped_out head_out alternative_bytes alternative_node node_bytes
   stripped_means w p e l =
       let s = standing w p e l in
-      let i = first_index precedence a.attributes in
-      let j = first_index assoc a.attributes in
       let n = s.attributes in
       let f = s.front in
       let b = s.back in
       let c = count_left a.attributes in
-      let k = kept-means wd ts w a.attributes (p + (14 + wd)) (conditions_from wd w p) 0 i j s.labels ∙ ap (bytes_of_each (attribute_bytes wd ts)) (annotations_gone a.attributes) in
+      let k = kept-means wd ts w a.attributes (p + (14 + wd)) (conditions_from wd w p) 0 (annotations_of a) s.labels ∙ ap (bytes_of_each (attribute_bytes wd ts)) (annotations_gone a.attributes) in
       let r = lies_part w (conditions_from wd w p) e (Conditions ++ Symbols) s.rest in
       rw (n, f, b, c, k, r)
 
@@ -229,14 +232,14 @@ pub alternative_means : (wd : ℕ) (ts : List Text) (E : Text) (group : Group Gr
     → g.alternative ≡ with_attributes a (without_first assoc (without_first precedence a.attributes))
     → (side : Assoc) → side_meant side ≡ g.side
     → (w : List ℕ) (p e lim to r : ℕ) (w1 : List ℕ) → Lies w p (alternative_bytes wd ts a) e → lim + 16 ≤ length w
-    → PutsRenamed wd w p e (first_index precedence a.attributes) (first_index assoc a.attributes) (number ts E) (number ts group.name) (number ts (lower_name group)) side lim to r w1
+    → PutsRenamed wd w p e (annotations_of a) (record { target = number ts E; here = number ts group.name; below = number ts (lower_name group); side = side }) lim to r w1
     → Puts w lim to (alternative_bytes wd ts (substitute E group g)) r w1
 alternative_means wd ts E group g a known fits is side sided w p e lim to r w1 l room q =
     let bare = with_attributes a (without_first assoc (without_first precedence a.attributes)) in
     let same : g.alternative.symbols ≡ a.symbols = ap (λ (x : Alternative). x.symbols) is in
     let f : SymsFits wd ts g.alternative.symbols = rw same fits in
     let s = standing wd ts a w p e l in
-    let x : stripped_out wd w p e (first_index precedence a.attributes) (first_index assoc a.attributes) ≡ before-symbols wd ts g.alternative ++ syms_bytes wd ts g.alternative.symbols
+    let x : stripped_out wd w p e (annotations_of a) ≡ before-symbols wd ts g.alternative ++ syms_bytes wd ts g.alternative.symbols
     = stripped_means wd ts a w p e l ∙ ap (alternative_bytes wd ts) (sym is) ∙ split_bytes wd ts g.alternative in
     let y = new_bytes_lem wd ts E group g known f in
     let ends : symbols_from wd w p + length (syms_bytes wd ts g.alternative.symbols) ≡ e = rw same s.symbols in

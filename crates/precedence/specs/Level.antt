@@ -1,10 +1,9 @@
 -- The nonterminal of one level, put behind what is written so far. wd is the width of an atom's number in bytes. Assumes nothing: these are definitions.
-use Rattle.std.specs.Prelude.{◌≡◌, ◌⊎◌, List, [], ◌++◌, ℕ, zero, suc, ◌+◌, ◌-◌, ◌*◌, ◌/◌, ◌%◌, ◌≤◌, ◌<◌, eqb, length, get_or, Option, Some, None, unwrap_or}
-use Rattle.octets.specs.Working.Choice.{pick}
+use Rattle.std.specs.Prelude.{◌≡◌, ◌⊎◌, List, [], ◌++◌, ℕ, zero, suc, ◌+◌, ◌-◌, ◌*◌, ◌≤◌, ◌<◌, length, get_or, Option, Some, None, unwrap_or}
 use Rattle.octets.specs.Plain.Numbers.{le_at, le}
 use Rattle.octets.specs.Plain.Runs.{part}
-use Rattle.grades.specs.declared.Assoc.{Assoc}
 use Rattle.grades.specs.declared.Ids.{Ids}
+use Rattle.grades.specs.Key.{key_index, key_side}
 use Rattle.grades.specs.Annotations.{first_with, first_alternative, symbols_from}
 use Rattle.precedence.specs.declared.level.Level.{Level}
 use Rattle.resolve.specs.Whole.{Apart}
@@ -20,13 +19,9 @@ nonterminal_out wd w p name many = named_out wd w p name ++ (le 2 many ++ part (
 
 -- ---- one key
 
--- the side that a key says
-unfoldable pub key_side : ℕ → Assoc
-key_side k = pick (eqb (k % 4) 0) Assoc.Left (pick (eqb (k % 4) 1) Assoc.Right (pick (eqb (k % 4) 2) Assoc.NonAssoc Assoc.FullyAssoc))
-
 -- where the place of a key's alternative is noted
 abbrev pub key_entry : ℕ → ℕ → ℕ
-key_entry places k = places + 8 * (k / 4 % 65536)
+key_entry places k = places + 8 * key_index k
 
 -- that place
 unfoldable pub key_place : List ℕ → ℕ → ℕ → ℕ
@@ -39,9 +34,11 @@ key_end w places k = le_at 8 w (key_entry places k + 8)
 -- the alternative of a key is put as its level has it
 pub record PutsKey (wd : ℕ) (ids : Ids) (places target : ℕ) (l : Level) (lim k : ℕ) (w : List ℕ) (to r : ℕ) (w' : List ℕ) : Type 0 where
   pub puts : PutsRenamed wd w (key_place w places k) (key_end w places k)
-      (first_with wd ids.precedence w (key_place w places k + (14 + wd)) (get_or w (key_place w places k + 9) 0))
-      (first_with wd ids.assoc w (key_place w places k + (14 + wd)) (get_or w (key_place w places k + 9) 0))
-      target l.name (unwrap_or l.below l.name) (key_side k) lim to r w'
+      (record {
+        precedence = first_with wd ids.precedence w (key_place w places k + (14 + wd)) (get_or w (key_place w places k + 9) 0);
+        assoc = first_with wd ids.assoc w (key_place w places k + (14 + wd)) (get_or w (key_place w places k + 9) 0);
+      })
+      (record { target = target; here = l.name; below = unwrap_or l.below l.name; side = key_side k }) lim to r w'
 
 -- its alternative stands below `to`, its entry apart from what is written
 pub record KeyInside (wd : ℕ) (w : List ℕ) (places lim to k : ℕ) : Type 0 where

@@ -16,11 +16,6 @@ abbrev pub spelt : Text → Option ℕ → Text
 spelt t (Some v) = t ++ level_digits v
 spelt t None = t
 
--- a level, if there is one, has 32 bits
-abbrev pub LevelSmall : Option ℕ → Type 0
-LevelSmall (Some v) = v < 4294967296
-LevelSmall None = Unit
-
 -- the name of a level: the text of number b, then the level's digits
 unfoldable pub level_text : List ℕ → List ℕ → Map → ℕ → ℕ → Text
 level_text s w m b v = get_or (texts s w m) b [] ++ level_digits v

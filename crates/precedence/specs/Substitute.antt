@@ -4,7 +4,7 @@ use Rattle.std.specs.Prelude.{◌≡◌, Option, Some, None, List, ℕ, zero, su
 use Rattle.octets.specs.Working.Choice.{pick}
 use Rattle.octets.specs.Plain.Numbers.{le}
 use Rattle.octets.specs.Working.Stores.{store}
-use Rattle.resolve.specs.Commands.{long_of}
+use Rattle.parse_tree.specs.Working.Nodes.{long_of}
 use Rattle.grades.specs.declared.Assoc.{Assoc}
 use Rattle.grades.specs.Skip.{names_at}
 use Rattle.precedence.specs.declared.substitute.Marks.{Marks}

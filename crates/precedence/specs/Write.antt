@@ -1,12 +1,14 @@
 -- What is written behind what is written so far, before a limit. wd is the width of an atom's number in bytes. Assumes nothing: these are definitions.
-use Rattle.std.specs.Prelude.{◌≡◌, ◌⊎◌, List, [], ◌∷◌, ◌++◌, ℕ, zero, suc, ◌+◌, ◌-◌, ◌*◌, ◌≤◌, ◌<◌, leb, eqb, length, get_or}
+use Rattle.std.specs.Prelude.{◌≡◌, ◌⊎◌, Bool, ◌||◌, Option, Some, None, List, [], ◌∷◌, ◌++◌, ℕ, zero, suc, ◌+◌, ◌-◌, ◌*◌, ◌≤◌, ◌<◌, leb, eqb, length, get_or}
+use Rattle.std.specs.Option.{option_eq}
 use Rattle.octets.specs.Working.Choice.{pick}
 use Rattle.octets.specs.Plain.Numbers.{le}
 use Rattle.octets.specs.Plain.Runs.{part}
 use Rattle.octets.specs.Working.Stores.{store}
 use Rattle.parse_tree.specs.Plain.Tree.{Attribute}
-use Rattle.grades.specs.declared.Assoc.{Assoc}
+use Rattle.grades.specs.declared.Indices.{Indices}
 use Rattle.grades.specs.Annotations.{conditions_from, symbols_from}
+use Rattle.precedence.specs.declared.substitute.Renaming.{Renaming}
 use Rattle.precedence.specs.Substitute.{substitute_out}
 
 -- xs, put to w from `to` on, leaves w' and the cursor r: all of it, or some bytes from `to` up to lim
@@ -17,46 +19,51 @@ pub record Puts (w : List ℕ) (lim to : ℕ) (xs : List ℕ) (r : ℕ) (w' : Li
   pub over : lim < to + length xs → r ≡ lim + 1
   pub others : lim < to + length xs → (i : ℕ) → (i < to) ⊎ (lim ≤ i) → get_or w' i 0 ≡ get_or w i 0
 
--- the bytes from a up to e, unless k is one of two indices
-unfoldable pub kept_one : List ℕ → ℕ → ℕ → ℕ → ℕ → ℕ → List ℕ
-kept_one w a e k i j = pick (eqb k i) [] (pick (eqb k j) [] (part a e w))
+-- whether k is one of the indices
+unfoldable pub is_left_out : Indices → ℕ → Bool
+is_left_out f k = option_eq eqb f.precedence (Some k) || option_eq eqb f.assoc (Some k)
 
--- n attributes from a on, of which the first has the index k, but those of two indices
-unfoldable pub kept_bytes : ℕ → List ℕ → ℕ → ℕ → ℕ → ℕ → ℕ → List ℕ
-kept_bytes wd w a zero k i j = []
-kept_bytes wd w a (suc n) k i j = kept_one w a (a + (2 + 3 * wd)) k i j ++ kept_bytes wd w (a + (2 + 3 * wd)) n (k + 1) i j
+-- the bytes from a up to e, unless k is one of them
+unfoldable pub kept_one : List ℕ → ℕ → ℕ → ℕ → Indices → List ℕ
+kept_one w a e k f = pick (is_left_out f k) [] (part a e w)
 
--- the command of an alternative of one symbol, with the span of these eight bytes' number
-unfoldable pub single_head : ℕ → ℕ → List ℕ
-single_head wd span = 18 ∷ (le 8 span ++ (le 3 0 ++ (le wd 0 ++ le 2 1)))
+-- n attributes from a on, of which the first has the index k, but those of the indices
+unfoldable pub kept_bytes : ℕ → List ℕ → ℕ → ℕ → ℕ → Indices → List ℕ
+kept_bytes wd w a zero k f = []
+kept_bytes wd w a (suc n) k f = kept_one w a (a + (2 + 3 * wd)) k f ++ kept_bytes wd w (a + (2 + 3 * wd)) n (k + 1) f
 
--- and the whole alternative, where the symbol is a nonterminal
+-- the command of an alternative without attributes and condition; span is the number that its eight bytes make
+unfoldable pub alternative_head : ℕ → ℕ → ℕ → ℕ → ℕ → List ℕ
+alternative_head wd span act text symbols = 18 ∷ (le 8 span ++ (0 ∷ (0 ∷ (act ∷ (le wd text ++ le 2 symbols)))))
+
+-- a whole alternative of one symbol, a nonterminal, without an action
 unfoldable pub fall_bytes : ℕ → ℕ → ℕ → List ℕ
-fall_bytes wd span below = single_head wd span ++ (36 ∷ (le 8 span ++ le wd below))
+fall_bytes wd span below = alternative_head wd span 0 0 1 ++ (36 ∷ (le 8 span ++ le wd below))
 
 -- an alternative's command at p with another count of attributes
 unfoldable pub head_out : ℕ → List ℕ → ℕ → ℕ → List ℕ
 head_out wd w p count = part p (p + 9) w ++ (count ∷ part (p + 10) (p + (14 + wd)) w)
 
--- one less than m, if i is an index below n
-unfoldable pub fewer_by : ℕ → ℕ → ℕ → ℕ
-fewer_by m n i = pick (leb n i) m (m - 1)
+-- one less than m, if there is an index
+unfoldable pub fewer_by : ℕ → Option ℕ → ℕ
+fewer_by m None = m
+fewer_by m (Some i) = m - 1
 
--- the alternative from p up to e without the attributes of two indices
-unfoldable pub stripped_out : ℕ → List ℕ → ℕ → ℕ → ℕ → ℕ → List ℕ
-stripped_out wd w p e i j =
+-- the alternative from p up to e without the attributes of the indices
+unfoldable pub stripped_out : ℕ → List ℕ → ℕ → ℕ → Indices → List ℕ
+stripped_out wd w p e f =
     let n = get_or w (p + 9) 0 in
-    head_out wd w p (fewer_by (fewer_by n n i) n j) ++ (kept_bytes wd w (p + (14 + wd)) n 0 i j ++ part (conditions_from wd w p) e w)
+    head_out wd w p (fewer_by (fewer_by n f.precedence) f.assoc) ++ (kept_bytes wd w (p + (14 + wd)) n 0 f ++ part (conditions_from wd w p) e w)
 
 -- put so to w, and then its symbols' occurrences renamed where all fitted
-pub record PutsRenamed (wd : ℕ) (w : List ℕ) (p e i j target here below : ℕ) (side : Assoc) (lim to r : ℕ) (w' : List ℕ) : Type 0 where
+pub record PutsRenamed (wd : ℕ) (w : List ℕ) (p e : ℕ) (f : Indices) (v : Renaming) (lim to r : ℕ) (w' : List ℕ) : Type 0 where
   pub work : List ℕ
-  pub puts : Puts w lim to (stripped_out wd w p e i j) r work
-  pub renamed : w' ≡ pick (leb r lim) (substitute_out wd work (r - (e - symbols_from wd w p)) r target here below side) work
+  pub puts : Puts w lim to (stripped_out wd w p e f) r work
+  pub renamed : w' ≡ pick (leb r lim) (substitute_out wd work (r - (e - symbols_from wd w p)) r v.target v.here v.below v.side) work
 
 -- ---- what they mean
 
--- attributes, of which the first has the index k, but those of two indices
-unfoldable pub but_two : ℕ → ℕ → ℕ → List Attribute → List Attribute
-but_two k i j [] = []
-but_two k i j (a ∷ rest) = pick (eqb k i) [] (pick (eqb k j) [] (a ∷ [])) ++ but_two (k + 1) i j rest
+-- attributes, of which the first has the index k, but those of the indices
+unfoldable pub but_two : ℕ → Indices → List Attribute → List Attribute
+but_two k f [] = []
+but_two k f (a ∷ rest) = pick (is_left_out f k) [] (a ∷ []) ++ but_two (k + 1) f rest

@@ -3,13 +3,24 @@ ghost use Rattle.std.specs.Prelude.{◌≡◌, ◌+◌, ◌-◌, ◌*◌, ◌≤
 ghost use Rattle.octets.specs.Plain.Numbers.{le_at, le};
 ghost use Rattle.grades.specs.Annotations.{first_alternative};
 ghost use Rattle.precedence.specs.Write.{Puts};
-ghost use Rattle.precedence.specs.Level.{named_out, nonterminal_out, key_side, KeyInside, PutsKey, KeysInside, PutsAlternatives, level_count, LevelInside, PutsLevel};
+ghost use Rattle.precedence.specs.Level.{named_out, nonterminal_out, KeyInside, PutsKey, KeysInside, PutsAlternatives, level_count, LevelInside, PutsLevel};
 
-use crate::substitute::put_atom;
-use crate::write::{fall_through, fits, put_alternative, put_run};
+use crate::substitute::Renaming;
+use crate::write::{fall_through, put, put_alternative, put_run};
+use grades::Ids;
 use grades::annotations::{annotations, first_alternative};
-use grades::{Assoc, Ids};
-use octets::numbers::{Width, atom_at, u64_at};
+use grades::key::Key;
+use octets::numbers::{Width, atom_at, put_atom, u64_at};
+
+// What all levels of a nonterminal are written by: the places and the sorted keys of its alternatives, which are two arrays in work, and the end of the room.
+#[derive(Clone, Copy)]
+pub struct Keyed {
+    pub places: usize,
+    pub keys: usize,
+    pub ids: Ids,
+    pub width: Width,
+    pub lim: usize,
+}
 
 // One level: its keys from first up to last, its name, and that of the next lower level, if there is one.
 #[derive(Clone, Copy)]
@@ -25,11 +36,9 @@ fn put_number(work: &mut [u8], v: u32, width: Width, lim: usize, to: usize) -> u
     requires { lim + 16 ≤ length work.old }
     ensures { Puts work.old lim to (le width.bytes v) result work.new }
 {
-    if !fits(lim, to, width.bytes) {
-        return lim + 1;
-    }
-    put_atom(work, to, width, v);
-    to + width.bytes
+    put(work, width.bytes, lim, to, move |w| {
+        put_atom(w, to, width, v)
+    })
 }
 
 // A nonterminal's command with another name, up to the count of its alternatives.
@@ -42,7 +51,8 @@ fn put_named(work: &mut [u8], p: usize, name: u32, width: Width, lim: usize, to:
     put_run(work, p + 9 + width.bytes, p + 11 + width.bytes, lim, r)
 }
 
-// The command of the nonterminal at p with another name and so many alternatives, and its arguments.
+// The command of the nonterminal at p with another name and so many alternatives, and its arguments. Their number is put as an atom of two bytes,
+// not by `store16`: with the fall-through it may be 65,536, which no u16 holds.
 fn put_nonterminal_head(
     work: &mut [u8],
     p: usize,
@@ -61,75 +71,34 @@ fn put_nonterminal_head(
     put_run(work, p + 13 + width.bytes, e, lim, r)
 }
 
-// The side that a key says.
-fn side_of(k: usize) -> Assoc
-    ensures { result ≡ key_side k }
-{
-    match k % 4 {
-        0 => Assoc::Left,
-        1 => Assoc::Right,
-        2 => Assoc::NonAssoc,
-        _ => Assoc::FullyAssoc,
-    }
-}
-
 // The alternative of a key without its first `precedence` and its first `assoc`.
-fn put_key(
-    work: &mut [u8],
-    places: usize,
-    k: usize,
-    width: Width,
-    ids: Ids,
-    target: u32,
-    l: Level,
-    lim: usize,
-    to: usize,
-) -> usize
-    requires { KeyInside width.bytes work.old places lim to k × (to ≤ lim + 1) × (lim + 16 ≤ length work.old) }
-    ensures { PutsKey width.bytes ids places target l lim k work.old to result work.new }
+fn put_key(work: &mut [u8], t: Keyed, k: Key, target: u32, l: Level, to: usize) -> usize
+    requires { KeyInside t.width.bytes work.old t.places t.lim to k.number × (to ≤ t.lim + 1) × (t.lim + 16 ≤ length work.old) }
+    ensures { PutsKey t.width.bytes t.ids t.places target l t.lim k.number work.old to result work.new }
 {
-    let at = places + 8 * (k / 4 % 65536);
+    let at = t.places + 8 * k.index();
     let p = u64_at(work, at) as usize;
     let e = u64_at(work, at + 8) as usize;
     let n = usize::from(work[p + 9]);
-    let f = annotations(work, p + (14 + width.bytes), n, width, ids);
-    let side = side_of(k);
-    let below = l.below.unwrap_or(l.name);
-    put_alternative(
-        work,
-        p,
-        e,
-        f.precedence,
-        f.assoc,
-        width,
+    let f = annotations(work, p + (14 + t.width.bytes), n, t.width, t.ids);
+    let names = Renaming {
         target,
-        l.name,
-        below,
-        side,
-        lim,
-        to,
-    )
+        here: l.name,
+        below: l.below.unwrap_or(l.name),
+        side: k.side(),
+    };
+    put_alternative(work, p, e, f, t.width, names, t.lim, to)
 }
 
 // The alternatives of a level.
-fn put_alternatives(
-    work: &mut [u8],
-    places: usize,
-    keys: usize,
-    width: Width,
-    ids: Ids,
-    target: u32,
-    l: Level,
-    lim: usize,
-    to: usize,
-) -> usize
-    requires { KeysInside width.bytes work.old places keys l lim to × (to ≤ lim + 1) × (lim + 16 ≤ length work.old) }
-    ensures { PutsAlternatives width.bytes ids places keys target l lim work.old to result work.new }
+fn put_alternatives(work: &mut [u8], t: Keyed, target: u32, l: Level, to: usize) -> usize
+    requires { KeysInside t.width.bytes work.old t.places t.keys l t.lim to × (to ≤ t.lim + 1) × (t.lim + 16 ≤ length work.old) }
+    ensures { PutsAlternatives t.width.bytes t.ids t.places t.keys target l t.lim work.old to result work.new }
 {
     let mut q = to;
     for i in l.first..l.last {
-        let k = u64_at(work, keys + 8 * i) as usize;
-        q = put_key(work, places, k, width, ids, target, l, lim, q);
+        let k = Key::read(work, t.keys, i);
+        q = put_key(work, t, k, target, l, q);
     }
     q
 }
@@ -147,26 +116,16 @@ fn count_of(l: Level) -> u32
 }
 
 // The nonterminal at p, as this level has it: its command and arguments, the alternatives of the level, and the fall-through if it is not the lowest.
-pub fn write_level(
-    work: &mut [u8],
-    p: usize,
-    width: Width,
-    ids: Ids,
-    places: usize,
-    keys: usize,
-    l: Level,
-    lim: usize,
-    to: usize,
-) -> usize
-    requires { LevelInside width.bytes work.old p places keys l lim to }
-    ensures { PutsLevel width.bytes ids p places keys l lim work.old to result work.new }
+pub fn write_level(work: &mut [u8], p: usize, t: Keyed, l: Level, to: usize) -> usize
+    requires { LevelInside t.width.bytes work.old p t.places t.keys l t.lim to }
+    ensures { PutsLevel t.width.bytes t.ids p t.places t.keys l t.lim work.old to result work.new }
 {
     let many = count_of(l);
-    let target = atom_at(work, p + 9, width);
-    let q = put_nonterminal_head(work, p, l.name, many, width, lim, to);
-    let r = put_alternatives(work, places, keys, width, ids, target, l, lim, q);
+    let target = atom_at(work, p + 9, t.width);
+    let q = put_nonterminal_head(work, p, l.name, many, t.width, t.lim, to);
+    let r = put_alternatives(work, t, target, l, q);
     match l.below {
-        Some(below) => fall_through(work, p, below, width, lim, r),
+        Some(below) => fall_through(work, p, below, t.width, t.lim, r),
         None => r,
     }
 }

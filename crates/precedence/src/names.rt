@@ -1,17 +1,57 @@
-// The name of a level: the nonterminal's name, then the level in decimal. It has no bytes yet: its record's mark is the number of the nonterminal's name, times 2^32, and the level.
-ghost use Rattle.std.specs.Prelude.{◌≡◌, ◌<◌, length, get_or};
+// The name of a level: the nonterminal's name, then the level in decimal. It has no bytes yet: its record's mark describes it.
+ghost use Rattle.std.specs.Prelude.{◌≡◌, ◌+◌, ◌*◌, ◌/◌, ◌%◌, ◌≤◌, ◌<◌, length, get_or};
 ghost use Rattle.octets.specs.Plain.Runs.{same_as};
 ghost use Rattle.texts.specs.Hash.{hash_from, hash_of};
+ghost use Rattle.texts.specs.Fields.{mark_at};
 ghost use Rattle.texts.specs.Table.{Finds};
 ghost use Rattle.grades.specs.Grade.{level_digits};
-ghost use Rattle.precedence.specs.Names.{LevelSmall, spelt, Naming, Based, Spelled, BaseText, Describing, Described, LevelNamed, level_text, named_text, named_texts};
+ghost use Rattle.precedence.specs.Names.{spelt, Naming, Based, Spelled, BaseText, Describing, Described, LevelNamed, level_text, named_text, named_texts};
 
 use grades::grade::{decimal_size, digit};
 use texts::Map;
 use texts::chain::search;
-use texts::fields::{hash, mark, write};
+use texts::fields::{hash, mark, text_mark, write};
 use texts::hash::{bucket, next};
 use texts::text::text_at;
+
+// The mark that describes the name of a level: the number of the nonterminal's name, times 2^32, and the level.
+#[derive(Clone, Copy)]
+pub struct NameMark {
+    pub number: usize,
+}
+
+impl NameMark {
+    pub fn of(base: usize, level: u32) -> NameMark
+        requires { base < 4294967296 }
+        ensures { result.number ≡ base * 4294967296 + level }
+    {
+        NameMark {
+            number: base * 4294967296 + level as usize,
+        }
+    }
+
+    pub fn base(self) -> usize
+        ensures { result ≡ self.number / 4294967296 }
+    {
+        self.number / 4294967296
+    }
+
+    pub fn level(self) -> u32
+        ensures { result ≡ self.number % 4294967296 }
+    {
+        (self.number % 4294967296) as u32
+    }
+}
+
+// That of record k.
+pub fn name_mark(work: &[u8], base: usize, k: usize) -> NameMark
+    requires { base + 24 * k + 24 ≤ length work.now }
+    ensures { result.number ≡ mark_at work.now base k }
+{
+    NameMark {
+        number: mark(work, base, k),
+    }
+}
 
 // The number of a text, and how many there are then.
 #[derive(Clone, Copy)]
@@ -21,21 +61,16 @@ pub struct LevelName {
 }
 
 // The i-th digit of a level.
-fn digit_at(v: usize, i: usize) -> u8
-    requires { (v < 4294967296) × (i < length (level_digits v)) }
+fn digit_at(v: u32, i: usize) -> u8
+    requires { i < length (level_digits v) }
     ensures { result ≡ get_or (level_digits v) i 0 }
 {
-    let n = decimal_size(v);
-    let mut q = v;
-    for _ in i + 1..n {
-        q /= 10;
-    }
-    digit(q % 10)
+    let behind = decimal_size(v) - 1 - i;
+    digit(v as usize / 10usize.pow(behind as u32) % 10)
 }
 
 // How many bytes a text has, with a level's digits behind it where there is a level.
-fn long(t: &[u8], v: Option<usize>) -> usize
-    requires { LevelSmall v }
+pub fn long(t: &[u8], v: Option<u32>) -> usize
     ensures { result ≡ length (spelt t.now v) }
 {
     match v {
@@ -45,8 +80,8 @@ fn long(t: &[u8], v: Option<usize>) -> usize
 }
 
 // The i-th of them.
-fn byte_of(t: &[u8], v: Option<usize>, i: usize) -> u8
-    requires { LevelSmall v × (i < length (spelt t.now v)) }
+fn byte_of(t: &[u8], v: Option<u32>, i: usize) -> u8
+    requires { i < length (spelt t.now v) }
     ensures { result ≡ get_or (spelt t.now v) i 0 }
 {
     match v {
@@ -62,48 +97,32 @@ fn byte_of(t: &[u8], v: Option<usize>, i: usize) -> u8
 }
 
 // Whether a and the digits of u are b and the digits of v: where one text ends is no matter.
-fn same_names(a: &[u8], u: Option<usize>, b: &[u8], v: Option<usize>) -> bool
-    requires { LevelSmall u × LevelSmall v }
+fn same_names(a: &[u8], u: Option<u32>, b: &[u8], v: Option<u32>) -> bool
     ensures { result ≡ same_as (spelt a.now u) (spelt b.now v) }
 {
     let n = long(b, v);
-    if long(a, u) != n {
-        return false;
-    }
-    for i in 0..n {
-        if byte_of(a, u, i) != byte_of(b, v, i) {
-            return false;
-        }
-    }
-    true
+    long(a, u) == n && (0..n).all(|i| byte_of(a, u, i) == byte_of(b, v, i))
 }
 
-// A text of the table. Here and below tape, work and m stay apart: `Based` and `Spelled` say of one text that it can be read, so a type
+// A text of the table. Apart from texts' `text`, which asks for the whole table. Here and below tape, work and m stay apart: `Based` and `Spelled` say of one text that it can be read, so a type
 // with the fact of `Naming` would ask more, and one without a fact would make each clause longer.
 pub fn base_text<'a>(tape: &'a [u8], work: &'a [u8], m: Map, k: usize) -> &'a [u8]
     requires { Based tape.now work.now m k }
     ensures { BaseText tape.now work.now m k result.now }
 {
-    let x = mark(work, m.base, k);
-    text_at(tape, work, x)
+    text_at(tape, work, text_mark(work, m.base, k))
 }
 
 // The hash of a text with a level's digits behind it, from that of the text.
-fn add_digits(x: usize, v: usize) -> usize
-    requires { (x < 4294967296) × (v < 4294967296) }
+fn add_digits(x: u32, v: u32) -> u32
     ensures { result ≡ hash_from x (level_digits v) }
 {
-    let n = decimal_size(v);
-    let mut h = x;
-    for i in 0..n {
-        h = next(h, digit_at(v, i));
-    }
-    h
+    (0..decimal_size(v)).fold(x, |h, i| next(h, digit_at(v, i)))
 }
 
 // The hash of a level's name goes on from that of the base.
-pub fn level_hash(tape: &[u8], work: &[u8], m: Map, base: usize, level: usize) -> usize
-    requires { Based tape.now work.now m base × (level < 4294967296) }
+pub fn level_hash(tape: &[u8], work: &[u8], m: Map, base: usize, level: u32) -> u32
+    requires { Based tape.now work.now m base }
     ensures { result ≡ hash_of (level_text tape.now work.now m base level) }
 {
     add_digits(hash(work, m.base, base), level)
@@ -116,24 +135,21 @@ pub fn is_level_name<'a>(
     work: &'a [u8],
     m: Map,
     base: usize,
-    level: usize,
+    level: u32,
     k: usize,
 ) -> bool
-    requires { Based tape.now work.now m base × (level < 4294967296) × Spelled tape.now work.now m k }
+    requires { Based tape.now work.now m base × Spelled tape.now work.now m k }
     ensures { result ≡ same_as (named_text tape.now work.now m k) (level_text tape.now work.now m base level) }
 {
     let b = base_text(tape, work, m, base);
-    let x = mark(work, m.base, k);
     if k < m.count {
-        return same_names(text_at(tape, work, x), None, b, Some(level));
+        let t = text_at(tape, work, text_mark(work, m.base, k));
+        return same_names(t, None, b, Some(level));
     }
-    let c = x / 4294967296;
-    let v = x % 4294967296;
-    if c == base && v == level {
-        true
-    } else {
-        same_names(base_text(tape, work, m, c), Some(v), b, Some(level))
-    }
+    let x = name_mark(work, m.base, k);
+    let c = x.base();
+    let v = x.level();
+    (c == base && v == level) || same_names(base_text(tape, work, m, c), Some(v), b, Some(level))
 }
 
 // The same, where a hash that differs says no.
@@ -142,11 +158,11 @@ fn matches<'a>(
     work: &'a [u8],
     m: Map,
     base: usize,
-    level: usize,
+    level: u32,
     k: usize,
-    h: usize,
+    h: u32,
 ) -> bool
-    requires { Based tape.now work.now m base × (level < 4294967296) × Spelled tape.now work.now m k × (h ≡ hash_of (level_text tape.now work.now m base level)) }
+    requires { Based tape.now work.now m base × Spelled tape.now work.now m k × (h ≡ hash_of (level_text tape.now work.now m base level)) }
     ensures { result ≡ same_as (named_text tape.now work.now m k) (level_text tape.now work.now m base level) }
 {
     hash(work, m.base, k) == h && is_level_name(tape, work, m, base, level, k)
@@ -159,10 +175,10 @@ pub fn find_name<'a>(
     m: Map,
     n: usize,
     base: usize,
-    level: usize,
-    h: usize,
+    level: u32,
+    h: u32,
 ) -> Option<usize>
-    requires { Naming tape.now work.now m n × (base < m.count) × (level < 4294967296) × (h ≡ hash_of (level_text tape.now work.now m base level)) }
+    requires { Naming tape.now work.now m n × (base < m.count) × (h ≡ hash_of (level_text tape.now work.now m base level)) }
     ensures { Finds (named_texts tape.now work.now m n) (level_text tape.now work.now m base level) result }
 {
     let y = bucket(h, m.buckets);
@@ -171,12 +187,13 @@ pub fn find_name<'a>(
     })
 }
 
-// Record n describes the name of a level, and comes into its chain.
-fn describe(tape: &[u8], work: &mut [u8], m: Map, n: usize, base: usize, level: usize, h: usize)
+// Record n describes the name of a level, and comes into its chain. `tape` for the clauses alone.
+fn describe(tape: &[u8], work: &mut [u8], m: Map, n: usize, base: usize, level: u32, h: u32)
     requires { Describing tape.now work.old m n base level × (h ≡ hash_of (level_text tape.now work.old m base level)) }
     ensures { Described tape.now work.old m n base level work.new }
 {
-    write(work, m.base, n, base * 4294967296 + level, h, 0);
+    let x = NameMark::of(base, level);
+    write(work, m.base, n, x.number, h, 0);
     texts::chain::link(work, m.base, m.buckets, n, h);
 }
 
@@ -187,7 +204,7 @@ pub fn level_name(
     m: Map,
     n: usize,
     base: usize,
-    level: usize,
+    level: u32,
 ) -> LevelName
     requires { Describing tape.now work.old m n base level }
     ensures { LevelNamed tape.now work.old m n base level result work.new }

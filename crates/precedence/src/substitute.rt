@@ -6,8 +6,17 @@ ghost use Rattle.grades.specs.Skip.{names_at};
 ghost use Rattle.precedence.specs.Substitute.{marked_at, Replaces, MarksIn, replace_all, substitute_out};
 
 use grades::Assoc;
-use octets::numbers::{Width, atom_at, store16};
+use octets::numbers::{Width, atom_at, put_atom};
 use resolve::commands::long;
+
+// How occurrences of the target are named: `here` is the name of the alternative's level, `below` that of the next lower one.
+#[derive(Clone, Copy)]
+pub struct Renaming {
+    pub target: u32,
+    pub here: u32,
+    pub below: u32,
+    pub side: Assoc,
+}
 
 // Where the first and the last occurrence stood.
 #[derive(Clone, Copy)]
@@ -22,17 +31,6 @@ fn names(work: &[u8], at: usize, width: Width, target: u32) -> bool
     ensures { result ≡ names_at width.bytes target work.now at }
 {
     work[at] == 36 && atom_at(work, at + 9, width) == target
-}
-
-// The number of an atom: two or three bytes.
-pub fn put_atom(work: &mut [u8], at: usize, width: Width, v: u32)
-    requires { at + width.bytes ≤ length work.old }
-    ensures { work.new ≡ store work.old at (le width.bytes v) }
-{
-    store16(work, at, (v % 65536) as u16);
-    if width.bytes == 3 {
-        work[at + 2] = (v / 65536 % 256) as u8;
-    }
 }
 
 // One more occurrence, at p.
@@ -82,37 +80,28 @@ fn replace_symbols(
     m
 }
 
-// `here` is the name of the alternative's level, `below` that of the next lower one.
-pub fn substitute(
-    work: &mut [u8],
-    at: usize,
-    e: usize,
-    width: Width,
-    target: u32,
-    here: u32,
-    below: u32,
-    side: Assoc,
-)
+// The occurrences of the target from a place up to e, renamed as the side says.
+pub fn substitute(work: &mut [u8], at: usize, e: usize, width: Width, names: Renaming)
     requires { e + 16 ≤ length work.old }
-    ensures { work.new ≡ substitute_out width.bytes work.old at e target here below side }
+    ensures { work.new ≡ substitute_out width.bytes work.old at e names.target names.here names.below names.side }
 {
-    match side {
+    match names.side {
         Assoc::Left => {
-            if let Some(m) = replace_symbols(work, at, e, width, target, below) {
-                put_atom(work, m.first + 9, width, here);
+            if let Some(m) = replace_symbols(work, at, e, width, names.target, names.below) {
+                put_atom(work, m.first + 9, width, names.here);
             }
         }
         Assoc::Right => {
-            if let Some(m) = replace_symbols(work, at, e, width, target, below) {
-                put_atom(work, m.last + 9, width, here);
+            if let Some(m) = replace_symbols(work, at, e, width, names.target, names.below) {
+                put_atom(work, m.last + 9, width, names.here);
             }
         }
         Assoc::NonAssoc => {
-            replace_symbols(work, at, e, width, target, below);
+            replace_symbols(work, at, e, width, names.target, names.below);
         }
         Assoc::FullyAssoc => {
-            if here != target {
-                replace_symbols(work, at, e, width, target, here);
+            if names.here != names.target {
+                replace_symbols(work, at, e, width, names.target, names.here);
             }
         }
     }

@@ -8,8 +8,9 @@ use Prim.Native.Nat.{ℕ, zero, suc, ◌+◌, ◌≤◌}
 use native.Mathlib.Omega.{arith}
 use borrow.Author.Tests.{eqb-true}
 use lib.Dec.{eqb}
+use Rattle.std.specs.Prelude.{Option as Optional, Some, None}
 use Rattle.parse_tree.specs.Working.Nodes.{node_at, size_of}
-use Rattle.parse_tree.specs.Plain.Reading.{Reading, got, then}
+use Rattle.parse_tree.specs.Plain.Reading.{Reading, got, refused, then}
 use Rattle.parse_tree.specs.Working.Expect.{expect_symbol}
 use Rattle.parse_tree.specs.Working.Operands.{inside_of}
 use Rattle.parse_tree.specs.Working.Within.{Each}
@@ -18,6 +19,7 @@ use Rattle.parse_tree.specs.declared.syntax.Around.{Around as AroundNode}
 use Rattle.parse_tree.specs.declared.syntax.SymbolKind.{SymbolKind}
 use Rattle.parse_tree.proofs.ReadingLaws.{never, then-got, got_as, each_append}
 use Rattle.parse_tree.proofs.Expecting.{symbol_wanted}
+use Rattle.parse_tree.specs.declared.syntax.Node.{Node}
 use Rattle.replacing.specs.Slots.{Ref, text, like, Slots, leaf_places, around_places, listed, places, among, first_like, refer, push_text, push_new, note_by, note_as, note, note_all}
 use Rattle.replacing.specs.Sound.{HasRef, AllNoted}
 use Rattle.replacing.proofs.SlotsMean.{each_map, among-here, among_later}
@@ -74,15 +76,23 @@ module _ (w : ℕ) (s : List ℕ) where
       let i = then-got (listed (λ q. places w s left q) (inside_of o) c) _ r in
       rw (listed-also (λ q. places w s left q) (λ q. places w s more q) f (inside_of o) c i.value i.mid i.first) i.second
 
+  -- what is listed of what was read at a place
+  abbrev shown : ℕ → ℕ → Optional Node → Reading (List ℕ)
+  shown left a o = elim o [ None ↦ refused 2 a | Some n ↦ expect_symbol a (λ sp k c. kind_places left a k c) n (a + size_of w n) ]
+
   -- with more levels left the same are listed
   pub places-more : (left more a : ℕ) (ps : List ℕ) (e : ℕ) → left ≤ more → places w s left a ≡ got ps e → places w s more a ≡ got ps e
   unfolding places expect_symbol
   places-more zero more a ps e l p = absurd (never p)
   places-more (suc left) zero a ps e l p = absurd (omega arith)
   places-more (suc left) (suc more) a ps e l p =
-      symbol_wanted (λ n. node_at w s a ≡ n) a (a + size_of w (node_at w s a)) ps e (λ sp k c. kind_places left a k c) (node_at w s a) refl p (λ sp k i r.
-      ap (λ n. expect_symbol a (λ sp' k' c. kind_places more a k' c) n (a + size_of w (node_at w s a))) i
-      ∙ kind-also left more (λ q x d t. places-more left more q x d (omega arith) t) a k (a + size_of w (node_at w s a)) ps e r)
+      go (node_at w s a) refl p (λ q x d t. places-more left more q x d (omega arith) t)
+    where
+      go : (o : Optional Node) → node_at w s a ≡ o → shown left a o ≡ got ps e → ((q : ℕ) (x : List ℕ) (d : ℕ) → places w s left q ≡ got x d → places w s more q ≡ got x d) → places w s (suc more) a ≡ got ps e
+      go None i q f = absurd (never q)
+      go (Some n) i q f =
+          symbol_wanted (λ m. n ≡ m) a (a + size_of w n) ps e (λ sp k c. kind_places left a k c) n refl q (λ sp k j r.
+          ap (shown more a) i ∙ ap (λ m. expect_symbol a (λ sp' k' c. kind_places more a k' c) m (a + size_of w n)) j ∙ kind-also left more f a k (a + size_of w n) ps e r)
 
   -- ---- each place is listed with all inside it
   abbrev Sub : List ℕ → ℕ → Type 0
@@ -141,8 +151,13 @@ module _ (w : ℕ) (s : List ℕ) where
   places-closed zero a ps e l p = absurd (never p)
   places-closed (suc left) a ps e l p =
       let u = own-sub (suc left) a ps e l p in
-      symbol_wanted (λ n. Unit {0}) a (a + size_of w (node_at w s a)) ps e (λ sp k c. kind_places left a k c) (node_at w s a) tt p (λ sp k i r.
-      kind-closed left (λ q x d t. places-closed left q x d (omega arith) t) a k (a + size_of w (node_at w s a)) ps e u r)
+      go (node_at w s a) p (λ q x d t. places-closed left q x d (omega arith) t) u
+    where
+      go : (o : Optional Node) → shown left a o ≡ got ps e → ((q : ℕ) (x : List ℕ) (d : ℕ) → places w s left q ≡ got x d → Closed x) → Sub ps a → Closed ps
+      go None q f u = absurd (never q)
+      go (Some n) q f u =
+          symbol_wanted (λ m. Unit {0}) a (a + size_of w n) ps e (λ sp k c. kind_places left a k c) n tt q (λ sp k i r.
+          kind-closed left f a k (a + size_of w n) ps e u r)
 
   -- ---- references
   module _ (same : ℕ → ℕ → Bool) (text_at : ℕ → Option ℕ) where

@@ -8,6 +8,7 @@ use native.Mathlib.Omega.{arith}
 use borrow.Author.Tests.{lt-leb, le-leb}
 use lib.Dec.{leb}
 use lib.ListN.{length}
+use Rattle.std.specs.Prelude.{Option as Optional, Some, None}
 use Rattle.octets.specs.Working.Choice.{pick}
 use Rattle.octets.specs.Plain.Numbers.{Bytes}
 use Rattle.octets.specs.Plain.Runs.{same_as}
@@ -16,7 +17,7 @@ use Rattle.parse_tree.specs.Plain.Tree.{Text, Sym}
 use Rattle.parse_tree.specs.Plain.Texts.{has, number, distinct, with_new}
 use Rattle.parse_tree.specs.Plain.Display.{print}
 use Rattle.parse_tree.specs.Working.Nodes.{node_bytes, node_at, size_of}
-use Rattle.parse_tree.specs.Plain.Reading.{Reading, got, then}
+use Rattle.parse_tree.specs.Plain.Reading.{Reading, got, refused, then}
 use Rattle.parse_tree.specs.Working.Expect.{expect_symbol}
 use Rattle.parse_tree.specs.Working.Operands.{inside_of}
 use Rattle.parse_tree.specs.Working.Decode.{read_sym}
@@ -156,10 +157,10 @@ module _ (same : ℕ → ℕ → Bool) (text_at : ℕ → Option ℕ) where
     kind-last (SymbolKind.Around (AroundNode.Name m n)) c z r = absurd (false≢true (sym z))
     kind-last (SymbolKind.Over o) c z r = let h = then-got (listed (λ q. places w s left q) (inside_of o) c) _ r in behind h.value h.mid h.second
 
-    pub own-last : (sp : Span) (k : SymbolKind) → node_at w s a ≡ Node.Symbol sp k → plain_kind k ≡ false → places w s (suc left) a ≡ got ps e → HasRef a (note_all same text_at ps x)
+    pub own-last : (sp : Span) (k : SymbolKind) → node_at w s a ≡ Some (Node.Symbol sp k) → plain_kind k ≡ false → places w s (suc left) a ≡ got ps e → HasRef a (note_all same text_at ps x)
     unfolding places expect_symbol
     own-last sp k p z q =
-        kind-last k (a + size_of w (Node.Symbol sp k)) z (sym (ap (λ n. expect_symbol a (λ sp' k' c. kind_places k' c) n (a + size_of w n)) p) ∙ q)
+        kind-last k (a + size_of w (Node.Symbol sp k)) z (sym (ap (λ (o : Optional Node). elim o as (λ _. Reading (List ℕ)) [ None ↦ refused 2 a | Some n ↦ expect_symbol a (λ sp' k' c. kind_places k' c) n (a + size_of w n) ]) p) ∙ q)
 
 -- ---- the steps of the run
 abbrev pub run : ℕ → List ℕ → Slots → Run
@@ -255,14 +256,14 @@ module _ (four : Bool) (w : ℕ) (s : List ℕ) (ts : List Text) (b : Bytes s) (
       (omega (arith, h.lies.end), lies_inside s a c (node_bytes w n) p h.lies)
 
   -- ---- a command that is copied
-  copied : (a c : ℕ) (n : Node) (out : List ℕ) (x : Slots) → Standing four w s ts a c n → plain n ≡ true → is_macro n ≡ false → step_on same text_at w (length ts) s (run a out x) ≡ run c (out ++ node_bytes w n) x
+  copied : (a c : ℕ) (n : Node) (out : List ℕ) (x : Slots) → Standing four w s ts a c n → plain (Some n) ≡ true → is_macro (Some n) ≡ false → step_on same text_at w (length ts) s (run a out x) ≡ run c (out ++ node_bytes w n) x
   unfolding step_on copy_step pick
   copied a c n out x h z y =
       let l = standing_inside a c n h in
       let i : leb (length s) a ≡ false = lt-leb (length s) a (omega arith) in
       rw (i, h.here, y, z, h.behind, lies_part s a c (node_bytes w n) h.lies) refl
 
-  pub copy_goes : (a c : ℕ) (n : Node) (us : List Text) → Standing four w s ts a c n → plain n ≡ true → is_macro n ≡ false → There ts us → Goes a c [] us (λ T. node_bytes w n)
+  pub copy_goes : (a c : ℕ) (n : Node) (us : List Text) → Standing four w s ts a c n → plain (Some n) ≡ true → is_macro (Some n) ≡ false → There ts us → Goes a c [] us (λ T. node_bytes w n)
   unfolding steps enter_all
   copy_goes a c n us h z y t x σ k = record {
     turns = 1;
@@ -275,7 +276,7 @@ module _ (four : Bool) (w : ℕ) (s : List ℕ) (ts : List Text) (b : Bytes s) (
   }
 
   -- ---- the definition of a macro
-  pub skip-goes : (a c e : ℕ) (n : Node) → Standing four w s ts a c n → is_macro n ≡ true → hops w s (length s) c ≡ e → c ≤ e → Goes a e [] [] (λ T. [])
+  pub skip-goes : (a c e : ℕ) (n : Node) → Standing four w s ts a c n → is_macro (Some n) ≡ true → hops w s (length s) c ≡ e → c ≤ e → Goes a e [] [] (λ T. [])
   unfolding steps step_on skip_step pick enter_all with_new
   skip-goes a c e n h y i l x σ k =
       let m = standing_inside a c n h in
@@ -291,7 +292,7 @@ module _ (four : Bool) (w : ℕ) (s : List ℕ) (ts : List Text) (b : Bytes s) (
       }
 
   -- ---- a symbol that is expanded
-  module _ (a e : ℕ) (y : Sym) (sp : Span) (k : SymbolKind) (there : node_at w s a ≡ Node.Symbol sp k) (z : plain_kind k ≡ false) (inside : a < length s) (ahead : a < e)
+  module _ (a e : ℕ) (y : Sym) (sp : Span) (k : SymbolKind) (there : node_at w s a ≡ Some (Node.Symbol sp k)) (z : plain_kind k ≡ false) (inside : a < length s) (ahead : a < e)
       (read : read_sym four w s ts 64 a ≡ got y e) where
     here : at a ≡ y
     here = sym_here four w s ts b 64 a y e (omega arith) read
@@ -314,7 +315,7 @@ module _ (four : Bool) (w : ℕ) (s : List ℕ) (ts : List Text) (b : Bytes s) (
         (own-last same text_at w s 63 a listing.at e x sp k there z listing.is))
 
     keyed-step : (out : List ℕ) (x : Slots) → step_on same text_at w (length ts) s (run a out x)
-        ≡ run e (out ++ key_bytes w (Node.Symbol sp k) (numbered (length ts) a (after x)).0) (numbered (length ts) a (after x)).1
+        ≡ run e (out ++ key_bytes w (Some (Node.Symbol sp k)) (numbered (length ts) a (after x)).0) (numbered (length ts) a (after x)).1
     unfolding step_on key_by pick plain is_macro after
     keyed-step out x =
         let i : leb (length s) a ≡ false = lt-leb (length s) a (omega arith) in

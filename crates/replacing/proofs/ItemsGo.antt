@@ -8,6 +8,7 @@ use native.Mathlib.Omega.{arith}
 use borrow.Author.Tests.{leb-true, leb-false, ltb-true, ltb-false}
 use lib.Dec.{leb, ltb, eqb}
 use lib.ListN.{length, get_or}
+use Rattle.std.specs.Prelude.{Some}
 use Rattle.octets.specs.Working.Choice.{pick}
 use Rattle.octets.specs.Plain.Numbers.{Bytes}
 use Rattle.octets.specs.Plain.Runs.{same_as}
@@ -144,7 +145,7 @@ module _ (four : Bool) (w : ℕ) (s : List ℕ) (ts : List Text) (b : Bytes s) (
   both_go a c e xs ys us vs f g p q = goes_then four w s ts b d same text_at same_is text_is_lem a c e xs ys us vs f g p q
 
   -- a command that is copied, its bytes by the numbers of later texts
-  one_goes : (a c : ℕ) (n : Node) (us : List Text) (m : List Text → Node) → stand a c n → plain n ≡ true → is_macro n ≡ false → There ts us → ((T : List Text) → Extends ts T → m T ≡ n) → G a c [] us (λ T. node_bytes w (m T))
+  one_goes : (a c : ℕ) (n : Node) (us : List Text) (m : List Text → Node) → stand a c n → plain (Some n) ≡ true → is_macro (Some n) ≡ false → There ts us → ((T : List Text) → Extends ts T → m T ≡ n) → G a c [] us (λ T. node_bytes w (m T))
   one_goes a c n us m h z y t f =
       goes_as four w s ts b d same text_at same_is text_is_lem a c [] us (λ T. node_bytes w n) (λ T. node_bytes w (m T)) (λ T p. ap (node_bytes w) (sym (f T p)))
       (copy_goes four w s ts b d same text_at same_is text_is_lem a c n us h z y t)
@@ -273,7 +274,7 @@ module _ (four : Bool) (w : ℕ) (s : List ℕ) (ts : List Text) (b : Bytes s) (
       let u = has-text ts n.name.0 l in
       (u, rw (i, length_renamed alts, j, extends_number ts T (get_or ts n.name.0 []) m u, number-text ts n.name.0 d l, flags_code n.flags f))
 
-  data_with : (k : NonterminalData) (a c : ℕ) (args : List Text) (m : ℕ) (alts : List Alternative) (e : ℕ) → stand a c (Node.Nonterminal k) → is_macro (Node.Nonterminal k) ≡ false
+  data_with : (k : NonterminalData) (a c : ℕ) (args : List Text) (m : ℕ) (alts : List Alternative) (e : ℕ) → stand a c (Node.Nonterminal k) → is_macro (Some (Node.Nonterminal k)) ≡ false
       → times (read_argument four w s ts) k.args c ≡ got args m → times (read_alternative four w s ts) k.alternatives m ≡ got alts e
       → (y : Nonterminal) → nonterminal_of ts k args alts ≡ y
       → G a e (expanded_item (item y)) (item_texts (renamed_item (item y))) (λ T. item_bytes w T (renamed_item (item y)))
@@ -316,7 +317,7 @@ module _ (four : Bool) (w : ℕ) (s : List ℕ) (ts : List Text) (b : Bytes s) (
   -- a nonterminal, by its arguments
   data_goes : (k : NonterminalData) (a c : ℕ) (args : List Text) (m : ℕ) (alts : List Alternative) (e : ℕ) → stand a c (Node.Nonterminal k)
       → times (read_argument four w s ts) k.args c ≡ got args m → times (read_alternative four w s ts) k.alternatives m ≡ got alts e
-      → Settled four w s ts b e → e ≤ length s → (z : Bool) → is_macro (Node.Nonterminal k) ≡ z → ItemsGo a (kept (item (nonterminal_of ts k args alts))) e
+      → Settled four w s ts b e → e ≤ length s → (z : Bool) → is_macro (Some (Node.Nonterminal k)) ≡ z → ItemsGo a (kept (item (nonterminal_of ts k args alts))) e
   unfolding kept nonterminal_of is_macro expanded_items renamed_items texts_of_each bytes_of_each
   data_goes k a c [] m alts e h p₁ p₂ g l false z = single a e (item (nonterminal_of ts k [] alts)) (data_with k a c [] m alts e h z p₁ p₂ (nonterminal_of ts k [] alts) refl)
   data_goes k a c [] m alts e h p₁ p₂ g l true z =
@@ -338,7 +339,7 @@ module _ (four : Bool) (w : ℕ) (s : List ℕ) (ts : List Text) (b : Bytes s) (
       let u = then-got (times (read_argument four w s ts) k.args c) _ r in
       let v = then-got (times (read_alternative four w s ts) k.alternatives u.mid) _ u.second in
       got_as (λ z m. Settled four w s ts b m → m ≤ length s → ItemsGo a (kept z) m) v.second
-      (λ g' l'. data_goes k a c u.value u.mid v.value v.mid i u.first v.first g' l' (is_macro (Node.Nonterminal k)) refl) g l)
+      (λ g' l'. data_goes k a c u.value u.mid v.value v.mid i u.first v.first g' l' (is_macro (Some (Node.Nonterminal k))) refl) g l)
       (λ k i r. got_as (λ z m. ItemsGo a (kept z) m) r (terminal_kept k a c i)))
 
   -- what is read behind an item begins with one

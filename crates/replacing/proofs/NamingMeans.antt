@@ -5,6 +5,7 @@ use mathlib.Core.List.{List, [], ◌∷◌, ◌++◌, map, append-nil, append_as
 use Prim.Native.Nat.{ℕ, zero, suc, ◌+◌, ◌≤◌}
 use native.Mathlib.Omega.{arith}
 use lib.ListN.{length}
+use Rattle.std.specs.Prelude.{Option as Optional, Some, None}
 use Rattle.octets.specs.Working.Choice.{pick}
 use Rattle.octets.specs.Plain.Numbers.{Bytes}
 use Rattle.octets.proofs.LiesLaws.{lies_part}
@@ -13,7 +14,7 @@ use Rattle.parse_tree.specs.Plain.Texts.{number, distinct, with_new}
 use Rattle.parse_tree.specs.Plain.Display.{print}
 use Rattle.parse_tree.specs.Working.Nodes.{node_bytes, node_at, size_of}
 use Rattle.parse_tree.specs.Working.Places.{symbols_place}
-use Rattle.parse_tree.specs.Plain.Reading.{Reading, got, then, times}
+use Rattle.parse_tree.specs.Plain.Reading.{Reading, got, refused, then, times}
 use Rattle.parse_tree.specs.Working.Expect.{expect_symbol}
 use Rattle.parse_tree.specs.Working.Operands.{leaf_of, around_of, over_of, inside_of}
 use Rattle.parse_tree.specs.Working.Decode.{read_sym}
@@ -91,7 +92,7 @@ module _ (four : Bool) (w : ℕ) (s : List ℕ) (ts : List Text) (b : Bytes s) (
             ∙ ap (λ (l : List ℕ). run e l v.slots) (append_assoc out (f T) (g T));
       }
 
-  named-copy : (a c : ℕ) (n : Node) (us : List Text) (m : List Text → Node) (x : Slots) (σ : Expander) → Fits x σ → Standing four w s ts a c n → plain n ≡ true → There ts us
+  named-copy : (a c : ℕ) (n : Node) (us : List Text) (m : List Text → Node) (x : Slots) (σ : Expander) → Fits x σ → Standing four w s ts a c n → plain (Some n) ≡ true → There ts us
       → ((T : List Text) → Extends ts T → m T ≡ n) → Named a c us (λ T. node_bytes w (m T)) x σ
   unfolding names name_step copy_name pick
   named-copy a c n us m x σ k h z t f = record {
@@ -104,7 +105,7 @@ module _ (four : Bool) (w : ℕ) (s : List ℕ) (ts : List Text) (b : Bytes s) (
         rw (h.here, z, h.behind, lies_part s a c (node_bytes w n) h.lies) (ap (λ (y : Node). run c (out ++ node_bytes w y) x) (sym (f T (extends_trans (extends_now x) p))));
   }
 
-  named-key : (a e : ℕ) (y : Sym) (sp : Span) (k : SymbolKind) (ps : List ℕ) (x : Slots) (σ : Expander) → Fits x σ → node_at w s a ≡ Node.Symbol sp k → plain_kind k ≡ false → at a ≡ y
+  named-key : (a e : ℕ) (y : Sym) (sp : Span) (k : SymbolKind) (ps : List ℕ) (x : Slots) (σ : Expander) → Fits x σ → node_at w s a ≡ Some (Node.Symbol sp k) → plain_kind k ≡ false → at a ≡ y
       → places w s 64 a ≡ got ps e → HasRef a x → Named a e (print y ∷ []) (λ T. node_bytes w (Node.Symbol sp (SymbolKind.Leaf (LeafNode.Nonterminal (record { 0 = number T (print y) }))))) x σ
   unfolding names name_step name_by pick plain key_bytes
   named-key a e y sp k ps x σ h there z here is ref =
@@ -119,7 +120,7 @@ module _ (four : Bool) (w : ℕ) (s : List ℕ) (ts : List Text) (b : Bytes s) (
         texts = u.texts;
         runs = λ out T m.
             rw (there, z, is)
-            (ap (λ (v : Node). run e (out ++ key_bytes w v q.0) q.1) there
+            (ap (λ (v : Optional Node). run e (out ++ key_bytes w v q.0) q.1) there
             ∙ ap (λ (l : ℕ). run e (out ++ node_bytes w (Node.Symbol sp (SymbolKind.Leaf (LeafNode.Nonterminal (record { 0 = l }))))) q.1)
             (u.is ∙ sym (extends_number (now q.1) T (print y) m u.there)));
       }
@@ -145,9 +146,9 @@ module _ (four : Bool) (w : ℕ) (s : List ℕ) (ts : List Text) (b : Bytes s) (
     | SymbolKind.Over o ↦ then (listed (λ p. places w s left p) (inside_of o) c) (λ ps e'. got (ps ++ (a ∷ [])) e')
   ]
 
-  places-at : (left a c : ℕ) (sp : Span) (k : SymbolKind) → node_at w s a ≡ Node.Symbol sp k → a + size_of w (Node.Symbol sp k) ≡ c → places w s (suc left) a ≡ kind_places left a k c
+  places-at : (left a c : ℕ) (sp : Span) (k : SymbolKind) → node_at w s a ≡ Some (Node.Symbol sp k) → a + size_of w (Node.Symbol sp k) ≡ c → places w s (suc left) a ≡ kind_places left a k c
   unfolding places expect_symbol
-  places-at left a c sp k p q = ap (λ z. expect_symbol a (λ sp' k' e. kind_places left a k' e) z (a + size_of w z)) p ∙ ap (λ z. kind_places left a k z) q
+  places-at left a c sp k p q = ap (λ (o : Optional Node). elim o as (λ _. Reading (List ℕ)) [ None ↦ refused 2 a | Some n ↦ expect_symbol a (λ sp' k' e. kind_places left a k' e) n (a + size_of w n) ]) p ∙ ap (λ z. kind_places left a k z) q
 
   -- its own place is listed
   own_in : (left a : ℕ) (k : SymbolKind) (c : ℕ) (ps : List ℕ) (e : ℕ) → plain_kind k ≡ false → kind_places left a k c ≡ got ps e → among a ps ≡ true
@@ -248,13 +249,13 @@ module _ (four : Bool) (w : ℕ) (s : List ℕ) (ts : List Text) (b : Bytes s) (
 
   -- ---- of a symbol with a reference, all that stands inside it
   -- theorem
-  pub inside-around : (p c : ℕ) (sp : Span) (o : AroundNode) (x : Slots) → AllNoted w s x → HasRef p x → node_at w s p ≡ Node.Symbol sp (SymbolKind.Around o)
+  pub inside-around : (p c : ℕ) (sp : Span) (o : AroundNode) (x : Slots) → AllNoted w s x → HasRef p x → node_at w s p ≡ Some (Node.Symbol sp (SymbolKind.Around o))
       → p + size_of w (Node.Symbol sp (SymbolKind.Around o)) ≡ c → RefsIn (places w s 63 c) x
   unfolding then
   inside-around p c sp o x h r q e ps m j t v = h p r (ps ++ around_places o p) m (places-at 63 p c sp (SymbolKind.Around o) q e ∙ rw j refl) t (among-left t ps (around_places o p) v)
 
   -- theorem
-  pub inside-over : (p c : ℕ) (sp : Span) (o : OverNode) (x : Slots) → AllNoted w s x → HasRef p x → node_at w s p ≡ Node.Symbol sp (SymbolKind.Over o)
+  pub inside-over : (p c : ℕ) (sp : Span) (o : OverNode) (x : Slots) → AllNoted w s x → HasRef p x → node_at w s p ≡ Some (Node.Symbol sp (SymbolKind.Over o))
       → p + size_of w (Node.Symbol sp (SymbolKind.Over o)) ≡ c → RefsIn (listed (λ q. places w s 63 q) (inside_of o) c) x
   unfolding then
   inside-over p c sp o x h r q e ps m j t v = h p r (ps ++ (p ∷ [])) m (places-at 63 p c sp (SymbolKind.Over o) q e ∙ rw j refl) t (among-left t ps (p ∷ []) v)

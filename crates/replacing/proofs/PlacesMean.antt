@@ -4,11 +4,12 @@ use mathlib.Core.Bool.{Bool, false}
 use mathlib.Core.List.{List, [], ◌∷◌, ◌++◌, map}
 use Prim.Native.Nat.{ℕ, zero, suc, ◌+◌, ◌≤◌}
 use native.Mathlib.Omega.{arith}
+use Rattle.std.specs.Prelude.{Option as Optional, Some, None}
 use Rattle.octets.specs.Plain.Numbers.{Bytes}
 use Rattle.parse_tree.specs.Plain.Tree.{Text, Sym, leaf, around, syms_of}
 use Rattle.parse_tree.specs.Working.Nodes.{node_at, size_of}
 use Rattle.parse_tree.specs.Working.Places.{symbols_place}
-use Rattle.parse_tree.specs.Plain.Reading.{Reading, got, then, times}
+use Rattle.parse_tree.specs.Plain.Reading.{Reading, got, refused, then, times}
 use Rattle.parse_tree.specs.Working.Expect.{expect_symbol}
 use Rattle.parse_tree.specs.Working.Operands.{leaf_of, around_of, over_of, inside_of}
 use Rattle.parse_tree.specs.Working.Decode.{read_sym}
@@ -105,9 +106,9 @@ module _ (four : Bool) (w : ℕ) (s : List ℕ) (ts : List Text) (b : Bytes s) w
     | SymbolKind.Over o ↦ then (listed (λ p. places w s left p) (inside_of o) c) (λ ps e'. got (ps ++ (a ∷ [])) e')
   ]
 
-  places-at : (left a c : ℕ) (sp : Span) (k : SymbolKind) → node_at w s a ≡ Node.Symbol sp k → a + size_of w (Node.Symbol sp k) ≡ c → places w s (suc left) a ≡ kind_places left a k c
+  places-at : (left a c : ℕ) (sp : Span) (k : SymbolKind) → node_at w s a ≡ Some (Node.Symbol sp k) → a + size_of w (Node.Symbol sp k) ≡ c → places w s (suc left) a ≡ kind_places left a k c
   unfolding places expect_symbol
-  places-at left a c sp k p q = ap (λ z. expect_symbol a (λ sp' k' e. kind_places left a k' e) z (a + size_of w z)) p ∙ ap (λ z. kind_places left a k z) q
+  places-at left a c sp k p q = ap (λ (o : Optional Node). elim o as (λ _. Reading (List ℕ)) [ None ↦ refused 2 a | Some n ↦ expect_symbol a (λ sp' k' e. kind_places left a k' e) n (a + size_of w n) ]) p ∙ ap (λ z. kind_places left a k z) q
 
   kind-places : (left : ℕ) → SymPlaces left → (sp : Span) (k : SymbolKind) (a c : ℕ) (x : Sym) (e : ℕ) → sym_at four w s ts a ≡ x → (plain_kind k ≡ false → Firm a)
       → elim k [

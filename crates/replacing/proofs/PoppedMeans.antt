@@ -7,7 +7,7 @@ use native.Mathlib.Omega.{arith}
 use Rattle.octets.specs.Plain.Numbers.{Bytes}
 use Rattle.parse_tree.specs.Plain.Tree.{Text, Leaf, Around, ambiguous, bare, quoted, regex, nonterminal, lookahead, lookbehind, error, repeat, choose, name, Sym, Nonterminal, Item, item, leaf, around, over, syms_of}
 use Rattle.parse_tree.specs.Plain.Display.{print}
-use Rattle.parse_tree.specs.Working.Nodes.{size_of}
+use Rattle.parse_tree.specs.Working.Nodes.{size_read}
 use Rattle.parse_tree.specs.Working.Places.{symbols_place}
 use Rattle.parse_tree.specs.Plain.Reading.{Reading, got, then, times}
 use Rattle.parse_tree.specs.Working.Operands.{leaf_of, around_of, over_of, inside_of}
@@ -81,7 +81,7 @@ module _ (four : Bool) (w : ℕ) (s : List ℕ) (ts : List Text) (b : Bytes s) w
   popped_with left l G p x e f key =
       stands_then four w s ts symbols_place (suc left) b _ p f (λ n c h q.
       symbol_wanted (Standing four w s ts p c) p c x e _ n h q (λ sp k i r.
-      ap (λ y. expand_node four w s ts G p (p + size_of w y) y) i.here ∙ ap (λ (m : ℕ). expand_kind four w s ts G p m sp k) i.behind
+      ap (λ y. expand_node four w s ts G p (p + size_read w y) y) i.here ∙ ap (λ (m : ℕ). expand_kind four w s ts G p m sp k) i.behind
       ∙ kind-popped left (omega arith) G sp k p c x e (sym_here four w s ts b (suc left) p x e l f) r key))
 
   pub popped_is : (G : Tree) (p : ℕ) → Firm four w s ts b p → expand_at four w s ts G p ≡ expand_symbol G (inner (sym_at four w s ts p))

@@ -7,6 +7,7 @@ use native.Mathlib.Omega.{arith}
 use borrow.Author.Tests.{le-leb}
 use lib.Dec.{leb}
 use lib.ListN.{length}
+use Rattle.std.specs.Prelude.{Option as Optional, Some, None}
 use Rattle.octets.specs.Working.Choice.{pick}
 use Rattle.octets.specs.Plain.Numbers.{Bytes}
 use Rattle.octets.specs.Plain.Runs.{Lies}
@@ -17,7 +18,7 @@ use Rattle.parse_tree.specs.Working.Questions.{defined, suits}
 use Rattle.parse_tree.specs.Plain.Reading.{Reading, got, refused, then, times}
 use Rattle.parse_tree.specs.Working.Expect.{expect_symbol}
 use Rattle.parse_tree.specs.Working.Operands.{leaf_of, around_of, over_of, inside_of}
-use Rattle.parse_tree.specs.Working.Decode.{ask, read_sym}
+use Rattle.parse_tree.specs.Working.Decode.{ask_of, ask, read_sym}
 use Rattle.parse_tree.specs.declared.syntax.Span.{Span}
 use Rattle.parse_tree.specs.declared.syntax.SymbolKind.{SymbolKind}
 use Rattle.parse_tree.specs.declared.syntax.Node.{Node}
@@ -27,7 +28,7 @@ use Rattle.parse_tree.proofs.Expecting.{symbol_wanted}
 
 -- the command n stands from a to c and has passed
 pub record Standing (four : Bool) (w : ℕ) (s : List ℕ) (ts : List Text) (a c : ℕ) (n : Node) : Type 0 where
-  pub here : node_at w s a ≡ n
+  pub here : node_at w s a ≡ Some n
   pub behind : a + size_of w n ≡ c
   pub lies : Lies s a (node_bytes w n) c
   pub passes : Passes four w ts n
@@ -40,12 +41,17 @@ pick_yes false r k p q = absurd (never q)
 
 module _ (four : Bool) (w : ℕ) (s : List ℕ) (ts : List Text) (place left : ℕ) where
   -- the yes is the command there
-  asked : (a : ℕ) (n : Node) (c : ℕ) → ask four w s ts place left a ≡ got n c → got (node_at w s a) (a + size_of w (node_at w s a)) ≡ got n c
-  unfolding ask
-  asked a n c q =
-      let x = pick_yes (allowed_at place (class_of (node_at w s a))) _ 2 a q in
-      let y = pick_yes (defined (length ts) (node_at w s a) && leb 1 left) _ 3 a x in
-      pick_yes (pick four (suits ts (node_at w s a)) true) _ 4 a y
+  asked : (a : ℕ) (n : Node) (c : ℕ) → ask four w s ts place left a ≡ got n c → (node_at w s a ≡ Some n) × (a + size_of w n ≡ c)
+  unfolding ask ask_of
+  asked a n c q = go (node_at w s a) refl q
+    where
+      go : (o : Optional Node) → node_at w s a ≡ o → ask_of four w s ts place left a o ≡ got n c → (node_at w s a ≡ Some n) × (a + size_of w n ≡ c)
+      go None i q = absurd (never q)
+      go (Some m) i q =
+          let x = pick_yes (allowed_at place (class_of m)) _ 2 a q in
+          let y = pick_yes (defined (length ts) m && leb 1 left) _ 3 a x in
+          let z = pick_yes (pick four (suits ts m) true) _ 4 a y in
+          (i ∙ got_as (λ v k. Some m ≡ Some v) z refl, got_as (λ v k. a + size_of w v ≡ k) z refl)
 
   pub stands_then : Bytes s → {B R : Type 0} (f : Node → ℕ → Reading B) (a : ℕ) {y : B} {e : ℕ} → then (ask four w s ts place left a) f ≡ got y e
       → ((n : Node) (c : ℕ) → Standing four w s ts a c n → f n c ≡ got y e → R) → R
@@ -53,9 +59,7 @@ module _ (four : Bool) (w : ℕ) (s : List ℕ) (ts : List Text) (place left : �
       let h = then-got (ask four w s ts place left a) f p in
       let q = asked a h.value h.mid h.first in
       let i = ask_finds four w s ts place left b a h.value h.mid h.first in
-      let e₁ : node_at w s a ≡ h.value = got_as (λ z k. node_at w s a ≡ z) q refl in
-      let e₂ : a + size_of w (node_at w s a) ≡ h.mid = got_as (λ z k. a + size_of w (node_at w s a) ≡ k) q refl in
-      g h.value h.mid (record { here = e₁; behind = sym (ap (λ z. a + size_of w z) e₁) ∙ e₂; lies = i.lies; passes = i.within }) h.second
+      g h.value h.mid (record { here = q.0; behind = q.1; lies = i.lies; passes = i.within }) h.second
 
 -- as many as were asked for
 pub times-length : {A : Type 0} (f : ℕ → Reading A) (n a : ℕ) (xs : List A) (e : ℕ) → times f n a ≡ got xs e → length xs ≡ n
@@ -78,8 +82,12 @@ times-also f g t (suc n) a xs e p =
 
 module _ (four : Bool) (w : ℕ) (s : List ℕ) (ts : List Text) where
   ask_left : (place left more a : ℕ) → ask four w s ts place (suc left) a ≡ ask four w s ts place (suc more) a
-  unfolding ask
-  ask_left place left more a = rw (le-leb 1 (suc left) (omega arith), le-leb 1 (suc more) (omega arith)) refl
+  unfolding ask ask_of
+  ask_left place left more a = go (node_at w s a)
+    where
+      go : (o : Optional Node) → ask_of four w s ts place (suc left) a o ≡ ask_of four w s ts place (suc more) a o
+      go None = refl
+      go (Some n) = rw (le-leb 1 (suc left) (omega arith), le-leb 1 (suc more) (omega arith)) refl
 
   -- what the reader of one level does with a command
   abbrev kind_read : ℕ → Span → SymbolKind → ℕ → Reading Sym

@@ -7,11 +7,12 @@ use native.Mathlib.Omega.{arith}
 use borrow.Author.Tests.{lt-leb, le-leb}
 use lib.Dec.{leb}
 use lib.ListN.{length}
+use Rattle.std.specs.Prelude.{Some}
 use Rattle.octets.specs.Working.Choice.{pick}
 use Rattle.octets.specs.Plain.Numbers.{Bytes}
 use Rattle.octets.proofs.LiesLaws.{lies_inside}
 use Rattle.parse_tree.specs.Plain.Tree.{Text, Sym, Attribute, Condition, Alternative, Item, syms_of}
-use Rattle.parse_tree.specs.Working.Nodes.{node_bytes, node_at, size_of}
+use Rattle.parse_tree.specs.Working.Nodes.{node_bytes, node_at, size_read}
 use Rattle.parse_tree.specs.Working.Places.{items_place, symbols_place, arguments_place, alternatives_place, attributes_place, conditions_place}
 use Rattle.parse_tree.specs.Plain.Reading.{Reading, got, then, times}
 use Rattle.parse_tree.specs.Working.Operands.{leaf_of, around_of, over_of, inside_of}
@@ -48,7 +49,7 @@ module _ (four : Bool) (w : ℕ) (s : List ℕ) (ts : List Text) (b : Bytes s) w
   skips_then : {a c e : ℕ} → Skips a c → Skips c e → Skips a e
   skips_then {a} {c} {e} p q = record { count = p.count + q.count; few = omega (arith, p.few, q.few); is = hops-append p.count q.count a ∙ ap (hops w s q.count) p.is ∙ q.is }
 
-  one_skips : (a c : ℕ) (n : Node) → stand a c n → is_item n ≡ false → Skips a c
+  one_skips : (a c : ℕ) (n : Node) → stand a c n → is_item (Some n) ≡ false → Skips a c
   unfolding hops hop pick
   one_skips a c n h z =
       let p = node_positive w (length ts) n h.passes.known in
@@ -136,7 +137,7 @@ module _ (four : Bool) (w : ℕ) (s : List ℕ) (ts : List Text) (b : Bytes s) w
       stands_then four w s ts items_place 1 b _ e p (λ n c h q.
       item_wanted (stand e c) e c x m _ _ n h q (λ k i r. go (leb (length s) e) (is_item (node_at w s e)) (ap is_item i.here)) (λ k i r. go (leb (length s) e) (is_item (node_at w s e)) (ap is_item i.here)))
     where
-      go : (u v : Bool) → v ≡ true → pick u e (pick v e (e + size_of w (node_at w s e))) ≡ e
+      go : (u v : Bool) → v ≡ true → pick u e (pick v e (e + size_read w (node_at w s e))) ≡ e
       go true v z = refl
       go false true z = refl
       go false false z = absurd (false≢true z)

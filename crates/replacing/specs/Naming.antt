@@ -3,7 +3,7 @@
 use Rattle.std.specs.Prelude.{List, ◌++◌, ℕ, zero, suc, ◌+◌}
 use Rattle.octets.specs.Working.Choice.{pick}
 use Rattle.octets.specs.Plain.Runs.{part}
-use Rattle.parse_tree.specs.Working.Nodes.{node_at, size_of}
+use Rattle.parse_tree.specs.Working.Nodes.{node_at, size_read}
 use Rattle.parse_tree.specs.Plain.Reading.{Reading, got, refused}
 use Rattle.replacing.specs.Slots.{places, numbered}
 use Rattle.replacing.specs.Runs.{Run, plain, key_bytes}
@@ -12,7 +12,7 @@ module _ (w base : ℕ) (s : List ℕ) where
   unfoldable pub copy_name : Run → Run
   copy_name r =
       let n = node_at w s r.at in
-      record { at = r.at + size_of w n; out = r.out ++ part r.at (r.at + size_of w n) s; slots = r.slots }
+      record { at = r.at + size_read w n; out = r.out ++ part r.at (r.at + size_read w n) s; slots = r.slots }
 
   -- the name of a symbol that is expanded, by its reference
   unfoldable pub name_by : Reading (List ℕ) → Run → Run

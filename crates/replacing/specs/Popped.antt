@@ -1,9 +1,9 @@
 -- The item of a symbol that is taken off the pile, by its place: its command, its key, and what stands inside it with the outermost keys as names.
 -- Assumes nothing: these are definitions.
-use Rattle.std.specs.Prelude.{Bool, List, [], ◌∷◌, ℕ, ◌+◌}
+use Rattle.std.specs.Prelude.{Option as Optional, Some, None, Bool, List, [], ◌∷◌, ℕ, ◌+◌}
 use Rattle.std.proofs.Math.Option.{Option, none, some}
 use Rattle.parse_tree.specs.Plain.Tree.{Text, Around, repeat, choose, name, Sym, Syms, Nonterminal, Item, item, syms_of}
-use Rattle.parse_tree.specs.Working.Nodes.{node_at, size_of}
+use Rattle.parse_tree.specs.Working.Nodes.{node_at, size_read}
 use Rattle.parse_tree.specs.Plain.Reading.{Reading, got, refused, times}
 use Rattle.parse_tree.specs.Working.Operands.{leaf_of, around_of, over_of, inside_of}
 use Rattle.parse_tree.specs.Working.Decode.{read_sym}
@@ -44,19 +44,19 @@ module _ (four : Bool) (w : ℕ) (s : List ℕ) (ts : List Text) where
   expand_kind G p c sp (SymbolKind.Around o) = expand_around sp (print_at four w s ts p) (around_of ts o) (renamed (sym_at four w s ts c))
   expand_kind G p c sp (SymbolKind.Over o) = expand_over G sp (print_at four w s ts p) (over_of ts o) (renamed_all (syms_at (inside_of o) c))
 
-  unfoldable pub expand_node : Tree → ℕ → ℕ → Node → Outcome Nonterminal
-  expand_node G p c (Node.Text k) = nothing
-  expand_node G p c (Node.Nonterminal d) = nothing
-  expand_node G p c (Node.Terminal t) = nothing
-  expand_node G p c (Node.Argument a) = nothing
-  expand_node G p c (Node.Alternative a) = nothing
-  expand_node G p c (Node.Attribute a) = nothing
-  expand_node G p c (Node.Condition x) = nothing
-  expand_node G p c (Node.Symbol sp k) = expand_kind G p c sp k
-  expand_node G p c Node.Unknown = nothing
+  unfoldable pub expand_node : Tree → ℕ → ℕ → Optional Node → Outcome Nonterminal
+  expand_node G p c (Some (Node.Text k)) = nothing
+  expand_node G p c (Some (Node.Nonterminal d)) = nothing
+  expand_node G p c (Some (Node.Terminal t)) = nothing
+  expand_node G p c (Some (Node.Argument a)) = nothing
+  expand_node G p c (Some (Node.Alternative a)) = nothing
+  expand_node G p c (Some (Node.Attribute a)) = nothing
+  expand_node G p c (Some (Node.Condition x)) = nothing
+  expand_node G p c (Some (Node.Symbol sp k)) = expand_kind G p c sp k
+  expand_node G p c None = nothing
 
   unfoldable pub expand_at : Tree → ℕ → Outcome Nonterminal
-  expand_at G p = expand_node G p (p + size_of w (node_at w s p)) (node_at w s p)
+  expand_at G p = expand_node G p (p + size_read w (node_at w s p)) (node_at w s p)
 
   -- the whole pile
   unfoldable pub drain_at : Tree → List ℕ → Outcome (List Item)

@@ -1,5 +1,5 @@
 -- The replacing stage of one round, as the code has it, and what it is. Assumes nothing: these are definitions.
-use Rattle.std.specs.Prelude.{◌≡◌, Bool, List, [], ◌∷◌, ◌++◌, map, ℕ, length}
+use Rattle.std.specs.Prelude.{Option, Some, None, ◌≡◌, Bool, List, [], ◌∷◌, ◌++◌, map, ℕ, length}
 use Rattle.parse_tree.specs.Plain.Tree.{Text, Item, Stage}
 use Rattle.parse_tree.specs.Plain.Display.{print}
 use Rattle.parse_tree.specs.Working.Nodes.{node_at}
@@ -18,16 +18,16 @@ use Rattle.replacing.specs.Popped.{drain_at}
 use Rattle.replacing.specs.Runs.{Run, steps, started}
 
 -- the span of the symbol whose command stands at a place
-unfoldable pub node_span : Node → Span
-node_span (Node.Text k) = record { 0 = 0; 1 = 0 }
-node_span (Node.Nonterminal d) = record { 0 = 0; 1 = 0 }
-node_span (Node.Terminal t) = record { 0 = 0; 1 = 0 }
-node_span (Node.Argument a) = record { 0 = 0; 1 = 0 }
-node_span (Node.Alternative a) = record { 0 = 0; 1 = 0 }
-node_span (Node.Attribute a) = record { 0 = 0; 1 = 0 }
-node_span (Node.Condition c) = record { 0 = 0; 1 = 0 }
-node_span (Node.Symbol s k) = s
-node_span Node.Unknown = record { 0 = 0; 1 = 0 }
+unfoldable pub node_span : Option Node → Span
+node_span (Some (Node.Text k)) = record { 0 = 0; 1 = 0 }
+node_span (Some (Node.Nonterminal d)) = record { 0 = 0; 1 = 0 }
+node_span (Some (Node.Terminal t)) = record { 0 = 0; 1 = 0 }
+node_span (Some (Node.Argument a)) = record { 0 = 0; 1 = 0 }
+node_span (Some (Node.Alternative a)) = record { 0 = 0; 1 = 0 }
+node_span (Some (Node.Attribute a)) = record { 0 = 0; 1 = 0 }
+node_span (Some (Node.Condition c)) = record { 0 = 0; 1 = 0 }
+node_span (Some (Node.Symbol s k)) = s
+node_span None = record { 0 = 0; 1 = 0 }
 
 -- question 18 by the places: the span at the top of the pile
 unfoldable pub limit_at : ℕ → List ℕ → List ℕ → Outcome Stage → Outcome Stage

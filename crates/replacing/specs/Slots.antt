@@ -1,6 +1,6 @@
 -- Replacing by places of the unreplaced items, as the code keeps it: for each symbol that is expanded a reference, the pile, and which texts were pushed.
 -- Assumes nothing: these are definitions.
-use Rattle.std.specs.Prelude.{Bool, true, false, cond, List, [], ◌∷◌, ◌++◌, ℕ, zero, suc, ◌+◌, eqb, length}
+use Rattle.std.specs.Prelude.{Some, None, Bool, true, false, cond, List, [], ◌∷◌, ◌++◌, ℕ, zero, suc, ◌+◌, eqb, length}
 use Rattle.std.proofs.Math.Option.{Option, none, some}
 use Rattle.parse_tree.specs.Working.Nodes.{node_at, size_of}
 use Rattle.parse_tree.specs.Plain.Reading.{Reading, got, refused, then}
@@ -36,12 +36,15 @@ listed f (suc n) at = then (f at) (λ ps e. then (listed f n e) (λ qs e'. got (
 -- of the symbol at a place, with `left` levels of nesting left, and the place behind it
 unfoldable pub places : ℕ → List ℕ → ℕ → ℕ → Reading (List ℕ)
 places w s zero at = refused 3 at
-places w s (suc left) at =
-    expect_symbol at (λ sp k e. elim k [
-      | SymbolKind.Leaf l ↦ got (leaf_places l at) e
-      | SymbolKind.Around a ↦ then (places w s left e) (λ ps e'. got (ps ++ around_places a at) e')
-      | SymbolKind.Over o ↦ then (listed (λ p. places w s left p) (inside_of o) e) (λ ps e'. got (ps ++ (at ∷ [])) e')
-    ]) (node_at w s at) (at + size_of w (node_at w s at))
+places w s (suc left) at = elim (node_at w s at) [
+  | None ↦ refused 2 at
+  | Some n ↦
+      expect_symbol at (λ sp k e. elim k [
+        | SymbolKind.Leaf l ↦ got (leaf_places l at) e
+        | SymbolKind.Around a ↦ then (places w s left e) (λ ps e'. got (ps ++ around_places a at) e')
+        | SymbolKind.Over o ↦ then (listed (λ p. places w s left p) (inside_of o) e) (λ ps e'. got (ps ++ (at ∷ [])) e')
+      ]) n (at + size_of w n)
+]
 
 -- ---- references
 

@@ -1,4 +1,4 @@
--- What is known of a name: the ways out of known, def and define. Assumes nothing.
+-- What is known of a name: the ways out of known, define and of an entry's definition. Assumes nothing.
 use mathlib.Core.Path.{◌≡◌, refl}
 use mathlib.Core.List.{List}
 use Prim.Native.Nat.{ℕ, ◌+◌, ◌-◌, ◌*◌, ◌≤◌, ◌<◌}
@@ -35,22 +35,22 @@ module _ (m : Map) (w : List ℕ) (id k : ℕ) (e : k ≡ id) where
   unfolding define_at pick
   define_none h d = cc (le-leb m.count k h)
 
--- ---- def
-module _ (d x : ℕ) (e : d ≡ x) where
-  pub def_nothing : d ≡ 0 → None ≡ found_by x
+-- ---- definition
+module _ (d : ℕ) where
+  pub def_nothing : d ≡ 0 → None ≡ found_by d
   unfolding found_by pick
   def_nothing h = cc
 
   module _ (h : d ≡ 0 → ⊥) where
-    pub def_terminal : d ≡ 1 → Some Definition.Terminal ≡ found_by x
+    pub def_terminal : d ≡ 1 → Some Definition.Terminal ≡ found_by d
     unfolding found_by pick
     def_terminal i = cc
 
-    pub def_nonterminal : (d ≡ 1 → ⊥) → d < 512 → Some (Definition.Nonterminal (d - 2)) ≡ found_by x
+    pub def_nonterminal : (d ≡ 1 → ⊥) → d < 512 → Some (Definition.Nonterminal (d - 2)) ≡ found_by d
     unfolding found_by pick
     def_nonterminal i j = cc (ne_eqb d 0 h, ne_eqb d 1 i, lt-leb 512 d j)
 
-    pub def_argument : 512 ≤ d → Some (Definition.Argument (d - 512)) ≡ found_by x
+    pub def_argument : 512 ≤ d → Some (Definition.Argument (d - 512)) ≡ found_by d
     unfolding found_by pick
     def_argument j = cc (ne_eqb d 0 h, le-leb 512 d j)
 

@@ -6,18 +6,19 @@ use native.Mathlib.Omega.{arith}
 use borrow.Author.Rules.{rules}
 use borrow.Author.Tests.{le-leb, lt-leb, ne_eqb}
 use lib.ListN.{length, get_or, set, length-set}
-use Rattle.std.specs.Prelude.{Option, Some, None, Result, Ok, Err}
+use Rattle.std.specs.Prelude.{Option, Some, None, Result, Ok, Err, MatchResult, IsOkAnd}
 use Rattle.octets.specs.Working.Choice.{pick}
 use Rattle.octets.specs.Plain.Numbers.{le_at}
-use Rattle.parse_tree.specs.Working.Nodes.{span_in}
-use Rattle.parse_tree.specs.Working.Refusals.{refusal_over}
+use Rattle.parse_tree.specs.declared.refusal.Question.{Question}
+use Rattle.parse_tree.specs.Working.Nodes.{span_in, long_of}
+use Rattle.parse_tree.specs.Working.Refusals.{number_of, refusal_over}
 use Rattle.parse_tree.specs.declared.refusal.Refusal.{Refusal}
 use Rattle.parse_tree.specs.declared.syntax.Span.{Span}
 use Rattle.texts.specs.declared.Map.{Map}
 use Rattle.resolve.specs.declared.Definition.{Definition}
 use Rattle.resolve.specs.Cells.{Room, known_at, found_by}
 use Rattle.resolve.specs.Names.{condition_says, nonterminal_says, macro_says, ambiguous_says}
-use Rattle.resolve.specs.Commands.{long_of, becomes, stays, asked_at, asked_then, RunEnd, ran, stopped, run_then, Runs, run_out}
+use Rattle.resolve.specs.Commands.{becomes, stays, asked_at, asked_then, RunEnd, ran, stopped, run_then, Runs, run_out}
 
 -- ---- long
 module _ (wd c : ℕ) where
@@ -76,50 +77,44 @@ module _ (wd c : ℕ) where
 
 pub ruleset lengthening = (rules, long_18, long_19, long_20, long_32, long_33, long_34, long_35, long_36, long_37, long_38, long_40, long_41, long_other)
 
+-- ---- what is mapped
+pub stays_by : (P : Unit {0} → Option ℕ → Type 0) → ((x : Unit {0}) (o : Option ℕ) → P x o → o ≡ None) → (r : Result (Unit {0}) Question) (y : Result (Option ℕ) Question) → MatchResult r (λ x. IsOkAnd y (P x)) (λ e. y ≡ Err e) → y ≡ stays r
+unfolding stays
+stays_by P f (Ok x) (Ok o) h = ap Ok (f x o h)
+stays_by P f (Ok x) (Err e) h = absurd h
+stays_by P f (Err e) y h = h
+
+pub becomes_by : (P : ℕ → Option ℕ → Type 0) → ((x : ℕ) (o : Option ℕ) → P x o → o ≡ Some x) → (r : Result ℕ Question) (y : Result (Option ℕ) Question) → MatchResult r (λ x. IsOkAnd y (P x)) (λ e. y ≡ Err e) → y ≡ becomes r
+unfolding becomes
+becomes_by P f (Ok x) (Ok o) h = ap Ok (f x o h)
+becomes_by P f (Ok x) (Err e) h = absurd h
+becomes_by P f (Err e) y h = h
+
 -- ---- asked
 module _ (m : Map) (wd : ℕ) (w : List ℕ) (at c : ℕ) where
-  module _ (f : Option Definition) (j : f ≡ found_by (known_at m w (le_at wd w (at + 9)))) where
-    module _ (e : c ≡ 32) (r : Result ℕ ℕ) (h : r ≡ ambiguous_says f) where
-      pub asked_ambiguous-no : (q : ℕ) → r ≡ Err q → Err q ≡ asked_at m wd w at c
-      unfolding asked_at pick becomes
-      asked_ambiguous-no q z = rw (e, ← j, ← h, z) refl
+  module _ (f : Option Definition) (j : f ≡ found_by (known_at m w (le_at wd w (at + 9)))) (y : Result (Option ℕ) Question) where
+    pub asked_ambiguous : c ≡ 32 → (r : Result ℕ Question) → r ≡ ambiguous_says f → y ≡ becomes r → y ≡ asked_at m wd w at c
+    unfolding asked_at pick
+    asked_ambiguous e r h k = k ∙ rw (e, ← j, ← h) refl
 
-      pub asked_ambiguous-yes : (k : ℕ) → r ≡ Ok k → Ok (Some k) ≡ asked_at m wd w at c
-      unfolding asked_at pick becomes
-      asked_ambiguous-yes k z = rw (e, ← j, ← h, z) refl
+    module _ (r : Result (Unit {0}) Question) (k : y ≡ stays r) where
+      pub asked_nonterminal : c ≡ 36 → r ≡ nonterminal_says f → y ≡ asked_at m wd w at c
+      unfolding asked_at pick
+      asked_nonterminal e h = k ∙ rw (e, ← j, ← h) refl
 
-    module _ (e : c ≡ 36) (r : Result (Unit {0}) ℕ) (h : r ≡ nonterminal_says f) where
-      pub asked_nonterminal-no : (q : ℕ) → r ≡ Err q → Err q ≡ asked_at m wd w at c
-      unfolding asked_at pick stays
-      asked_nonterminal-no q z = rw (e, ← j, ← h, z) refl
+      pub asked_condition : c ≡ 20 → r ≡ condition_says f → y ≡ asked_at m wd w at c
+      unfolding asked_at pick
+      asked_condition e h = k ∙ rw (e, ← j, ← h) refl
 
-      pub asked_nonterminal-yes : (u : Unit {0}) → r ≡ Ok u → Ok None ≡ asked_at m wd w at c
-      unfolding asked_at pick stays
-      asked_nonterminal-yes u z = rw (e, ← j, ← h, z) refl
-
-    module _ (e : c ≡ 20) (r : Result (Unit {0}) ℕ) (h : r ≡ condition_says f) where
-      pub asked_condition-no : (q : ℕ) → r ≡ Err q → Err q ≡ asked_at m wd w at c
-      unfolding asked_at pick stays
-      asked_condition-no q z = rw (e, ← j, ← h, z) refl
-
-      pub asked_condition-yes : (u : Unit {0}) → r ≡ Ok u → Ok None ≡ asked_at m wd w at c
-      unfolding asked_at pick stays
-      asked_condition-yes u z = rw (e, ← j, ← h, z) refl
-
-    module _ (e : c ≡ 37) (k : ℕ) (i : k ≡ get_or w (at + 9 + wd) 0) (r : Result (Unit {0}) ℕ) (h : r ≡ macro_says f k) where
-      pub asked_macro-no : (q : ℕ) → r ≡ Err q → Err q ≡ asked_at m wd w at c
-      unfolding asked_at pick stays
-      asked_macro-no q z = rw (e, ← j, ← i, ← h, z) refl
-
-      pub asked_macro-yes : (u : Unit {0}) → r ≡ Ok u → Ok None ≡ asked_at m wd w at c
-      unfolding asked_at pick stays
-      asked_macro-yes u z = rw (e, ← j, ← i, ← h, z) refl
+      pub asked_macro : c ≡ 37 → (b n : ℕ) → b ≡ get_or w (at + 9 + wd) 0 → n ≡ b → r ≡ macro_says f n → y ≡ asked_at m wd w at c
+      unfolding asked_at pick
+      asked_macro e b n i l h = let z : n ≡ get_or w (at + 9 + wd) 0 = l ∙ i in k ∙ rw (e, ← j, ← z, ← h) refl
 
   pub asked_other : (c ≡ 32 → ⊥) → (c ≡ 36 → ⊥) → (c ≡ 37 → ⊥) → (c ≡ 20 → ⊥) → Ok None ≡ asked_at m wd w at c
   unfolding asked_at pick
   asked_other a b d e = cc (ne_eqb c 32 a, ne_eqb c 36 b, ne_eqb c 37 d, ne_eqb c 20 e)
 
-pub ruleset asking = (rules, asked_ambiguous-no, asked_ambiguous-yes, asked_nonterminal-no, asked_nonterminal-yes, asked_macro-no, asked_macro-yes, asked_condition-no, asked_condition-yes, asked_other)
+pub ruleset asking = (rules, asked_ambiguous, asked_nonterminal, asked_condition, asked_macro, asked_other)
 
 -- ---- runs
 pub runs_fine : (x : RunEnd) (w : List ℕ) → x ≡ ran w → Runs x (Ok tt) w
@@ -167,12 +162,12 @@ module _ (m : Map) (wd e at : ℕ) (w₀ w : List ℕ) (p : ℕ) (g : Running m 
   pub run_done : e ≤ p → Runs (run_out m wd e w₀ at e) (Ok tt) w
   run_done h = runs_fine _ w (sym g.rest ∙ run_end m wd g.fuel w p e h)
 
-  module _ (h : p < e) (c : ℕ) (i : c ≡ get_or w p 0) (r : Result (Option ℕ) ℕ) (j : r ≡ asked_at m wd w p c) where
+  module _ (h : p < e) (c : ℕ) (i : c ≡ get_or w p 0) (r : Result (Option ℕ) Question) (j : r ≡ asked_at m wd w p c) where
     abbrev left : ℕ
     left = g.fuel - 1
 
     opened : run_out m wd g.fuel w p e
-        ≡ asked_then r (run_out m wd left w (p + long_of wd c) e) (λ k. run_out m wd left (set w p k) (p + (9 + wd)) e) (λ q. stopped q (span_in w (p + 1)))
+        ≡ asked_then r (run_out m wd left w (p + long_of wd c) e) (λ k. run_out m wd left (set w p k) (p + (9 + wd)) e) (λ q. stopped (number_of q) (span_in w (p + 1)))
     unfolding run_out pick
     opened =
         let z : g.fuel ≡ suc left = omega (arith, g.enough) in
@@ -191,11 +186,9 @@ module _ (m : Map) (wd e at : ℕ) (w₀ w : List ℕ) (p : ℕ) (g : Running m 
       rest = rw (k, ← g.rest, opened, y, z) refl;
     }
 
-    pub run_refused : (q : ℕ) → r ≡ Err q → (s : Span) → s ≡ span_in w (p + 1) → (why : Refusal) → why ≡ refusal_over q s → (w' : List ℕ) → Runs (run_out m wd e w₀ at e) (Err why) w'
+    pub run_refused : (q : Question) → r ≡ Err q → (why : Refusal) → why ≡ refusal_over (number_of q) (span_in w (p + 1)) → (w' : List ℕ) → Runs (run_out m wd e w₀ at e) (Err why) w'
     unfolding asked_then
-    run_refused q z s o why u w' =
-        let v : why ≡ refusal_over q (span_in w (p + 1)) = cc in
-        rw v (runs_refused _ q (span_in w (p + 1)) w' (rw (← g.rest, opened, z) refl))
+    run_refused q z why u w' = rw u (runs_refused _ (number_of q) (span_in w (p + 1)) w' (rw (← g.rest, opened, z) refl))
 
     pub run_rewritten : (o : Option ℕ) → r ≡ Ok o → (k : ℕ) → o ≡ Some k → Running m wd e at w₀ (set w p k) (p + (9 + wd))
     unfolding asked_then

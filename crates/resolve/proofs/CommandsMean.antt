@@ -13,10 +13,11 @@ use Rattle.octets.specs.Working.Stores.{store}
 use Rattle.octets.proofs.LiesLaws.{lies_split}
 use Rattle.octets.proofs.NumbersLaws.{length-le}
 use Rattle.octets.proofs.StoreLaws.{store-none, store-append, store-drop}
+use Rattle.parse_tree.specs.Working.Refusals.{number_of}
 use Rattle.parse_tree.specs.Plain.Tree.{Text, Syms, count, Attribute, Condition, conditions, Alternative}
 use Rattle.parse_tree.specs.Plain.Texts.{number}
 use Rattle.parse_tree.specs.Plain.WriteTape.{bytes_of_each}
-use Rattle.parse_tree.specs.Working.Nodes.{node_bytes}
+use Rattle.parse_tree.specs.Working.Nodes.{node_bytes, long_of}
 use Rattle.parse_tree.specs.Working.Encode.{alternative_node, attribute_node, condition_node, syms_bytes, attribute_bytes, condition_bytes, alternative_bytes}
 use Rattle.parse_tree.specs.Working.Within.{Each, ConditionWithin, AlternativeWithin}
 use Rattle.parse_tree.specs.declared.syntax.Alternative.{Alternative as AlternativeNode}
@@ -30,7 +31,7 @@ use Rattle.laws.proofs.Flat.{lies_kept, syms_fit_lem}
 use Rattle.laws.proofs.Patch.{behind_node}
 use Rattle.texts.specs.declared.Map.{Map}
 use Rattle.resolve.specs.Cells.{known_at}
-use Rattle.resolve.specs.Commands.{RunEnd, ran, stopped, long_of, asked_at, run_out}
+use Rattle.resolve.specs.Commands.{RunEnd, ran, stopped, asked_at, run_out}
 use Rattle.resolve.specs.Whole.{Apart}
 use Rattle.resolve.proofs.CellsLaws.{part_apart, known_off}
 use Rattle.resolve.proofs.GrammarLaws.{named}
@@ -107,7 +108,7 @@ module _ (m : Map) (wd e : ℕ) (ts : List Text) where
         let z : d ≡ p + (10 + wd + wd) = omega (arith, x.rest.end, length-le wd (number ts c.rhs)) in
         go (lookup G ps c.lhs) (rw (agree c.lhs) at (condition_step m wd e w p d (number ts c.lhs) c.span (omega arith) x.code x.span x.name z))
       where
-        go : (o : Option Def) → up_to m wd e w p ≡ checked_then m wd e (condition_code o) (up_to m wd e w d) (λ q. stopped q c.span)
+        go : (o : Option Def) → up_to m wd e w p ≡ checked_then m wd e (condition_code o) (up_to m wd e w d) (λ q. stopped (number_of q) c.span)
             → Checked w p d (elim o [ none ↦ no 8 c.span | some d ↦ cond (eqb (kind d) 3) (yes tt) (no 9 c.span) ])
         go none z = z
         go (some terminal_def) z = z

@@ -14,7 +14,9 @@ use Rattle.octets.specs.Plain.Numbers.{le_at}
 use Rattle.octets.specs.Plain.Runs.{Lies}
 use Rattle.octets.proofs.LiesLaws.{lies_first}
 use Rattle.octets.proofs.NumbersLaws.{length-le}
-use Rattle.parse_tree.specs.Working.Nodes.{leaf_code, leaf_operand, symbol_bytes, node_bytes, span_in}
+use Rattle.parse_tree.specs.Working.Refusals.{number_of}
+use Rattle.parse_tree.specs.declared.refusal.Question.{Question}
+use Rattle.parse_tree.specs.Working.Nodes.{leaf_code, leaf_operand, symbol_bytes, node_bytes, span_in, long_of}
 use Rattle.parse_tree.specs.Working.Within.{SpanWithin}
 use Rattle.parse_tree.specs.declared.syntax.Span.{Span}
 use Rattle.parse_tree.specs.declared.syntax.Leaf.{Leaf}
@@ -29,7 +31,7 @@ use Rattle.passes.specs.Resolve.{Def, terminal_def, nonterminal_def, argument_de
 use Rattle.laws.specs.Names.{State, fine, refused, ask_ambiguous, ask_nonterminal, ask_macro, ask_leaf, ask_over, ask_kind}
 use Rattle.texts.specs.declared.Map.{Map}
 use Rattle.resolve.specs.Cells.{known_at}
-use Rattle.resolve.specs.Commands.{RunEnd, ran, stopped, long_of, becomes, stays, asked_at, asked_then, run_out}
+use Rattle.resolve.specs.Commands.{RunEnd, ran, stopped, becomes, stays, asked_at, asked_then, run_out}
 use Rattle.resolve.proofs.CommandsCode.{run_end}
 use Rattle.resolve.proofs.GrammarLaws.{named, named-last}
 use Rattle.resolve.proofs.NamesMean.{meant, condition_code, nonterminal_code, macro_code, ambiguous_code, condition_says_lem, nonterminal_says_lem, macro_says_lem, ambiguous_says_lem}
@@ -46,7 +48,7 @@ long_some wd c =
     large _ _ _ (omega arith) (large _ _ _ (omega arith) (large _ _ _ (omega arith) (large _ _ _ (omega arith) (large _ _ _ (omega arith) (large _ _ _ (omega arith)
     (large _ _ _ (omega arith) (large _ _ _ (omega arith) (large _ _ _ (omega arith) (large _ _ _ (omega arith) (large _ _ _ (omega arith) (large _ _ _ (omega arith) (omega arith))))))))))))
 
-same_turn : (b : Bool) (r : Result (Option ℕ) ℕ) (x y y' : RunEnd) (f f' g : ℕ → RunEnd) → y ≡ y' → ((k : ℕ) → f k ≡ f' k) → pick b x (asked_then r y f g) ≡ pick b x (asked_then r y' f' g)
+same_turn : (b : Bool) (r : Result (Option ℕ) Question) (x y y' : RunEnd) (f f' : ℕ → RunEnd) (g : Question → RunEnd) → y ≡ y' → ((k : ℕ) → f k ≡ f' k) → pick b x (asked_then r y f g) ≡ pick b x (asked_then r y' f' g)
 unfolding asked_then
 same_turn b (Ok None) x y y' f f' g p q = cc
 same_turn b (Ok (Some k)) x y y' f f' g p q = cc (q k)
@@ -61,7 +63,7 @@ enough m wd (suc f) (suc g) w p e h k =
     let l = long_some wd (get_or w p 0) in
     let z : e ≤ f + (p + (9 + wd)) = omega arith in
     let y : e ≤ g + (p + (9 + wd)) = omega arith in
-    same_turn (leb e p) (asked_at m wd w p c) (ran w) _ _ (λ k. run_out m wd f (set w p k) (p + (9 + wd)) e) (λ k. run_out m wd g (set w p k) (p + (9 + wd)) e) (λ q. stopped q (span_in w (p + 1)))
+    same_turn (leb e p) (asked_at m wd w p c) (ran w) _ _ (λ k. run_out m wd f (set w p k) (p + (9 + wd)) e) (λ k. run_out m wd g (set w p k) (p + (9 + wd)) e) (λ q. stopped (number_of q) (span_in w (p + 1)))
     (enough m wd f g w (p + long_of wd (get_or w p 0)) e (omega arith) (omega arith))
     (λ k. enough m wd f g (set w p k) (p + (9 + wd)) e z y)
 
@@ -74,8 +76,8 @@ module _ (m : Map) (wd e : ℕ) where
   up_to_end w p h = run_end m wd e w p e h
 
   -- a step, by what the command there is answered
-  turn : (w : List ℕ) (p c : ℕ) (a : Result (Option ℕ) ℕ) → p < e → get_or w p 0 ≡ c → asked_at m wd w p c ≡ a
-      → up_to w p ≡ asked_then a (up_to w (p + long_of wd c)) (λ k. up_to (set w p k) (p + (9 + wd))) (λ q. stopped q (span_in w (p + 1)))
+  turn : (w : List ℕ) (p c : ℕ) (a : Result (Option ℕ) Question) → p < e → get_or w p 0 ≡ c → asked_at m wd w p c ≡ a
+      → up_to w p ≡ asked_then a (up_to w (p + long_of wd c)) (λ k. up_to (set w p k) (p + (9 + wd))) (λ q. stopped (number_of q) (span_in w (p + 1)))
   unfolding run_out pick
   turn w p c a h i j = enough m wd e (suc e) w p e (omega arith) (omega arith) ∙ simp (lt-leb e p h, i, j)
 
@@ -89,20 +91,20 @@ module _ (m : Map) (wd e : ℕ) where
   passes w p d c ys h j z l = goes w p c d h (lies_first w p c ys d l).1 j (omega (arith, l.end))
 
   -- on behind a name that is answered a yes
-  abbrev pub checked_then : Result (Unit {0}) ℕ → RunEnd → (ℕ → RunEnd) → RunEnd
+  abbrev pub checked_then : Result (Unit {0}) Question → RunEnd → (Question → RunEnd) → RunEnd
   checked_then (Ok u) x g = x
   checked_then (Err q) x g = g q
 
   -- a condition; its span is sp
   pub condition_step : (w : List ℕ) (p d v : ℕ) (sp : Span) → p < e → get_or w p 0 ≡ 20 → span_in w (p + 1) ≡ sp → le_at wd w (p + 9) ≡ v → d ≡ p + (10 + wd + wd)
-      → up_to w p ≡ checked_then (condition_code (meant (known_at m w v))) (up_to w d) (λ q. stopped q sp)
+      → up_to w p ≡ checked_then (condition_code (meant (known_at m w v))) (up_to w d) (λ q. stopped (number_of q) sp)
   unfolding asked_at asked_then stays long_of pick condition_code
   condition_step w p d v sp h i s x z = go (meant (known_at m w v)) (rw x (ap stays (condition_says_lem (known_at m w v))))
     where
-      go : (o : Maybe Def) → asked_at m wd w p 20 ≡ stays (condition_code o) → up_to w p ≡ checked_then (condition_code o) (up_to w d) (λ q. stopped q sp)
-      go none j = turn w p 20 (Err 8) h i j ∙ ap (stopped 8) s
-      go (some terminal_def) j = turn w p 20 (Err 9) h i j ∙ ap (stopped 9) s
-      go (some (nonterminal_def k)) j = turn w p 20 (Err 9) h i j ∙ ap (stopped 9) s
+      go : (o : Maybe Def) → asked_at m wd w p 20 ≡ stays (condition_code o) → up_to w p ≡ checked_then (condition_code o) (up_to w d) (λ q. stopped (number_of q) sp)
+      go none j = turn w p 20 (Err Question.Defined) h i j ∙ ap (stopped 8) s
+      go (some terminal_def) j = turn w p 20 (Err Question.ConditionName) h i j ∙ ap (stopped 9) s
+      go (some (nonterminal_def k)) j = turn w p 20 (Err Question.ConditionName) h i j ∙ ap (stopped 9) s
       go (some argument_def) j = goes w p 20 d h i j z
 
   -- ---- symbols: what is asked of one, and then on behind it
@@ -113,31 +115,31 @@ module _ (m : Map) (wd e : ℕ) where
   module _ (w : List ℕ) (p d : ℕ) (h : p < e) (sp : Span) (s : span_in w (p + 1) ≡ sp) where
     ambiguous_step : (o : Maybe Def) → get_or w p 0 ≡ 32 → asked_at m wd w p 32 ≡ becomes (ambiguous_code o) → d ≡ p + (9 + wd) → up_to w p ≡ state_then (ask_ambiguous w p sp o) (λ w'. up_to w' d)
     unfolding ambiguous_code ask_ambiguous pick becomes asked_then
-    ambiguous_step none i j z = turn w p 32 (Err 8) h i j ∙ ap (stopped 8) s
+    ambiguous_step none i j z = turn w p 32 (Err Question.Defined) h i j ∙ ap (stopped 8) s
     ambiguous_step (some terminal_def) i j z = turn w p 32 (Ok (Some 33)) h i j ∙ ap (up_to (set w p 33)) (sym z)
     ambiguous_step (some (nonterminal_def zero)) i j z = turn w p 32 (Ok (Some 36)) h i j ∙ ap (up_to (set w p 36)) (sym z)
-    ambiguous_step (some (nonterminal_def (suc k))) i j z = turn w p 32 (Err 13) h i j ∙ ap (stopped 13) s
+    ambiguous_step (some (nonterminal_def (suc k))) i j z = turn w p 32 (Err Question.AmbiguousId) h i j ∙ ap (stopped 13) s
     ambiguous_step (some argument_def) i j z = turn w p 32 (Ok (Some 36)) h i j ∙ ap (up_to (set w p 36)) (sym z)
 
     nonterminal_step : (o : Maybe Def) → get_or w p 0 ≡ 36 → asked_at m wd w p 36 ≡ stays (nonterminal_code o) → d ≡ p + (9 + wd) → up_to w p ≡ state_then (ask_nonterminal w sp o) (λ w'. up_to w' d)
     unfolding nonterminal_code ask_nonterminal pick long_of stays asked_then
-    nonterminal_step none i j z = turn w p 36 (Err 8) h i j ∙ ap (stopped 8) s
-    nonterminal_step (some terminal_def) i j z = turn w p 36 (Err 10) h i j ∙ ap (stopped 10) s
+    nonterminal_step none i j z = turn w p 36 (Err Question.Defined) h i j ∙ ap (stopped 8) s
+    nonterminal_step (some terminal_def) i j z = turn w p 36 (Err Question.Nonterminal) h i j ∙ ap (stopped 10) s
     nonterminal_step (some (nonterminal_def zero)) i j z = goes w p 36 d h i j z
-    nonterminal_step (some (nonterminal_def (suc k))) i j z = turn w p 36 (Err 10) h i j ∙ ap (stopped 10) s
+    nonterminal_step (some (nonterminal_def (suc k))) i j z = turn w p 36 (Err Question.Nonterminal) h i j ∙ ap (stopped 10) s
     nonterminal_step (some argument_def) i j z = goes w p 36 d h i j z
 
     macro_step : (n : ℕ) (o : Maybe Def) → get_or w p 0 ≡ 37 → asked_at m wd w p 37 ≡ stays (macro_code n o) → d ≡ p + (10 + wd) → up_to w p ≡ state_then (ask_macro w sp n o) (λ w'. up_to w' d)
     unfolding macro_code ask_macro pick long_of stays asked_then
-    macro_step n none i j z = turn w p 37 (Err 8) h i j ∙ ap (stopped 8) s
-    macro_step n (some terminal_def) i j z = turn w p 37 (Err 11) h i j ∙ ap (stopped 11) s
-    macro_step n (some (nonterminal_def zero)) i j z = turn w p 37 (Err 11) h i j ∙ ap (stopped 11) s
+    macro_step n none i j z = turn w p 37 (Err Question.Defined) h i j ∙ ap (stopped 8) s
+    macro_step n (some terminal_def) i j z = turn w p 37 (Err Question.Macro) h i j ∙ ap (stopped 11) s
+    macro_step n (some (nonterminal_def zero)) i j z = turn w p 37 (Err Question.Macro) h i j ∙ ap (stopped 11) s
     macro_step n (some (nonterminal_def (suc k))) i j z = go (eqb (suc k) n) j
       where
-        go : (b : Bool) → asked_at m wd w p 37 ≡ stays (pick b (Ok tt) (Err 12)) → up_to w p ≡ state_then (cond b (fine w) (refused 12 sp w)) (λ w'. up_to w' d)
+        go : (b : Bool) → asked_at m wd w p 37 ≡ stays (pick b (Ok tt) (Err Question.ArgumentCount)) → up_to w p ≡ state_then (cond b (fine w) (refused 12 sp w)) (λ w'. up_to w' d)
         go true j = goes w p 37 d h i j z
-        go false j = turn w p 37 (Err 12) h i j ∙ ap (stopped 12) s
-    macro_step n (some argument_def) i j z = turn w p 37 (Err 11) h i j ∙ ap (stopped 11) s
+        go false j = turn w p 37 (Err Question.ArgumentCount) h i j ∙ ap (stopped 12) s
+    macro_step n (some argument_def) i j z = turn w p 37 (Err Question.Macro) h i j ∙ ap (stopped 11) s
 
   -- where the cells say what `look` says
   module _ (look : ℕ → Maybe Def) (w : List ℕ) (sees : (k : ℕ) → meant (known_at m w k) ≡ look k) (p d : ℕ) (h : p < e) (sp : Span) (f : SpanWithin sp) where

@@ -6,7 +6,7 @@ use Prim.Native.Nat.{ℕ, suc, min, ◌+◌, ◌-◌, ◌*◌, ◌≤◌, ◌<�
 use native.Mathlib.Omega.{arith}
 use borrow.Author.Rules.{rules}
 use borrow.Author.Tests.{ltb-true, ltb-false, eq-eqb, ne_eqb}
-use lib.Dec.{ltb}
+use lib.Dec.{ltb, eqb}
 use lib.ListN.{length, get_or}
 use Rattle.std.specs.Prelude.{Result, Ok, Err}
 use Rattle.octets.specs.Working.Choice.{pick}
@@ -23,8 +23,8 @@ use Rattle.resolve.specs.Items.{Standing, item_place_in}
 use Rattle.resolve.specs.Globals.{describe, declared_at, declare_out, each_out, globals_out}
 use Rattle.resolve.proofs.CommandsCode.{runs_fine, runs_refused, then-refused, then-fine}
 
--- ---- description
-pub described : (d r : ℕ) → r ≡ min d 3 → r ≡ describe d
+-- ---- same_kind
+described : (d r : ℕ) → r ≡ min d 3 → r ≡ describe d
 unfolding describe pick
 described d r e = go (ltb d 3) refl
   where
@@ -32,7 +32,10 @@ described d r e = go (ltb d 3) refl
     go true h = let z = ltb-true d 3 h in omega arith
     go false h = let z = ltb-false d 3 h in omega arith
 
-pub ruleset describing = (rules, described)
+pub kinds_compared : (d e r s : ℕ) → r ≡ min d 3 → s ≡ min e 3 → eqb r s ≡ eqb (describe d) (describe e)
+kinds_compared d e r s i j = let x = described d r i in let y = described e s j in cc
+
+pub ruleset describing = (rules, kinds_compared)
 
 -- ---- declared
 module _ (wd : ℕ) (w : List ℕ) (at c : ℕ) where
@@ -48,24 +51,22 @@ pub ruleset declaring = (rules, declared_nonterminal, declared_terminal)
 
 -- ---- declare
 module _ (m : Map) (wd : ℕ) (w : List ℕ) (at d id : ℕ) (i : id ≡ le_at wd w (at + 9)) (old : ℕ) (j : old ≡ known_at m w id) where
-  pub declare_new : old ≡ 0 → (w' : List ℕ) → w' ≡ define_at m w id d → Runs (declare_out m wd w at d) (Ok tt) w'
+  pub declare_new : (b : Bool) → b ≡ eqb old 0 → b ≡ true → (w' : List ℕ) → w' ≡ define_at m w id d → Runs (declare_out m wd w at d) (Ok tt) w'
   unfolding declare_out pick
-  declare_new h w' e = runs_fine _ w' (cc)
+  declare_new b g h w' e = runs_fine _ w' (cc)
 
-  module _ (e : old ≡ 0 → ⊥) (a b : ℕ) (k : a ≡ describe d) (l : b ≡ describe old) (s : Span) (o : s ≡ span_in w (at + 1)) where
-    pub declare_again : a ≡ b → (why : Refusal) → why ≡ refusal_over 5 s → (w' : List ℕ) → Runs (declare_out m wd w at d) (Err why) w'
+  module _ (n : Bool) (g : n ≡ eqb old 0) (e : n ≡ false) (b : Bool) (k : b ≡ eqb (describe d) (describe old)) (s : Span) (o : s ≡ span_in w (at + 1)) where
+    pub declare_again : b ≡ true → (why : Refusal) → why ≡ refusal_over 5 s → (w' : List ℕ) → Runs (declare_out m wd w at d) (Err why) w'
     unfolding declare_out pick
     declare_again h why u w' =
         let v : why ≡ refusal_over 5 (span_in w (at + 1)) = cc in
-        let z : describe d ≡ describe old = cc in
-        rw v (runs_refused _ 5 (span_in w (at + 1)) w' (cc (ne_eqb old 0 e, eq-eqb (describe d) (describe old) z)))
+        rw v (runs_refused _ 5 (span_in w (at + 1)) w' (cc))
 
-    pub declare_other : (a ≡ b → ⊥) → (why : Refusal) → why ≡ refusal_over 6 s → (w' : List ℕ) → Runs (declare_out m wd w at d) (Err why) w'
+    pub declare_other : b ≡ false → (why : Refusal) → why ≡ refusal_over 6 s → (w' : List ℕ) → Runs (declare_out m wd w at d) (Err why) w'
     unfolding declare_out pick
     declare_other h why u w' =
         let v : why ≡ refusal_over 6 (span_in w (at + 1)) = cc in
-        let z : describe d ≡ describe old → ⊥ = λ y. h (k ∙ y ∙ sym l) in
-        rw v (runs_refused _ 6 (span_in w (at + 1)) w' (cc (ne_eqb old 0 e, ne_eqb (describe d) (describe old) z)))
+        rw v (runs_refused _ 6 (span_in w (at + 1)) w' (cc))
 
 pub ruleset entering = (rules, declare_new, declare_again, declare_other)
 

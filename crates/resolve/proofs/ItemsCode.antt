@@ -9,7 +9,7 @@ use borrow.Author.Rules.{rules}
 use borrow.Author.Tests.{lt-ltb, le-ltb, le-leb, lt-leb, ne_eqb, ltb-true, ltb-false, not-true, not-false}
 use mir.Syntax.{w64}
 use mir.Val.{Fits}
-use lib.Dec.{ltb}
+use lib.Dec.{ltb, leb}
 use lib.ListN.{length, get_or}
 use Rattle.std.specs.Prelude.{Result, Ok, Err}
 use Rattle.octets.specs.Working.Choice.{pick}
@@ -99,24 +99,25 @@ pub mark_done : (m : Map) (wd n at : ℕ) (w₀ w : List ℕ) (p k : ℕ) → Ma
 mark_done m wd n at w₀ w p k g h = marks_all _ w (sym g.rest ∙ none_marked m wd k w p h)
 
 -- the next argument
-module _ (m : Map) (wd : ℕ) (w : List ℕ) (p id : ℕ) (i : id ≡ le_at wd w (p + 1)) (d : ℕ) (j : d ≡ known_at m w id) where
-  marked_before : (k : ℕ) → 0 < k → 512 ≤ d → marks_out m wd k w p ≡ twice
+module _ (m : Map) (wd : ℕ) (w : List ℕ) (p id : ℕ) (i : id ≡ le_at wd w (p + 1)) (d : ℕ) (j : d ≡ known_at m w id) (b : Bool) (u : b ≡ leb 512 d) where
+  marked_before : (k : ℕ) → 0 < k → b ≡ true → marks_out m wd k w p ≡ twice
   unfolding marks_out pick
   marked_before zero h o = absurd (omega arith)
-  marked_before (suc k) h o = cc (le-leb 512 d o)
+  marked_before (suc k) h o = cc
 
-  marked_now : (k : ℕ) → 0 < k → d < 512 → marks_out m wd k w p ≡ marks_out m wd (k - 1) (define_at m w id (d + 512)) (p + (1 + wd))
+  marked_now : (k : ℕ) → 0 < k → b ≡ false → marks_out m wd k w p ≡ marks_out m wd (k - 1) (define_at m w id (d + 512)) (p + (1 + wd))
   unfolding marks_out pick
   marked_now zero h o = absurd (omega arith)
-  marked_now (suc k) h o = let z : suc k - 1 ≡ k = omega arith in cc (lt-leb 512 d o)
+  marked_now (suc k) h o = let z : suc k - 1 ≡ k = omega arith in cc
 
   module _ (n at : ℕ) (w₀ : List ℕ) (k : ℕ) (g : MarksLeft m wd n at w₀ w p k) (h : 0 < k) where
-    pub mark_twice : 512 ≤ d → (w' : List ℕ) → Marks (marks_out m wd n w₀ at) false w'
+    pub mark_twice : b ≡ true → (w' : List ℕ) → Marks (marks_out m wd n w₀ at) false w'
     mark_twice o w' = marks_twice _ w' (sym g.rest ∙ marked_before k h o)
 
-    pub mark_next : d < 512 → (j : ℕ) → k ≡ j + 1 → (w' : List ℕ) → w' ≡ define_at m w id (d + 512) → MarksLeft m wd n at w₀ w' (p + (1 + wd)) j
-    mark_next o j z w' e =
+    pub mark_next : b ≡ false → (j : ℕ) → k ≡ j + 1 → (x : ℕ) → x ≡ d + 512 → (w' : List ℕ) → w' ≡ define_at m w id x → MarksLeft m wd n at w₀ w' (p + (1 + wd)) j
+    mark_next o j z x f w' g' =
         let y : j ≡ k - 1 = omega arith in
+        let e : w' ≡ define_at m w id (d + 512) = g' ∙ ap (define_at m w id) f in
         rw y (record {
           listed = listed_next m wd w₀ w p k g.listed h w' (ap length e ∙ length_define m w id (d + 512));
           rest = rw e (sym (marked_now k h o) ∙ g.rest);
@@ -191,14 +192,6 @@ module _ (m : Map) (t : Grammar) (w : List ℕ) (g : Standing m t (length w)) wh
       pub item_behind : p + 16 ≤ length w'
       item_behind = omega (arith, g.inside h)
 
-    -- and w'' after one more
-    module _ (w'' : List ℕ) (k : length w'' ≡ length w') where
-      pub after-room : Room m (length w'')
-      after-room = rw k item_room
-
-      pub after-inside : 0 < t.count → (p : ℕ) → p ≤ t.end → p ≤ length w''
-      after-inside h p o = omega (arith, item_inside h p o)
-
 module _ (m : Map) (t : Grammar) (w : List ℕ) (at e n b : ℕ) (i : b ≡ get_or w (at + 10 + t.width.bytes) 0) (j : n ≡ b) where
   abbrev args : ℕ
   args = at + 13 + t.width.bytes
@@ -231,8 +224,6 @@ module _ (m : Map) (t : Grammar) (w : List ℕ) (at e n b : ℕ) (i : b ≡ get_
       item_done u w3 z = runs_fine _ w3 (going ∙ then-fine _ _ w2 (rw u at o) ∙ ap ran (sym z))
 
 pub ruleset itemizing = (rules, item_times, item_fits_lem, item_room, item_inside, item_behind, item_none, item_twice, item_refused, item_done)
-
-pub ruleset forgetting = (after-room, after-inside)
 
 -- ---- validate
 -- the items from the i-th on leave what all leave

@@ -6,24 +6,25 @@ use borrow.Author.Rules.{rules}
 use borrow.Author.Tests.{eq-eqb, ne_eqb}
 use Rattle.std.specs.Prelude.{Option, Some, None, Ok, Err}
 use Rattle.octets.specs.Working.Choice.{pick}
+use Rattle.parse_tree.specs.declared.refusal.Question.{Question}
 use Rattle.resolve.specs.declared.Definition.{Definition}
 use Rattle.resolve.specs.Names.{condition_says, nonterminal_says, macro_says, ambiguous_says}
 
 -- ---- no definition
 module _ (f : Option Definition) (e : f ≡ None) where
-  pub condition_nothing : Err 8 ≡ condition_says f
+  pub condition_nothing : Err Question.Defined ≡ condition_says f
   unfolding condition_says
   condition_nothing = rw e refl
 
-  pub nonterminal_nothing : Err 8 ≡ nonterminal_says f
+  pub nonterminal_nothing : Err Question.Defined ≡ nonterminal_says f
   unfolding nonterminal_says
   nonterminal_nothing = rw e refl
 
-  pub macro_nothing : (k : ℕ) → Err 8 ≡ macro_says f k
+  pub macro_nothing : (k : ℕ) → Err Question.Defined ≡ macro_says f k
   unfolding macro_says
   macro_nothing k = rw e refl
 
-  pub ambiguous_nothing : Err 8 ≡ ambiguous_says f
+  pub ambiguous_nothing : Err Question.Defined ≡ ambiguous_says f
   unfolding ambiguous_says
   ambiguous_nothing = rw e refl
 
@@ -31,7 +32,7 @@ module _ (f : Option Definition) (e : f ≡ None) where
 module _ (f : Option Definition) (d : Definition) (e : f ≡ Some d) where
   -- of a terminal
   module _ (h : d ≡ Definition.Terminal) where
-    pub nonterminal_terminal : Err 10 ≡ nonterminal_says f
+    pub nonterminal_terminal : Err Question.Nonterminal ≡ nonterminal_says f
     unfolding nonterminal_says
     nonterminal_terminal = rw (e, h) refl
 
@@ -54,12 +55,12 @@ module _ (f : Option Definition) (d : Definition) (e : f ≡ Some d) where
     ambiguous_argument = rw (e, h) refl
 
   -- of one of two sorts
-  pub condition_global : (d ≡ Definition.Terminal) ⊎ ((n : ℕ) × (d ≡ Definition.Nonterminal n)) → Err 9 ≡ condition_says f
+  pub condition_global : (d ≡ Definition.Terminal) ⊎ ((n : ℕ) × (d ≡ Definition.Nonterminal n)) → Err Question.ConditionName ≡ condition_says f
   unfolding condition_says
   condition_global (inl h) = rw (e, h) refl
   condition_global (inr h) = rw (e, h.1) refl
 
-  pub macro_none : (d ≡ Definition.Terminal) ⊎ ((n : ℕ) × (d ≡ Definition.Argument n)) → (k : ℕ) → Err 11 ≡ macro_says f k
+  pub macro_none : (d ≡ Definition.Terminal) ⊎ ((n : ℕ) × (d ≡ Definition.Argument n)) → (k : ℕ) → Err Question.Macro ≡ macro_says f k
   unfolding macro_says
   macro_none (inl h) k = rw (e, h) refl
   macro_none (inr h) k = rw (e, h.1) refl
@@ -71,7 +72,7 @@ module _ (f : Option Definition) (d : Definition) (e : f ≡ Some d) where
       unfolding nonterminal_says
       nonterminal_plain = rw (e, h, z) refl
 
-      pub macro_plain : (k : ℕ) → Err 11 ≡ macro_says f k
+      pub macro_plain : (k : ℕ) → Err Question.Macro ≡ macro_says f k
       unfolding macro_says
       macro_plain k = rw (e, h, z) refl
 
@@ -79,19 +80,19 @@ module _ (f : Option Definition) (d : Definition) (e : f ≡ Some d) where
       unfolding ambiguous_says
       ambiguous_plain = rw (e, h, z) refl
 
-    pub nonterminal_macro : (n ≡ 0 → ⊥) → Err 10 ≡ nonterminal_says f
+    pub nonterminal_macro : (n ≡ 0 → ⊥) → Err Question.Nonterminal ≡ nonterminal_says f
     unfolding nonterminal_says
     nonterminal_macro z = rw (e, h) (go n z)
       where
-        go : (n : ℕ) → (n ≡ 0 → ⊥) → Err 10 ≡ nonterminal_says (Some (Definition.Nonterminal n))
+        go : (n : ℕ) → (n ≡ 0 → ⊥) → Err Question.Nonterminal ≡ nonterminal_says (Some (Definition.Nonterminal n))
         go zero z = absurd (z refl)
         go (suc n) z = refl
 
-    pub ambiguous_macro : (n ≡ 0 → ⊥) → Err 13 ≡ ambiguous_says f
+    pub ambiguous_macro : (n ≡ 0 → ⊥) → Err Question.AmbiguousId ≡ ambiguous_says f
     unfolding ambiguous_says
     ambiguous_macro z = rw (e, h) (go n z)
       where
-        go : (n : ℕ) → (n ≡ 0 → ⊥) → Err 13 ≡ ambiguous_says (Some (Definition.Nonterminal n))
+        go : (n : ℕ) → (n ≡ 0 → ⊥) → Err Question.AmbiguousId ≡ ambiguous_says (Some (Definition.Nonterminal n))
         go zero z = absurd (z refl)
         go (suc n) z = refl
 
@@ -103,11 +104,11 @@ module _ (f : Option Definition) (d : Definition) (e : f ≡ Some d) where
         go zero z i = absurd (z refl)
         go (suc n) z i = rw (eq-eqb (suc n) k i) refl
 
-    pub macro_count : (n ≡ 0 → ⊥) → (k : ℕ) → (n ≡ k → ⊥) → Err 12 ≡ macro_says f k
+    pub macro_count : (n ≡ 0 → ⊥) → (k : ℕ) → (n ≡ k → ⊥) → Err Question.ArgumentCount ≡ macro_says f k
     unfolding macro_says pick
     macro_count z k i = rw (e, h) (go n z i)
       where
-        go : (n : ℕ) → (n ≡ 0 → ⊥) → (n ≡ k → ⊥) → Err 12 ≡ macro_says (Some (Definition.Nonterminal n)) k
+        go : (n : ℕ) → (n ≡ 0 → ⊥) → (n ≡ k → ⊥) → Err Question.ArgumentCount ≡ macro_says (Some (Definition.Nonterminal n)) k
         go zero z i = absurd (z refl)
         go (suc n) z i = rw (ne_eqb (suc n) k i) refl
 

@@ -9,6 +9,7 @@ use borrow.Author.Tests.{le-leb, lt-leb, eqb-true, eqb-false}
 use Rattle.std.specs.Prelude.{Result, Ok, Err}
 use Rattle.octets.specs.Working.Choice.{pick}
 use Rattle.passes.specs.Resolve.{Def, terminal_def, nonterminal_def, argument_def}
+use Rattle.parse_tree.specs.declared.refusal.Question.{Question}
 use Rattle.resolve.specs.Cells.{found_by}
 use Rattle.resolve.specs.Names.{condition_says, nonterminal_says, macro_says, ambiguous_says}
 
@@ -48,31 +49,31 @@ sort d = zeroth (eqb d 0) refl
     zeroth false z = large (leb 512 d) refl z
 
 -- ---- what a name is answered, by its definition as the passes have it
-unfoldable pub condition_code : Option Def → Result (Unit {0}) ℕ
-condition_code none = Err 8
-condition_code (some terminal_def) = Err 9
-condition_code (some (nonterminal_def k)) = Err 9
+unfoldable pub condition_code : Option Def → Result (Unit {0}) Question
+condition_code none = Err Question.Defined
+condition_code (some terminal_def) = Err Question.ConditionName
+condition_code (some (nonterminal_def k)) = Err Question.ConditionName
 condition_code (some argument_def) = Ok tt
 
-unfoldable pub nonterminal_code : Option Def → Result (Unit {0}) ℕ
-nonterminal_code none = Err 8
-nonterminal_code (some terminal_def) = Err 10
+unfoldable pub nonterminal_code : Option Def → Result (Unit {0}) Question
+nonterminal_code none = Err Question.Defined
+nonterminal_code (some terminal_def) = Err Question.Nonterminal
 nonterminal_code (some (nonterminal_def zero)) = Ok tt
-nonterminal_code (some (nonterminal_def (suc k))) = Err 10
+nonterminal_code (some (nonterminal_def (suc k))) = Err Question.Nonterminal
 nonterminal_code (some argument_def) = Ok tt
 
-unfoldable pub macro_code : ℕ → Option Def → Result (Unit {0}) ℕ
-macro_code n none = Err 8
-macro_code n (some terminal_def) = Err 11
-macro_code n (some (nonterminal_def zero)) = Err 11
-macro_code n (some (nonterminal_def (suc k))) = pick (eqb (suc k) n) (Ok tt) (Err 12)
-macro_code n (some argument_def) = Err 11
+unfoldable pub macro_code : ℕ → Option Def → Result (Unit {0}) Question
+macro_code n none = Err Question.Defined
+macro_code n (some terminal_def) = Err Question.Macro
+macro_code n (some (nonterminal_def zero)) = Err Question.Macro
+macro_code n (some (nonterminal_def (suc k))) = pick (eqb (suc k) n) (Ok tt) (Err Question.ArgumentCount)
+macro_code n (some argument_def) = Err Question.Macro
 
-unfoldable pub ambiguous_code : Option Def → Result ℕ ℕ
-ambiguous_code none = Err 8
+unfoldable pub ambiguous_code : Option Def → Result ℕ Question
+ambiguous_code none = Err Question.Defined
 ambiguous_code (some terminal_def) = Ok 33
 ambiguous_code (some (nonterminal_def zero)) = Ok 36
-ambiguous_code (some (nonterminal_def (suc k))) = Err 13
+ambiguous_code (some (nonterminal_def (suc k))) = Err Question.AmbiguousId
 ambiguous_code (some argument_def) = Ok 36
 
 pub condition_says_lem : (d : ℕ) → condition_says (found_by d) ≡ condition_code (meant d)

@@ -2,20 +2,20 @@
 ghost use Rattle.std.specs.Prelude.{◌≡◌, ◌+◌, ◌≤◌, ◌<◌, length};
 ghost use Rattle.octets.specs.Plain.Numbers.{le_at};
 ghost use Rattle.resolve.specs.Cells.{Room, known_at, found_by};
-ghost use Rattle.resolve.specs.Commands.{long_of, asked_at, run_out, Runs};
+ghost use Rattle.parse_tree.specs.Working.Nodes.{long_of};
+ghost use Rattle.resolve.specs.Commands.{asked_at, run_out, Runs};
 
-use crate::Definition;
 use crate::cells::def;
 use crate::names::{
     rewrite_ambiguous_id, validate_condition, validate_macro, validate_nonterminal,
 };
+use crate::{Definition, Scope};
 use octets::numbers::{Width, atom_at};
-use parse_tree::node::span_at;
 use parse_tree::refusal;
-use parse_tree::refusal::Refusal;
-use texts::Map;
+use parse_tree::refusal::{Question, Refusal};
 
-// How long a command is, by its code.
+// How long a command of an alternative is, by its code. Apart from parse_tree's `size_by_code`: by its definition the clauses of seven crates would say of items and arguments too, which no run over an alternative meets.
+// One arm for 32 to 36 was tried: five machine instructions more for each command, since no table is made then.
 pub fn long(c: u8, width: Width) -> usize
     ensures { (result ≡ long_of width.bytes c) × (0 < result) × (result ≤ 17) }
 {
@@ -28,60 +28,52 @@ pub fn long(c: u8, width: Width) -> usize
         34 => 9 + width.bytes,
         35 => 9 + width.bytes,
         36 => 9 + width.bytes,
-        37 => 10 + width.bytes,
+        37 | 40 => 10 + width.bytes,
         38 => 10,
-        40 => 10 + width.bytes,
         41 => 11,
         _ => 9,
     }
 }
 
 // The definition of the name of the command at a place.
-fn named(work: &[u8], m: Map, width: Width, at: usize) -> Option<Definition>
-    requires { Room m (length work.now) × (at + 16 ≤ length work.now) }
-    ensures { result ≡ found_by (known_at m work.now (le_at width.bytes work.now (at + 9))) }
+fn named(work: &[u8], s: Scope, at: usize) -> Option<Definition>
+    requires { Room s.texts (length work.now) × (at + 16 ≤ length work.now) }
+    ensures { result ≡ found_by (known_at s.texts work.now (le_at s.grammar.width.bytes work.now (at + 9))) }
 {
-    def(work, m, atom_at(work, at + 9, width))
+    def(work, s.texts, atom_at(work, at + 9, s.grammar.width))
 }
 
-// What the command at a place, whose code is c, is answered (see `names`): the code that it becomes, none where it stays, or the question's number.
-fn asked(work: &[u8], m: Map, width: Width, at: usize, c: u8) -> Result<Option<u8>, usize>
-    requires { Room m (length work.now) × (at + 16 ≤ length work.now) }
-    ensures { result ≡ asked_at m width.bytes work.now at c }
+// What the command at a place, whose code is c, is answered (see `names`): the code that it becomes, none where it stays, or the question that it fails.
+fn asked(work: &[u8], s: Scope, at: usize, c: u8) -> Result<Option<u8>, Question>
+    requires { Room s.texts (length work.now) × (at + 16 ≤ length work.now) }
+    ensures { result ≡ asked_at s.texts s.grammar.width.bytes work.now at c }
 {
     match c {
-        20 => validate_condition(named(work, m, width, at))?,
-        32 => return Ok(Some(rewrite_ambiguous_id(named(work, m, width, at))?)),
-        36 => validate_nonterminal(named(work, m, width, at))?,
-        37 => validate_macro(
-            named(work, m, width, at),
-            usize::from(work[at + 9 + width.bytes]),
-        )?,
-        _ => {}
+        20 => validate_condition(named(work, s, at)).map(|_| None),
+        32 => rewrite_ambiguous_id(named(work, s, at)).map(Some),
+        36 => validate_nonterminal(named(work, s, at)).map(|_| None),
+        37 => {
+            let k = usize::from(work[at + 9 + s.grammar.width.bytes]);
+            validate_macro(named(work, s, at), k).map(|_| None)
+        }
+        _ => Ok(None),
     }
-    Ok(None)
 }
 
 // The commands from a place up to e.
-pub fn validate_commands(
-    work: &mut [u8],
-    m: Map,
-    width: Width,
-    at: usize,
-    e: usize,
-) -> Result<(), Refusal>
-    requires { Room m (length work.old) × (e + 16 ≤ length work.old) }
-    ensures { Runs (run_out m width.bytes e work.old at e) result work.new }
+pub fn validate_commands(work: &mut [u8], s: Scope, at: usize, e: usize) -> Result<(), Refusal>
+    requires { Room s.texts (length work.old) × (e + 16 ≤ length work.old) }
+    ensures { Runs (run_out s.texts s.grammar.width.bytes e work.old at e) result work.new }
 {
     let mut p = at;
     while p < e {
         let c = work[p];
-        match asked(work, m, width, p, c) {
-            Err(question) => return Err(refusal::over(question, span_at(work, p + 1))),
-            Ok(None) => p += long(c, width),
+        match asked(work, s, p, c) {
+            Err(question) => return Err(refusal::of_command(question, work, p)),
+            Ok(None) => p += long(c, s.grammar.width),
             Ok(Some(code)) => {
                 work[p] = code;
-                p += 9 + width.bytes;
+                p += 9 + s.grammar.width.bytes;
             }
         }
     }

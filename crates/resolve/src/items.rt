@@ -4,14 +4,13 @@ ghost use Rattle.resolve.specs.Cells.{Room};
 ghost use Rattle.resolve.specs.Commands.{Runs};
 ghost use Rattle.resolve.specs.Items.{Standing, item_place_in, Marks, marks_out, unmarks_out, item_out, items_out};
 
-use crate::Grammar;
 use crate::cells::{define, known};
 use crate::commands::validate_commands;
-use octets::numbers::{Width, atom_at, u64_at};
+use crate::{Grammar, Scope};
+use octets::numbers::{atom_at, u64_at};
 use parse_tree::node::span_at;
 use parse_tree::refusal;
-use parse_tree::refusal::Refusal;
-use texts::Map;
+use parse_tree::refusal::{Question, Refusal};
 
 // The place of the i-th item in work, of the end for the last and for any place behind it.
 pub fn place(work: &[u8], t: Grammar, i: usize) -> usize
@@ -26,67 +25,69 @@ pub fn place(work: &[u8], t: Grammar, i: usize) -> usize
 }
 
 // "arguments distinct? 7": the n arguments at a place are marked, as long as none has a mark.
-fn validate_macro_args(work: &mut [u8], m: Map, width: Width, n: usize, at: usize) -> bool
-    requires { Room m (length work.old) × (at + n * (1 + width.bytes) ≤ length work.old) }
-    ensures { Marks (marks_out m width.bytes n work.old at) result work.new }
+fn validate_macro_args(work: &mut [u8], s: Scope, n: usize, at: usize) -> bool
+    requires { Room s.texts (length work.old) × (at + n * (1 + s.grammar.width.bytes) ≤ length work.old) }
+    ensures { Marks (marks_out s.texts s.grammar.width.bytes n work.old at) result work.new }
 {
     let mut p = at;
     for _ in 0..n {
-        let id = atom_at(work, p + 1, width);
-        let d = known(work, m, id);
-        if 512 <= d {
+        let id = atom_at(work, p + 1, s.grammar.width);
+        let d = known(work, s.texts, id);
+        if d.is_argument() {
             return false;
         }
-        define(work, m, id, d + 512);
-        p += 1 + width.bytes;
+        define(work, s.texts, id, d.as_argument());
+        p += 1 + s.grammar.width.bytes;
     }
     true
 }
 
 // The marks of the n arguments at a place are taken away.
-fn forget_macro_args(work: &mut [u8], m: Map, width: Width, n: usize, at: usize)
-    requires { Room m (length work.old) × (at + n * (1 + width.bytes) ≤ length work.old) }
-    ensures { work.new ≡ unmarks_out m width.bytes n work.old at }
+fn forget_macro_args(work: &mut [u8], s: Scope, n: usize, at: usize)
+    requires { Room s.texts (length work.old) × (at + n * (1 + s.grammar.width.bytes) ≤ length work.old) }
+    ensures { work.new ≡ unmarks_out s.texts s.grammar.width.bytes n work.old at }
 {
     let mut p = at;
     for _ in 0..n {
-        let id = atom_at(work, p + 1, width);
-        let d = known(work, m, id);
-        define(work, m, id, d % 512);
-        p += 1 + width.bytes;
+        let id = atom_at(work, p + 1, s.grammar.width);
+        let d = known(work, s.texts, id);
+        define(work, s.texts, id, d.as_global());
+        p += 1 + s.grammar.width.bytes;
     }
 }
 
 // The nonterminal from a place up to e.
-fn validate_item(work: &mut [u8], m: Map, t: Grammar, at: usize, e: usize) -> Result<(), Refusal>
-    requires { Standing m t (length work.old) × (at + 16 ≤ length work.old) × (e ≤ t.end) × (0 < t.count) }
-    ensures { Runs (item_out m t work.old at e) result work.new }
+fn validate_item(work: &mut [u8], s: Scope, at: usize, e: usize) -> Result<(), Refusal>
+    requires { Standing s.texts s.grammar (length work.old) × (at + 16 ≤ length work.old) × (e ≤ s.grammar.end) × (0 < s.grammar.count) }
+    ensures { Runs (item_out s.texts s.grammar work.old at e) result work.new }
 {
+    let t = s.grammar;
     let n = usize::from(work[at + 10 + t.width.bytes]);
     let a = at + 13 + t.width.bytes;
     let p = a + n * (1 + t.width.bytes);
     if t.end < p {
         return Ok(());
     }
+    // The span is read before the marks are written.
     let span = span_at(work, at + 1);
-    if !validate_macro_args(work, m, t.width, n, a) {
-        return Err(refusal::over(7, span));
+    if !validate_macro_args(work, s, n, a) {
+        return Err(refusal::over(Question::Arguments, span));
     }
-    validate_commands(work, m, t.width, p, e)?;
-    forget_macro_args(work, m, t.width, n, a);
+    validate_commands(work, s, p, e)?;
+    forget_macro_args(work, s, n, a);
     Ok(())
 }
 
 // All items, in order.
-pub fn validate(work: &mut [u8], m: Map, t: Grammar) -> Result<(), Refusal>
-    requires { Standing m t (length work.old) }
-    ensures { Runs (items_out m t t.count 0 work.old) result work.new }
+pub fn validate(work: &mut [u8], s: Scope) -> Result<(), Refusal>
+    requires { Standing s.texts s.grammar (length work.old) }
+    ensures { Runs (items_out s.texts s.grammar s.grammar.count 0 work.old) result work.new }
 {
-    for i in 0..t.count {
-        let p = place(work, t, i);
+    for i in 0..s.grammar.count {
+        let p = place(work, s.grammar, i);
         if work[p] == 16 {
-            let e = place(work, t, i + 1);
-            validate_item(work, m, t, p, e)?;
+            let e = place(work, s.grammar, i + 1);
+            validate_item(work, s, p, e)?;
         }
     }
     Ok(())

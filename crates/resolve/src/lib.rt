@@ -3,6 +3,7 @@
 #![tactic(auto)]
 
 use octets::numbers::Width;
+use texts::Map;
 
 pub mod cells;
 pub mod commands;
@@ -22,8 +23,16 @@ pub struct Grammar {
     pub width: Width,
 }
 
+// What the pass goes by while it writes work: the table of texts in it, and the items. That both lie in work, `Room` and `Standing` say in the clauses: a
+// type that held work too would have to say of each call that the table and the items are the same behind it.
+#[derive(Clone, Copy)]
+pub struct Scope {
+    pub texts: Map,
+    pub grammar: Grammar,
+}
+
 // What a scope says of a name that is defined: a terminal, a nonterminal or macro with so many arguments, or an argument of the item at
-// hand, which hides the global that the number says, as its cell has it.
+// hand, which hides the global that the number says, as its cell has it: nobody asks which, but `def` tells it and may not tell less.
 #[derive(Clone, Copy, PartialEq, Eq)]
 pub enum Definition {
     Terminal,

@@ -23,9 +23,10 @@ module _ (w : List ℕ) (m : Map) (wd p i : ℕ) where
   unfolding told_at pick
   told_plain d = rw (eq-eqb (get_or w (p + 10 + wd) 0) 0 d) refl
 
-  pub told_macro : (get_or w (p + 10 + wd) 0 ≡ 0 → ⊥) → (x k : ℕ) → x ≡ le_at wd w (p + 9) → k ≡ x → (w' : List ℕ) → w' ≡ store w (m.base + 24 * k + 20) (le 4 (i + 1)) → w' ≡ told_at m wd w p i
+  pub told_macro : (get_or w (p + 10 + wd) 0 ≡ 0 → ⊥) → (x k : ℕ) → x ≡ le_at wd w (p + 9) → k ≡ x → (c : ℕ) → c ≡ i + 1 → (w' : List ℕ) → w' ≡ store w (m.base + 24 * k + 20) (le 4 c) → w' ≡ told_at m wd w p i
   unfolding told_at pick
-  told_macro d x k y z w' o = rw (ne_eqb (get_or w (p + 10 + wd) 0) 0 d) (o ∙ ap (λ (n : ℕ). store w (m.base + 24 * n + 20) (le 4 (i + 1))) (z ∙ y))
+  told_macro d x k y z c e w' o =
+      rw (ne_eqb (get_or w (p + 10 + wd) 0) 0 d) (o ∙ ap (λ (n : ℕ). store w (m.base + 24 * k + 20) (le 4 n)) e ∙ ap (λ (n : ℕ). store w (m.base + 24 * n + 20) (le 4 (i + 1))) (z ∙ y))
 
 pub ruleset telling = (rules, told_room, told_plain, told_macro)
 

@@ -1,20 +1,23 @@
 -- The ways out of the functions that make a round's ground. Assumes nothing.
-use mathlib.Core.Path.{◌≡◌, refl, ap, ◌∙◌}
+use mathlib.Core.Path.{◌≡◌, refl, sym, ap, ◌∙◌, subst}
 use mathlib.Core.Bool.{Bool, true, false}
 use mathlib.Core.Logic.{◌⊎◌, inl, inr}
 use mathlib.Core.List.{List}
-use Prim.Native.Nat.{ℕ, ◌+◌, ◌-◌, ◌*◌, ◌/◌, ◌≤◌, ◌<◌, min}
+use Prim.Native.Nat.{ℕ, zero, suc, ◌+◌, ◌-◌, ◌*◌, ◌/◌, ◌≤◌, ◌<◌, min}
 use native.Mathlib.Omega.{arith}
 use borrow.Author.Rules.{rules}
 use borrow.Author.Tests.{ltb-true, ltb-false, eqb-true, eqb-false}
 use lib.Dec.{eqb, ltb}
-use lib.ListN.{length, get_or}
+use lib.ListN.{length, get_or, replicate, take, drop}
+use Rattle.std.proofs.lemmas.List.{length-replicate}
 use Rattle.octets.specs.declared.numbers.Width.{Width}
 use Rattle.octets.specs.Working.Choice.{pick}
-use Rattle.octets.specs.Plain.Numbers.{le_at, le}
+use Rattle.octets.specs.Plain.Numbers.{le_at}
+use Rattle.octets.specs.Plain.Runs.{part, Lies}
 use Rattle.octets.specs.Working.Stores.{store}
-use Rattle.octets.proofs.NumbersLaws.{length-le}
-use Rattle.octets.proofs.StoreLaws.{length_store, get_d_store_before, get_d_store_after, le_at-same, le_at-other}
+use Rattle.octets.proofs.LiesLaws.{lies_first}
+use Rattle.octets.proofs.PartLaws.{part_length}
+use Rattle.octets.proofs.StoreLaws.{length_store, get_d_store_before, get_d_store_after, lies_store}
 use Rattle.parse_tree.specs.Plain.Texts.{distinct}
 use Rattle.texts.specs.declared.Map.{Map}
 use Rattle.texts.specs.Fields.{Relinked}
@@ -114,54 +117,45 @@ module _ (s w : List ℕ) (m : Map) (width : Width) (from end top : ℕ) (h : Gr
 
 pub ruleset grounding = (rules, slots_below, keys_below, heads-room, grounds)
 
--- ---- clear_built: the first i words are clear
-pub record Clearing (g : Ground) (w w' : List ℕ) (i : ℕ) : Type 0 where
-  pub low : 72 ≤ g.slots
-  pub top : g.slots ≤ length w
-  pub upto : i ≤ 9
-  pub long : length w' ≡ length w
-  pub words : (j : ℕ) → j < i → built_at w' g j ≡ 0
-  pub others : (j : ℕ) → (j < g.slots - 72) ⊎ (g.slots ≤ j) → get_or w' j 0 ≡ get_or w j 0
+-- ---- clear_built: nine words are 72 bytes
+abbrev zeros : ℕ → List ℕ
+zeros n = replicate n 0
 
-pub clearing_start : (g : Ground) (w : List ℕ) → 72 ≤ g.slots → g.slots ≤ length w → Clearing g w w 0
-clearing_start g w a b = record { low = a; top = b; upto = omega arith; long = refl; words = λ j l. absurd (omega (arith, l)); others = λ j d. refl }
+zeros-long : (n : ℕ) → length (zeros n) ≡ n
+zeros-long n = length-replicate {A = ℕ} n 0
 
-module _ (g : Ground) (w w' : List ℕ) (i : ℕ) (c : Clearing g w w' i) where
-  pub clearing_low : 72 ≤ g.slots
-  clearing_low = c.low
+zeros_lie : (n : ℕ) (s : List ℕ) (a e : ℕ) → Lies s a (zeros n) e → (i : ℕ) → a ≤ i → i < a + n → get_or s i 0 ≡ 0
+zeros_lie zero s a e l i b c = absurd (omega (arith, b, c))
+zeros_lie (suc n) s a e l i b c = let h = lies_first s a 0 (zeros n) e l in go (eqb i a) refl (λ x y. zeros_lie n s (a + 1) e h.2 i x y)
+  where
+    go : (t : Bool) → eqb i a ≡ t → (a + 1 ≤ i → i < a + 1 + n → get_or s i 0 ≡ 0) → get_or s i 0 ≡ 0
+    go true q k = let z = eqb-true i a q in ap (λ (j : ℕ). get_or s j 0) z ∙ (lies_first s a 0 (zeros n) e l).1
+    go false q k = let z = eqb-false i a q in k (omega (arith, z, b)) (omega (arith, c))
 
-  pub clearing_same : length w' ≡ length w
-  clearing_same = c.long
+zeros_read : (k : ℕ) (s : List ℕ) (at : ℕ) → ((i : ℕ) → at ≤ i → i < at + k → get_or s i 0 ≡ 0) → le_at k s at ≡ 0
+unfolding le_at
+zeros_read zero s at h = refl
+zeros_read (suc k) s at h = omega (arith, h at (omega arith) (omega arith), zeros_read k s (at + 1) (λ i a b. h i (omega arith) (omega arith)))
 
-  pub clearing_done : 9 ≤ i → Cleared g w w'
-  clearing_done h = record { long = c.long; words = λ j l. c.words j (omega arith); others = c.others }
+module _ (g : Ground) (w : List ℕ) (low : 72 ≤ g.slots) (top : g.slots ≤ length w) where
+  pub filled : (x : List ℕ) → x ≡ replicate (length (take (g.slots - (g.slots - 72)) (drop (g.slots - 72) w))) 0 → x ≡ zeros 72
+  unfolding part
+  filled x e =
+      let z : length (part (g.slots - 72) g.slots w) ≡ 72 = omega (arith, part_length (g.slots - 72) g.slots w top, low) in
+      e ∙ ap zeros z
 
-  module _ (h : i < 9) where
-    pub clearing_room : g.slots - 72 + 8 * i + 8 ≤ length w'
-    clearing_room = omega (arith, c.low, c.top, c.long)
+module _ (g : Ground) (w w' : List ℕ) (low : 72 ≤ g.slots) (top : g.slots ≤ length w) (e : w' ≡ store w (g.slots - 72) (zeros 72)) where
+  zeros_there : Lies w' (g.slots - 72) (zeros 72) (g.slots - 72 + length (zeros 72))
+  zeros_there = subst (λ (x : List ℕ). Lies x (g.slots - 72) (zeros 72) (g.slots - 72 + length (zeros 72))) (sym e) (lies_store w (g.slots - 72) (zeros 72) (omega (arith, zeros-long 72)))
 
-    pub clearing_next : (w'' : List ℕ) → w'' ≡ store w' (g.slots - 72 + 8 * i) (le 8 0) → Clearing g w w'' (i + 1)
-    unfolding built_at built_place
-    clearing_next w'' e = record {
-      low = c.low;
-      top = c.top;
-      upto = omega arith;
-      long = ap length e ∙ length_store w' (g.slots - 72 + 8 * i) (le 8 0) ∙ c.long;
-      words = λ j l. ap (λ (z : List ℕ). le_at 8 z (g.slots - 72 + 8 * j)) e ∙ word j l;
-      others = λ j d. ap (λ (z : List ℕ). get_or z j 0) e ∙ beside j d ∙ c.others j d;
-    }
-      where
-        word : (j : ℕ) → j < i + 1 → le_at 8 (store w' (g.slots - 72 + 8 * i) (le 8 0)) (g.slots - 72 + 8 * j) ≡ 0
-        word j l = go (eqb j i) refl
-          where
-            go : (b : Bool) → eqb j i ≡ b → le_at 8 (store w' (g.slots - 72 + 8 * i) (le 8 0)) (g.slots - 72 + 8 * j) ≡ 0
-            go true z =
-                let y = eqb-true j i z in
-                ap (λ (x : ℕ). le_at 8 (store w' (g.slots - 72 + 8 * i) (le 8 0)) (g.slots - 72 + 8 * x)) y ∙ le_at-same 8 w' (g.slots - 72 + 8 * i) 0 clearing_room (omega arith)
-            go false z = let y = eqb-false j i z in le_at-other 8 w' (g.slots - 72 + 8 * i) (le 8 0) (g.slots - 72 + 8 * j) (inl (omega arith)) ∙ c.words j (omega arith)
-
-        beside : (j : ℕ) → (j < g.slots - 72) ⊎ (g.slots ≤ j) → get_or (store w' (g.slots - 72 + 8 * i) (le 8 0)) j 0 ≡ get_or w' j 0
-        beside j (inl x) = get_d_store_before w' (g.slots - 72 + 8 * i) (le 8 0) j (omega arith)
-        beside j (inr x) = get_d_store_after w' (g.slots - 72 + 8 * i) (le 8 0) j (omega (arith, length-le 8 0, c.low))
-
-pub ruleset clearing = (rules, clearing_start, clearing_low, clearing_same, clearing_done, clearing_room, clearing_next)
+  pub cleared_lem : Cleared g w w'
+  unfolding built_at built_place
+  cleared_lem = record {
+    long = ap length e ∙ length_store w (g.slots - 72) (zeros 72);
+    words = λ i l. zeros_read 8 w' (g.slots - 72 + 8 * i) (λ j a b. zeros_lie 72 w' (g.slots - 72) (g.slots - 72 + length (zeros 72)) zeros_there j (omega arith) (omega arith));
+    others = beside;
+  }
+    where
+      beside : (j : ℕ) → (j < g.slots - 72) ⊎ (g.slots ≤ j) → get_or w' j 0 ≡ get_or w j 0
+      beside j (inl x) = ap (λ (z : List ℕ). get_or z j 0) e ∙ get_d_store_before w (g.slots - 72) (zeros 72) j x
+      beside j (inr x) = ap (λ (z : List ℕ). get_or z j 0) e ∙ get_d_store_after w (g.slots - 72) (zeros 72) j (omega (arith, zeros-long 72, low, x))

@@ -12,6 +12,7 @@ use Rattle.parse_tree.specs.Plain.Tree.{Text, Item, Stage}
 use Rattle.parse_tree.specs.Plain.References.{stage_of}
 use Rattle.parse_tree.specs.Plain.WriteTape.{bytes_of_each, tape_of}
 use Rattle.parse_tree.specs.Working.Encode.{atom_bytes, item_bytes, stage_bytes}
+use Rattle.parse_tree.specs.Working.Refusals.{refusal_at}
 use Rattle.parse_tree.proofs.WriteTapeIs.{tape_is}
 use Rattle.passes.specs.Outcome.{yes, no}
 use Rattle.passes.specs.Sizes.{each, item_fits, stage_fits}
@@ -86,7 +87,7 @@ module _ (cap : ℕ) (ts us : List Text) (old new : List Item) (atoms : (stage_o
 
   -- theorem: 20 and 21 of the stage are what is judged of its numbers
   pub judge_means : sizes 2 cap g ≡ admitted (verdict (length ts + length us) (some_long us) (not (each item_fits new)) bytes_in cap) g
-  unfolding sizes verdict admitted pick
+  unfolding sizes verdict admitted refusal_at pick
   judge_means =
       ap (λ (b : Bool). cond b (cond (leb (length (tape_of 2 g)) cap) (yes g) (no 21 nowhere)) (no 20 nowhere)) fits_are
       ∙ ap (λ (n : ℕ). cond (leb (length ts + length us) 65536 && (not (some_long us) && each item_fits new)) (cond (leb n cap) (yes g) (no 21 nowhere)) (no 20 nowhere)) tape_long

@@ -1,44 +1,42 @@
 -- Laws for the answers of a round in code: what the appending stage and the whole round come to. Assumes nothing.
 use mathlib.Core.Path.{◌≡◌, refl, sym, ap, ◌∙◌, subst}
-use mathlib.Core.Bool.{false}
 use mathlib.Core.List.{List, [], ◌∷◌, append_assoc}
-use Prim.Native.Nat.{ℕ, zero, suc, ◌+◌, ◌-◌, ◌≤◌, ◌<◌}
+use Prim.Native.Nat.{ℕ, zero, suc, ◌+◌, ◌-◌, ◌<◌}
 use native.Mathlib.Omega.{arith}
 use borrow.Author.Rules.{rules}
-use mir.Syntax.{w64}
-use mir.Val as Bound
 use lib.ListN.{length}
 use Rattle.parse_tree.specs.Plain.Tree.{Item, Stage}
-use Rattle.parse_tree.specs.Working.Refusals.{refusal_at, refusal_over}
+use Rattle.parse_tree.specs.Working.Refusals.{refusal_over}
 use Rattle.parse_tree.specs.declared.refusal.Refusal.{Refusal}
 use Rattle.parse_tree.specs.declared.syntax.Span.{Span}
 use Rattle.passes.specs.Outcome.{Outcome, yes, no, after}
 use Rattle.passes.specs.Macros.{Pending, drain}
-use Rattle.passes.specs.Calls.{nowhere, sizes}
+use Rattle.passes.specs.Calls.{sizes}
 use Rattle.resolve.specs.declared.Grammar.{Grammar}
 use Rattle.expander.specs.Names.{listed_texts}
 use Rattle.settling.specs.Settle.{new_bytes, some_long}
 use Rattle.appending.specs.declared.Appended.{Appended}
 use Rattle.std.specs.Prelude.{Result, Ok, Err}
+use Rattle.std.specs.declared.ops.ControlFlow.TheVariants.{Continue, Break}
 use Rattle.rounds.specs.declared.Room.{Room}
 use Rattle.rounds.specs.declared.State.{State}
-use Rattle.rounds.specs.declared.Progress.{Progress}
 use Rattle.rounds.specs.declared.round.Half.{Half}
-use Rattle.rounds.specs.Judge.{Verdict, verdict, admitted, SomeStageSize}
-use Rattle.rounds.specs.Start.{replaced_by}
+use Rattle.rounds.specs.Judge.{Verdict, verdict, admitted}
+use Rattle.rounds.specs.Start.{at_start, replaced_by}
 use Rattle.rounds.specs.Step.{RoundOutput, done, more, append_items, pending_round}
 use Rattle.rounds.specs.Standing.{RoundTrees, RoundStands}
-use Rattle.rounds.specs.Round.{pending_of, replaced_stage, appended_stage, next_trees, Halfway, SomeHalf, SomePending, Fine, Drained, DrainedTo, DrainsPile, SomeAppended, trees_in, replaced_verdict, appended_verdict, SomeDrained, Next, SettlesRound, Further, RoundTo, next_input, AnswersItems, AppendsRound, AnswersHalf}
+use Rattle.rounds.specs.Round.{pending_of, replaced_stage, appended_stage, next_trees, Halfway, finished_state, SomeHalf, SomePending, Fine, Drained, DrainedTo, DrainsPile, SomeAppended, trees_in, Sizeable, stage_verdict, SomeDrained, Next, SettlesRound, Further, RoundTo, next_input, another, AnswersItems, AppendsRound, AnswersHalf}
 use Rattle.rounds.proofs.RoundStages.{drained_without, admitted-fine, admitted-no}
+use Rattle.rounds.proofs.RoundPlaces as places
 use Rattle.rounds.proofs.RoundHalf as halves
 use Rattle.rounds.proofs.Tally as tally
 use Rattle.rounds.proofs.RoundJudged as judges
 use Rattle.rounds.proofs.RoundAppended as appended
 
--- a question without a place
-at-nowhere : (q : ℕ) → refusal_at q 0 ≡ refusal_over q nowhere
-unfolding refusal_at refusal_over
-at-nowhere q = refl
+-- a refusal by its number and its place
+pub refused-over : (why : Refusal) → why ≡ refusal_over why.number (record { 0 = why.from; 1 = why.to })
+unfolding refusal_over
+refused-over why = refl
 
 -- ---- what draining came to, by the answer
 abbrev IsIs : Result Appended Refusal → Type 0
@@ -71,10 +69,18 @@ module _ (s w : List ℕ) (room : Room) (t : Grammar) (z : State) (T : RoundTree
   refused_given why e (yes new) (u, i, d) = absurd (subst IsIs (sym i ∙ e) tt)
   refused_given why e (no n sp) d = (n, sp, refl, ap (refusal_in why) (sym e ∙ d))
 
+-- ---- stage_size
+pub sized_so : (s w : List ℕ) (room : Room) (z : State) (h : Half) (v : Appended) (q : Verdict)
+    → q ≡ verdict (h.g.m.count + v.count) (some_long (listed_texts s w h.g v.count)) v.deep (room.first + (room.end - z.low) + (v.to - room.y) + length (new_bytes s w h.g v.count)) room.cap → q ≡ stage_verdict s w room z h v
+unfolding stage_verdict
+sized_so s w room z h v q e = e
+
+pub ruleset sized = (rules, sized_so)
+
 -- ---- answer_items: w is work after appending
 module _ (s w : List ℕ) (room : Room) (t : Grammar) (z : State) (h : Half) (v : Appended) where
   abbrev verdict_all : Verdict
-  verdict_all = appended_verdict s w room z h v
+  verdict_all = stage_verdict s w room z h v
 
   module _ (I : SomeAppended s w room t z h v) where
     abbrev P : SomePending s I.before room t z h
@@ -84,18 +90,15 @@ module _ (s w : List ℕ) (room : Room) (t : Grammar) (z : State) (h : Half) (v 
     A = I.pending.half
 
     judged : sizes 2 room.cap (appended_stage (trees_in I) I.new) ≡ admitted verdict_all (appended_stage (trees_in I) I.new)
-    unfolding appended_verdict
+    unfolding stage_verdict
     judged = appended.judged-all s A.work room t z A.trees A.standing h I.before A.halfway P.pushed P.admitted I.new v w I.drained
 
-    pub items_ask : SomeStageSize s w h.g h.r.pile v.count (room.first + (room.end - z.low) + (v.to - room.y))
-    items_ask = appended.ask_all s A.work room t z A.trees A.standing h I.before A.halfway P.pushed P.admitted I.new v w I.drained
-
-    pub items_sum : Bound.Fits w64 (room.first + (room.end - z.low) + (v.to - room.y))
-    items_sum = record { fits = omega (arith, items_ask.small) }
-
-    pub items_ordered : room.y ≤ v.to
-    items_ordered =
-        omega (arith, appended.to_on s A.work room t z A.trees A.standing h I.before A.halfway P.pushed P.admitted I.new v w I.drained, (halves.items_lie s A.work room t z A.trees A.standing h I.before A.halfway).end)
+    pub items_ask : Sizeable s w room z h v
+    items_ask = record {
+      past = omega (arith, places.low-is s A.work room t z A.trees A.standing);
+      items = omega (arith, appended.to_on s A.work room t z A.trees A.standing h I.before A.halfway P.pushed P.admitted I.new v w I.drained, (halves.items_lie s A.work room t z A.trees A.standing h I.before A.halfway).end);
+      size = appended.ask_all s A.work room t z A.trees A.standing h I.before A.halfway P.pushed P.admitted I.new v w I.drained;
+    }
 
     fine : (q : Verdict) → q ≡ verdict_all → (u : Unit {0}) → q ≡ Ok u → Fine room (appended_stage (trees_in I) I.new)
     fine q i u l = judged ∙ admitted-fine verdict_all (appended_stage (trees_in I) I.new) u (sym i ∙ l)
@@ -115,23 +118,16 @@ module _ (s w : List ℕ) (room : Room) (t : Grammar) (z : State) (h : Half) (v 
           standing = n.standing;
         }
 
-  pub items_refused : (f : Verdict) → f ≡ verdict_all → (q : ℕ) → f ≡ Err q → (why : Refusal) → why ≡ refusal_at q 0 → AnswersItems s w room t z h v (Err why) w
+  pub items_refused : (f : Verdict) → f ≡ verdict_all → (why : Refusal) → f ≡ Err why → AnswersItems s w room t z h v (Err why) w
   unfolding AnswersItems RoundTo
-  items_refused f i q l why j I =
-      rw (judged I ∙ admitted-no verdict_all (appended_stage (trees_in I) I.new) q (sym i ∙ l)) (ap Err (j ∙ at-nowhere q))
+  items_refused f i why l I =
+      rw (judged I ∙ admitted-no verdict_all (appended_stage (trees_in I) I.new) why (sym i ∙ l)) (ap Err (refused-over why))
 
-  pub items_more : (q : Verdict) → q ≡ verdict_all → (u : Unit {0}) → q ≡ Ok u → (x : State) (w2 : List ℕ) → SettlesRound s w room t z h v x w2 → AnswersItems s w room t z h v (Ok (Progress.More x)) w2
+  pub items_more : (q : Verdict) → q ≡ verdict_all → (u : Unit {0}) → q ≡ Ok u → (x : State) (w2 : List ℕ) → SettlesRound s w room t z h v x w2 → AnswersItems s w room t z h v (Ok x) w2
   unfolding AnswersItems SettlesRound RoundTo
   items_more q i u l x w2 n I = rw (fine I q i u l) (x, refl, further I x w2 (n (record { items = I; admitted = fine I q i u l })))
 
-  pub items_verdict : (q : Verdict) → q ≡ verdict (h.g.m.count + v.count) (some_long (listed_texts s w h.g v.count)) v.deep (room.first + (room.end - z.low) + (v.to - room.y) + length (new_bytes s w h.g v.count)) room.cap
-      → q ≡ appended_verdict s w room z h v
-  unfolding appended_verdict
-  items_verdict q e = e
-
-pub ruleset sizing_items = (rules, items_ask, items_sum, items_ordered, items_verdict)
-
-pub ruleset answering_items = (rules, items_settle, items_refused, items_more)
+pub ruleset answering_items = (rules, items_ask, items_settle, items_refused, items_more)
 
 -- ---- append
 module _ (s w : List ℕ) (room : Room) (t : Grammar) (z : State) (h : Half) (r : Result Appended Refusal) (w1 : List ℕ) (d : DrainsPile s w room t z h r w1) where
@@ -146,12 +142,12 @@ module _ (s w : List ℕ) (room : Room) (t : Grammar) (z : State) (h : Half) (r 
     pub append_items_lem : SomePending s w room t z h → SomeAppended s w1 room t z h v
     append_items_lem K = let g = given K in record { before = w; pending = K; new = g.new; is = g.is; drained = g.drained }
 
-    pub append_yes : (x : Result Progress Refusal) (w2 : List ℕ) → AnswersItems s w1 room t z h v x w2 → AppendsRound s w room t z h x w2
+    pub append_yes : (x : Result State Refusal) (w2 : List ℕ) → AnswersItems s w1 room t z h v x w2 → AppendsRound s w room t z h x w2
     unfolding AppendsRound AnswersItems
     append_yes x w2 a work T S H p f =
         let K : SomePending s w room t z h = record { half = record { work = work; trees = T; standing = S; halfway = H }; pushed = p; admitted = f } in
         let g = given K in
-        subst (λ (o : Outcome (List Item)). RoundTo s room t T (after o (λ new. after (sizes 2 room.cap (appended_stage T new)) (λ k. yes (more (next_input T new k))))) x w2) (sym g.is)
+        subst (λ (o : Outcome (List Item)). RoundTo s room t T (after o (λ new. after (sizes 2 room.cap (appended_stage T new)) (λ k. yes (more (next_input T new k))))) (another x) w2) (sym g.is)
         (a (record { before = w; pending = K; new = g.new; is = g.is; drained = g.drained }))
 
   pub append_no : (why : Refusal) → r ≡ Err why → AppendsRound s w room t z h (Err why) w1
@@ -165,78 +161,93 @@ pub ruleset appending = (rules, append_items_lem, append_yes, append_no)
 -- ---- go_on: w is work after replacing
 module _ (s w : List ℕ) (room : Room) (t : Grammar) (z : State) (h : Half) where
   abbrev verdict_half : Verdict
-  verdict_half = replaced_verdict s w room z h
+  verdict_half = stage_verdict s w room z h (at_start h.r)
 
-  module _ (K : SomeHalf s w room t z h) where
-    pub on_ask : SomeStageSize s w h.g h.r.pile h.r.count (room.first + (room.end - z.low) + (h.r.to - room.y))
-    on_ask = judges.ask_half s K.work room t z K.trees K.standing h w K.halfway
+  pub on_ask : SomeHalf s w room t z h → (v : Appended) → v ≡ at_start h.r → Sizeable s w room z h v
+  on_ask K v e = rw e (record {
+    past = omega (arith, places.low-is s K.work room t z K.trees K.standing);
+    items = omega (arith, (halves.items_lie s K.work room t z K.trees K.standing h w K.halfway).end);
+    size = judges.ask_half s K.work room t z K.trees K.standing h w K.halfway;
+  })
 
-    pub on_sum : Bound.Fits w64 (room.first + (room.end - z.low) + (h.r.to - room.y))
-    on_sum = record { fits = omega (arith, on_ask.small) }
-
-    pub on_ordered : room.y ≤ h.r.to
-    on_ordered = omega (arith, (halves.items_lie s K.work room t z K.trees K.standing h w K.halfway).end)
+  -- of what appending begins with
+  pub on_verdict : (v : Appended) → v ≡ at_start h.r → (q : Verdict) → q ≡ stage_verdict s w room z h v → q ≡ verdict_half
+  on_verdict v e q i = i ∙ ap (λ (x : Appended). stage_verdict s w room z h x) e
 
   module _ (work : List ℕ) (T : RoundTrees) (S : RoundStands s work room t z T) (H : Halfway s work room t z h w) where
     judged-half : sizes 2 room.cap (replaced_stage T) ≡ admitted verdict_half (replaced_stage T)
-    unfolding replaced_verdict
+    unfolding stage_verdict
     judged-half = judges.judged-half s work room t z T S h w H
 
     count-is : length (pending_of T) ≡ h.r.pile
     count-is = tally.count-is s work room t z h w H T S
 
-    half_fine : (q : Verdict) → q ≡ verdict_half → (u : Unit {0}) → q ≡ Ok u → Fine room (replaced_stage T)
+    pub half_fine : (q : Verdict) → q ≡ verdict_half → (u : Unit {0}) → q ≡ Ok u → Fine room (replaced_stage T)
     half_fine q i u l = judged-half ∙ admitted-fine verdict_half (replaced_stage T) u (sym i ∙ l)
 
     abbrev append : Stage → Outcome RoundOutput
     append = append_items (sizes 2 room.cap) T.definitions T.old (replaced_by T.items T.keys)
 
     -- the same whatever is pending, where the stage is refused
-    refused_either : (xs : List Pending) (n : ℕ) (sp : Span) → pending_round xs false (no n sp) append ≡ no n sp
+    refused_either : (xs : List Pending) (n : ℕ) (sp : Span) → pending_round xs (no n sp) append ≡ no n sp
     refused_either [] n sp = refl
     refused_either (x ∷ xs) n sp = refl
 
-    none_pending : (xs : List Pending) → length xs ≡ 0 → pending_round xs false (yes (replaced_stage T)) append ≡ yes (done (replaced_stage T))
+    none_pending : (xs : List Pending) → length xs ≡ 0 → pending_round xs (yes (replaced_stage T)) append ≡ yes (done (replaced_stage T))
     none_pending [] e = refl
     none_pending (x ∷ xs) e = absurd (omega (arith, e))
 
-    some_pending : (xs : List Pending) → (length xs ≡ 0 → ⊥) → pending_round xs false (yes (replaced_stage T)) append ≡ append (replaced_stage T)
+    some_pending : (xs : List Pending) → (length xs ≡ 0 → ⊥) → pending_round xs (yes (replaced_stage T)) append ≡ append (replaced_stage T)
     some_pending [] e = absurd (e refl)
     some_pending (x ∷ xs) e = refl
 
   module _ (f : Verdict) (i : f ≡ verdict_half) where
-    pub on_refused : (q : ℕ) → f ≡ Err q → (why : Refusal) → why ≡ refusal_at q 0 → AnswersHalf s w room t z h (Err why) w
-    unfolding AnswersHalf RoundTo
-    on_refused q l why j work T S H =
-        let k : sizes 2 room.cap (replaced_stage T) ≡ no q nowhere = judged-half work T S H ∙ admitted-no verdict_half (replaced_stage T) q (sym i ∙ l) in
-        rw (k, refused_either work T S H (pending_of T) q nowhere) (ap Err (j ∙ at-nowhere q))
+    pub half_refused : (why : Refusal) → f ≡ Err why → (work : List ℕ) (T : RoundTrees) → RoundStands s work room t z T → Halfway s work room t z h w
+        → sizes 2 room.cap (replaced_stage T) ≡ no why.number (record { 0 = why.from; 1 = why.to })
+    half_refused why l work T S H = judged-half work T S H ∙ admitted-no verdict_half (replaced_stage T) why (sym i ∙ l)
 
-    pub on_done : (u : Unit {0}) → f ≡ Ok u → h.expander.height ≡ 0 → AnswersHalf s w room t z h (Ok (Progress.Done (record { expander = h.expander; m = z.m; from = z.from; end = z.end; done = h.r.to; low = z.low }))) w
+    on_refused : (why : Refusal) → f ≡ Err why → AnswersHalf s w room t z h (Err why) w
     unfolding AnswersHalf RoundTo
-    on_done u l e work T S H =
+    on_refused why l work T S H =
+        rw (half_refused why l work T S H, refused_either work T S H (pending_of T) why.number (record { 0 = why.from; 1 = why.to })) (ap Err (refused-over why))
+
+    on_done : (u : Unit {0}) → f ≡ Ok u → h.expander.height ≡ 0 → (x : State) → x ≡ finished_state z h → AnswersHalf s w room t z h (Ok (Break x)) w
+    unfolding AnswersHalf RoundTo
+    on_done u l e x j work T S H =
         let a = half_fine work T S H f i u l in
         let n : h.r.pile ≡ 0 = sym (tally.height_is s work room t z h w H) ∙ e in
-        rw (a, none_pending work T S H (pending_of T) (count-is work T S H ∙ n)) (record { expander = h.expander; m = z.m; from = z.from; end = z.end; done = h.r.to; low = z.low }, refl, judges.last-stands s work room t z T S h w H n a)
+        rw (a, none_pending work T S H (pending_of T) (count-is work T S H ∙ n)) (finished_state z h, ap (λ (y : State). Ok (Break y)) j, judges.last-stands s work room t z T S h w H n a)
 
-    pub on_append : SomeHalf s w room t z h → (u : Unit {0}) → f ≡ Ok u → (h.expander.height ≡ 0 → ⊥) → SomePending s w room t z h
+    on_append : SomeHalf s w room t z h → (u : Unit {0}) → f ≡ Ok u → (h.expander.height ≡ 0 → ⊥) → SomePending s w room t z h
     on_append K u l e = record { half = K; pushed = go h.r.pile (λ n. e (tally.height_is s K.work room t z h w K.halfway ∙ n)); admitted = half_fine K.work K.trees K.standing K.halfway f i u l }
       where
         go : (n : ℕ) → (n ≡ 0 → ⊥) → 0 < n
         go zero f = absurd (f refl)
         go (suc n) f = omega arith
 
-    pub on_more : (u : Unit {0}) → f ≡ Ok u → (h.expander.height ≡ 0 → ⊥) → (x : Result Progress Refusal) (w2 : List ℕ) → AppendsRound s w room t z h x w2 → AnswersHalf s w room t z h x w2
+    on_more : (u : Unit {0}) → f ≡ Ok u → (h.expander.height ≡ 0 → ⊥) → (x : Result State Refusal) (w2 : List ℕ) → AppendsRound s w room t z h x w2 → AnswersHalf s w room t z h (another x) w2
     unfolding AnswersHalf AppendsRound
     on_more u l e x w2 a work T S H =
         let b = half_fine work T S H f i u l in
         let p = (on_append (record { work = work; trees = T; standing = S; halfway = H }) u l e).pushed in
         rw (b, some_pending work T S H (pending_of T) (λ k. e (tally.height_is s work room t z h w H ∙ sym (count-is work T S H) ∙ k))) (a work T S H p b)
 
-  pub on_verdict : (q : Verdict) → q ≡ verdict (h.g.m.count + h.r.count) (some_long (listed_texts s w h.g h.r.count)) false (room.first + (room.end - z.low) + (h.r.to - room.y) + length (new_bytes s w h.g h.r.count)) room.cap
-      → q ≡ replaced_verdict s w room z h
-  unfolding replaced_verdict
-  on_verdict q e = e
+  -- ---- as the code has it: f is what `stage_size` answered of v
+  module _ (v : Appended) (e : v ≡ at_start h.r) (f : Verdict) (i : f ≡ stage_verdict s w room z h v) where
+    pub going_refused : (why : Refusal) → f ≡ Err why → AnswersHalf s w room t z h (Err why) w
+    going_refused = on_refused f (on_verdict v e f i)
 
-pub ruleset sizing_half = (rules, on_ask, on_sum, on_ordered, on_verdict)
+    pub going_done : (u : Unit {0}) → f ≡ Ok u → h.expander.height ≡ 0 → (x : State) → x ≡ finished_state z h → AnswersHalf s w room t z h (Ok (Break x)) w
+    going_done = on_done f (on_verdict v e f i)
 
-pub ruleset going_on = (rules, on_refused, on_done, on_append, on_more)
+    pub going_append : SomeHalf s w room t z h → (u : Unit {0}) → f ≡ Ok u → (h.expander.height ≡ 0 → ⊥) → SomePending s w room t z h
+    going_append = on_append f (on_verdict v e f i)
+
+    module _ (u : Unit {0}) (l : f ≡ Ok u) (n : h.expander.height ≡ 0 → ⊥) (x : Result State Refusal) (w2 : List ℕ) (a : AppendsRound s w room t z h x w2) where
+      pub going_more : (y : State) → x ≡ Ok y → AnswersHalf s w room t z h (Ok (Continue y)) w2
+      going_more y j = subst (λ (k : Result State Refusal). AnswersHalf s w room t z h (another k) w2) j (on_more f (on_verdict v e f i) u l n x w2 a)
+
+      pub going_no : (why : Refusal) → x ≡ Err why → AnswersHalf s w room t z h (Err why) w2
+      going_no why j = subst (λ (k : Result State Refusal). AnswersHalf s w room t z h (another k) w2) j (on_more f (on_verdict v e f i) u l n x w2 a)
+
+pub ruleset going_on = (rules, on_ask, going_refused, going_done, going_append, going_more, going_no)

@@ -20,7 +20,7 @@ use Rattle.texts.specs.Table.{Above, texts}
 use Rattle.texts.proofs.TableStays.{above_stays}
 use Rattle.passes.specs.Outcome.{yes}
 use Rattle.passes.specs.Macros.{drain, without_macros}
-use Rattle.passes.specs.Calls.{nowhere, sizes}
+use Rattle.passes.specs.Calls.{sizes}
 use Rattle.passes.proofs.Outcomes.{no≢yes}
 use Rattle.resolve.specs.declared.Grammar.{Grammar}
 use Rattle.replacing.proofs.Going.{Extends, new_extends}
@@ -53,7 +53,7 @@ use Rattle.rounds.proofs.RoundPile as piles
 -- what was admitted has no verdict against it
 pub verdict-none : (v : Verdict) (g k : Stage) → admitted v g ≡ yes k → v ≡ Ok tt
 verdict-none (Ok u) g k e = refl
-verdict-none (Err q) g k e = absurd (no≢yes q nowhere k (sym (admitted-no (Err q) g q refl) ∙ e))
+verdict-none (Err why) g k e = absurd (no≢yes why.number (record { 0 = why.from; 1 = why.to }) k (sym (admitted-no (Err why) g why refl) ∙ e))
 
 -- a sum far below half of what a number holds
 small_sum : (first end low to y c past n : ℕ) → 8 * (first + c) ≤ n → n < 256 ^ 8 → to + first + past ≤ y + c + 1 → end ≡ low + past → y ≤ to → first + (end - low) + (to - y) < 9223372036854775808

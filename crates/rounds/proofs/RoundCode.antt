@@ -1,13 +1,11 @@
 -- Laws for the steps of a round in code: what each call asks, and what they come to. Assumes nothing.
-use mathlib.Core.Path.{◌≡◌, refl, ◌∙◌}
-use mathlib.Core.Bool.{Bool, true, false, ◌&&◌}
+use mathlib.Core.Path.{◌≡◌, subst}
 use mathlib.Core.List.{List}
 use Prim.Native.Nat.{ℕ, ◌+◌, ◌-◌, ◌≤◌, ◌<◌}
 use native.Mathlib.Omega.{arith}
 use borrow.Author.Rules.{rules}
 use mir.Syntax.{w8, w64}
 use mir.Val as Bound
-use lib.Dec.{ltb}
 use lib.ListN.{length, get_or}
 use Rattle.octets.specs.Plain.Numbers.{Bytes}
 use Rattle.octets.specs.Plain.Runs.{part}
@@ -30,7 +28,7 @@ use Rattle.rounds.specs.declared.State.{State}
 use Rattle.rounds.specs.declared.round.Half.{Half}
 use Rattle.rounds.specs.Steps.{numbers_pending, numbers_appended}
 use Rattle.rounds.specs.Grounds.{Groundable, Grounds}
-use Rattle.rounds.specs.Start.{Cleared}
+use Rattle.rounds.specs.Start.{Cleared, at_start}
 use Rattle.rounds.specs.Standing.{RoundTrees, RoundStands}
 use Rattle.rounds.specs.Round.{SomeRound, Halfway, SomeHalf, SomePending, limit_of, DrainsPile, SomeAppended, SomeDrained, SettlesTexts, SettlesRound}
 use Rattle.rounds.proofs.ReadyMeans.{stage_bytes_lem}
@@ -86,14 +84,15 @@ module _ (s w : List ℕ) (room : Room) (t : Grammar) (z : State) (h : Half) (K 
   pub pile_limit : Bound.Fits w64 (room.y + (room.cap - room.first - (room.end - z.low)))
   pile_limit = record { fits = omega (arith, S.map.end_is, S.map.inside, S.map.short) }
 
-  pub pile_some : (w1 : List ℕ) → Cleared h.g w w1 → SomePile s w1 h.g h.r.pile (room.y + (room.cap - room.first - (room.end - z.low))) t (record { to = h.r.to; count = h.r.count; deep = false })
+  pub pile_some : (w1 : List ℕ) → Cleared h.g w w1 → (v : Appended) → v ≡ at_start h.r → SomePile s w1 h.g h.r.pile (room.y + (room.cap - room.first - (room.end - z.low))) t v
   unfolding limit_of
-  pile_some w1 k = piles.some_pile s K.half.work room t z T S h w H K.pushed K.admitted w1 k
+  pile_some w1 k v e = rw e (piles.some_pile s K.half.work room t z T S h w H K.pushed K.admitted w1 k)
 
-pub pile_done : (s w : List ℕ) (room : Room) (t : Grammar) (z : State) (h : Half) (w1 : List ℕ) → Cleared h.g w w1 → (q : Result Appended Refusal) (w2 : List ℕ)
-    → Drains s w1 h.g h.r.pile (room.y + (room.cap - room.first - (room.end - z.low))) t (record { to = h.r.to; count = h.r.count; deep = false }) q w2 → DrainsPile s w room t z h q w2
+pub pile_done : (s w : List ℕ) (room : Room) (t : Grammar) (z : State) (h : Half) (w1 : List ℕ) → Cleared h.g w w1 → (v : Appended) → v ≡ at_start h.r → (q : Result Appended Refusal) (w2 : List ℕ)
+    → Drains s w1 h.g h.r.pile (room.y + (room.cap - room.first - (room.end - z.low))) t v q w2 → DrainsPile s w room t z h q w2
 unfolding DrainsPile limit_of
-pile_done s w room t z h w1 k q w2 d work T S H p f = piles.drained s work room t z T S h w H p f w1 k q w2 d
+pile_done s w room t z h w1 k v e q w2 d work T S H p f =
+    piles.drained s work room t z T S h w H p f w1 k q w2 (subst (λ (x : Appended). Drains s w1 h.g h.r.pile (limit_of room z) t x q w2) e d)
 
 pub ruleset piling = (rules, pile_clear, pile_low, pile_first, pile_past, pile_limit, pile_some, pile_done)
 
@@ -163,13 +162,3 @@ settle-done s w room t z h v q w2 k w3 e x i K =
 pub ruleset settling_texts = (rules, settle_pushed, settle_can, settle_both)
 
 pub ruleset settling = (rules, settle_x, settle_ordered, settle_end, settle_tally, settle_inside, settle-done)
-
--- ---- too_many
-module _ (over : Bool) (n : ℕ) where
-  pub asked_yes : over ≡ true → (r : Bool) → r ≡ ltb 0 n → r ≡ over && ltb 0 n
-  asked_yes e r f = f ∙ rw e refl
-
-  pub asked_no : over ≡ false → false ≡ over && ltb 0 n
-  asked_no e = rw e refl
-
-pub ruleset asking = (rules, asked_yes, asked_no)

@@ -16,6 +16,8 @@ use Rattle.parse_tree.specs.Plain.Texts.{with_new}
 use Rattle.parse_tree.specs.Plain.References.{texts_of_each, item_texts, stage_of}
 use Rattle.parse_tree.specs.Plain.WriteTape.{bytes_of_each}
 use Rattle.parse_tree.specs.Working.Encode.{atom_bytes, item_bytes, stage_bytes}
+use Rattle.parse_tree.specs.Working.Refusals.{refusal_at}
+use Rattle.parse_tree.specs.declared.refusal.Refusal.{Refusal}
 use Rattle.parse_tree.specs.declared.syntax.Span.{Span}
 use Rattle.parse_tree.proofs.TextLaws.{both}
 use Rattle.parse_tree.proofs.WriteTapeIs.{tape_is}
@@ -23,7 +25,7 @@ use Rattle.passes.specs.Outcome.{Tree, yes, no, simple}
 use Rattle.passes.specs.Views.{ahead, behind}
 use Rattle.passes.specs.Macros.{Pending, looking, repeating, listing, expand_alternatives, macro_in, expand_macro_symbol, expand_expr_symbol, expand_symbol, drain, has_name, group_action, made, without_macros}
 use Rattle.passes.specs.Sizes.{each, item_fits, stage_fits}
-use Rattle.passes.specs.Calls.{nowhere, sizes}
+use Rattle.passes.specs.Calls.{sizes}
 use Rattle.passes.proofs.Outcomes.{no≢yes, after-yes}
 use Rattle.passes.proofs.ResolveKeeps.{yes_as}
 use Rattle.meaning.proofs.Calls.Staged.{admitted as passed}
@@ -120,7 +122,7 @@ short t = ltb (length t) 65536
 -- the bytes matter only by whether they are too many
 verdict-as : (count : ℕ) (long deep : Bool) (a b cap : ℕ) → ltb cap a ≡ ltb cap b → verdict count long deep a cap ≡ verdict count long deep b cap
 unfolding verdict
-verdict-as count long deep a b cap e = ap (λ (c : Bool). pick (ltb 65536 count) (Err 20) (pick long (Err 20) (pick deep (Err 20) (pick c (Err 21) (Ok tt))))) e
+verdict-as count long deep a b cap e = rw e refl
 
 module _ (cap : ℕ) (ts us : List Text) (old new : List Item) (atoms : (stage_of ts (old ++ new)).atoms ≡ ts ++ us) (shorts : each short ts ≡ true) (fits : each item_fits old ≡ true) where
   -- all of its bytes but the new texts'
@@ -173,7 +175,7 @@ pub verdict-parts : (count : ℕ) (long deep : Bool) (bytes cap : ℕ) → verdi
 unfolding verdict pick
 verdict-parts count long deep bytes cap e = go (ltb 65536 count) refl long deep (ltb cap bytes) refl e
   where
-    go : (a : Bool) → ltb 65536 count ≡ a → (b c d : Bool) → ltb cap bytes ≡ d → ◌≡◌ {A = Verdict} (pick a (Err 20) (pick b (Err 20) (pick c (Err 20) (pick d (Err 21) (Ok tt))))) (Ok tt) → (count ≤ 65536) × (b ≡ false) × (c ≡ false) × (bytes ≤ cap)
+    go : (a : Bool) → ltb 65536 count ≡ a → (b c d : Bool) → ltb cap bytes ≡ d → ◌≡◌ {A = Verdict} (pick a (Err (refusal_at 20 0)) (pick b (Err (refusal_at 20 0)) (pick c (Err (refusal_at 20 0)) (pick d (Err (refusal_at 21 0)) (Ok tt))))) (Ok tt) → (count ≤ 65536) × (b ≡ false) × (c ≡ false) × (bytes ≤ cap)
     go true x b c d y z = cc
     go false x true c d y z = cc
     go false x false true d y z = cc
@@ -186,6 +188,6 @@ unfolding admitted
 admitted-fine v g u e = rw e refl
 
 -- theorem
-pub admitted-no : (v : Verdict) (g : Stage) (q : ℕ) → v ≡ Err q → admitted v g ≡ no q nowhere
+pub admitted-no : (v : Verdict) (g : Stage) (why : Refusal) → v ≡ Err why → admitted v g ≡ no why.number (record { 0 = why.from; 1 = why.to })
 unfolding admitted
-admitted-no v g q e = rw e refl
+admitted-no v g why e = rw e refl

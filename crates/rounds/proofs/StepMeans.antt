@@ -1,12 +1,11 @@
 -- Rounds are one round after another: the answer is that of the first that ends or refuses. Assumes nothing.
 use mathlib.Core.Path.{◌≡◌, refl}
-use mathlib.Core.Bool.{true, false}
 use mathlib.Core.List.{List, [], ◌∷◌, ◌++◌}
 use Prim.Native.Nat.{ℕ, zero, suc}
 use Rattle.parse_tree.specs.Plain.Tree.{Item, Stage}
 use Rattle.passes.specs.Outcome.{Tree, Outcome, yes, no, after}
 use Rattle.passes.specs.Macros.{Pending, Expander, replace_items, drain}
-use Rattle.passes.specs.Stages.{last_stage, or_more, stage, rounds}
+use Rattle.passes.specs.Stages.{or_more, last_stage, stage, rounds}
 use Rattle.rounds.specs.Step.{RoundInput, RoundOutput, done, more, append_items, pending_round, one_round}
 
 module _ (admit : Stage → Outcome Stage) (G : Tree) where
@@ -18,18 +17,13 @@ module _ (admit : Stage → Outcome Stage) (G : Tree) where
   go_on limit (done g) = yes g
   go_on limit (more p) = rounds_from limit p
 
-  -- theorem: with no round left
-  pub rounds_last : (limit : ℕ) (p : RoundInput) → rounds_from zero p ≡ after (one_round admit G true p) (go_on limit)
-  unfolding rounds one_round
-  rounds_last limit p = let q = replace_items p.fresh (record { keys = p.keys; pile = [] }) in go q.1.pile (stage admit p.atoms (p.old ++ q.0)) (append_items admit G p.old q)
-    where
-      go : (xs : List Pending) (r : Outcome Stage) (a : Stage → Outcome RoundOutput) → last_stage xs r ≡ after (pending_round xs true r a) (go_on limit)
-      go [] (yes g) a = refl
-      go [] (no n s) a = refl
-      go (x ∷ xs) r a = refl
+  -- theorem: with no round left the items are replaced once more, and what is pending is refused
+  pub rounds_last : (p : RoundInput) → let q = replace_items p.fresh (record { keys = p.keys; pile = [] }) in rounds_from zero p ≡ last_stage q.1.pile (stage admit p.atoms (p.old ++ q.0))
+  unfolding rounds
+  rounds_last p = refl
 
   -- theorem: with so many left behind this one
-  pub rounds_next : (limit : ℕ) (p : RoundInput) → rounds_from (suc limit) p ≡ after (one_round admit G false p) (go_on limit)
+  pub rounds_next : (limit : ℕ) (p : RoundInput) → rounds_from (suc limit) p ≡ after (one_round admit G p) (go_on limit)
   unfolding rounds one_round
   rounds_next limit p = let q = replace_items p.fresh (record { keys = p.keys; pile = [] }) in go q q.1.pile (stage admit p.atoms (p.old ++ q.0))
     where
@@ -46,7 +40,7 @@ module _ (admit : Stage → Outcome Stage) (G : Tree) where
 
       go : (q : List Item × Expander) (xs : List Pending) (r : Outcome Stage)
           → or_more xs r (after r (λ g. after (drain G q.1.pile) (λ new. after (stage admit g.atoms (p.old ++ q.0 ++ new)) (λ h. rounds admit G limit h.atoms (p.old ++ q.0) new q.1.keys))))
-          ≡ after (pending_round xs false r (append_items admit G p.old q)) (go_on limit)
+          ≡ after (pending_round xs r (append_items admit G p.old q)) (go_on limit)
       go q [] (yes g) = refl
       go q [] (no n s) = refl
       go q (x ∷ xs) (yes g) = first q g (drain G q.1.pile)

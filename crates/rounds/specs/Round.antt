@@ -1,5 +1,5 @@
 -- One round in work, and all: what its steps leave. s is the tape, w is work before and w' after. Assumes nothing: these are definitions.
-use Rattle.std.specs.Prelude.{◌≡◌, Bool, false, List, ◌++◌, ℕ, ◌+◌, ◌-◌, ◌*◌, ◌^◌, ◌≤◌, ◌<◌, length}
+use Rattle.std.specs.Prelude.{◌≡◌, false, List, ◌++◌, ℕ, ◌+◌, ◌-◌, ◌*◌, ◌^◌, ◌≤◌, ◌<◌, length}
 use Rattle.octets.specs.Plain.Numbers.{Bytes}
 use Rattle.octets.specs.Plain.Runs.{Lies}
 use Rattle.parse_tree.specs.Plain.Tree.{Text, Item, Stage}
@@ -22,14 +22,15 @@ use Rattle.settling.specs.Settle.{new_bytes, some_long, MarkedPushed, Settles}
 use Rattle.appending.specs.declared.Appended.{Appended}
 use Rattle.appending.specs.Pieces.{Appends}
 use Rattle.std.specs.Prelude.{Result, Ok, Err}
+use Rattle.std.specs.declared.ops.ControlFlow.{ControlFlow}
+use Rattle.std.specs.declared.ops.ControlFlow.TheVariants.{Continue, Break}
 use Rattle.parse_tree.specs.declared.refusal.Refusal.{Refusal}
 use Rattle.macro_expand.specs.Drain.{items_piece}
 use Rattle.rounds.specs.declared.Room.{Room}
 use Rattle.rounds.specs.declared.State.{State}
 use Rattle.rounds.specs.declared.round.Half.{Half}
-use Rattle.rounds.specs.declared.Progress.{Progress}
 use Rattle.rounds.specs.Steps.{numbers_pending}
-use Rattle.rounds.specs.Judge.{Verdict, verdict}
+use Rattle.rounds.specs.Judge.{Verdict, verdict, SomeStageSize}
 use Rattle.rounds.specs.Start.{Cleared, StartsAppending, at_start, replaced_by}
 use Rattle.rounds.specs.Grounds.{Grounds}
 use Rattle.rounds.specs.Step.{RoundInput, RoundOutput, done, more, append_items, pending_round, one_round}
@@ -60,6 +61,10 @@ pub record Halfway (s w : List ℕ) (room : Room) (t : Grammar) (z : State) (h :
   pub stages : Stages s middle h.g z.done h.r w'
   pub numbers : h.expander ≡ numbers_pending z.expander h.r.pile
 
+-- what is left where nothing is pending
+abbrev pub finished_state : State → Half → State
+finished_state z h = record { expander = h.expander; m = z.m; from = z.from; end = z.end; done = h.r.to; low = z.low }
+
 -- of some trees
 pub record SomeHalf (s w : List ℕ) (room : Room) (t : Grammar) (z : State) (h : Half) : Type 0 where
   pub work : List ℕ
@@ -67,11 +72,19 @@ pub record SomeHalf (s w : List ℕ) (room : Room) (t : Grammar) (z : State) (h 
   pub standing : RoundStands s work room t z trees
   pub halfway : Halfway s work room t z h w
 
--- the verdict of that stage, by the numbers that stand in w
-unfoldable pub replaced_verdict : List ℕ → List ℕ → Room → State → Half → Verdict
-replaced_verdict s w room z h =
-    verdict (h.g.m.count + h.r.count) (some_long (listed_texts s w h.g h.r.count)) false
-    (room.first + (room.end - z.low) + (h.r.to - room.y) + length (new_bytes s w h.g h.r.count)) room.cap
+-- ---- the sizes of a stage of the round, that replacing or appending leaves: v tells of it
+
+-- they can be asked
+pub record Sizeable (s w : List ℕ) (room : Room) (z : State) (h : Half) (v : Appended) : Type 0 where
+  pub past : z.low ≤ room.end
+  pub items : room.y ≤ v.to
+  pub size : SomeStageSize s w h.g h.r.pile v.count (room.first + (room.end - z.low) + (v.to - room.y))
+
+-- its verdict, by the numbers that stand in w
+unfoldable pub stage_verdict : List ℕ → List ℕ → Room → State → Half → Appended → Verdict
+stage_verdict s w room z h v =
+    verdict (h.g.m.count + v.count) (some_long (listed_texts s w h.g v.count)) v.deep
+    (room.first + (room.end - z.low) + (v.to - room.y) + length (new_bytes s w h.g v.count)) room.cap
 
 -- the record of the last of n pushed symbols, and its command, can be read
 pub record SomeLast (w : List ℕ) (g : Ground) (n : ℕ) : Type 0 where
@@ -130,12 +143,6 @@ pub record SomeAppended (s w : List ℕ) (room : Room) (t : Grammar) (z : State)
 abbrev pub trees_in : {s w : List ℕ} {room : Room} {t : Grammar} {z : State} {h : Half} {v : Appended} → SomeAppended s w room t z h v → RoundTrees
 trees_in I = I.pending.half.trees
 
--- the verdict of their stage
-unfoldable pub appended_verdict : List ℕ → List ℕ → Room → State → Half → Appended → Verdict
-appended_verdict s w room z h v =
-    verdict (h.g.m.count + v.count) (some_long (listed_texts s w h.g v.count)) v.deep
-    (room.first + (room.end - z.low) + (v.to - room.y) + length (new_bytes s w h.g v.count)) room.cap
-
 -- and their stage was admitted
 pub record SomeDrained (s w : List ℕ) (room : Room) (t : Grammar) (z : State) (h : Half) (v : Appended) : Type 0 where
   pub items : SomeAppended s w room t z h v
@@ -177,39 +184,49 @@ pub record Further (s w : List ℕ) (room : Room) (t : Grammar) (z : State) (T :
   pub input : input_of trees ≡ p
   pub standing : RoundStands s w room t z trees
 
-unfoldable pub RoundTo : List ℕ → Room → Grammar → RoundTrees → Outcome RoundOutput → Result Progress Refusal → List ℕ → Type 0
-RoundTo s room t T (yes (done g)) r w' = (z : State) × (r ≡ Ok (Progress.Done z)) × Finished s w' room z T.first g
-RoundTo s room t T (yes (more p)) r w' = (z : State) × (r ≡ Ok (Progress.More z)) × Further s w' room t z T p
+unfoldable pub RoundTo : List ℕ → Room → Grammar → RoundTrees → Outcome RoundOutput → Result (ControlFlow State State) Refusal → List ℕ → Type 0
+RoundTo s room t T (yes (done g)) r w' = (z : State) × (r ≡ Ok (Break z)) × Finished s w' room z T.first g
+RoundTo s room t T (yes (more p)) r w' = (z : State) × (r ≡ Ok (Continue z)) × Further s w' room t z T p
 RoundTo s room t T (no k sp) r w' = r ≡ Err (refusal_over k sp)
 
 -- what the next round begins with, where k is the appending stage
 abbrev pub next_input : RoundTrees → List Item → Stage → RoundInput
 next_input T new k = record { atoms = k.atoms; old = T.old ++ replaced_of T; fresh = new; keys = (replaced_by T.items T.keys).1.keys }
 
+-- what the next round begins with, as the answer of a round behind which another comes
+abbrev pub another : Result State Refusal → Result (ControlFlow State State) Refusal
+another (Ok z) = Ok (Continue z)
+another (Err why) = Err why
+
 -- 20 and 21 of the appending stage, and then the next round
-unfoldable pub AnswersItems : List ℕ → List ℕ → Room → Grammar → State → Half → Appended → Result Progress Refusal → List ℕ → Type 0
+unfoldable pub AnswersItems : List ℕ → List ℕ → Room → Grammar → State → Half → Appended → Result State Refusal → List ℕ → Type 0
 AnswersItems s w room t z h v r w' = (I : SomeAppended s w room t z h v)
-    → RoundTo s room t (trees_in I) (after (sizes 2 room.cap (appended_stage (trees_in I) I.new)) (λ k. yes (more (next_input (trees_in I) I.new k)))) r w'
+    → RoundTo s room t (trees_in I) (after (sizes 2 room.cap (appended_stage (trees_in I) I.new)) (λ k. yes (more (next_input (trees_in I) I.new k)))) (another r) w'
 
 -- "then per round one after replacing symbols and one after appending items"; the second half alone
-unfoldable pub AppendsRound : List ℕ → List ℕ → Room → Grammar → State → Half → Result Progress Refusal → List ℕ → Type 0
+unfoldable pub AppendsRound : List ℕ → List ℕ → Room → Grammar → State → Half → Result State Refusal → List ℕ → Type 0
 AppendsRound s w room t z h r w' = (work : List ℕ) (T : RoundTrees) → RoundStands s work room t z T → Halfway s work room t z h w → 0 < h.r.pile → Fine room (replaced_stage T)
-    → RoundTo s room t T (append_items (sizes 2 room.cap) T.definitions T.old (replaced_by T.items T.keys) (replaced_stage T)) r w'
+    → RoundTo s room t T (append_items (sizes 2 room.cap) T.definitions T.old (replaced_by T.items T.keys) (replaced_stage T)) (another r) w'
 
--- both, where 18 is not asked
-unfoldable pub AnswersHalf : List ℕ → List ℕ → Room → Grammar → State → Half → Result Progress Refusal → List ℕ → Type 0
+-- both
+unfoldable pub AnswersHalf : List ℕ → List ℕ → Room → Grammar → State → Half → Result (ControlFlow State State) Refusal → List ℕ → Type 0
 AnswersHalf s w room t z h r w' = (work : List ℕ) (T : RoundTrees) → RoundStands s work room t z T → Halfway s work room t z h w
-    → RoundTo s room t T (pending_round (pending_of T) false (sizes 2 room.cap (replaced_stage T)) (append_items (sizes 2 room.cap) T.definitions T.old (replaced_by T.items T.keys))) r w'
+    → RoundTo s room t T (pending_round (pending_of T) (sizes 2 room.cap (replaced_stage T)) (append_items (sizes 2 room.cap) T.definitions T.old (replaced_by T.items T.keys))) r w'
 
--- and the whole
-unfoldable pub OneRound : List ℕ → List ℕ → Room → Grammar → State → Bool → Result Progress Refusal → List ℕ → Type 0
-OneRound s w room t z over r w' = (T : RoundTrees) → RoundStands s w room t z T → RoundTo s room t T (one_round (sizes 2 room.cap) T.definitions over (input_of T)) r w'
+-- and the whole, where another may come
+unfoldable pub OneRound : List ℕ → List ℕ → Room → Grammar → State → Result (ControlFlow State State) Refusal → List ℕ → Type 0
+OneRound s w room t z r w' = (T : RoundTrees) → RoundStands s w room t z T → RoundTo s room t T (one_round (sizes 2 room.cap) T.definitions (input_of T)) r w'
 
 -- ---- all of them: of so many in all those that are not done
-unfoldable pub RoundsTo : List ℕ → Room → List Text → Outcome Stage → Result Progress Refusal → List ℕ → Type 0
-RoundsTo s room first (yes g) r w' = (z : State) × (r ≡ Ok (Progress.Done z)) × Finished s w' room z first g
+unfoldable pub RoundsTo : List ℕ → Room → List Text → Outcome Stage → Result State Refusal → List ℕ → Type 0
+RoundsTo s room first (yes g) r w' = (z : State) × (r ≡ Ok z) × Finished s w' room z first g
 RoundsTo s room first (no k sp) r w' = r ≡ Err (refusal_over k sp)
 
-unfoldable pub AllRounds : List ℕ → List ℕ → Room → Grammar → ℕ → State → Result Progress Refusal → List ℕ → Type 0
+-- the last round, which is all of them where none is left
+unfoldable pub LastRound : List ℕ → List ℕ → Room → Grammar → State → Result State Refusal → List ℕ → Type 0
+LastRound s w room t z r w' = (T : RoundTrees) → RoundStands s w room t z T
+    → RoundsTo s room T.first (rounds (sizes 2 room.cap) T.definitions 0 (round_atoms T) T.old (without_macros T.items) T.keys) r w'
+
+unfoldable pub AllRounds : List ℕ → List ℕ → Room → Grammar → ℕ → State → Result State Refusal → List ℕ → Type 0
 AllRounds s w room t limit z r w' = (T : RoundTrees) → RoundStands s w room t z T
     → RoundsTo s room T.first (rounds (sizes 2 room.cap) T.definitions (limit - z.expander.round) (round_atoms T) T.old (without_macros T.items) T.keys) r w'

@@ -1,8 +1,8 @@
 -- One round by itself: the last stage, or what the next round begins with. Assumes nothing: these are definitions.
-use Rattle.std.specs.Prelude.{Bool, cond, List, [], ◌∷◌, ◌++◌}
+use Rattle.std.specs.Prelude.{List, [], ◌∷◌, ◌++◌}
 use Rattle.parse_tree.specs.Plain.Tree.{Text, Item, Stage}
-use Rattle.passes.specs.Outcome.{Tree, Outcome, yes, no, after}
-use Rattle.passes.specs.Macros.{Pending, Expander, replace_items, drain, span_of}
+use Rattle.passes.specs.Outcome.{Tree, Outcome, yes, after}
+use Rattle.passes.specs.Macros.{Pending, Expander, replace_items, drain}
 use Rattle.passes.specs.Stages.{stage}
 
 -- the texts so far, the items already replaced, those added since, the keys met so far
@@ -21,12 +21,13 @@ abbrev pub append_items : (Stage → Outcome Stage) → Tree → List Item → L
 append_items admit G old q g =
     after (drain G q.1.pile) (λ new. after (stage admit g.atoms (old ++ q.0 ++ new)) (λ h. yes (more (record { atoms = h.atoms; old = old ++ q.0; fresh = new; keys = q.1.keys }))))
 
--- with symbols pending: 18 where no round is left, before the stage's 20 and 21
-abbrev pub pending_round : List Pending → Bool → Outcome Stage → (Stage → Outcome RoundOutput) → Outcome RoundOutput
-pending_round [] over replaced append = after replaced (λ g. yes (done g))
-pending_round (x ∷ xs) over replaced append = cond over (no 18 (span_of x)) (after replaced append)
+-- with nothing pending the replacing stage is the last
+abbrev pub pending_round : List Pending → Outcome Stage → (Stage → Outcome RoundOutput) → Outcome RoundOutput
+pending_round [] replaced append = after replaced (λ g. yes (done g))
+pending_round (x ∷ xs) replaced append = after replaced append
 
-unfoldable pub one_round : (Stage → Outcome Stage) → Tree → Bool → RoundInput → Outcome RoundOutput
-one_round admit G over p =
+-- a round behind which another may come
+unfoldable pub one_round : (Stage → Outcome Stage) → Tree → RoundInput → Outcome RoundOutput
+one_round admit G p =
     let q = replace_items p.fresh (record { keys = p.keys; pile = [] }) in
-    pending_round q.1.pile over (stage admit p.atoms (p.old ++ q.0)) (append_items admit G p.old q)
+    pending_round q.1.pile (stage admit p.atoms (p.old ++ q.0)) (append_items admit G p.old q)

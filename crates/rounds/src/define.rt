@@ -3,6 +3,7 @@ ghost use Rattle.std.specs.Prelude.{◌≡◌, ◌+◌, ◌*◌, ◌≤◌, ◌<
 ghost use Rattle.resolve.specs.Items.{item_place_in};
 ghost use Rattle.rounds.specs.Define.{Cells, Forgot, SomeDeclared, Definable, Defined, HeadAt, Headable, told_at, defined_at};
 
+use expander::cells::TextCell;
 use octets::numbers::{Width, atom_at};
 use resolve::Grammar;
 use resolve::items::place;
@@ -26,7 +27,7 @@ fn define_macro(work: &mut [u8], m: Map, width: Width, p: usize, i: usize)
 {
     if work[p + 10 + width.bytes] != 0 {
         let k = atom_at(work, p + 9, width) as usize;
-        put_cell(work, m.base, k, (i + 1) as u32);
+        put_cell(work, m.base, k, TextCell::of_macro(i).0);
     }
 }
 

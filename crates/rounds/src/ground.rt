@@ -5,7 +5,7 @@ ghost use Rattle.rounds.specs.Start.{Cleared};
 ghost use Rattle.rounds.specs.Grounds.{buckets_of, Groundable, Grounds};
 
 use expander::Ground;
-use octets::numbers::{Width, store64};
+use octets::numbers::Width;
 use texts::Map;
 use texts::chain::empty;
 
@@ -50,7 +50,5 @@ pub fn clear_built(work: &mut [u8], g: Ground)
     requires { (72 ≤ g.slots) × (g.slots ≤ length work.old) }
     ensures { Cleared g work.old work.new }
 {
-    for i in 0..9 {
-        store64(work, g.slots - 72 + 8 * i, 0);
-    }
+    work[g.slots - 72..g.slots].fill(0);
 }

@@ -2,19 +2,30 @@
 ghost use Rattle.std.specs.Prelude.{◌≡◌, ◌+◌, length};
 ghost use Rattle.expander.specs.Names.{listed_texts};
 ghost use Rattle.settling.specs.Settle.{new_bytes, some_long};
-ghost use Rattle.rounds.specs.Judge.{verdict, SomeStageSize};
+ghost use Rattle.rounds.specs.Judge.{ruled_counts, ruled_length, verdict, SomeStageSize};
 
 use expander::Ground;
+use parse_tree::refusal;
+use parse_tree::refusal::{Question, Refusal};
 use settling::settle::count_texts;
 
-// Whether a stage with so many atoms and bytes is admitted, where a text is too long or not, and a symbol nested too deep or not; the error is the question's number.
-pub fn judge(count: usize, long: bool, deep: bool, bytes: usize, cap: usize) -> Result<(), usize>
-    ensures { result ≡ verdict count long deep bytes cap }
+// 20 of a stage with so many atoms, where something is beyond what a tape can say (a text too long, a symbol nested too deep) or not.
+pub fn judge_counts(count: usize, beyond: bool) -> Result<(), Refusal>
+    ensures { result ≡ ruled_counts count beyond }
 {
-    if 65536 < count || long || deep {
-        Err(20)
-    } else if cap < bytes {
-        Err(21)
+    if 65536 < count || beyond {
+        Err(refusal::at(Question::Counts, 0))
+    } else {
+        Ok(())
+    }
+}
+
+// 21 of so many bytes, where `cap` are admitted.
+pub fn judge_length(bytes: usize, cap: usize) -> Result<(), Refusal>
+    ensures { result ≡ ruled_length bytes cap }
+{
+    if cap < bytes {
+        Err(refusal::at(Question::Output, 0))
     } else {
         Ok(())
     }
@@ -30,16 +41,13 @@ pub fn sizes(
     deep: bool,
     bytes: usize,
     cap: usize,
-) -> Result<(), usize>
+) -> Result<(), Refusal>
     requires { SomeStageSize tape.now work.now g n c bytes }
     ensures { result ≡ verdict (g.m.count + c) (some_long (listed_texts tape.now work.now g c)) deep (bytes + length (new_bytes tape.now work.now g c)) cap }
 {
     let k = g.m.count + c;
-    if 65536 < k {
-        return Err(20);
-    }
-    match count_texts(tape, work, g, n, c) {
-        None => Err(20),
-        Some(fresh) => judge(k, false, deep, bytes + fresh, cap),
-    }
+    // Texts that are too many aren't read.
+    judge_counts(k, deep)?;
+    let fresh = count_texts(tape, work, g, n, c).ok_or(refusal::at(Question::Counts, 0))?;
+    judge_length(bytes + fresh, cap)
 }

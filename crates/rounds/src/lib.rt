@@ -1,6 +1,7 @@
 // The rounds of macro expansion: macros told in the cells of their names, a round's ground, its sizes, its two stages, and the loop. Touches nothing but the slices that it is handed.
 #![tactic(auto)]
 
+use resolve::Grammar;
 use texts::Map;
 
 pub mod define;
@@ -39,9 +40,10 @@ pub struct State {
     pub low: usize,
 }
 
-// What a round that is not refused leaves: another round is to come, or none.
+// Where the rounds stand: the places and the grammar, which stay during all of them, and what the next begins with.
 #[derive(Clone, Copy)]
-pub enum Progress {
-    More(State),
-    Done(State),
+pub struct Standing {
+    pub room: Room,
+    pub t: Grammar,
+    pub z: State,
 }

@@ -1,25 +1,25 @@
 // One round: symbols replaced, 18, sizes, the pile drained, sizes, the new texts settled.
-ghost use Rattle.std.specs.Prelude.{◌≡◌, ◌&&◌, ◌+◌, ◌-◌, ltb};
+ghost use Rattle.std.specs.Prelude.{◌≡◌, ◌+◌, ◌-◌};
 ghost use Rattle.parse_tree.specs.Working.Nodes.{span_in};
 ghost use Rattle.parse_tree.specs.Working.Refusals.{refusal_over};
 ghost use Rattle.expander.specs.Ground.{key_at};
-ghost use Rattle.rounds.specs.Round.{SomeRound, Halfway, SomeHalf, replaced_verdict, SomeLast, SomePending, DrainsPile, SomeAppended, appended_verdict, SomeDrained, SettlesTexts, SettlesRound, AnswersItems, AppendsRound, AnswersHalf, OneRound};
+ghost use Rattle.rounds.specs.Start.{at_start};
+ghost use Rattle.rounds.specs.Round.{SomeRound, Halfway, finished_state, SomeHalf, SomeLast, SomePending, DrainsPile, SomeAppended, Sizeable, stage_verdict, SomeDrained, SettlesTexts, SettlesRound, AnswersItems, AppendsRound, AnswersHalf, OneRound, LastRound};
 
 use crate::ground::{clear_built, ground};
 use crate::judge::sizes;
 use crate::steps::{drained, push};
-use crate::{Expander, Progress, Room, State};
+use crate::{Expander, Standing, State};
 use appending::{Appended, Round};
 use expander::Ground;
 use expander::stage::{Replaced, replace_items};
 use macro_expand::drain::drain;
-use parse_tree::node::span_at;
 use parse_tree::refusal;
-use parse_tree::refusal::Refusal;
-use resolve::Grammar;
+use parse_tree::refusal::{Question, Refusal};
 use settling::pushed::mark_pushed;
 use settling::put::copy_down;
 use settling::settle::{Settled, settle};
+use std::ops::ControlFlow;
 use texts::fields::mark;
 
 // What the replacing stage leaves.
@@ -30,101 +30,81 @@ pub struct Half {
     pub expander: Expander,
 }
 
+impl Half {
+    // What appending begins with.
+    fn at_start(self) -> Appended
+        ensures { result ≡ at_start self.r }
+    {
+        Appended {
+            to: self.r.to,
+            count: self.r.count,
+            deep: false,
+        }
+    }
+}
+
 // The unreplaced items, replaced behind those that are.
-fn replace(tape: &[u8], work: &mut [u8], room: Room, t: Grammar, z: State) -> Half
-    requires { SomeRound tape.now work.old room t z }
-    ensures { Halfway tape.now work.old room t z result work.new }
+fn replace(tape: &[u8], work: &mut [u8], at: Standing) -> Half
+    requires { SomeRound tape.now work.old at.room at.t at.z }
+    ensures { Halfway tape.now work.old at.room at.t at.z result work.new }
 {
-    let g = ground(tape, work, z.m, t.width, z.from, z.end, room.x);
+    let z = at.z;
+    let g = ground(tape, work, z.m, at.t.width, z.from, z.end, at.room.x);
     let r = replace_items(tape, work, g, z.done);
     let e = push(z.expander, r.pile);
     Half { g, r, expander: e }
 }
 
 // The items of the pile, behind the replaced ones, as far as the output's length allows.
-fn expand_pile(
-    tape: &[u8],
-    work: &mut [u8],
-    room: Room,
-    t: Grammar,
-    z: State,
-    h: Half,
-) -> Result<Appended, Refusal>
-    requires { SomePending tape.now work.old room t z h }
-    ensures { DrainsPile tape.now work.old room t z h result work.new }
+fn expand_pile(tape: &[u8], work: &mut [u8], at: Standing, h: Half) -> Result<Appended, Refusal>
+    requires { SomePending tape.now work.old at.room at.t at.z h }
+    ensures { DrainsPile tape.now work.old at.room at.t at.z h result work.new }
 {
     clear_built(work, h.g);
-    let lim = room.y + (room.cap - room.first - (room.end - z.low));
-    let v = Appended {
-        to: h.r.to,
-        count: h.r.count,
-        deep: false,
-    };
-    let here = Round {
+    let lim = at.room.y + (at.room.cap - at.room.first - (at.room.end - at.z.low));
+    let pile = Round {
         g: h.g,
         n: h.r.pile,
         lim,
     };
-    drain(tape, work, here, t, v)
+    drain(tape, work, pile, at.t, h.at_start())
 }
 
 // The new texts settled, those of pushed symbols marked.
-fn settle_texts(
-    tape: &[u8],
-    work: &mut [u8],
-    room: Room,
-    t: Grammar,
-    z: State,
-    h: Half,
-    v: Appended,
-) -> Settled
-    requires { SomeDrained tape.now work.old room t z h v }
-    ensures { SettlesTexts tape.now work.old z h v result work.new }
+fn settle_texts(tape: &[u8], work: &mut [u8], at: Standing, h: Half, v: Appended) -> Settled
+    requires { SomeDrained tape.now work.old at.room at.t at.z h v }
+    ensures { SettlesTexts tape.now work.old at.z h v result work.new }
 {
     mark_pushed(tape, work, h.g, h.r.pile);
-    settle(tape, work, h.g, h.r.pile, v.count, z.low)
+    settle(tape, work, h.g, h.r.pile, v.count, at.z.low)
 }
 
 // And the appended items moved to where the next round finds them.
-fn settle_round(
-    tape: &[u8],
-    work: &mut [u8],
-    room: Room,
-    t: Grammar,
-    z: State,
-    h: Half,
-    v: Appended,
-) -> State
-    requires { SomeDrained tape.now work.old room t z h v }
-    ensures { SettlesRound tape.now work.old room t z h v result work.new }
+fn settle_round(tape: &[u8], work: &mut [u8], at: Standing, h: Half, v: Appended) -> State
+    requires { SomeDrained tape.now work.old at.room at.t at.z h v }
+    ensures { SettlesRound tape.now work.old at.room at.t at.z h v result work.new }
 {
-    let end = room.x + (v.to - h.r.to);
-    let q = settle_texts(tape, work, room, t, z, h, v);
-    copy_down(work, h.r.to, v.to, room.x);
+    let x = at.room.x;
+    let end = x + (v.to - h.r.to);
+    let q = settle_texts(tape, work, at, h, v);
+    copy_down(work, h.r.to, v.to, x);
     State {
         expander: drained(h.expander),
         m: q.m,
-        from: room.x,
+        from: x,
         end,
         done: h.r.to,
         low: q.at,
     }
 }
 
-// 20 or 21 of the appending stage, if it is refused.
-fn appended_size(
-    tape: &[u8],
-    work: &[u8],
-    room: Room,
-    t: Grammar,
-    z: State,
-    h: Half,
-    v: Appended,
-) -> Result<(), usize>
-    requires { SomeAppended tape.now work.now room t z h v }
-    ensures { result ≡ appended_verdict tape.now work.now room z h v }
+// 20 or 21 of the stage that v tells of, if it is refused.
+fn stage_size(tape: &[u8], work: &[u8], at: Standing, h: Half, v: Appended) -> Result<(), Refusal>
+    requires { Sizeable tape.now work.now at.room at.z h v }
+    ensures { result ≡ stage_verdict tape.now work.now at.room at.z h v }
 {
-    let bytes = room.first + (room.end - z.low) + (v.to - room.y);
+    let room = at.room;
+    let bytes = room.first + (room.end - at.z.low) + (v.to - room.y);
     sizes(tape, work, h.g, h.r.pile, v.count, v.deep, bytes, room.cap)
 }
 
@@ -132,84 +112,66 @@ fn appended_size(
 fn answer_items(
     tape: &[u8],
     work: &mut [u8],
-    room: Room,
-    t: Grammar,
-    z: State,
+    at: Standing,
     h: Half,
     v: Appended,
-) -> Result<Progress, Refusal>
-    requires { SomeAppended tape.now work.old room t z h v }
-    ensures { AnswersItems tape.now work.old room t z h v result work.new }
+) -> Result<State, Refusal>
+    requires { SomeAppended tape.now work.old at.room at.t at.z h v }
+    ensures { AnswersItems tape.now work.old at.room at.t at.z h v result work.new }
 {
-    match appended_size(tape, work, room, t, z, h, v) {
-        Err(q) => Err(refusal::at(q, 0)),
-        Ok(()) => Ok(Progress::More(settle_round(tape, work, room, t, z, h, v))),
-    }
+    stage_size(tape, work, at, h, v)?;
+    Ok(settle_round(tape, work, at, h, v))
 }
 
 // The appending stage.
-fn append(
-    tape: &[u8],
-    work: &mut [u8],
-    room: Room,
-    t: Grammar,
-    z: State,
-    h: Half,
-) -> Result<Progress, Refusal>
-    requires { SomePending tape.now work.old room t z h }
-    ensures { AppendsRound tape.now work.old room t z h result work.new }
+fn append(tape: &[u8], work: &mut [u8], at: Standing, h: Half) -> Result<State, Refusal>
+    requires { SomePending tape.now work.old at.room at.t at.z h }
+    ensures { AppendsRound tape.now work.old at.room at.t at.z h result work.new }
 {
-    let v = expand_pile(tape, work, room, t, z, h)?;
-    answer_items(tape, work, room, t, z, h, v)
+    let v = expand_pile(tape, work, at, h)?;
+    answer_items(tape, work, at, h, v)
 }
 
-// 20 or 21 of the replacing stage, if it is refused.
-fn replaced_size(
-    tape: &[u8],
-    work: &[u8],
-    room: Room,
-    t: Grammar,
-    z: State,
-    h: Half,
-) -> Result<(), usize>
-    requires { SomeHalf tape.now work.now room t z h }
-    ensures { result ≡ replaced_verdict tape.now work.now room z h }
+// What is left where nothing is pending.
+fn finished(at: Standing, h: Half) -> State
+    ensures { result ≡ finished_state at.z h }
 {
-    let bytes = room.first + (room.end - z.low) + (h.r.to - room.y);
-    sizes(tape, work, h.g, h.r.pile, h.r.count, false, bytes, room.cap)
+    State {
+        expander: h.expander,
+        done: h.r.to,
+        ..at.z
+    }
 }
 
 // With 20 and 21 asked: with nothing pending this stage is the last.
 fn go_on(
     tape: &[u8],
     work: &mut [u8],
-    room: Room,
-    t: Grammar,
-    z: State,
+    at: Standing,
     h: Half,
-) -> Result<Progress, Refusal>
-    requires { SomeHalf tape.now work.old room t z h }
-    ensures { AnswersHalf tape.now work.old room t z h result work.new }
+) -> Result<ControlFlow<State, State>, Refusal>
+    requires { SomeHalf tape.now work.old at.room at.t at.z h }
+    ensures { AnswersHalf tape.now work.old at.room at.t at.z h result work.new }
 {
-    if let Err(q) = replaced_size(tape, work, room, t, z, h) {
-        return Err(refusal::at(q, 0));
-    }
+    stage_size(tape, work, at, h, h.at_start())?;
     if h.expander.height == 0 {
-        Ok(Progress::Done(State {
-            expander: h.expander,
-            done: h.r.to,
-            ..z
-        }))
+        Ok(ControlFlow::Break(finished(at, h)))
     } else {
-        append(tape, work, room, t, z, h)
+        Ok(ControlFlow::Continue(append(tape, work, at, h)?))
     }
 }
 
-// Whether symbols are pending, n of them, and no round is left.
-fn too_many(over: bool, n: usize) -> bool
-    ensures { result ≡ over && ltb 0 n }
+// One round behind which another may come.
+pub fn round(
+    tape: &[u8],
+    work: &mut [u8],
+    at: Standing,
+) -> Result<ControlFlow<State, State>, Refusal>
+    requires { SomeRound tape.now work.old at.room at.t at.z }
+    ensures { OneRound tape.now work.old at.room at.t at.z result work.new }
 {
-    over && 0 < n
+    let h = replace(tape, work, at);
+    go_on(tape, work, at, h)
 }
 
 // "18, span of the last pushed", of n.
@@ -218,25 +180,18 @@ fn last_pushed(work: &[u8], g: Ground, n: usize) -> Refusal
     ensures { result ≡ refusal_over 18 (span_in work.now (g.from + key_at work.now g (n - 1) + 1)) }
 {
     let p = mark(work, g.keys, n - 1);
-    refusal::over(18, span_at(work, g.from + p + 1))
+    refusal::of_command(Question::Rounds, work, g.from + p)
 }
 
-// With `over` no round is left: what is pending is refused.
-pub fn round(
-    tape: &[u8],
-    work: &mut [u8],
-    room: Room,
-    t: Grammar,
-    z: State,
-    over: bool,
-) -> Result<Progress, Refusal>
-    requires { SomeRound tape.now work.old room t z }
-    ensures { OneRound tape.now work.old room t z over result work.new }
+// The round behind which no other may come: what is pending is refused, before 20 and 21.
+pub fn last_round(tape: &[u8], work: &mut [u8], at: Standing) -> Result<State, Refusal>
+    requires { SomeRound tape.now work.old at.room at.t at.z }
+    ensures { LastRound tape.now work.old at.room at.t at.z result work.new }
 {
-    let h = replace(tape, work, room, t, z);
-    if too_many(over, h.expander.height) {
-        Err(last_pushed(work, h.g, h.expander.height))
-    } else {
-        go_on(tape, work, room, t, z, h)
+    let h = replace(tape, work, at);
+    if h.expander.height != 0 {
+        return Err(last_pushed(work, h.g, h.expander.height));
     }
+    stage_size(tape, work, at, h, h.at_start())?;
+    Ok(finished(at, h))
 }

@@ -1,12 +1,12 @@
 // All rounds: one after another, as many as the limit allows, and the last.
 ghost use Rattle.rounds.specs.Round.{SomeRound, AllRounds};
 
-use crate::round::round;
-use crate::{Progress, Room, State};
+use crate::round::{last_round, round};
+use crate::{Room, Standing, State};
 use parse_tree::refusal::Refusal;
 use resolve::Grammar;
+use std::ops::ControlFlow;
 
-// With no round left, what is pending is refused.
 pub fn rounds(
     tape: &[u8],
     work: &mut [u8],
@@ -14,17 +14,17 @@ pub fn rounds(
     t: Grammar,
     limit: usize,
     z: State,
-) -> Result<Progress, Refusal>
+) -> Result<State, Refusal>
     requires { SomeRound tape.now work.old room t z }
     ensures { AllRounds tape.now work.old room t limit z result work.new }
 {
     let mut x = z;
-    // The rounds are counted in x itself.
+    // The rounds are counted in x itself: a range would count beside x.expander.round, and the proof would keep the two equal.
     while x.expander.round < limit {
-        match round(tape, work, room, t, x, false)? {
-            Progress::Done(y) => return Ok(Progress::Done(y)),
-            Progress::More(y) => x = y,
+        match round(tape, work, Standing { room, t, z: x })? {
+            ControlFlow::Break(y) => return Ok(y),
+            ControlFlow::Continue(y) => x = y,
         }
     }
-    round(tape, work, room, t, x, true)
+    last_round(tape, work, Standing { room, t, z: x })
 }

@@ -1,16 +1,13 @@
 -- The ways out of put_head and put_atom_text. Assumes nothing.
-use mathlib.Core.Path.{◌≡◌, refl, sym, ap, ◌∙◌}
-use mathlib.Core.Logic.{inl}
-use mathlib.Core.List.{List, [], ◌∷◌, ◌++◌}
+use mathlib.Core.Path.{◌≡◌, sym, ap, ◌∙◌}
+use mathlib.Core.List.{List, ◌∷◌, ◌++◌}
 use Prim.Native.Nat.{ℕ, ◌+◌, ◌-◌}
 use native.Mathlib.Omega.{arith}
 use borrow.Author.Rules.{rules}
-use lib.ListN.{length, set, length-append}
+use lib.ListN.{length, length-append}
 use Rattle.octets.specs.Plain.Numbers.{le}
 use Rattle.octets.specs.Working.Stores.{store}
 use Rattle.octets.proofs.NumbersLaws.{length-le}
-use Rattle.octets.proofs.StoreLaws.{store-append}
-use Rattle.resolve.proofs.CellsLaws.{store-past}
 use Rattle.parse_tree.specs.Plain.Tree.{Text}
 use Rattle.parse_tree.specs.Working.Nodes.{node_bytes}
 use Rattle.parse_tree.specs.Working.Encode.{atom_bytes}
@@ -23,16 +20,8 @@ use Rattle.settling.proofs.PutLaws.{then, puts_as}
 use Rattle.settling.proofs.CopiedStays.{copying_next, copied_print, symbol_said}
 
 -- ---- put_head
-set_store : (s : List ℕ) (at v : ℕ) → set s at v ≡ store s at (v ∷ [])
-unfolding store
-set_store s at v = refl
-
 pub head_long : (len : ℕ) → length (1 ∷ le 2 len) ≡ 3
 head_long len = omega (arith, length-le 2 len)
-
-pub head_stored : (w w1 : List ℕ) (len to : ℕ) → w1 ≡ store w (to + 1) (le 2 len) → set w1 to 1 ≡ store w to (1 ∷ le 2 len)
-head_stored w w1 len to e =
-    set_store w1 to 1 ∙ ap (λ (s : List ℕ). store s to (1 ∷ [])) e ∙ store-past w (to + 1) to (le 2 len) (1 ∷ []) (inl (omega arith)) ∙ store-append w to (to + 1) (1 ∷ []) (le 2 len) (omega arith)
 
 -- ---- put_atom_text
 

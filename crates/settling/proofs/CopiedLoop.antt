@@ -179,11 +179,11 @@ module _ (s w : List ℕ) (x : Print) (n left p code to : ℕ) where
                       said = (each-parts (Said s out x) (keys_of g.width.bytes (texts s out g.m) y a) (keys_of_all g.width.bytes (texts s out g.m) ys (a + length (sym_bytes g.width.bytes (texts s out g.m) y))) h).1;
                     }))
 
-            next_each : (four : Bool) (e : ℕ) (xs : Syms) → e ≤ size_in x.g → Onward out four e xs a k d v.bytes → Onward w3 four e xs b (k - 1) 1 (v.bytes ++ pieces)
+            next_each : (four : Bool) (e : ℕ) (xs : Syms) → e ≤ size_in x.g → Onward out four e xs a k d v.bytes → Onward w3 four e xs b (k - 1) (d + 1) (v.bytes ++ pieces)
             unfolding count
             next_each four e xs i o = go o.ys o.many (o.stand l) o.same
               where
-                go : (ys : Syms) → count ys ≡ k → StandAt s out g four left a e ys → v.bytes ++ rest_text d ys (between_by code 1) ≡ shown_all xs (between_by code 1) [] → Onward w3 four e xs b (k - 1) 1 (v.bytes ++ pieces)
+                go : (ys : Syms) → count ys ≡ k → StandAt s out g four left a e ys → v.bytes ++ rest_text d ys (between_by code 1) ≡ shown_all xs (between_by code 1) [] → Onward w3 four e xs b (k - 1) (d + 1) (v.bytes ++ pieces)
                 go nil c st t = absurd (omega arith)
                 go (cons y ys) c st t = record {
                   ys = ys;
@@ -192,7 +192,7 @@ module _ (s w : List ℕ) (x : Print) (n left p code to : ℕ) where
                   same = rest_one v.bytes code d y ys (printed_at s w2 x.g a) (print-is (v.some l).levels four e y ys i st) ∙ t;
                 }
 
-            pub parts_next : Going w3 b (k - 1) 1 r
+            pub parts_next : Going w3 b (k - 1) (d + 1) r
             parts_next = record {
               copying = copying_three;
               some = next-some;

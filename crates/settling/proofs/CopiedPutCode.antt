@@ -2,37 +2,40 @@
 use mathlib.Core.Path.{◌≡◌, refl, sym, ap, ◌∙◌}
 use mathlib.Core.Bool.{Bool}
 use mathlib.Core.List.{List, []}
-use Prim.Native.Nat.{ℕ, ◌+◌, ◌-◌, ◌<◌, ◌≤◌}
+use Prim.Native.Nat.{ℕ, ◌+◌, ◌-◌, ◌*◌, ◌^◌, ◌<◌, ◌≤◌}
 use native.Mathlib.Omega.{arith}
 use borrow.Author.Rules.{rules}
 use borrow.Author.Tests.{ne_eqb, le-ltb}
 use lib.ListN.{length, get_or}
+use mir.Syntax.{w64}
+use mir.Val.{Fits}
 use Rattle.std.specs.Prelude.{Option, Some}
 use Rattle.octets.specs.Working.Choice.{pick}
-use Rattle.parse_tree.specs.Plain.Tree.{Text, Syms, nil, cons, count}
+use Rattle.parse_tree.specs.Plain.Tree.{Text, Sym, Syms, nil, cons, count}
 use Rattle.parse_tree.specs.Plain.Display.{shown_all, shown_more, print}
 use Rattle.parse_tree.specs.Working.Encode.{sym_bytes}
 use Rattle.parse_tree.specs.Working.Within.{Each}
+use Rattle.parse_tree.specs.Working.Nodes.{long_of}
+use Rattle.parse_tree.specs.Working.Nested.{inside_by}
 use Rattle.texts.specs.Fields.{mark_at}
 use Rattle.texts.specs.Table.{texts}
 use Rattle.texts.specs.Texts.{marked_text}
 use Rattle.laws.specs.Flat.{children}
-use Rattle.resolve.specs.Commands.{long_of}
-use Rattle.grades.specs.Skip.{inside_by, skip_out}
 use Rattle.display.specs.Follow.{before_by, behind_by, between_by}
 use Rattle.display.proofs.StandsLaws.{between_text, first_stands, none_stand}
 use Rattle.precedence.specs.Write.{Puts}
 use Rattle.precedence.proofs.WriteLaws.{puts_none}
 use Rattle.expander.specs.declared.Ground.{Ground}
 use Rattle.expander.specs.Ground.{size_in, printed_at, Grounded}
-use Rattle.expander.specs.Replace.{keys_of, keys_of_all, StandAt}
+use Rattle.expander.specs.Meet.{SymbolLies, SomeEnd, EndsAt}
+use Rattle.expander.specs.Replace.{keys_of, keys_of_all, StandsAt, StandAt}
 use Rattle.expander.proofs.KeysLaws.{stands_print}
 use Rattle.appending.proofs.SymbolsTrees.{each-parts}
 use Rattle.settling.specs.declared.copied.Print.{Print}
 use Rattle.settling.specs.Print.{Printable, Closing}
 use Rattle.settling.specs.Copied.{TextStands, Said, Copying, SaidSymbol, SaidSymbols, KnownText, SaidAround, Behinds, PutsAll}
 use Rattle.settling.proofs.PutLaws.{puts_as}
-use Rattle.settling.proofs.CopiedTrees.{said_within, said_left, said_room, said_high, said_below, said_walked, said_many, here, before_on, before-inside, before-stand, inside-closing, parts_put, leaf_end, skip-end}
+use Rattle.settling.proofs.CopiedTrees.{said_within, said_left, said_room, said_high, said_below, said_walked, said_many, here, before_on, before-inside, before-stand, inside-closing, parts_put}
 
 pub copying_print : (s w : List ℕ) (x : Print) (to : ℕ) → Copying s w x to → Printable s w x.g.m x.g.width.bytes x.lim to
 copying_print s w x to C = C.printable
@@ -175,20 +178,30 @@ part-around s w x left p c h d a b = record { symbol = h; code = d; from = a; up
 pub ruleset parting = (rules, said_within, part-around)
 
 -- ---- behind
-module _ (s w : List ℕ) (x : Print) (left p k : ℕ) (G : Grounded s w x.g) (h : SaidSymbol s w x left p) where
+module _ (s w : List ℕ) (x : Print) (left p k : ℕ) (h : SaidSymbol s w x left p) where
   pub behind_none : k < 2 → Behinds s w x left p k p
   unfolding Behinds
   behind_none l = λ i four e y st n. absurd (omega arith)
 
-  pub behind_leaf : (c n l : ℕ) → c ≡ get_or w (x.g.from + p) 0 → n ≡ inside_by x.g.width.bytes w (x.g.from + p) c → n ≡ 0 → l ≡ long_of x.g.width.bytes c → Behinds s w x left p k (p + l)
-  unfolding Behinds
-  behind_leaf c n l d m z f = λ i four e y st o. ap (λ (v : ℕ). p + v) f ∙ leaf_end s w x left p four e y st c d (sym m ∙ z)
+  pub behind_fits : length w * 1 < 2 ^ 63 → Fits w64 (x.g.from + p)
+  behind_fits l = record { fits = omega (arith, said_within s w x left p h) }
 
-  pub behind_from : (r : ℕ) → r ≡ skip_out x.g.width.bytes x.g.end w (x.g.from + p) x.g.end 1 → x.g.from ≤ r
-  behind_from r f = omega (arith, f, skip-end s w x left p h.four h.end h.symbol h.stands G h.inside)
+  stands_lies : (four : Bool) (e : ℕ) (y : Sym) → StandsAt s w x.g four left p e y → SymbolLies w x.g.width.bytes (x.g.from + p) (x.g.from + e)
+  stands_lies four e y st = record { texts = texts s w x.g.m; four = four; left = left; symbol = y; within = st.within; lies = st.lies }
 
-  pub behind_skip : (r : ℕ) → r ≡ skip_out x.g.width.bytes x.g.end w (x.g.from + p) x.g.end 1 → Behinds s w x left p k (r - x.g.from)
-  unfolding Behinds
-  behind_skip r f = λ i four e y st o. omega (arith, f, skip-end s w x left p four e y st G o)
+  pub behind_some : SomeEnd w x.g.width.bytes (x.g.from + p)
+  behind_some = record { end = x.g.from + h.end; lies = stands_lies h.four h.end h.symbol h.stands }
 
-pub ruleset behinding = (rules, said_within, said_room, behind_none, behind_leaf, behind_from, behind_skip)
+  module _ (r : ℕ) (f : EndsAt w x.g.width.bytes (x.g.from + p) r) where
+    end_is : (four : Bool) (e : ℕ) (y : Sym) → StandsAt s w x.g four left p e y → r ≡ x.g.from + e
+    unfolding EndsAt
+    end_is four e y st = f (x.g.from + e) (stands_lies four e y st)
+
+    pub behind_from : x.g.from ≤ r
+    behind_from = omega (arith, end_is h.four h.end h.symbol h.stands)
+
+    pub behind_end : Behinds s w x left p k (r - x.g.from)
+    unfolding Behinds
+    behind_end = λ i four e y st o. omega (arith, end_is four e y st)
+
+pub ruleset behinding = (rules, behind_fits, behind_none, behind_some, behind_from, behind_end)

@@ -6,24 +6,21 @@ use mathlib.Core.List.{List, [], ◌++◌}
 use Prim.Native.Nat.{ℕ, ◌+◌, ◌-◌, ◌<◌, ◌≤◌}
 use native.Mathlib.Omega.{arith}
 use lib.ListN.{length, get_or}
-use Rattle.parse_tree.specs.Plain.Tree.{Sym, Syms, nil, cons, count}
+use Rattle.parse_tree.specs.Plain.Tree.{Sym, count}
 use Rattle.parse_tree.specs.Plain.Display.{shown_all, print}
-use Rattle.parse_tree.specs.Working.Nodes.{size_of}
+use Rattle.parse_tree.specs.Working.Nodes.{size_of, long_of}
 use Rattle.parse_tree.specs.Working.Within.{Each}
+use Rattle.parse_tree.specs.Working.Nested.{inside_by}
 use Rattle.texts.specs.Table.{texts}
 use Rattle.laws.specs.Flat.{sym_node, children}
-use Rattle.laws.proofs.Flat.{node_size, syms_fit_lem}
-use Rattle.resolve.specs.Commands.{long_of}
-use Rattle.grades.specs.Skip.{inside_by, skip_out}
-use Rattle.grades.proofs.SkipMean.{skip-means}
+use Rattle.laws.proofs.Flat.{node_size}
 use Rattle.replacing.specs.Trees.{is_key}
-use Rattle.display.specs.Standing.{SymsStand}
 use Rattle.display.specs.Follow.{before_by, behind_by}
-use Rattle.display.proofs.StandsLaws.{Standing, before_text, between_text, behind_text, standing, none_stand, one_stands}
+use Rattle.display.proofs.StandsLaws.{Standing, before_text, between_text, behind_text, standing}
 use Rattle.precedence.specs.Write.{Puts}
 use Rattle.precedence.proofs.WriteLaws.{puts_beside}
 use Rattle.expander.specs.declared.Ground.{Ground}
-use Rattle.expander.specs.Ground.{size_in, printed_at, Grounded}
+use Rattle.expander.specs.Ground.{size_in, printed_at}
 use Rattle.expander.specs.Replace.{keys_of_all, StandsAt, StandAt}
 use Rattle.expander.proofs.KeysLaws.{own_keys, keys_parts, stands_print}
 use Rattle.appending.proofs.SymbolsTrees.{each-parts}
@@ -47,24 +44,6 @@ module _ (s w : List ℕ) (x : Print) (left p : ℕ) where
   module _ (four : Bool) (e : ℕ) (y : Sym) (st : StandsAt s w x.g four left p e y) where
     pub known_here : Standing s w g.m g.width.bytes four left at (g.from + e) y
     known_here = standing s w g.m g.width.bytes four left at (g.from + e) y st
-
-    pub leaf_end : (c : ℕ) → c ≡ get_or w at 0 → inside_by g.width.bytes w at c ≡ 0 → p + long_of g.width.bytes c ≡ e
-    unfolding count
-    leaf_end c d n =
-        let k = known_here in
-        let m : count (children y) ≡ 0 = sym k.reads.held ∙ ap (inside_by g.width.bytes w at) (sym d) ∙ n in
-        let z = ap (long_of g.width.bytes) d in
-        omega (arith, go (children y) m k.inside, z)
-      where
-        go : (ys : Syms) → count ys ≡ 0 → SymsStand s w g.m g.width.bytes four (left - 1) (at + long_of g.width.bytes (get_or w at 0)) (g.from + e) ys → at + long_of g.width.bytes (get_or w at 0) ≡ g.from + e
-        go nil m h = none_stand s w g.m g.width.bytes four (left - 1) _ (g.from + e) h
-        go (cons z zs) m h = absurd (omega arith)
-
-    pub skip-end : Grounded s w g → e ≤ size_in g → skip_out g.width.bytes g.end w at g.end 1 ≡ g.from + e
-    unfolding size_in count
-    skip-end G h =
-        let o = one_stands s w g.m g.width.bytes four left at (g.from + e) y st in
-        skip-means g.width.bytes (texts s w g.m) (cons y nil) (syms_fit_lem g.width.bytes (texts s w g.m) four (cons y nil) left o.within) w at (g.from + e) g.end (omega (arith, h, G.ordered)) o.lies
 
   -- ---- what is asked of it
   module _ (h : SaidSymbol s w x left p) where

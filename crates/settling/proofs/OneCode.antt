@@ -1,14 +1,11 @@
--- The ways out of entry and text_length. Assumes nothing.
+-- The ways out of text_length. Assumes nothing.
 use mathlib.Core.Path.{◌≡◌, sym, ap, ◌∙◌}
 use mathlib.Core.List.{List, [], ◌∷◌}
-use Prim.Native.Nat.{ℕ, zero, suc, ◌+◌, ◌*◌, ◌/◌, ◌%◌, ◌^◌, ◌<◌, ◌≤◌}
+use Prim.Native.Nat.{ℕ, zero, suc, ◌+◌, ◌*◌, ◌/◌, ◌%◌, ◌<◌, ◌≤◌}
 use native.Mathlib.Omega.{arith}
-use mir.Syntax.{w64}
-use mir.Val.{Fits}
 use borrow.Author.Rules.{rules}
 use borrow.Author.Tests.{ne_eqb, lt-ltb, le-ltb}
 use lib.ListN.{length, get_or}
-use Rattle.octets.specs.Plain.Numbers.{le_at}
 use Rattle.octets.specs.Working.Choice.{pick}
 use Rattle.parse_tree.specs.Plain.Tree.{Text}
 use Rattle.parse_tree.specs.Working.Within.{Each}
@@ -16,36 +13,13 @@ use Rattle.laws.specs.Keys.{built_ins}
 use Rattle.texts.specs.Fields.{cell_at}
 use Rattle.texts.specs.Forms.{stop}
 use Rattle.expander.specs.declared.Ground.{Ground}
-use Rattle.expander.specs.Ground.{top_of, list_place, list_at, Grounded}
+use Rattle.expander.specs.declared.entries.NewText.{NewText}
+use Rattle.expander.specs.Ground.{top_of, Grounded}
+use Rattle.expander.specs.Entries.{entry_code}
 use Rattle.expander.specs.Names.{described_by}
 use Rattle.expander.proofs.NamedTexts.{described_even}
 use Rattle.appending.specs.Built.{built_text}
 use Rattle.settling.specs.One.{Entry}
-
--- ---- entry
-module _ (w : List ℕ) (g : Ground) (i : ℕ) (h : list_place g i + 8 ≤ length w) where
-  pub entry_room : g.m.base + 24 * g.m.count + 8 * i + 8 ≤ length w
-  unfolding list_place
-  entry_room = h
-
-  module _ (l : length w < 2 ^ 64) where
-    pub counts_fit : Fits w64 (24 * g.m.count)
-    counts_fit = record { fits = omega (arith, entry_room) }
-
-    pub base_fits : Fits w64 (g.m.base + 24 * g.m.count)
-    base_fits = record { fits = omega (arith, entry_room) }
-
-    pub entries_fit : Fits w64 (8 * i)
-    entries_fit = record { fits = omega (arith, entry_room) }
-
-    pub entry_fits : Fits w64 (g.m.base + 24 * g.m.count + 8 * i)
-    entry_fits = record { fits = omega (arith, entry_room) }
-
-pub entry_is : (w : List ℕ) (g : Ground) (i r : ℕ) → r ≡ le_at 8 w (g.m.base + 24 * g.m.count + 8 * i) → r ≡ list_at w g i
-unfolding list_at list_place
-entry_is w g i r e = e
-
-pub ruleset entering = (rules, entry_room, counts_fit, base_fits, entries_fit, entry_fits, entry_is)
 
 -- ---- lengths, stopped
 pub stop-less : (n : ℕ) → n < 65536 → stop n ≡ n
@@ -72,19 +46,49 @@ module _ (s w : List ℕ) (g : Ground) (v : ℕ) where
   unfolding described_by built_text pick
   described_odd e = cc (ne_eqb (v % 2) 0 e)
 
-  module _ (G : Grounded s w g) (E : Entry s w g v) where
-    pub cell_room : v % 2 ≡ 0 → g.keys + 24 * (v / 2) + 24 ≤ length w
-    unfolding top_of
-    cell_room e = omega (arith, E.room e, G.fits, G.top)
+-- ---- a new text x
+module _ (x : NewText) where
+  -- the print of record j
+  module _ (j : ℕ) (i : x ≡ NewText.Print j) where
+    print_code : entry_code x ≡ 2 * j
+    print_code = ap entry_code i
 
-    pub built_below : (v % 2 ≡ 0 → ⊥) → v / 2 < 9
-    built_below e = E.built (omega arith)
+    pub print_even : entry_code x % 2 ≡ 0
+    print_even = omega (arith, print_code)
 
-    pub print-long : v % 2 ≡ 0 → (n r : ℕ) → n ≡ cell_at w g.keys (v / 2) → r ≡ n → r ≡ stop (length (described_by s w g v))
-    print-long e n r p q = q ∙ p ∙ E.size e ∙ ap (λ (t : Text). stop (length t)) (sym (described_even s w g v e))
+    pub print_half : entry_code x / 2 ≡ j
+    print_half = omega (arith, print_code)
 
-    pub built_long_lem : (v % 2 ≡ 0 → ⊥) → (r : ℕ) → r ≡ length (built_text (v / 2)) → r ≡ stop (length (described_by s w g v))
-    built_long_lem e r p =
-        p ∙ sym (stop-less (length (built_text (v / 2))) (omega (arith, built_small (v / 2)))) ∙ ap (λ (t : Text). stop (length t)) (sym (described_odd e))
+  -- the k-th built-in text
+  module _ (k : ℕ) (i : x ≡ NewText.BuiltIn k) where
+    built_code : entry_code x ≡ 2 * k + 1
+    built_code = ap entry_code i
+
+    pub built_odd : entry_code x % 2 ≡ 1
+    built_odd = omega (arith, built_code)
+
+    pub built_half : entry_code x / 2 ≡ k
+    built_half = omega (arith, built_code)
+
+  module _ (s w : List ℕ) (g : Ground) where
+    module _ (j : ℕ) (i : x ≡ NewText.Print j) where
+      pub cell_room : Grounded s w g → Entry s w g (entry_code x) → g.keys + 24 * j + 24 ≤ length w
+      unfolding top_of
+      cell_room G E = omega (arith, E.room (print_even j i), print_half j i, G.fits, G.top)
+
+      pub print-long : Entry s w g (entry_code x) → (n r : ℕ) → n ≡ cell_at w g.keys j → r ≡ n → r ≡ stop (length (described_by s w g (entry_code x)))
+      print-long E n r p q =
+          q ∙ p ∙ ap (cell_at w g.keys) (sym (print_half j i)) ∙ E.size (print_even j i)
+          ∙ ap (λ (t : Text). stop (length t)) (sym (described_even s w g (entry_code x) (print_even j i)))
+
+    module _ (k : ℕ) (i : x ≡ NewText.BuiltIn k) where
+      pub built_below : Entry s w g (entry_code x) → k < 9
+      built_below E = omega (arith, E.built (built_odd k i), built_half k i)
+
+      pub described_built : described_by s w g (entry_code x) ≡ built_text k
+      described_built = described_odd s w g (entry_code x) (λ e. omega (arith, e, built_odd k i)) ∙ ap built_text (built_half k i)
+
+      pub built_long_lem : (r : ℕ) → r ≡ length (built_text k) → r ≡ stop (length (described_by s w g (entry_code x)))
+      built_long_lem r p = p ∙ sym (stop-less (length (built_text k)) (omega (arith, built_small k))) ∙ ap (λ (t : Text). stop (length t)) (sym described_built)
 
 pub ruleset lengthening = (rules, cell_room, built_below, print-long, built_long_lem)

@@ -21,25 +21,23 @@ use Rattle.resolve.proofs.CellsLaws.{lies_agree}
 use Rattle.texts.specs.Fields.{RecordWritten}
 use Rattle.texts.specs.Forms.{stop}
 use Rattle.texts.specs.Hash.{hash_of}
-use Rattle.texts.proofs.HashLaws.{hash_small}
 use Rattle.expander.specs.declared.Ground.{Ground}
+use Rattle.expander.specs.declared.entries.NewText.{NewText}
 use Rattle.expander.specs.Ground.{top_of, list_place, list_at, Grounded}
+use Rattle.expander.specs.Entries.{entry_code}
 use Rattle.expander.specs.Names.{described_by}
 use Rattle.expander.proofs.GroundLaws.{keys_slots, slots_top}
 use Rattle.settling.specs.One.{new_cell, TextPut, Entry, Puttable, TextReady, Written}
-use Rattle.settling.proofs.OneCode.{stop-less}
-
-pub hash_fits : (w : List ℕ) (t : Text) (end x : ℕ) (w1 : List ℕ) → TextPut w t end x w1 → x < 4294967296
-hash_fits w t end x w1 p = omega (arith, p.hash, hash_small t)
+use Rattle.settling.proofs.OneCode.{print_even, built_odd, stop-less}
 
 -- ---- new_cell
-pub cell_print : (v : ℕ) → v % 2 ≡ 0 → 2147483648 ≡ new_cell v
+pub cell_print : (x : NewText) (j k : ℕ) → x ≡ NewText.Print j → k ≡ 0 % 2147483648 + 2147483648 → k ≡ new_cell (entry_code x)
 unfolding new_cell pick
-cell_print v e = cc e
+cell_print x j k i f = cc (print_even x j i, f)
 
-pub cell_built : (v : ℕ) → (v % 2 ≡ 0 → ⊥) → 0 ≡ new_cell v
+pub cell_built : (x : NewText) (k : ℕ) → x ≡ NewText.BuiltIn k → 0 ≡ new_cell (entry_code x)
 unfolding new_cell pick
-cell_built v h = cc (ne_eqb (v % 2) 0 h)
+cell_built x k i = let z : entry_code x % 2 ≡ 0 → ⊥ = λ e. omega (arith, e, built_odd x k i) in cc (ne_eqb (entry_code x % 2) 0 z)
 
 pub ruleset celling = (rules, cell_print, cell_built)
 
@@ -124,12 +122,12 @@ module _ (s w : List ℕ) (g : Ground) (i end : ℕ) (h : TextReady s w g i end)
         low : g.m.base + 24 * (g.m.count + i) + 24 ≤ to
         low = omega (arith, h.record_place, keys_top, h.top, to_end)
 
-        pub text_written : (u : ℕ) → u ≡ new_cell v → (w2 : List ℕ) → RecordWritten w1 g.m.base (g.m.count + i) (to - 4 * length s) x u w2 → Written s w g i t end to w2
-        text_written u y w2 r = record {
+        pub text_written : (z u : ℕ) → z ≡ to - 4 * length s → u ≡ new_cell v → (w2 : List ℕ) → RecordWritten w1 g.m.base (g.m.count + i) z x u w2 → Written s w g i t end to w2
+        text_written z u m y w2 r = record {
           long = r.long ∙ put_long;
           place = to_end;
           lies = lies_agree w1 w2 to end (atom_bytes 2 t) r.long (omega (arith, put_long, h.inside)) (λ j a b. r.after j (omega (arith, low))) put_lies;
-          mark = r.mark;
+          mark = r.mark ∙ m;
           hash = r.hash ∙ p.hash ∙ ap hash_of text_is_lem;
           cell = r.cell ∙ y ∙ ap new_cell e;
           others = go;
@@ -140,4 +138,4 @@ module _ (s w : List ℕ) (g : Ground) (i end : ℕ) (h : TextReady s w g i end)
             go j (inr (inl d)) = r.after j d.0 ∙ beside j (inl d.1)
             go j (inr (inr d)) = r.after j (omega (arith, low, to_end)) ∙ beside j (inr d)
 
-pub ruleset writing = (rules, first_fits, count_fits, ready_place, ready_ground, ready_entry, ready_put, len_fits, len_room, far_room, record_room, hash_fits, text_written)
+pub ruleset writing = (rules, first_fits, count_fits, ready_place, ready_ground, ready_entry, ready_put, len_fits, len_room, far_room, record_room, text_written)

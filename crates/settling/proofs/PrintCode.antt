@@ -13,11 +13,11 @@ use lib.Dec.{eqb}
 use lib.ListN.{length, get_or}
 use Rattle.octets.specs.Working.Choice.{pick}
 use Rattle.parse_tree.specs.Plain.Tree.{Text}
+use Rattle.parse_tree.specs.Working.Nodes.{long_of}
+use Rattle.parse_tree.specs.Working.Nested.{inside_by}
 use Rattle.texts.specs.declared.Map.{Map}
 use Rattle.texts.specs.Table.{texts}
-use Rattle.resolve.specs.Commands.{long_of}
 use Rattle.grades.specs.Grading.{Worded}
-use Rattle.grades.specs.Skip.{inside_by}
 use Rattle.display.specs.Follow.{word_at, leaf_text, mark_text, name_text, before_by, op_byte, behind_by, between_by}
 use Rattle.precedence.specs.Write.{Puts}
 use Rattle.precedence.proofs.WriteLaws.{puts_none}
@@ -108,25 +108,22 @@ module _ (wd c n at : ℕ) (room : at + long_of wd c ≤ n) where
   named-room h k = omega (arith, long_named h k)
 
 module _ (w : List ℕ) (at c lim to r : ℕ) (w1 : List ℕ) where
-  pub behind_macro : c ≡ 37 → Puts w lim to (62 ∷ []) r w1 → Puts w lim to (behind_by w at c) r w1
+  pub behind_angle : (c ≡ 37) ⊎ (c ≡ 39) → Puts w lim to (62 ∷ []) r w1 → Puts w lim to (behind_by w at c) r w1
   unfolding behind_by pick
-  behind_macro e a = rw e a
+  behind_angle (inl e) a = rw e a
+  behind_angle (inr e) a = rw e a
 
   pub behind_repeat : (v b : ℕ) → c ≡ 38 → v ≡ get_or w (at + 9) 0 → b ≡ op_byte v → Puts w lim to (b ∷ []) r w1 → Puts w lim to (behind_by w at c) r w1
   unfolding behind_by pick
   behind_repeat v b e j k a = rw (e, ← j, ← k) a
 
-  pub behind_choose : c ≡ 39 → Puts w lim to (62 ∷ []) r w1 → Puts w lim to (behind_by w at c) r w1
-  unfolding behind_by pick
-  behind_choose e a = rw e a
-
   pub behind_group : c ≡ 41 → Puts w lim to (41 ∷ []) r w1 → Puts w lim to (behind_by w at c) r w1
   unfolding behind_by pick
   behind_group e a = rw e a
 
-  pub behind_none : (wd : ℕ) → (c ≡ 37 → ⊥) → (c ≡ 38 → ⊥) → (c ≡ 39 → ⊥) → (c ≡ 41 → ⊥) → Closing w wd at c lim to → Puts w lim to (behind_by w at c) to w
+  pub behind_none : (wd : ℕ) → ((c ≡ 37) ⊎ (c ≡ 39) → ⊥) → (c ≡ 38 → ⊥) → (c ≡ 41 → ⊥) → Closing w wd at c lim to → Puts w lim to (behind_by w at c) to w
   unfolding behind_by pick
-  behind_none wd a b d e h = rw (ne_eqb c 37 a, ne_eqb c 38 b, ne_eqb c 39 d, ne_eqb c 41 e) (puts_none w lim to h.stop)
+  behind_none wd a b e h = rw (ne_eqb c 37 (λ i. a (inl i)), ne_eqb c 38 b, ne_eqb c 39 (λ i. a (inr i)), ne_eqb c 41 e) (puts_none w lim to h.stop)
 
   pub close_inside : (wd : ℕ) → Closing w wd at c lim to → lim ≤ length w
   close_inside wd h = h.inside
@@ -134,7 +131,7 @@ module _ (w : List ℕ) (at c lim to r : ℕ) (w1 : List ℕ) where
   pub close_room : (wd : ℕ) → Closing w wd at c lim to → c ≡ 38 → at + 9 < length w
   close_room wd h e = repeat_room wd c (length w) at h.room e
 
-pub ruleset closing = (rules, close_inside, close_room, behind_macro, behind_repeat, behind_choose, behind_group, behind_none)
+pub ruleset closing = (rules, close_inside, close_room, behind_angle, behind_repeat, behind_group, behind_none)
 
 -- ---- put_named
 pub named_put : (s w : List ℕ) (m : Map) (wd at lim to r : ℕ) (w1 : List ℕ) (p : Source) → PlacedText s w m (word_at wd (texts s w m) w (at + 10)) p

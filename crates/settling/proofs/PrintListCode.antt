@@ -10,11 +10,11 @@ use lib.ListN.{length, get_or}
 use Rattle.octets.specs.Working.Choice.{pick}
 use Rattle.parse_tree.specs.Plain.Tree.{Text, Sym, Syms, nil, cons, count}
 use Rattle.parse_tree.specs.Plain.Display.{shown_all, shown_more, print}
+use Rattle.parse_tree.specs.Working.Nodes.{long_of}
+use Rattle.parse_tree.specs.Working.Nested.{inside_by}
 use Rattle.texts.specs.declared.Map.{Map}
 use Rattle.texts.specs.Table.{texts}
 use Rattle.laws.specs.Flat.{children}
-use Rattle.resolve.specs.Commands.{long_of}
-use Rattle.grades.specs.Skip.{inside_by}
 use Rattle.display.specs.Standing.{SymStands, SymsStand}
 use Rattle.display.specs.Follow.{before_by, behind_by, between_by}
 use Rattle.display.proofs.StandsLaws.{Standing, before_text, between_text, behind_text, standing, first_stands, none_stand, one_stands}
@@ -210,7 +210,7 @@ module _ (s w : List ℕ) (m : Map) (wd n left at code lim to : ℕ) where
               behind_is : behind_by w3 p f.code ≡ behind_text y
               behind_is = ap (behind_by w3 p) (sym code_three) ∙ (standing s w3 m wd four left p e y stands_three).reads.behind
 
-              step : (ys : Syms) → (g.bytes ++ pieces) ++ rest_text 1 ys (between_by code 1) ≡ g.bytes ++ rest_text d (cons y ys) (between_by code 1)
+              step : (ys : Syms) → (g.bytes ++ pieces) ++ rest_text (d + 1) ys (between_by code 1) ≡ g.bytes ++ rest_text d (cons y ys) (between_by code 1)
               unfolding pieces
               step ys =
                   rest_step g.bytes code d y ys (before_by wd (texts s front.work m) front.work p f.code) printed.bytes (behind_by w3 p f.code) (before-is four e y h st)
@@ -232,11 +232,11 @@ module _ (s w : List ℕ) (m : Map) (wd n left at code lim to : ℕ) where
                     let t = (told g.some.four _ y (omega (arith, j, g.some.below)) a.0).0 in
                     record { four = g.some.four; end = g.some.end; symbols = ys; many = omega arith; stand = rw t (others_stay g.some.four _ g.some.end ys g.some.below a.1); below = g.some.below }
 
-            next_each : (four : Bool) (e : ℕ) (xs : Syms) → e ≤ to → Onward out four e xs p k d g.bytes → Onward w4 four e xs z.at (k - 1) 1 (g.bytes ++ pieces)
+            next_each : (four : Bool) (e : ℕ) (xs : Syms) → e ≤ to → Onward out four e xs p k d g.bytes → Onward w4 four e xs z.at (k - 1) (d + 1) (g.bytes ++ pieces)
             unfolding count
             next_each four e xs h v = go v.ys v.many v.stand v.same
               where
-                go : (ys : Syms) → count ys ≡ k → SymsStand s out m wd four left p e ys → g.bytes ++ rest_text d ys (between_by code 1) ≡ shown_all xs (between_by code 1) [] → Onward w4 four e xs z.at (k - 1) 1 (g.bytes ++ pieces)
+                go : (ys : Syms) → count ys ≡ k → SymsStand s out m wd four left p e ys → g.bytes ++ rest_text d ys (between_by code 1) ≡ shown_all xs (between_by code 1) [] → Onward w4 four e xs z.at (k - 1) (d + 1) (g.bytes ++ pieces)
                 go nil c st t = absurd (omega arith)
                 go (cons y ys) c st t =
                     let a = first_stands s out m wd four left p e y ys st in
@@ -244,7 +244,7 @@ module _ (s w : List ℕ) (m : Map) (wd n left at code lim to : ℕ) where
                     let u = (told four _ y (omega (arith, j)) a.0).0 in
                     record { ys = ys; many = omega arith; stand = rw u (others_stay four _ e ys h a.1); same = step four _ y (omega (arith, j)) a.0 ys ∙ t }
 
-            pub going_next : Going w4 z.at (k - 1) 1 r
+            pub going_next : Going w4 z.at (k - 1) (d + 1) r
             going_next = record {
               printable = printable_four;
               some = next-some;

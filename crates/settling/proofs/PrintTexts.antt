@@ -1,7 +1,7 @@
 -- The printed forms of symbols by parts: what is put, and what is left. Assumes nothing.
 use mathlib.Core.Path.{◌≡◌, refl, sym, ap, ◌∙◌}
 use mathlib.Core.List.{List, [], ◌++◌, append_assoc}
-use Prim.Native.Nat.{ℕ, zero, suc}
+use Prim.Native.Nat.{ℕ, zero, suc, ◌+◌}
 use native.Mathlib.Omega.{arith}
 use borrow.Author.Tests.{ne_eqb}
 use lib.Dec.{eqb}
@@ -22,6 +22,11 @@ unfolding rest_text pick shown_all shown_more
 rest_none zero sep = refl
 rest_none (suc d) sep = cc (ne_eqb (suc d) 0 (λ q. absurd (omega (arith, q))))
 
+-- behind a symbol others do
+rest_more : (d : ℕ) (xs : Syms) (sep : Text) → rest_text (d + 1) xs sep ≡ shown_more xs sep []
+unfolding rest_text pick
+rest_more d xs sep = cc (ne_eqb (d + 1) 0 (λ q. absurd (omega (arith, q))))
+
 rest_first : (c d : ℕ) (x : Sym) (xs : Syms) → between_by c d ++ (print x ++ shown_more xs (between_by c 1) []) ≡ rest_text d (cons x xs) (between_by c 1)
 unfolding rest_text pick shown_all shown_more between_by
 rest_first c zero x xs = print-then x (shown_more xs (between_by c 1) [])
@@ -35,14 +40,13 @@ pub print-whole : (x : Sym) → print x ≡ before_text x ++ (shown_all (childre
 print-whole x = print-parts x ∙ ap (λ (y : Text). before_text x ++ y) (sym (shown_all_app (children x) (between_text x) [] (behind_text x)))
 
 -- theorem: what was put, then a separator and a symbol, then the others
-pub rest_one : (bytes : List ℕ) (c d : ℕ) (x : Sym) (xs : Syms) (b : List ℕ) → b ≡ print x → (bytes ++ (between_by c d ++ b)) ++ rest_text 1 xs (between_by c 1) ≡ bytes ++ rest_text d (cons x xs) (between_by c 1)
-unfolding rest_text pick
+pub rest_one : (bytes : List ℕ) (c d : ℕ) (x : Sym) (xs : Syms) (b : List ℕ) → b ≡ print x → (bytes ++ (between_by c d ++ b)) ++ rest_text (d + 1) xs (between_by c 1) ≡ bytes ++ rest_text d (cons x xs) (between_by c 1)
 rest_one bytes c d x xs b z =
     let r = shown_more xs (between_by c 1) [] in
-    ap (λ (u : Text). (bytes ++ (between_by c d ++ u)) ++ r) z ∙ append_assoc bytes (between_by c d ++ print x) r
+    ap (λ (u : Text). (bytes ++ (between_by c d ++ b)) ++ u) (rest_more d xs (between_by c 1)) ∙ ap (λ (u : Text). (bytes ++ (between_by c d ++ u)) ++ r) z ∙ append_assoc bytes (between_by c d ++ print x) r
     ∙ ap (λ (u : Text). bytes ++ u) (append_assoc (between_by c d) (print x) r ∙ rest_first c d x xs)
 
 -- theorem: the symbol by its parts
 pub rest_step : (bytes : List ℕ) (c d : ℕ) (x : Sym) (xs : Syms) (a b e : List ℕ) → a ≡ before_text x → b ≡ shown_all (children x) (between_text x) [] → e ≡ behind_text x
-    → (bytes ++ (between_by c d ++ (a ++ (b ++ e)))) ++ rest_text 1 xs (between_by c 1) ≡ bytes ++ rest_text d (cons x xs) (between_by c 1)
+    → (bytes ++ (between_by c d ++ (a ++ (b ++ e)))) ++ rest_text (d + 1) xs (between_by c 1) ≡ bytes ++ rest_text d (cons x xs) (between_by c 1)
 rest_step bytes c d x xs a b e i j k = rest_one bytes c d x xs (a ++ (b ++ e)) (cc (i, j, k, print-whole x))

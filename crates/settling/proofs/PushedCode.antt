@@ -23,9 +23,9 @@ use Rattle.expander.proofs.GroundLaws.{keys_slots, slots_top}
 use Rattle.settling.specs.Pushed.{slot_text, Markable, MarksOne}
 
 -- ---- mark_text
-pub text_marked : (w w1 : List ℕ) (base k v : ℕ) → v ≡ cell_at w base k → w1 ≡ store w (base + 24 * k + 20) (le 4 (v % 2147483648 + 2147483648))
+pub text_marked : (w w1 : List ℕ) (base k v x : ℕ) → v ≡ cell_at w base k → x ≡ v % 2147483648 + 2147483648 → w1 ≡ store w (base + 24 * k + 20) (le 4 x)
     → w1 ≡ store w (base + 24 * k + 20) (le 4 (cell_at w base k % 2147483648 + 2147483648))
-text_marked w w1 base k v e f = f ∙ ap (λ (x : ℕ). store w (base + 24 * k + 20) (le 4 (x % 2147483648 + 2147483648))) e
+text_marked w w1 base k v x e d f = f ∙ ap (λ (y : ℕ). store w (base + 24 * k + 20) (le 4 y)) (d ∙ ap (λ (y : ℕ). y % 2147483648 + 2147483648) e)
 
 pub ruleset text_marking = (rules, text_marked)
 

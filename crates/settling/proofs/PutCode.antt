@@ -1,12 +1,13 @@
--- The ways out of copy_down, put_byte, put_down, put_from, put_inside, escape_down and escape_from. Assumes nothing.
+-- The ways out of copy_down, put_slice, put_inside and escape. Assumes nothing.
 use mathlib.Core.Path.{◌≡◌, refl, sym, ap, ◌∙◌}
-use mathlib.Core.Logic.{inr}
+use mathlib.Core.Logic.{◌⊎◌, inl, inr}
 use mathlib.Core.List.{List, [], ◌∷◌, ◌++◌}
 use Prim.Native.Nat.{ℕ, ◌+◌, ◌-◌, ◌<◌, ◌≤◌}
 use native.Mathlib.Omega.{arith}
 use borrow.Author.Rules.{rules}
 use borrow.Author.Tests.{ne_eqb}
 use lib.ListN.{length, take, drop, get_or}
+use lib.Seq.{take_all}
 use Rattle.octets.specs.Plain.Runs.{part}
 use Rattle.octets.specs.Working.Stores.{store}
 use Rattle.octets.proofs.PartLaws.{part_none, part-one, part_length}
@@ -15,6 +16,7 @@ use Rattle.parse_tree.specs.Plain.Tree.{Text}
 use Rattle.parse_tree.specs.Plain.Display.{escaped}
 use Rattle.display.proofs.StandsLaws.{escaped-one}
 use Rattle.precedence.specs.Write.{Puts}
+use Rattle.settling.specs.Escape.{StaysFrom}
 use Rattle.precedence.proofs.WriteLaws.{puts_beside, puts_none}
 use Rattle.settling.proofs.PutLaws.{puts_stop, then, puts_as}
 
@@ -24,72 +26,65 @@ pasted w a e to h k l =
     let n : length (part a e w) ≡ e - a = part_length a e w l in
     ap (λ (x : ℕ). take to w ++ part a e w ++ drop (to + x) w) (sym n) ∙ sym (store_is w to (part a e w) (omega (arith, n)))
 
--- ---- put_two, put_inside
-pub two_put : (w w1 w2 : List ℕ) (x y lim to q r : ℕ) → Puts w lim to (x ∷ []) q w1 → Puts w1 lim q (y ∷ []) r w2 → Puts w lim to (x ∷ y ∷ []) r w2
-two_put w w1 w2 x y lim to q r a b = then a b
+-- ---- put_slice
+pub slice_put : (w w1 t : List ℕ) (lim to r : ℕ) → Puts w lim to (part 0 (length t) t) r w1 → Puts w lim to t r w1
+unfolding part
+slice_put w w1 t lim to r p = puts_as (take_all (length t - 0) t (omega arith)) p
 
+pub ruleset slicing = (rules, slice_put)
+
+-- ---- put_inside
 module _ (w : List ℕ) (b lim to r : ℕ) (w2 : List ℕ) where
-  pub inside-quote : b ≡ 34 → Puts w lim to (92 ∷ b ∷ []) r w2 → Puts w lim to (escaped (b ∷ []) []) r w2
+  pub inside_marked : (q : ℕ) (w1 : List ℕ) → (b ≡ 34) ⊎ (b ≡ 92) → Puts w lim to (92 ∷ []) q w1 → Puts w1 lim q (b ∷ []) r w2 → Puts w lim to (escaped (b ∷ []) []) r w2
   unfolding escaped
-  inside-quote e c = let z = rw e at c in rw e z
+  inside_marked q w1 (inl e) a c = let z = rw e at (then a c) in rw e z
+  inside_marked q w1 (inr e) a c = let z = rw e at (then a c) in rw e z
 
-  pub inside-slash : b ≡ 92 → Puts w lim to (92 ∷ b ∷ []) r w2 → Puts w lim to (escaped (b ∷ []) []) r w2
+  pub inside_plain : ((b ≡ 34) ⊎ (b ≡ 92) → ⊥) → Puts w lim to (b ∷ []) r w2 → Puts w lim to (escaped (b ∷ []) []) r w2
   unfolding escaped
-  inside-slash e c = let z = rw e at c in rw e z
+  inside_plain n c = rw (ne_eqb b 34 (λ e. n (inl e)), ne_eqb b 92 (λ e. n (inr e))) c
 
-  pub inside-plain : (b ≡ 34 → ⊥) → (b ≡ 92 → ⊥) → Puts w lim to (b ∷ []) r w2 → Puts w lim to (escaped (b ∷ []) []) r w2
-  unfolding escaped
-  inside-plain n m c = rw (ne_eqb b 34 n, ne_eqb b 92 m) c
+pub ruleset quoting = (rules, inside_marked, inside_plain)
 
-pub ruleset quoting = (rules, two_put, inside-quote, inside-slash, inside-plain)
-
--- ---- escape_down, escape_from: of src the bytes from i up to e are left; from lim on nothing is written
+-- ---- escape: of src the bytes from i up to e are left
 pub record Escaping (src w : List ℕ) (a e lim to : ℕ) (out : List ℕ) (i q : ℕ) : Type 0 where
   pub carry : (r : ℕ) (w1 : List ℕ) → Puts out lim q (escaped (part i e src) []) r w1 → Puts w lim to (escaped (part a e src) []) r w1
-  pub from : a ≤ i
-  pub inside : e ≤ length src
-  pub stop : q ≤ lim + 1
-  pub same : length out ≡ length w
-  pub kept : (k : ℕ) → lim ≤ k → get_or out k 0 ≡ get_or w k 0
 
-pub escape_start : (src w : List ℕ) (a e lim to : ℕ) → to ≤ lim + 1 → e ≤ length src → Escaping src w a e lim to w a to
-escape_start src w a e lim to g l = record { carry = λ r w1 p. p; from = omega arith; inside = l; stop = g; same = refl; kept = λ k h. refl }
-
-module _ (src w : List ℕ) (a e lim to : ℕ) (out : List ℕ) (i q : ℕ) (g : Escaping src w a e lim to out i q) where
-  pub escape_inside : i < e → i < length src
-  escape_inside h = omega (arith, g.inside)
-
-  pub escape_stop : q ≤ lim + 1
-  escape_stop = g.stop
-
-  pub escape_same : length out ≡ length w
-  escape_same = g.same
-
-  pub escape_next : (b r : ℕ) (w1 : List ℕ) → i < e → b ≡ get_or src i 0 → Puts out lim q (escaped (b ∷ []) []) r w1 → Escaping src w a e lim to w1 (i + 1) r
+module _ (src w : List ℕ) (a e lim to : ℕ) (out : List ℕ) (i q : ℕ) (g : Escaping src w a e lim to out i q) (l : e ≤ length src) where
+  escape_next : (b r : ℕ) (w1 : List ℕ) → i < e → b ≡ get_or src i 0 → Puts out lim q (escaped (b ∷ []) []) r w1 → Escaping src w a e lim to w1 (i + 1) r
   escape_next b r w1 h j p =
-      let z : part i e src ≡ b ∷ part (i + 1) e src = part-one i e src h (omega (arith, g.inside)) ∙ ap (λ (x : ℕ). x ∷ part (i + 1) e src) (sym j) in
+      let z : part i e src ≡ b ∷ part (i + 1) e src = part-one i e src h l ∙ ap (λ (x : ℕ). x ∷ part (i + 1) e src) (sym j) in
       let y : escaped (b ∷ []) [] ++ escaped (part (i + 1) e src) [] ≡ escaped (part i e src) [] = sym (escaped-one b (part (i + 1) e src)) ∙ ap (λ (t : Text). escaped t []) (sym z) in
-      record {
-        carry = λ r2 w2 d. g.carry r2 w2 (puts_as y (then p d));
-        from = omega (arith, g.from);
-        inside = g.inside;
-        stop = puts_stop out lim q (escaped (b ∷ []) []) r w1 p;
-        same = p.long ∙ g.same;
-        kept = λ k l. puts_beside out w1 lim q (escaped (b ∷ []) []) r p k (inr l) ∙ g.kept k l;
-      }
+      record { carry = λ r2 w2 d. g.carry r2 w2 (puts_as y (then p d)) }
 
-  pub escape_done : e ≤ i → Puts w lim to (escaped (part a e src) []) q out
+  escape_done : e ≤ i → q ≤ lim + 1 → Puts w lim to (escaped (part a e src) []) q out
   unfolding escaped
-  escape_done h =
+  escape_done h k =
       let z : [] ≡ escaped (part i e src) [] = ap (λ (t : Text). escaped t []) (sym (part_none i e src h)) in
-      g.carry q out (puts_as z (puts_none out lim q g.stop))
+      g.carry q out (puts_as z (puts_none out lim q k))
 
--- the bytes of work itself
-module _ (w : List ℕ) (a e lim to : ℕ) (out : List ℕ) (i q : ℕ) (g : Escaping w w a e lim to out i q) where
-  pub escape_here : i < e → i < length out
-  escape_here h = omega (arith, g.inside, g.same)
+-- whatever the list is whose bytes are told; R are the references to work
+module _ {R : Type 0} (now : R → List ℕ) (Post : R → ℕ → ℕ → Type 0) (w : List ℕ) (a e lim to : ℕ) where
+  pub record Telling (out : List ℕ) (i q : ℕ) : Type 0 where
+    pub stays : StaysFrom lim w out
+    pub from : a ≤ i
+    pub stop : q ≤ lim + 1
+    pub each : (s : List ℕ) → e ≤ length s → ((x : R) (i b : ℕ) → StaysFrom lim w (now x) → a ≤ i → i < e → Post x i b → b ≡ get_or s i 0) → Escaping s w a e lim to out i q
 
-  pub escape_read : (r : ℕ) (w1 : List ℕ) → lim ≤ a → i < e → Puts out lim q (escaped (get_or out i 0 ∷ []) []) r w1 → Escaping w w a e lim to w1 (i + 1) r
-  escape_read r w1 l h p = escape_next w w a e lim to out i q g (get_or out i 0) r w1 h (g.kept i (omega (arith, g.from))) p
+  pub telling_start : to ≤ lim + 1 → Telling w a to
+  telling_start h = record { stays = record { long = refl; kept = λ k l. refl }; from = omega arith; stop = h; each = λ s l t. record { carry = λ r w1 p. p } }
 
-pub ruleset escaping = (rules, escape_start, escape_inside, escape_stop, escape_same, escape_next, escape_done, escape_here, escape_read)
+  module _ (out : List ℕ) (i q : ℕ) (g : Telling out i q) where
+    pub telling_next : (x : R) (b r : ℕ) (w1 : List ℕ) → i < e → now x ≡ out → Post x i b → Puts out lim q (escaped (b ∷ []) []) r w1 → Telling w1 (i + 1) r
+    telling_next x b r w1 h j f p = record {
+      stays = record {
+        long = p.long ∙ g.stays.long;
+        kept = λ k l. puts_beside out w1 lim q (escaped (b ∷ []) []) r p k (inr l) ∙ g.stays.kept k l;
+      };
+      from = omega (arith, g.from);
+      stop = puts_stop out lim q (escaped (b ∷ []) []) r w1 p;
+      each = λ s l t. escape_next s w a e lim to out i q (g.each s l t) l b r w1 h (t x i b (rw j g.stays) g.from h f) p;
+    }
+
+    pub telling_done : e ≤ i → (s : List ℕ) → e ≤ length s → ((x : R) (i b : ℕ) → StaysFrom lim w (now x) → a ≤ i → i < e → Post x i b → b ≡ get_or s i 0) → Puts w lim to (escaped (part a e s) []) q out
+    telling_done h s l t = escape_done s w a e lim to out i q (g.each s l t) l h g.stop

@@ -3,7 +3,7 @@ use mathlib.Core.Path.{◌≡◌, refl, sym, ap, ◌∙◌}
 use mathlib.Core.Bool.{Bool, true, false, cond}
 use mathlib.Core.Logic.{inl, inr}
 use mathlib.Core.List.{List, [], ◌∷◌, ◌++◌}
-use Prim.Native.Nat.{ℕ, ◌+◌, ◌*◌, ◌/◌, ◌^◌, ◌<◌, ◌≤◌}
+use Prim.Native.Nat.{ℕ, ◌+◌, ◌*◌, ◌^◌, ◌<◌, ◌≤◌}
 use native.Mathlib.Omega.{arith}
 use borrow.Author.Rules.{rules}
 use borrow.Author.Tests.{ne_eqb}
@@ -17,11 +17,14 @@ use Rattle.octets.proofs.PartLaws.{part_none}
 use Rattle.parse_tree.specs.Plain.Tree.{Text}
 use Rattle.parse_tree.specs.Plain.Display.{escaped}
 use Rattle.texts.specs.declared.Map.{Map}
+use Rattle.texts.specs.declared.mark.Stand.{Stand}
+use Rattle.texts.specs.Marks.{stand_of}
+use Rattle.texts.proofs.MarkLaws.{is_work}
 use Rattle.texts.specs.Fields.{mark_at}
 use Rattle.texts.specs.Atoms.{atom_end, atom_text}
 use Rattle.texts.specs.Texts.{marked_text, Whole, Behind}
 use Rattle.texts.specs.Table.{Above, texts}
-use Rattle.texts.proofs.TextCode.{tape_whole, work_whole, tape_text, work_text, length_texts, texts-at}
+use Rattle.texts.proofs.TextCode.{work_fits, tape_whole, work_whole, tape_text, work_text, length_texts, texts-at}
 use Rattle.grades.specs.Grading.{Worded}
 use Rattle.display.specs.Follow.{quoted_text, word_at, leaf_text, mark_text, label_text, name_text}
 use Rattle.precedence.specs.Write.{Puts}
@@ -34,55 +37,68 @@ use Rattle.settling.proofs.WordsLaws.{fixed_same, source_next}
 not_here : false ≡ true → ⊥
 not_here q = let n : ◌≡◌ {A = ℕ} 1 0 = ap (λ (b : Bool). cond b 0 1) q in absurd (omega arith)
 
--- ---- mark_source
+-- ---- mark_source: r is where the mark's command stands
 module _ (s w : List ℕ) (x : ℕ) (g : Whole s w x) where
-  pub tape_two : x / 4 < length s → x / 4 + 1 + 2 ≤ length s
-  unfolding atom_end
-  tape_two h = omega (arith, tape_whole s w x g h)
+  pub mark_fits : length w < 2 ^ 64 → 4 * length s ≤ x → x + 4 * length s < 2 ^ 64
+  mark_fits l h = work_fits s w x g l h
 
-  pub tape_marked : (m n : ℕ) → x / 4 < length s → m ≡ le_at 2 s (x / 4 + 1) → n ≡ m → Marked s w x (Source.Tape (x / 4 + 3) (x / 4 + 3 + n))
-  unfolding source_text pick atom_end atom_text
-  tape_marked m n h e d =
-      let z : n ≡ le_at 2 s (x / 4 + 1) = d ∙ e in
-      record {
-        text = ap (λ (k : ℕ). part (x / 4 + 3) (x / 4 + 3 + k) s) z ∙ tape_text s w x (atom_text s (x / 4)) h refl;
-        ordered = omega arith;
-        tape = λ q. omega (arith, tape_whole s w x g h, z);
-        work = λ q. absurd (not_here q);
-        far = λ q. absurd (not_here q);
-        behind = λ q. absurd (not_here q);
-      }
-
-  module _ (h : length s ≤ x / 4) where
-    pub work_two : x + 4 * length s + 1 + 2 ≤ length w
-    unfolding atom_end
-    work_two = omega (arith, work_whole s w x g h)
-
-    pub work_fits : (k : ℕ) → k ≤ 3 → length w < 2 ^ 64 → Fits w64 (x + 4 * length s + k)
-    work_fits k l f = record { fits = omega (arith, work_two) }
-
-    pub work_place : length w < 2 ^ 64 → Fits w64 (x + 4 * length s)
-    work_place f = record { fits = omega (arith, work_two) }
-
-    module _ (m n : ℕ) (e : m ≡ le_at 2 w (x + 4 * length s + 1)) (d : n ≡ m) where
-      pub work_end : length w < 2 ^ 64 → Fits w64 (x + 4 * length s + 3 + n)
+  module _ (r : Stand) (a : ℕ) (p : r ≡ stand_of (length s) x) where
+    module _ (e : r ≡ Stand.Tape a) where
+      pub tape_two : a + 1 + 2 ≤ length s
       unfolding atom_end
-      work_end f = record { fits = omega (arith, work_whole s w x g h, d, e) }
+      tape_two = omega (arith, tape_whole s w x r a p e g)
 
-      pub work_marked : Marked s w x (Source.Work (x + 4 * length s + 3) (x + 4 * length s + 3 + n))
-      unfolding source_text pick atom_end atom_text
-      work_marked =
-          let z : n ≡ le_at 2 w (x + 4 * length s + 1) = d ∙ e in
-          record {
-            text = ap (λ (k : ℕ). part (x + 4 * length s + 3) (x + 4 * length s + 3 + k) w) z ∙ work_text s w x (atom_text w (x + 4 * length s)) h refl;
-            ordered = omega arith;
-            tape = λ q. absurd (not_here (sym q));
-            work = λ q. omega (arith, work_whole s w x g h, z);
-            far = λ q. omega arith;
-            behind = λ q. omega arith;
-          }
+      pub tape_near : (k : ℕ) → k ≤ 3 → length s < 2 ^ 64 → Fits w64 (a + k)
+      tape_near k l f = record { fits = omega (arith, tape_two) }
 
-pub ruleset marking = (rules, tape_two, tape_marked, work_two, work_fits, work_place, work_end, work_marked)
+      module _ (m n : ℕ) (f : m ≡ le_at 2 s (a + 1)) (d : n ≡ m) where
+        pub tape_end : length s < 2 ^ 64 → Fits w64 (a + 3 + n)
+        unfolding atom_end
+        tape_end l = record { fits = omega (arith, tape_whole s w x r a p e g, d, f) }
+
+        pub tape_marked : Marked s w x (Source.Tape (a + 3) (a + 3 + n))
+        unfolding source_text pick atom_end atom_text
+        tape_marked =
+            let z : n ≡ le_at 2 s (a + 1) = d ∙ f in
+            record {
+              text = ap (λ (k : ℕ). part (a + 3) (a + 3 + k) s) z ∙ tape_text s w x r a p (atom_text s a) e refl;
+              ordered = omega arith;
+              tape = λ q. omega (arith, tape_whole s w x r a p e g, z);
+              work = λ q. absurd (not_here q);
+              far = λ q. absurd (not_here q);
+              behind = λ q. absurd (not_here q);
+            }
+
+    module _ (e : r ≡ Stand.Work a) where
+      pub work_two : a + 1 + 2 ≤ length w
+      unfolding atom_end
+      work_two = omega (arith, work_whole s w x r a p e g)
+
+      pub work_near : (k : ℕ) → k ≤ 3 → length w < 2 ^ 64 → Fits w64 (a + k)
+      work_near k l f = record { fits = omega (arith, work_two) }
+
+      module _ (m n : ℕ) (f : m ≡ le_at 2 w (a + 1)) (d : n ≡ m) where
+        pub work_end : length w < 2 ^ 64 → Fits w64 (a + 3 + n)
+        unfolding atom_end
+        work_end l = record { fits = omega (arith, work_whole s w x r a p e g, d, f) }
+
+        pub work_marked : Marked s w x (Source.Work (a + 3) (a + 3 + n))
+        unfolding source_text pick atom_end atom_text
+        work_marked =
+            let z : n ≡ le_at 2 w (a + 1) = d ∙ f in
+            let y = is_work (length s) x r a p e in
+            let y0 = y.0 in
+            let y1 = y.1 in
+            record {
+              text = ap (λ (k : ℕ). part (a + 3) (a + 3 + k) w) z ∙ work_text s w x r a p (atom_text w a) e refl;
+              ordered = omega arith;
+              tape = λ q. absurd (not_here (sym q));
+              work = λ q. omega (arith, work_whole s w x r a p e g, z);
+              far = λ q. omega arith;
+              behind = λ q. omega arith;
+            }
+
+pub ruleset marking = (rules, mark_fits, tape_two, tape_near, tape_end, tape_marked, work_two, work_near, work_end, work_marked)
 
 -- ---- word_source
 module _ (wd : ℕ) (s w : List ℕ) (m : Map) (at x k : ℕ) (j : x ≡ le_at wd w at) (q : k ≡ x) where
@@ -126,9 +142,6 @@ module _ (s w : List ℕ) (lim : ℕ) (p : Source) (f : Fixed (length s) (length
     here : Fixed (length s) (length w) lim (Source.Work a e)
     here = rw h at f
 
-    pub here_ordered : a ≤ e
-    here_ordered = here.ordered
-
     pub here_behind : lim ≤ a
     here_behind = here.behind refl
 
@@ -147,9 +160,6 @@ module _ (s w : List ℕ) (lim : ℕ) (p : Source) (f : Fixed (length s) (length
     there : Fixed (length s) (length w) lim (Source.Tape a e)
     there = rw h at f
 
-    pub tape_ordered : a ≤ e
-    tape_ordered = there.ordered
-
     pub tape_inside : e ≤ length s
     tape_inside = there.tape refl
 
@@ -160,8 +170,6 @@ module _ (s w : List ℕ) (lim : ℕ) (p : Source) (f : Fixed (length s) (length
     pub tape_escaped : (to r : ℕ) (w1 : List ℕ) → Puts w lim to (escaped (part a e s) []) r w1 → Puts w lim to (escaped (source_text s w p) []) r w1
     unfolding source_text
     tape_escaped to r w1 g = puts_as (sym (ap (λ (q : Source). escaped (source_text s w q) []) h)) g
-
-pub ruleset reading = (rules, here_ordered, here_behind, here_inside, here_text, here_escaped, tape_ordered, tape_inside, tape_put, tape_escaped)
 
 -- ---- put_quoted
 pub quoted_put : (s w w1 w2 w3 : List ℕ) (lim to q z r : ℕ) (p : Source) → Fixed (length s) (length w) lim p → Puts w lim to (34 ∷ []) q w1 → Puts w1 lim q (escaped (source_text s w1 p) []) z w2 → Puts w2 lim z (34 ∷ []) r w3
@@ -195,11 +203,7 @@ module _ (s w : List ℕ) (lim to r : ℕ) (p : Source) (c : ℕ) (w4 : List ℕ
 
 pub ruleset leafing = (rules, puts_stop, fixed_same, regex_put, leaf_quoted, leaf_regex, leaf_plain)
 
--- ---- put_error, put_mark
-pub error_put : (w w1 w2 w3 : List ℕ) (lim to a b r : ℕ) → Puts w lim to (101 ∷ 114 ∷ []) a w1 → Puts w1 lim a (114 ∷ 111 ∷ []) b w2 → Puts w2 lim b (114 ∷ []) r w3
-    → Puts w lim to (101 ∷ 114 ∷ 114 ∷ 111 ∷ 114 ∷ []) r w3
-error_put w w1 w2 w3 lim to a b r e f g = then e (then f g)
-
+-- ---- put_mark
 module _ (w : List ℕ) (lim to r c : ℕ) (w2 : List ℕ) where
   pub mark_left : c ≡ 42 → Puts w lim to (64 ∷ 76 ∷ []) r w2 → Puts w lim to (mark_text c) r w2
   unfolding mark_text pick
@@ -213,13 +217,13 @@ module _ (w : List ℕ) (lim to r c : ℕ) (w2 : List ℕ) where
   unfolding mark_text pick
   mark_error n m a = rw (ne_eqb c 42 n, ne_eqb c 43 m) a
 
-pub ruleset leaving = (rules, puts_stop, error_put, mark_left, mark_right, mark_error)
+pub ruleset leaving = (rules, mark_left, mark_right, mark_error)
 
 -- ---- put_label, put_name
 module _ (w : List ℕ) (b lim to : ℕ) where
-  pub label_some : (x r : ℕ) (w1 w2 : List ℕ) → b ≡ 1 → Puts w lim to (109 ∷ 117 ∷ []) x w1 → Puts w1 lim x (116 ∷ 32 ∷ []) r w2 → Puts w lim to (label_text b) r w2
+  pub label_some : (r : ℕ) (w1 : List ℕ) → b ≡ 1 → Puts w lim to (109 ∷ 117 ∷ 116 ∷ 32 ∷ []) r w1 → Puts w lim to (label_text b) r w1
   unfolding label_text pick
-  label_some x r w1 w2 e a c = rw e (then a c)
+  label_some r w1 e a = rw e a
 
   pub label_none : (b ≡ 1 → ⊥) → to ≤ lim + 1 → Puts w lim to (label_text b) to w
   unfolding label_text pick

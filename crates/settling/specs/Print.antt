@@ -3,10 +3,10 @@
 use Rattle.std.specs.Prelude.{◌≡◌, Bool, List, [], ℕ, ◌+◌, ◌*◌, ◌≤◌, ◌<◌, length, get_or}
 use Rattle.parse_tree.specs.Plain.Tree.{Sym, Syms, count}
 use Rattle.parse_tree.specs.Plain.Display.{shown_all, print}
+use Rattle.parse_tree.specs.Working.Nodes.{long_of}
+use Rattle.parse_tree.specs.Working.Nested.{inside_by}
 use Rattle.texts.specs.declared.Map.{Map}
 use Rattle.texts.specs.Table.{Above, texts}
-use Rattle.resolve.specs.Commands.{long_of}
-use Rattle.grades.specs.Skip.{inside_by}
 use Rattle.display.specs.Standing.{Readable, SymStands, SymsStand}
 use Rattle.display.specs.Follow.{before_by, between_by}
 use Rattle.precedence.specs.Write.{Puts}

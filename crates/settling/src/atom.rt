@@ -8,8 +8,7 @@ ghost use Rattle.expander.specs.Ground.{printed_at};
 ghost use Rattle.settling.specs.Atom.{AtomReady};
 
 use crate::copied::{Print, put_symbol};
-use appending::commands::put;
-use octets::numbers::store16;
+use precedence::write::put;
 
 // The command of a text of so many bytes.
 fn put_head(work: &mut [u8], len: u16, lim: usize, to: usize) -> usize
@@ -17,8 +16,7 @@ fn put_head(work: &mut [u8], len: u16, lim: usize, to: usize) -> usize
     ensures { Puts work.old lim to (1 ∷ le 2 len) result work.new }
 {
     put(work, 3, lim, to, move |w| {
-        store16(w, to + 1, len);
-        w[to] = 1;
+        texts::text::put_atom_head(len, w, to);
     })
 }
 

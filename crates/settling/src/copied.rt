@@ -6,15 +6,16 @@ ghost use Rattle.precedence.specs.Write.{Puts};
 ghost use Rattle.expander.specs.Ground.{printed_at, Grounded};
 ghost use Rattle.settling.specs.Copied.{TextStands, Said, Copying, SaidSymbol, SaidSymbols, KnownText, SaidAround, Behinds, PutsAll};
 
+use crate::Page;
 use crate::print::{print_symbol, put_before, put_behind, put_between};
 use crate::words::{mark_source, put_text};
 use display::follow::inside;
 use expander::Ground;
+use expander::meet::symbol_end;
 use expander::replace::is_expanded;
 use expander::slots::{Noted, reference};
-use grades::skip::skip;
 use resolve::commands::long;
-use texts::fields::mark;
+use texts::fields::text_mark;
 
 // What stays while a text is printed: the ground, the number from which on new texts are written, and the place before which to write.
 #[derive(Clone, Copy)]
@@ -52,7 +53,7 @@ fn put_known(tape: &[u8], work: &mut [u8], x: Print, k: usize, to: usize) -> usi
     requires { Copying tape.now work.old x to × TextStands tape.now work.old x k }
     ensures { Puts work.old x.lim to (marked_text tape.now work.old (mark_at work.old x.g.m.base k)) result work.new }
 {
-    let p = mark_source(tape, work, mark(work, x.g.m.base, k));
+    let p = mark_source(tape, work, text_mark(work, x.g.m.base, k));
     put_text(tape, work, p, x.lim, to)
 }
 
@@ -62,12 +63,19 @@ fn put_walked(tape: &[u8], work: &mut [u8], x: Print, left: usize, p: usize, to:
     ensures { Puts work.old x.lim to (printed_at tape.now work.old x.g p) result work.new }
 {
     let at = x.g.from + p;
+    // A method of Print would be cited with its four equations, here and twice below.
+    let page = Page {
+        tape,
+        m: x.g.m,
+        width: x.g.width,
+        lim: x.lim,
+    };
     let c = work[at];
     if inside(work, x.g.width, at, c) == 0 {
-        let q = put_before(tape, work, x.g.m, x.g.width, at, c, x.lim, to);
+        let q = put_before(page, work, at, c, to);
         put_behind(work, x.g.width.bytes, at, c, x.lim, q)
     } else {
-        print_symbol(tape, work, x.g.m, x.g.width, left, at, x.lim, to)
+        print_symbol(page, work, left, at, to)
     }
 }
 
@@ -96,19 +104,25 @@ fn put_around(
     ensures { Puts work.old x.lim to (printed_at tape.now work.old x.g p) result work.new }
 {
     let at = x.g.from + p;
+    let page = Page {
+        tape,
+        m: x.g.m,
+        width: x.g.width,
+        lim: x.lim,
+    };
     let e = p + long(c, x.g.width);
-    let q = put_before(tape, work, x.g.m, x.g.width, at, c, x.lim, to);
+    let q = put_before(page, work, at, c, to);
     let z = put_one(tape, work, x, left - 1, e, q);
     put_behind(work, x.g.width.bytes, at, c, x.lim, z)
 }
 
-// Of any.
+// The printed form of any symbol at p: its own text is copied if that stands, or else the inner one's, if it is around one other.
 fn put_part(tape: &[u8], work: &mut [u8], x: Print, left: usize, p: usize, to: usize) -> usize
     requires { Copying tape.now work.old x to × SaidSymbol tape.now work.old x left p }
     ensures { Puts work.old x.lim to (printed_at tape.now work.old x.g p) result work.new }
 {
     let c = work[x.g.from + p];
-    if 39 <= c && c <= 40 {
+    if matches!(c, 39..=40) {
         put_around(tape, work, x, left, p, c, to)
     } else {
         put_one(tape, work, x, left, p, to)
@@ -117,19 +131,13 @@ fn put_part(tape: &[u8], work: &mut [u8], x: Print, left: usize, p: usize, to: u
 
 // The place behind the symbol at p, if more than one is to come.
 fn behind(tape: &[u8], work: &[u8], x: Print, left: usize, p: usize, k: usize) -> usize
-    requires { Grounded tape.now work.now x.g × (x.g.end + 16 ≤ length work.now) × SaidSymbol tape.now work.now x left p }
+    requires { SaidSymbol tape.now work.now x left p }
     ensures { Behinds tape.now work.now x left p k result }
 {
     if k < 2 {
         return p;
     }
-    let at = x.g.from + p;
-    let c = work[at];
-    if inside(work, x.g.width, at, c) == 0 {
-        p + long(c, x.g.width)
-    } else {
-        skip(work, at, x.g.end, 1, x.g.width) - x.g.from
-    }
+    symbol_end(work, x.g.width, x.g.from + p) - x.g.from
 }
 
 // Of n symbols that stand at p, straight inside a command of the code c.
@@ -147,14 +155,11 @@ fn put_parts(
     ensures { PutsAll tape.now work.old x n left p c to result work.new }
 {
     let mut a = p;
-    // 0 before the first, 1 before any other.
-    let mut d = 0;
     let mut q = to;
     for i in 0..n {
-        let z = put_between(work, c, d, x.lim, q);
+        let z = put_between(work, c, i, x.lim, q);
         q = put_part(tape, work, x, left, a, z);
         a = behind(tape, work, x, left, a, n - i);
-        d = 1;
     }
     q
 }
@@ -165,10 +170,16 @@ pub fn put_symbol(tape: &[u8], work: &mut [u8], x: Print, left: usize, p: usize,
     ensures { Puts work.old x.lim to (printed_at tape.now work.old x.g p) result work.new }
 {
     let at = x.g.from + p;
+    let page = Page {
+        tape,
+        m: x.g.m,
+        width: x.g.width,
+        lim: x.lim,
+    };
     let c = work[at];
     let e = p + long(c, x.g.width);
     let n = inside(work, x.g.width, at, c);
-    let q = put_before(tape, work, x.g.m, x.g.width, at, c, x.lim, to);
+    let q = put_before(page, work, at, c, to);
     let z = put_parts(tape, work, x, left - 1, e, n, c, q);
     put_behind(work, x.g.width.bytes, at, c, x.lim, z)
 }

@@ -12,6 +12,18 @@ pub mod put;
 pub mod settle;
 pub mod words;
 
+use octets::numbers::Width;
+use texts::Map;
+
+// What printed forms are written by: the tape, the table of texts in work, the width of an atom's number, and where the room for them ends.
+#[derive(Clone, Copy)]
+pub struct Page<'a> {
+    pub tape: &'a [u8],
+    pub m: Map,
+    pub width: Width,
+    pub lim: usize,
+}
+
 // Where a text stands: on the tape or in work, from its first byte up to its end.
 #[derive(Clone, Copy)]
 pub enum Source {

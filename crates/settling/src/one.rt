@@ -1,7 +1,9 @@
 // One new text of a round: its length, its atom and its record.
-ghost use Rattle.std.specs.Prelude.{◌≡◌, ◌+◌, ◌*◌, ◌≤◌, ◌%◌, length};
+ghost use Rattle.std.specs.Prelude.{◌≡◌, length};
 ghost use Rattle.texts.specs.Forms.{stop};
-ghost use Rattle.expander.specs.Ground.{list_place, list_at, Grounded};
+ghost use Rattle.expander.specs.declared.entries.NewText.{NewText};
+ghost use Rattle.expander.specs.Ground.{list_at, Grounded};
+ghost use Rattle.expander.specs.Entries.{entry_code};
 ghost use Rattle.expander.specs.Names.{described_by};
 ghost use Rattle.settling.specs.One.{new_cell, TextPut, Entry, Puttable, TextReady, Written};
 
@@ -9,74 +11,53 @@ use crate::atom::put_atom_text;
 use crate::built::{built_length, put_built};
 use crate::copied::Print;
 use expander::Ground;
-use octets::numbers::u64_at;
+use expander::cells::TextCell;
+use expander::entries::{NewText, entry};
 use texts::fields::{cell, hash, mark, write};
+use texts::mark::TextMark;
 
-// The i-th entry of the list of new texts: a number, as the list lies in fixed memory; twice that of a print, or twice that of a built-in text and one more.
-pub fn entry(work: &[u8], g: Ground, i: usize) -> usize
-    requires { list_place g i + 8 ≤ length work.now }
-    ensures { result ≡ list_at work.now g i }
+// The length of a new text, stopped at 65,536.
+pub fn text_length(tape: &[u8], work: &[u8], g: Ground, x: NewText) -> usize
+    requires { Grounded tape.now work.now g × Entry tape.now work.now g (entry_code x) }
+    ensures { result ≡ stop (length (described_by tape.now work.now g (entry_code x))) }
 {
-    u64_at(work, g.m.base + 24 * g.m.count + 8 * i) as usize
-}
-
-// The length of the text that an entry describes, stopped at 65,536.
-pub fn text_length(tape: &[u8], work: &[u8], g: Ground, v: usize) -> usize
-    requires { Grounded tape.now work.now g × Entry tape.now work.now g v }
-    ensures { result ≡ stop (length (described_by tape.now work.now g v)) }
-{
-    if v % 2 == 0 {
-        cell(work, g.keys, v / 2) as usize
-    } else {
-        built_length(v / 2)
+    match x {
+        NewText::Print(j) => cell(work, g.keys, j) as usize,
+        NewText::BuiltIn(k) => built_length(k),
     }
 }
 
-// The print that an even entry describes, which has len bytes, as an atom that ends at `end`; says its hash. New texts are written from number `first` on.
-fn put_print(
-    tape: &[u8],
-    work: &mut [u8],
-    g: Ground,
-    first: usize,
-    v: usize,
-    len: usize,
-    end: usize,
-) -> usize
-    requires { Puttable tape.now work.old g first v len end × (v % 2 ≡ 0) }
-    ensures { TextPut work.old (described_by tape.now work.old g v) end result work.new }
+// The print of the symbol of record j, which has len bytes, as an atom that ends at x.lim; says its hash.
+fn put_print(tape: &[u8], work: &mut [u8], x: Print, j: usize, len: usize) -> u32
+    requires { Puttable tape.now work.old x.g x.first (entry_code (NewText.Print j)) len x.lim }
+    ensures { TextPut work.old (described_by tape.now work.old x.g (entry_code (NewText.Print j))) x.lim result work.new }
 {
-    let p = mark(work, g.keys, v / 2);
-    let h = hash(work, g.keys, v / 2);
-    let x = Print { g, first, lim: end };
+    let p = mark(work, x.g.keys, j);
+    let h = hash(work, x.g.keys, j);
     put_atom_text(tape, work, x, p, len);
     h
 }
 
-// The text that an entry describes, which has len bytes, as such an atom.
-fn put_new(
-    tape: &[u8],
-    work: &mut [u8],
-    g: Ground,
-    first: usize,
-    v: usize,
-    len: usize,
-    end: usize,
-) -> usize
-    requires { Puttable tape.now work.old g first v len end }
-    ensures { TextPut work.old (described_by tape.now work.old g v) end result work.new }
+// A new text, which has len bytes, as such an atom.
+fn put_new(tape: &[u8], work: &mut [u8], x: Print, y: NewText, len: usize) -> u32
+    requires { Puttable tape.now work.old x.g x.first (entry_code y) len x.lim }
+    ensures { TextPut work.old (described_by tape.now work.old x.g (entry_code y)) x.lim result work.new }
 {
-    if v % 2 == 0 {
-        put_print(tape, work, g, first, v, len, end)
-    } else {
-        put_built(work, v / 2, end)
+    match y {
+        NewText::Print(j) => put_print(tape, work, x, j, len),
+        NewText::BuiltIn(k) => put_built(work, k, x.lim),
     }
 }
 
-// The cell of the text that an entry describes: a print counts as pushed, a built-in text doesn't. A number in fixed memory.
-fn new_cell(v: usize) -> u32
-    ensures { result ≡ new_cell v }
+// The cell of a new text: a print counts as pushed, a built-in text doesn't. A number in fixed memory.
+fn new_cell(x: NewText) -> u32
+    ensures { result ≡ new_cell (entry_code x) }
 {
-    if v % 2 == 0 { 2147483648 } else { 0 }
+    let c = TextCell(0);
+    match x {
+        NewText::Print(_) => c.pushed().0,
+        NewText::BuiltIn(_) => c.0,
+    }
 }
 
 // The i-th new text as an atom that ends at `end`, and its record; says where it begins.
@@ -84,17 +65,16 @@ pub fn write_text(tape: &[u8], work: &mut [u8], g: Ground, i: usize, end: usize)
     requires { TextReady tape.now work.old g i end }
     ensures { Written tape.now work.old g i (described_by tape.now work.old g (list_at work.old g i)) end result work.new }
 {
-    let v = entry(work, g, i);
-    let len = text_length(tape, work, g, v);
-    let h = put_new(tape, work, g, g.m.count + i + 1, v, len, end);
+    let y = entry(work, g, i);
+    let len = text_length(tape, work, g, y);
+    let x = Print {
+        g,
+        first: g.m.count + i + 1,
+        lim: end,
+    };
+    let h = put_new(tape, work, x, y, len);
     let to = end - (len + 3);
-    write(
-        work,
-        g.m.base,
-        g.m.count + i,
-        to - 4 * tape.len(),
-        h,
-        new_cell(v),
-    );
+    let z = TextMark::in_work(tape, to);
+    write(work, g.m.base, g.m.count + i, z.number, h, new_cell(y));
     to
 }

@@ -7,6 +7,7 @@ ghost use Rattle.settling.specs.Pushed.{Markable, MarksOne};
 ghost use Rattle.settling.specs.Settle.{SomePushed, MarkedPushed};
 
 use expander::Ground;
+use expander::cells::TextCell;
 use expander::slots::{Noted, tells};
 use texts::fields::{cell, mark, put_cell};
 
@@ -15,8 +16,8 @@ fn mark_text(work: &mut [u8], base: usize, k: usize)
     requires { base + 24 * k + 24 ≤ length work.old }
     ensures { work.new ≡ store work.old (base + 24 * k + 20) (le 4 (cell_at work.old base k % 2147483648 + 2147483648)) }
 {
-    let v = cell(work, base, k);
-    put_cell(work, base, k, v % 2147483648 + 2147483648);
+    let c = TextCell(cell(work, base, k));
+    put_cell(work, base, k, c.pushed().0);
 }
 
 // The text of the j-th pushed symbol, if the table has it.

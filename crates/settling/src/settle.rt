@@ -1,8 +1,9 @@
 // The new texts of a round, once their stage is admitted: counted, then written and entered in the table, the last first.
 ghost use Rattle.settling.specs.Settle.{SomeNew, Counts, Settling, Settles};
 
-use crate::one::{entry, text_length, write_text};
+use crate::one::{text_length, write_text};
 use expander::Ground;
+use expander::entries::entry;
 use texts::Map;
 use texts::table::grow;
 
@@ -20,8 +21,8 @@ pub fn count_texts(tape: &[u8], work: &[u8], g: Ground, n: usize, c: usize) -> O
 {
     let mut bytes = 0;
     for i in 0..c {
-        let v = entry(work, g, i);
-        let l = text_length(tape, work, g, v);
+        let x = entry(work, g, i);
+        let l = text_length(tape, work, g, x);
         if 65535 < l {
             return None;
         }

@@ -8,36 +8,38 @@ ghost use Rattle.display.specs.Follow.{quoted_text, word_at, leaf_text, mark_tex
 ghost use Rattle.precedence.specs.Write.{Puts};
 ghost use Rattle.settling.specs.Put.{source_text, Fixed, Marked, PlacedText};
 
-use crate::Source;
-use crate::put::{escape_down, escape_from, put_byte, put_down, put_from, put_two};
-use octets::numbers::{Width, atom_at, u16_at};
-use texts::Map;
-use texts::fields::mark;
+use crate::put::{copy_down, escape, put_byte, put_from, put_slice};
+use crate::{Page, Source};
+use octets::numbers::{atom_at, u16_at};
+use precedence::write::put;
+use texts::fields::text_mark;
+use texts::mark::{Stand, TextMark};
 
 // Where the text of a mark stands.
-pub fn mark_source(tape: &[u8], work: &[u8], x: usize) -> Source
-    requires { Whole tape.now work.now x }
-    ensures { Marked tape.now work.now x result }
+pub fn mark_source(tape: &[u8], work: &[u8], x: TextMark) -> Source
+    requires { Whole tape.now work.now x.number }
+    ensures { Marked tape.now work.now x.number result }
 {
-    if x / 4 < tape.len() {
-        let a = x / 4 + 3;
-        let n = usize::from(u16_at(tape, x / 4 + 1));
-        Source::Tape(a, a + n)
-    } else {
-        let p = x + 4 * tape.len();
-        let n = usize::from(u16_at(work, p + 1));
-        Source::Work(p + 3, p + 3 + n)
+    match x.stand(tape) {
+        Stand::Tape(at) => {
+            let n = usize::from(u16_at(tape, at + 1));
+            Source::Tape(at + 3, at + 3 + n)
+        }
+        Stand::Work(at) => {
+            let n = usize::from(u16_at(work, at + 1));
+            Source::Work(at + 3, at + 3 + n)
+        }
     }
 }
 
 // Where the text stands whose number stands at a place.
-pub fn word_source(tape: &[u8], work: &[u8], m: Map, width: Width, at: usize) -> Source
-    requires { Worded tape.now work.now m × (at + width.bytes ≤ length work.now) }
-    ensures { PlacedText tape.now work.now m (word_at width.bytes (texts tape.now work.now m) work.now at) result }
+pub fn word_source(page: Page, work: &[u8], at: usize) -> Source
+    requires { Worded page.tape.now work.now page.m × (at + page.width.bytes ≤ length work.now) }
+    ensures { PlacedText page.entry.tape.now work.now page.entry.m (word_at page.entry.width.bytes (texts page.entry.tape.now work.now page.entry.m) work.now at) result }
 {
-    let k = atom_at(work, at, width) as usize;
-    if k < m.count {
-        mark_source(tape, work, mark(work, m.base, k))
+    let k = atom_at(work, at, page.width) as usize;
+    if k < page.m.count {
+        mark_source(page.tape, work, text_mark(work, page.m.base, k))
     } else {
         Source::Tape(0, 0)
     }
@@ -50,7 +52,7 @@ pub fn put_text(tape: &[u8], work: &mut [u8], p: Source, lim: usize, to: usize) 
 {
     match p {
         Source::Tape(a, e) => put_from(tape, a, e, work, lim, to),
-        Source::Work(a, e) => put_down(work, a, e, lim, to),
+        Source::Work(a, e) => put(work, e - a, lim, to, move |w| copy_down(w, a, e, to)),
     }
 }
 
@@ -60,8 +62,8 @@ fn put_escaped(tape: &[u8], work: &mut [u8], p: Source, lim: usize, to: usize) -
     ensures { Puts work.old lim to (escaped (source_text tape.now work.old p) []) result work.new }
 {
     match p {
-        Source::Tape(a, e) => escape_from(tape, a, e, work, lim, to),
-        Source::Work(a, e) => escape_down(work, a, e, lim, to),
+        Source::Tape(a, e) => escape(work, a, e, lim, to, |_, i| tape[i]),
+        Source::Work(a, e) => escape(work, a, e, lim, to, |w, i| w[i]),
     }
 }
 
@@ -70,9 +72,9 @@ fn put_quoted(tape: &[u8], work: &mut [u8], p: Source, lim: usize, to: usize) ->
     requires { (lim ≤ length work.old) × Fixed (length tape.now) (length work.old) lim p }
     ensures { Puts work.old lim to (quoted_text (source_text tape.now work.old p)) result work.new }
 {
-    let q = put_byte(work, 34, lim, to);
+    let q = put_byte(work, b'"', lim, to);
     let z = put_escaped(tape, work, p, lim, q);
-    put_byte(work, 34, lim, z)
+    put_byte(work, b'"', lim, z)
 }
 
 // As a regular expression.
@@ -80,9 +82,9 @@ fn put_regex(tape: &[u8], work: &mut [u8], p: Source, lim: usize, to: usize) -> 
     requires { (lim ≤ length work.old) × Fixed (length tape.now) (length work.old) lim p }
     ensures { Puts work.old lim to (114 ∷ 35 ∷ (quoted_text (source_text tape.now work.old p) ++ (35 ∷ []))) result work.new }
 {
-    let q = put_two(work, 114, 35, lim, to);
+    let q = put_slice(work, b"r#", lim, to);
     let z = put_quoted(tape, work, p, lim, q);
-    put_byte(work, 35, lim, z)
+    put_byte(work, b'#', lim, z)
 }
 
 // A leaf of the code c.
@@ -103,17 +105,7 @@ pub fn put_open(tape: &[u8], work: &mut [u8], p: Source, lim: usize, to: usize) 
     ensures { Puts work.old lim to (source_text tape.now work.old p ++ (60 ∷ [])) result work.new }
 {
     let q = put_text(tape, work, p, lim, to);
-    put_byte(work, 60, lim, q)
-}
-
-// `error`.
-fn put_error(work: &mut [u8], lim: usize, to: usize) -> usize
-    requires { lim ≤ length work.old }
-    ensures { Puts work.old lim to (101 ∷ 114 ∷ 114 ∷ 111 ∷ 114 ∷ []) result work.new }
-{
-    let a = put_two(work, 101, 114, lim, to);
-    let b = put_two(work, 114, 111, lim, a);
-    put_byte(work, 114, lim, b)
+    put_byte(work, b'<', lim, q)
 }
 
 // A leaf that has no text: `@L`, `@R`, `error`.
@@ -122,9 +114,9 @@ pub fn put_mark(work: &mut [u8], c: u8, lim: usize, to: usize) -> usize
     ensures { Puts work.old lim to (mark_text c) result work.new }
 {
     match c {
-        42 => put_two(work, 64, 76, lim, to),
-        43 => put_two(work, 64, 82, lim, to),
-        _ => put_error(work, lim, to),
+        42 => put_slice(work, b"@L", lim, to),
+        43 => put_slice(work, b"@R", lim, to),
+        _ => put_slice(work, b"error", lim, to),
     }
 }
 
@@ -134,8 +126,7 @@ fn put_label(work: &mut [u8], b: u8, lim: usize, to: usize) -> usize
     ensures { Puts work.old lim to (label_text b) result work.new }
 {
     if b == 1 {
-        let x = put_two(work, 109, 117, lim, to);
-        put_two(work, 116, 32, lim, x)
+        put_slice(work, b"mut ", lim, to)
     } else {
         to
     }
@@ -148,5 +139,5 @@ pub fn put_name(tape: &[u8], work: &mut [u8], p: Source, b: u8, lim: usize, to: 
 {
     let y = put_label(work, b, lim, to);
     let q = put_text(tape, work, p, lim, y);
-    put_byte(work, 58, lim, q)
+    put_byte(work, b':', lim, q)
 }

@@ -36,7 +36,7 @@ use Rattle.levels.proofs.Fits.{levelled-fits}
 use Rattle.output.specs.Plain.Answers.{answer_of}
 use Rattle.std.specs.Prelude.{Option, Some, None, Result, Ok, Err, IfSome}
 use Rattle.std.specs.Result.{result_ok}
-use Rattle.output.specs.Working.Judging.{sized, room_of, sized_levels}
+use Rattle.output.specs.Working.Judging.{room_of, sized_levels}
 use Rattle.output.specs.Working.Handing.{Staged}
 use Rattle.stages.specs.Levelling.{levelled_of, SomeLevels, SomeFitting}
 use Rattle.stages.proofs.LevellingMeanTexts.{bytes_both, all_short, described_length, described_bytes}
@@ -177,18 +177,17 @@ module _ (s : List ℕ) (cap : ℕ) (m : Map) (at : ℕ) (room : Room) (v : Writ
       Judges long over many big =
           y
           ≡ pick long (Err (refusal_at 20 0))
-          (pick over (pick many (Err (refusal_at 20 0)) (Err (refusal_at 21 0)))
-          (pick many (Err (refusal_at 20 0)) (pick big (Err (refusal_at 21 0)) (Ok (at + bytes_in f + (v.to - room.at))))))
+          (pick many (Err (refusal_at 20 0)) (pick over (Err (refusal_at 21 0)) (pick big (Err (refusal_at 21 0)) (Ok (at + bytes_in f + (v.to - room.at))))))
 
       judges : Judges (long_in f) (ltb room.lim v.to) (ltb 65536 v.count) (ltb cap (at + bytes_in f + (v.to - room.at)))
-      unfolding Judges sized_levels sized pick
+      unfolding Judges sized_levels pick
       judges = go f j
         where
           go : (g : Option ℕ) → y ≡ sized_levels v room at g cap
               → y
               ≡ pick (long_in g) (Err (refusal_at 20 0))
-              (pick (ltb room.lim v.to) (pick (ltb 65536 v.count) (Err (refusal_at 20 0)) (Err (refusal_at 21 0)))
-              (pick (ltb 65536 v.count) (Err (refusal_at 20 0)) (pick (ltb cap (at + bytes_in g + (v.to - room.at))) (Err (refusal_at 21 0)) (Ok (at + bytes_in g + (v.to - room.at))))))
+              (pick (ltb 65536 v.count) (Err (refusal_at 20 0))
+              (pick (ltb room.lim v.to) (Err (refusal_at 21 0)) (pick (ltb cap (at + bytes_in g + (v.to - room.at))) (Err (refusal_at 21 0)) (Ok (at + bytes_in g + (v.to - room.at))))))
           go None k = k
           go (Some b) k = k
 

@@ -53,7 +53,7 @@ module _ (f : List ℕ → ℕ → Outcome Stage) (F : Follows f) where
   run_refused s x w i o why e = refused_alike s o why (stage_refused s x w i o why e)
 
   -- y is what `judge` answered
-  pub run_no : (s w : List ℕ) (r : Resolved) → TapeResolves s (Ok r) w → (o : List ℕ) (y : Result ℕ Refusal) → y ≡ sized r.texts.count (length s) (length o) → (why : Refusal) → y ≡ Err why
+  pub run_no : (s w : List ℕ) (r : Resolved) → TapeResolves s (Ok r) w → (o : List ℕ) (y : Result (Unit {0}) Refusal) → y ≡ sized r.texts.count (length s) (length o) → (why : Refusal) → y ≡ Err why
       → Staged (f s (length o)) o (Err why) o
   run_no s w r i o y j why e = refused_alike s o why (stage_no s w r i o y j why e)
 
@@ -70,11 +70,11 @@ module _ (f : List ℕ → ℕ → Outcome Stage) (F : Follows f) where
 pub tape_room : (s o w : List ℕ) → 8 * (length s + length o) ≤ length w → 8 * length s ≤ length w
 tape_room s o w h = omega arith
 
-pub run_admitted : (s w w₁ : List ℕ) (r : Resolved) → TapeResolves s (Ok r) w₁ → length w₁ ≡ length w → (o : List ℕ) (y : Result ℕ Refusal) → y ≡ sized r.texts.count (length s) (length o) → 8 * (length s + length o) ≤ length w
-    → (n : ℕ) → y ≡ Ok n → SomeAdmitted s (length o) r.texts r.grammar r.at w₁
-run_admitted s w w₁ r i l o y j h n e =
+pub run_admitted : (s w w₁ : List ℕ) (r : Resolved) → TapeResolves s (Ok r) w₁ → length w₁ ≡ length w → (o : List ℕ) (y : Result (Unit {0}) Refusal) → y ≡ sized r.texts.count (length s) (length o) → 8 * (length s + length o) ≤ length w
+    → (u : Unit {0}) → y ≡ Ok u → SomeAdmitted s (length o) r.texts r.grammar r.at w₁
+run_admitted s w w₁ r i l o y j h u e =
     let d : Stood s w₁ r.texts r.grammar r.at = stood s (Ok r) w₁ i r refl in
-    let k = judged s w₁ r i o y j n e in
+    let k = judged s w₁ r i o y j u e in
     record {
       tape = d.tape;
       end = d.end;

@@ -137,17 +137,17 @@ module _ (s w : List ℕ) (r : Resolved) (i : TapeResolves s (Ok r) w) where
   d = stood s (Ok r) w i r refl
 
   -- y is what `judge` answered
-  module _ (o : List ℕ) (y : Result ℕ Refusal) (j : y ≡ sized r.texts.count (length s) (length o)) where
+  module _ (o : List ℕ) (y : Result (Unit {0}) Refusal) (j : y ≡ sized r.texts.count (length s) (length o)) where
     -- by what is asked of the sizes
     Judges : Bool → Bool → Type 0
-    Judges many long = y ≡ pick many (Err (refusal_at 20 0)) (pick long (Err (refusal_at 21 0)) (Ok (length s)))
+    Judges many long = y ≡ pick many (Err (refusal_at 20 0)) (pick long (Err (refusal_at 21 0)) (Ok tt))
 
     judges : Judges (ltb 65536 r.texts.count) (ltb (length o) (length s))
     unfolding sized Judges
     judges = j
 
-    yes_no : (n : ℕ) (why : Refusal) → Ok n ≡ Err why → ⊥
-    yes_no n why z = let q : ◌≡◌ {A = ℕ} 0 1 = cc in omega arith
+    yes_no : (u : Unit {0}) (why : Refusal) → Ok u ≡ Err why → ⊥
+    yes_no u why z = let q : ◌≡◌ {A = ℕ} 0 1 = cc in omega arith
 
     pub stage_no : (why : Refusal) → y ≡ Err why → Staged (resolved s (length o)) o (Err why) o
     unfolding Judges pick answer_of written refusal_at
@@ -163,14 +163,14 @@ module _ (s w : List ℕ) (r : Resolved) (i : TapeResolves s (Ok r) w) where
             let l = ltb-true (length o) (length s) q in
             let u : why ≡ refusal_at 21 0 = cc in
             rw (admit_long d.tape d.tree d.is d.within (length o) (omega (arith, d.many)) (omega (arith, size_is s w r.texts r.grammar r.at d))) (record { answered = rw u refl; tree = refl })
-        go false p false q k = absurd (yes_no (length s) why (sym k ∙ z))
+        go false p false q k = absurd (yes_no tt why (sym k ∙ z))
 
-    module _ (n : ℕ) (z : y ≡ Ok n) where
-      pub judged : (r.texts.count ≤ 65536) × (length s ≤ length o) × (n ≡ length s)
+    module _ (u : Unit {0}) (z : y ≡ Ok u) where
+      pub judged : (r.texts.count ≤ 65536) × (length s ≤ length o)
       unfolding Judges pick
       judged = go (ltb 65536 r.texts.count) refl (ltb (length o) (length s)) refl judges
         where
-          go : (a : Bool) → ltb 65536 r.texts.count ≡ a → (b : Bool) → ltb (length o) (length s) ≡ b → Judges a b → (r.texts.count ≤ 65536) × (length s ≤ length o) × (n ≡ length s)
-          go true p b q k = absurd (yes_no n (refusal_at 20 0) (sym z ∙ k))
-          go false p true q k = absurd (yes_no n (refusal_at 21 0) (sym z ∙ k))
-          go false p false q k = (ltb-false 65536 r.texts.count p, ltb-false (length o) (length s) q, (let c : Ok n ≡ Ok (length s) = sym z ∙ k in cc))
+          go : (a : Bool) → ltb 65536 r.texts.count ≡ a → (b : Bool) → ltb (length o) (length s) ≡ b → Judges a b → (r.texts.count ≤ 65536) × (length s ≤ length o)
+          go true p b q k = absurd (yes_no u (refusal_at 20 0) (sym z ∙ k))
+          go false p true q k = absurd (yes_no u (refusal_at 21 0) (sym z ∙ k))
+          go false p false q k = (ltb-false 65536 r.texts.count p, ltb-false (length o) (length s) q)

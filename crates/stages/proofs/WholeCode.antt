@@ -41,17 +41,17 @@ module _ (s o : List ℕ) (m : Map) (at : ℕ) (room : Room) (v : Written) (x : 
     settled_refused limit why i = whole_refused s (length o) m at room v S.before S.fitting S.narrow low w₁ settled y w₂ p limit o why i
 
     module _ (t : Grammar) (i : y ≡ Ok t) where
-      pub settled_run : SomeRun s w₂ (length o) (record { base = m.base; count = v.count; buckets = m.buckets }) t at m.count x low
+      pub settled_run : SomeRun s w₂ (length o) (record { texts = record { base = m.base; count = v.count; buckets = m.buckets }; grammar = t; at = at }) m.count x low
       unfolding macros_room
       settled_run =
-          subst (λ (u : rounds-room.Room). SomeRun s w₂ (length o) n t at m.count u low) (sym S.room_is) (whole_run s (length o) m at room v S.before S.fitting S.narrow low w₁ settled y w₂ p t i)
+          subst (λ (u : rounds-room.Room). SomeRun s w₂ (length o) (record { texts = n; grammar = t; at = at }) m.count u low) (sym S.room_is) (whole_run s (length o) m at room v S.before S.fitting S.narrow low w₁ settled y w₂ p t i)
 
-      pub settled_done : (limit : ℕ) (r : Result ℕ Refusal) (o' : List ℕ) → RunsTo s w₂ (record { base = m.base; count = v.count; buckets = m.buckets }) t at m.count x low limit o r o'
+      pub settled_done : (limit : ℕ) (r : Result ℕ Refusal) (o' : List ℕ) → RunsTo s w₂ (record { texts = record { base = m.base; count = v.count; buckets = m.buckets }; grammar = t; at = at }) m.count x low limit o r o'
           → Staged (whole_of s limit (length o)) o r o'
       unfolding macros_room
       settled_done limit r o' d =
           whole_done s (length o) m at room v S.before S.fitting S.narrow low w₁ settled y w₂ p t i limit o refl r o'
-          (subst (λ (u : rounds-room.Room). RunsTo s w₂ n t at m.count u low limit o r o') S.room_is d)
+          (subst (λ (u : rounds-room.Room). RunsTo s w₂ (record { texts = n; grammar = t; at = at }) m.count u low limit o r o') S.room_is d)
 
 pub ruleset expanding_settled = (rules, settled_some, settled_refused, settled_run, settled_done)
 

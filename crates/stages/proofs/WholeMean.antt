@@ -312,19 +312,19 @@ module _ (s : List ℕ) (cap : ℕ) (m : Map) (at : ℕ) (room : Room) (v : Writ
           off = inr (omega (arith, ready.from, room_at), omega (arith, ready.upto, room_to));
         }
 
-        runs : RunStands s w₂ cap n t at m.count own low false G ts news begins.0
+        runs : RunStands s w₂ cap (record { texts = n; grammar = t; at = at }) m.count own low false G ts news begins.0
         unfolding macros_room
         runs = record { stands = first_stands; many = L.many; inside = L.inside; atoms = L.atoms; cap_is = refl }
 
         -- theorem: the rounds can run
-        pub whole_run : SomeRun s w₂ cap n t at m.count own low
+        pub whole_run : SomeRun s w₂ cap (record { texts = n; grammar = t; at = at }) m.count own low
         whole_run = record { four = false; tree = G; first = ts; past = news; owed = begins.0; stands = runs }
 
         -- theorem: and what they come to is the call's
-        pub whole_done : (limit : ℕ) (o : List ℕ) → cap ≡ length o → (r : Result ℕ Refusal) (o' : List ℕ) → RunsTo s w₂ n t at m.count own low limit o r o' → Staged (whole_of s limit cap) o r o'
+        pub whole_done : (limit : ℕ) (o : List ℕ) → cap ≡ length o → (r : Result ℕ Refusal) (o' : List ℕ) → RunsTo s w₂ (record { texts = n; grammar = t; at = at }) m.count own low limit o r o' → Staged (whole_of s limit cap) o r o'
         unfolding RunsTo again_stages
         whole_done limit o l r o' d =
-            let x = d false G ts news begins.0 (subst (λ (c : ℕ). RunStands s w₂ c n t at m.count own low false G ts news begins.0) l runs) in
+            let x = d false G ts news begins.0 (subst (λ (c : ℕ). RunStands s w₂ c (record { texts = n; grammar = t; at = at }) m.count own low false G ts news begins.0) l runs) in
             rw (whole_is limit, again_is)
             (subst (λ (xs : List Text). Staged (macro_stages (sizes 2 cap) limit (record { atoms = xs; items = G })) o r o') (sym (split s cap m at room v w L))
             (subst (λ (c : ℕ). Staged (macro_stages (sizes 2 c) limit (record { atoms = ts ++ news; items = G })) o r o') (sym l) x))

@@ -11,13 +11,14 @@ use Rattle.passes.specs.Stages.{macro_stages}
 use Rattle.passes.specs.Calls.{sizes}
 use Rattle.resolve.specs.declared.Grammar.{Grammar}
 use Rattle.rounds.specs.declared.Room.{Room}
-use Rattle.rounds.specs.declared.Progress.{Progress}
+use Rattle.rounds.specs.declared.State.{State}
 use Rattle.rounds.specs.Define.{Items}
 use Rattle.rounds.specs.Standing.{RoundTrees, Mapped, GrownTrees}
 use Rattle.rounds.specs.Round.{RoundsTo}
 use Rattle.std.specs.Prelude.{Result}
 use Rattle.parse_tree.specs.declared.refusal.Refusal.{Refusal}
 use Rattle.output.specs.Working.Handing.{Staged}
+use Rattle.stages.specs.declared.Resolved.{Resolved}
 use Rattle.stages.specs.Stages.{resolved}
 
 -- where macros stand in work, for a tape of T bytes of which `at` are its atoms', and an output of W
@@ -51,55 +52,36 @@ pub record FirstStands (s w : List ℕ) (m : Map) (t : Grammar) (room : Room) (l
   pub some : 0 < length G
   pub off : (t.end ≤ m.base) ⊎ ((room.x + room.cap ≤ t.at) × (t.end ≤ room.y))
 
-pub record SomeFirst (s w : List ℕ) (m : Map) (t : Grammar) (room : Room) (low : ℕ) : Type 0 where
+pub record SomeFirst (s w : List ℕ) (r : Resolved) (room : Room) (low : ℕ) : Type 0 where
   pub four : Bool
   pub tree : Tree
   pub first : List Text
   pub past : List Text
   pub owed : ℕ
-  pub stands : FirstStands s w m t room low four tree first past owed
+  pub stands : FirstStands s w r.texts r.grammar room low four tree first past owed
 
--- r is what the rounds of every such stage come to
-unfoldable pub FirstRounds : List ℕ → List ℕ → Map → Grammar → Room → ℕ → ℕ → Result Progress Refusal → List ℕ → Type 0
-FirstRounds s w m t room low limit r w' = (four : Bool) (G : Tree) (first past : List Text) (owed : ℕ) → FirstStands s w m t room low four G first past owed
-    → RoundsTo s room first (macro_stages (sizes 2 room.cap) limit (record { atoms = first ++ past; items = G })) r w'
+-- x is what the rounds of every such stage come to
+unfoldable pub FirstRounds : List ℕ → List ℕ → Resolved → Room → ℕ → ℕ → Result State Refusal → List ℕ → Type 0
+FirstRounds s w r room low limit x w' = (four : Bool) (G : Tree) (first past : List Text) (owed : ℕ) → FirstStands s w r.texts r.grammar room low four G first past owed
+    → RoundsTo s room first (macro_stages (sizes 2 room.cap) limit (record { atoms = first ++ past; items = G })) x w'
 
--- ---- the answer
-
--- r says what the rounds came to: x; the tape has n atoms before `at`
-pub record RoundsAnswer (s w : List ℕ) (cap at n : ℕ) (room : Room) (r : Result Progress Refusal) (x : Outcome Stage) : Type 0 where
-  pub first : List Text
+-- ---- the first round to the output. The stage's texts are the tape's, n of them, which stand before `r.at`, and then the new ones
+pub record RunStands (s w : List ℕ) (cap : ℕ) (r : Resolved) (n : ℕ) (room : Room) (low : ℕ) (four : Bool) (G : Tree) (first past : List Text) (owed : ℕ) : Type 0 where
+  pub stands : FirstStands s w r.texts r.grammar room low four G first past owed
   pub many : n ≡ length first
-  pub inside : at ≤ length s
-  pub atoms : part 0 at s ≡ bytes_of_each (atom_bytes 2) first
-  pub cap_is : room.cap ≡ cap
-  pub behind : room.y ≤ length w
-  pub rounds : RoundsTo s room first x r w
-
-pub record SomeAnswer (s w : List ℕ) (cap at n : ℕ) (room : Room) (r : Result Progress Refusal) : Type 0 where
-  pub outcome : Outcome Stage
-  pub is : RoundsAnswer s w cap at n room r outcome
-
-unfoldable pub AnswersRounds : List ℕ → List ℕ → ℕ → ℕ → Room → Result Progress Refusal → List ℕ → Result ℕ Refusal → List ℕ → Type 0
-AnswersRounds s w at n room r o a o' = (x : Outcome Stage) → RoundsAnswer s w (length o) at n room r x → Staged x o a o'
-
--- ---- both: the first round to the output. The stage's texts are the tape's, n of them, which stand before `at`, and then the new ones
-pub record RunStands (s w : List ℕ) (cap : ℕ) (m : Map) (t : Grammar) (at n : ℕ) (room : Room) (low : ℕ) (four : Bool) (G : Tree) (first past : List Text) (owed : ℕ) : Type 0 where
-  pub stands : FirstStands s w m t room low four G first past owed
-  pub many : n ≡ length first
-  pub inside : at ≤ length s
-  pub atoms : part 0 at s ≡ bytes_of_each (atom_bytes 2) first
+  pub inside : r.at ≤ length s
+  pub atoms : part 0 r.at s ≡ bytes_of_each (atom_bytes 2) first
   pub cap_is : room.cap ≡ cap
 
-pub record SomeRun (s w : List ℕ) (cap : ℕ) (m : Map) (t : Grammar) (at n : ℕ) (room : Room) (low : ℕ) : Type 0 where
+pub record SomeRun (s w : List ℕ) (cap : ℕ) (r : Resolved) (n : ℕ) (room : Room) (low : ℕ) : Type 0 where
   pub four : Bool
   pub tree : Tree
   pub first : List Text
   pub past : List Text
   pub owed : ℕ
-  pub stands : RunStands s w cap m t at n room low four tree first past owed
+  pub stands : RunStands s w cap r n room low four tree first past owed
 
 -- what is answered to every such stage
-unfoldable pub RunsTo : List ℕ → List ℕ → Map → Grammar → ℕ → ℕ → Room → ℕ → ℕ → List ℕ → Result ℕ Refusal → List ℕ → Type 0
-RunsTo s w m t at n room low limit o r o' = (four : Bool) (G : Tree) (first past : List Text) (owed : ℕ) → RunStands s w (length o) m t at n room low four G first past owed
-    → Staged (macro_stages (sizes 2 (length o)) limit (record { atoms = first ++ past; items = G })) o r o'
+unfoldable pub RunsTo : List ℕ → List ℕ → Resolved → ℕ → Room → ℕ → ℕ → List ℕ → Result ℕ Refusal → List ℕ → Type 0
+RunsTo s w r n room low limit o x o' = (four : Bool) (G : Tree) (first past : List Text) (owed : ℕ) → RunStands s w (length o) r n room low four G first past owed
+    → Staged (macro_stages (sizes 2 (length o)) limit (record { atoms = first ++ past; items = G })) o x o'

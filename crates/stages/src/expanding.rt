@@ -1,19 +1,16 @@
 // Questions 17 to 21 of a tape whose grammar stands in work resolved: the rounds of macro expansion behind the tape's share of work.
 ghost use Rattle.std.specs.Prelude.{◌≡◌, ◌+◌, ◌*◌, ◌<◌, length};
-ghost use Rattle.stages.specs.Expanding.{macros_room, SomeFirst, FirstRounds, SomeAnswer, AnswersRounds, SomeRun, RunsTo};
+ghost use Rattle.stages.specs.Expanding.{macros_room, SomeFirst, FirstRounds, SomeRun, RunsTo};
 ghost use Rattle.stages.specs.Passes.{expanding_stage, expanding_follows};
 
 use crate::Resolved;
 use crate::pass::Pass;
 use output::expanded::hand_over_macros;
-use parse_tree::refusal;
 use parse_tree::refusal::Refusal;
-use resolve::Grammar;
 use rounds::define::define;
 use rounds::steps::start;
 use rounds::whole::rounds;
-use rounds::{Progress, Room, State};
-use texts::Map;
+use rounds::{Room, State};
 
 // Where macros stand in work, for a tape of so many bytes of which `at` are its atoms':
 // behind the tape's share of work a round's tables, its items twice, and what is written.
@@ -27,8 +24,8 @@ pub fn macros_room(tape: usize, at: usize, output: usize) -> Room
     Room {
         first: at,
         cap: output,
-        x: x,
-        y: y,
+        x,
+        y,
         end: y + (output + rest),
     }
 }
@@ -37,64 +34,43 @@ pub fn macros_room(tape: usize, at: usize, output: usize) -> Room
 fn expand_rounds(
     tape: &[u8],
     work: &mut [u8],
-    m: Map,
-    t: Grammar,
+    r: Resolved,
     room: Room,
     low: usize,
     limit: usize,
-) -> Result<Progress, Refusal>
-    requires { SomeFirst tape.now work.old m t room low }
-    ensures { FirstRounds tape.now work.old m t room low limit result work.new }
+) -> Result<State, Refusal>
+    requires { SomeFirst tape.now work.old r room low }
+    ensures { FirstRounds tape.now work.old r room low limit result work.new }
 {
-    define(tape, work, m, t);
+    let t = r.grammar;
+    define(tape, work, r.texts, t);
     let z = State {
         expander: start(t.count),
-        m: m,
+        m: r.texts,
         from: t.at,
         end: t.end,
         done: room.y,
-        low: low,
+        low,
     };
     rounds(tape, work, room, t, limit, z)
 }
 
-// What the rounds came to, handed over. With no round left none goes on, so there is never more.
-fn answer_rounds<'a>(
-    tape: &'a [u8],
-    output: &mut [u8],
-    work: &'a [u8],
-    at: usize,
-    n: usize,
-    room: Room,
-    r: Result<Progress, Refusal>,
-) -> Result<usize, Refusal>
-    requires { SomeAnswer tape.now work.now (length output.old) at n room r }
-    ensures { AnswersRounds tape.now work.now at n room r output.old result output.new }
-{
-    match r? {
-        Progress::More(_) => Err(refusal::at(18, 0)),
-        Progress::Done(z) => hand_over_macros(tape, at, work, z.m, n, room.y, z.done, output),
-    }
-}
-
-// From the first round to the output: the stage's texts are the tape's, n of them, which stand before `at`, and the new ones from `low` on.
+// From the first round to the output: the stage's texts are the tape's, n of them, which stand before `r.at`, and the new ones from `low` on.
 pub fn run_rounds(
     tape: &[u8],
     output: &mut [u8],
     work: &mut [u8],
-    m: Map,
-    t: Grammar,
-    at: usize,
+    r: Resolved,
     n: usize,
     room: Room,
     low: usize,
     limit: usize,
 ) -> Result<usize, Refusal>
-    requires { SomeRun tape.now work.old (length output.old) m t at n room low }
-    ensures { RunsTo tape.now work.old m t at n room low limit output.old result output.new }
+    requires { SomeRun tape.now work.old (length output.old) r n room low }
+    ensures { RunsTo tape.now work.old r n room low limit output.old result output.new }
 {
-    let r = expand_rounds(tape, work, m, t, room, low, limit);
-    answer_rounds(tape, output, work, at, n, room, r)
+    let z = expand_rounds(tape, work, r, room, low, limit)?;
+    Ok(hand_over_macros(tape, r.at, work, z.m, n, room.y, z.done, output))
 }
 
 // Resolving and macro expansion, within so many rounds.
@@ -120,9 +96,7 @@ impl Pass for Expanding {
             tape,
             output,
             work,
-            r.texts,
-            r.grammar,
-            r.at,
+            r,
             r.texts.count,
             room,
             room.end,

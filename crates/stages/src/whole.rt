@@ -29,23 +29,17 @@ fn expand_settled(
     requires { SomeSettled tape.now (length output.old) r.texts r.at l.room l.written room low work.old }
     ensures { Staged (whole_of tape.now limit (length output.old)) output.old result output.new }
 {
-    let n = Map {
+    let texts = Map {
         count: l.written.count,
         ..r.texts
     };
-    let t = resolve_again(tape, work, n, 0, l.room.at, l.written.to)?;
-    run_rounds(
-        tape,
-        output,
-        work,
-        n,
-        t,
-        r.at,
-        r.texts.count,
-        room,
-        low,
-        limit,
-    )
+    let grammar = resolve_again(tape, work, texts, 0, l.room.at, l.written.to)?;
+    let again = Resolved {
+        texts,
+        grammar,
+        at: r.at,
+    };
+    run_rounds(tape, output, work, again, r.texts.count, room, low, limit)
 }
 
 // Resolving, precedence levels and macro expansion, within so many rounds.

@@ -1,10 +1,10 @@
 -- `put_atom`: a code, a length and bytes, one behind another. Assumes nothing.
 use mathlib.Core.Path.{◌≡◌, refl, ap, ◌∙◌}
 use mathlib.Core.List.{List, [], ◌∷◌, ◌++◌}
-use Prim.Native.Nat.{ℕ, ◌+◌, ◌-◌, ◌≤◌}
+use Prim.Native.Nat.{ℕ, ◌+◌, ◌-◌}
 use native.Mathlib.Omega.{arith}
 use borrow.Author.Rules.{rules}
-use lib.ListN.{length, set, length-set}
+use lib.ListN.{length, set}
 use lib.Seq.{take_all}
 use Rattle.octets.specs.Plain.Numbers.{le}
 use Rattle.octets.specs.Plain.Runs.{part}
@@ -18,18 +18,12 @@ module _ (o : List ℕ) (to : ℕ) where
   unfolding store
   code_stored = refl
 
-  module _ (t : Text) (h : to + 3 + length t ≤ length o) where
-    pub atom_head_room : to + 1 + 2 ≤ length (set o to 1)
-    atom_head_room = omega (arith, length-set o to 1)
+  pub head_put : (n : ℕ) (a : List ℕ) → a ≡ store (set o to 1) (to + 1) (le 2 n) → a ≡ store o to (1 ∷ le 2 n)
+  head_put n a f = f ∙ ap (λ (l : List ℕ). store l (to + 1) (le 2 n)) code_stored ∙ store-append o to (to + 1) (1 ∷ []) (le 2 n) refl
 
-    module _ (a : List ℕ) (l : length a ≡ length (set o to 1)) where
-      pub atom_text_room : to + 3 + (length t - 0) ≤ length a
-      atom_text_room = omega (arith, l, length-set o to 1)
-
-  pub atom_put : (n : ℕ) (t : Text) (a b : List ℕ) → a ≡ store (set o to 1) (to + 1) (le 2 n) → b ≡ store a (to + 3) (part 0 (length t) t) → b ≡ store o to ((1 ∷ le 2 n) ++ t)
+  pub atom_put : (n : ℕ) (t : Text) (a b : List ℕ) → a ≡ store o to (1 ∷ le 2 n) → b ≡ store a (to + 3) (part 0 (length t) t) → b ≡ store o to ((1 ∷ le 2 n) ++ t)
   unfolding part
   atom_put n t a b f g =
-      let i : a ≡ store o to (1 ∷ le 2 n) = f ∙ ap (λ (l : List ℕ). store l (to + 1) (le 2 n)) code_stored ∙ store-append o to (to + 1) (1 ∷ []) (le 2 n) refl in
-      g ∙ ap (store a (to + 3)) (take_all (length t - 0) t (omega arith)) ∙ ap (λ (l : List ℕ). store l (to + 3) t) i ∙ store-append o to (to + 3) (1 ∷ le 2 n) t (omega (arith, length-le 2 n))
+      g ∙ ap (store a (to + 3)) (take_all (length t - 0) t (omega arith)) ∙ ap (λ (l : List ℕ). store l (to + 3) t) f ∙ store-append o to (to + 3) (1 ∷ le 2 n) t (omega (arith, length-le 2 n))
 
-pub ruleset putting_atom = (rules, atom_head_room, atom_text_room, atom_put)
+pub ruleset putting_atom = (rules, head_put, atom_put)

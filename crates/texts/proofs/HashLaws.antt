@@ -1,22 +1,18 @@
 -- The hash and the bucket. Assumes nothing.
-use mathlib.Core.Path.{◌≡◌, refl, ap}
-use mathlib.Core.List.{List, [], ◌∷◌}
-use Prim.Native.Nat.{ℕ, ◌+◌, ◌*◌, ◌-◌, ◌/◌, ◌%◌, ◌<◌, ◌≤◌}
+use mathlib.Core.Path.{◌≡◌, refl}
+use mathlib.Core.List.{[], ◌∷◌}
+use Prim.Native.Nat.{ℕ, ◌+◌, ◌*◌, ◌%◌, ◌<◌}
 use native.Mathlib.Omega.{arith}
-use native.Mathlib.Nat.{mod-lt, mul_comm, mul-le-mul, mul-lt-mul_of_pos_left, div-lt_iff_lt-mul}
-use borrow.Author.Rules.{rules}
-use lib.ListN.{length, get_or}
-use lib.Seq.{take_all}
-use mir.Syntax.{w64}
-use mir.Val.{Fits}
-use Rattle.octets.specs.Plain.Runs.{part}
-use Rattle.octets.proofs.PartLaws.{part_none, part-one}
+use native.Mathlib.Nat.{mod-lt, mul_comm, mul-lt-mul_of_pos_left, div-lt_iff_lt-mul}
+use Rattle.std.specs.List.{fold}
+use Rattle.std.proofs.lemmas.Nat.{mul-mod_first}
 use Rattle.parse_tree.specs.Plain.Tree.{Text}
 use Rattle.texts.specs.Hash.{hash_by, hash_step, hash_from, hash_of, bucket_of}
 
-pub next_done : (h b x : ℕ) → x ≡ b → (h + x) * 2654435761 % 4294967296 ≡ hash_step h b
+-- what wraps
+pub step_wraps : (h b : ℕ) → (h + b) % 4294967296 * 2654435761 % 4294967296 ≡ hash_step h b
 unfolding hash_step
-next_done h b x p = rw p
+step_wraps h b = mul-mod_first (h + b) 2654435761 4294967296
 
 pub step_small : (h b : ℕ) → hash_step h b < 4294967296
 unfolding hash_step
@@ -39,42 +35,19 @@ pub hash_small : (t : Text) → hash_of t < 4294967296
 unfolding hash_of
 hash_small t = from_small 0 t (omega arith)
 
--- h is the hash of what was passed
-pub record Hashing (t : List ℕ) (h i : ℕ) : Type 0 where
-  pub rest : hash_from h (part i (length t) t) ≡ hash_of t
-  pub small : h < 4294967296
-  pub upto : i ≤ length t
+-- it is a fold
+pub fold_is : (h : ℕ) (t : Text) → fold hash_step h t ≡ hash_from h t
+fold_is h [] = rw (from_none h) refl
+fold_is h (b ∷ bs) = rw (from_more h b bs) (fold_is (hash_step h b) bs)
 
-pub hash_start : (t : List ℕ) → Hashing t 0 0
-unfolding hash_of part
-hash_start t = record { rest = ap (hash_from 0) (take_all (length t - 0) t (omega arith)); small = omega arith; upto = omega arith }
-
-module _ (t : List ℕ) (h i : ℕ) (g : Hashing t h i) where
-  pub hash_next : (r b : ℕ) → i < length t → b ≡ get_or t i 0 → r ≡ hash_step h b → Hashing t r (i + 1)
-  hash_next r b l p q = record {
-    rest = cc (part-one i (length t) t l (omega arith), from_more h (get_or t i 0) (part (i + 1) (length t) t), g.rest);
-    small = rw q (step_small h b);
-    upto = omega arith;
-  }
-
-  pub hash_done : length t ≤ i → h ≡ hash_of t
-  hash_done l = cc (part_none i (length t) t l, from_none h, g.rest)
+pub hash_folds : (t : Text) → fold hash_step 0 t ≡ hash_of t
+unfolding hash_of
+hash_folds t = fold_is 0 t
 
 -- ---- `bucket`
 module _ (h n : ℕ) where
-  pub bucket_fits : h < 4294967296 → n < 4294967296 → Fits w64 (h * n)
-  bucket_fits a b =
-      let z : h * n ≤ 4294967295 * 4294967295 = mul-le-mul {n₁ = h} {m₁ = n} {n₂ = 4294967295} {m₂ = 4294967295} (omega arith) (omega arith) in
-      record { fits = omega arith }
-
-  pub bucket_done : h * n / 4294967296 ≡ bucket_of h n
-  unfolding bucket_of
-  bucket_done = refl
-
   pub bucket_small : h < 4294967296 → 0 < n → bucket_of h n < n
   unfolding bucket_of
   bucket_small a b =
       let z : n * h < n * 4294967296 = mul-lt-mul_of_pos_left {m = h} {n = 4294967296} {k = n} a b in
       (div-lt_iff_lt-mul {k = 4294967296} {x = h * n} {y = n} (omega arith)).1 (rw (mul_comm h n) z)
-
-pub ruleset hashing = (rules, next_done, hash_start, hash_next, hash_done, bucket_fits, bucket_done)

@@ -6,11 +6,13 @@ pub mod HashLaws
 pub mod HashComposes
 mod ScanCode
 pub mod FieldsCode
+pub mod MarkLaws
 pub mod ChainCode
 pub mod TextCode
 mod AtomPutCode
 pub mod TableStays
 pub mod SearchCode
 pub mod TableFindCode
+mod ChainPutCode
 pub mod TableEnterCode
 pub mod TableMarks

@@ -10,20 +10,19 @@ use Rattle.octets.specs.Plain.Runs.{part}
 use Rattle.octets.proofs.PartLaws.{part_none, part-one}
 use Rattle.texts.specs.Classes.{byte_class, least}
 use Rattle.texts.specs.Hash.{hash_step, hash_from, hash_of}
-use Rattle.texts.proofs.HashLaws.{step_small, from_none, from_more}
+use Rattle.texts.proofs.HashLaws.{from_none, from_more}
 use Rattle.texts.specs.Scan.{Scans}
 
 pub record Scanning (t : List ℕ) (h m i : ℕ) : Type 0 where
   pub hash : hash_from h (part i (length t) t) ≡ hash_of t
   pub class : least m (part i (length t) t) ≡ least 3 t
-  pub small : h < 4294967296
   pub upto : i ≤ length t
 
 pub scan_start : (t : List ℕ) → Scanning t 0 3 0
 unfolding hash_of part
 scan_start t =
     let z = take_all (length t - 0) t (omega arith) in
-    record { hash = ap (hash_from 0) z; class = ap (least 3) z; small = omega arith; upto = omega arith }
+    record { hash = ap (hash_from 0) z; class = ap (least 3) z; upto = omega arith }
 
 module _ (t : List ℕ) (h m i : ℕ) (g : Scanning t h m i) where
   pub scan_next : (b r k c : ℕ) → i < length t → b ≡ get_or t i 0 → r ≡ hash_step h b → k ≡ byte_class b → c ≡ min m k → Scanning t r c (i + 1)
@@ -31,7 +30,6 @@ module _ (t : List ℕ) (h m i : ℕ) (g : Scanning t h m i) where
   scan_next b r k c l f p q o = record {
     hash = cc (part-one i (length t) t l (omega arith), from_more h (get_or t i 0) (part (i + 1) (length t) t), g.hash);
     class = cc (part-one i (length t) t l (omega arith), g.class);
-    small = rw p (step_small h b);
     upto = omega arith;
   }
 
@@ -39,7 +37,4 @@ module _ (t : List ℕ) (h m i : ℕ) (g : Scanning t h m i) where
   unfolding least
   scan_done l = record { hash = cc (part_none i (length t) t l, from_none h, g.hash); class = cc (part_none i (length t) t l, g.class) }
 
-  pub scan_small : h < 4294967296
-  scan_small = g.small
-
-pub ruleset scanning = (rules, scan_start, scan_next, scan_done, scan_small)
+pub ruleset scanning = (rules, scan_start, scan_next, scan_done)

@@ -2,13 +2,13 @@
 use mathlib.Core.Path.{◌≡◌, refl, sym, ap, subst, ◌∙◌}
 use mathlib.Core.Bool.{Bool, true, false}
 use mathlib.Core.List.{List}
-use Prim.Native.Nat.{ℕ, zero, suc, ◌+◌, ◌-◌, ◌<◌, ◌≤◌}
+use Prim.Native.Nat.{ℕ, zero, suc, ◌-◌, ◌<◌, ◌≤◌}
 use native.Mathlib.Omega.{arith}
 use borrow.Author.Rules.{rules}
 use borrow.Author.Tests.{ltb-true, ltb-false, eqb-true, eqb-false}
 use lib.Dec.{eqb, ltb}
 use mathlib.Core.Logic.{◌⊎◌, inl, inr}
-use Rattle.std.specs.Prelude.{Option, Some, None}
+use Rattle.std.specs.Prelude.{Option, Some, None, MatchOption}
 use Rattle.octets.specs.Working.Choice.{pick}
 use Rattle.texts.specs.Fields.{link_at, head_at, bucket_at, last, Chained}
 use Rattle.texts.specs.Table.{linked}
@@ -50,7 +50,7 @@ module _ (f : ℕ → ℕ) (y : ℕ) where
           step true l = h d (ltb-true i k l) e
           step false l = let z : i ≡ k = omega (arith, ltb-false i k l) in eqb-false (f k) y c (rw z at e)
 
--- ---- the walk: j is a record to look at, and one
+-- ---- the walk: j is a record to look at, and one; x below is that record
 pub record Asking (A : ℕ → Bool → Type 0) (w : List ℕ) (b m y n j : ℕ) : Type 0 where
   pub no : (i : ℕ) → j ≤ i → i < linked n → bucket_at w b m i ≡ y → A i false
   pub chain : (i : ℕ) → j ≡ suc i → bucket_at w b m i ≡ y
@@ -73,26 +73,26 @@ module _ (A : ℕ → Bool → Type 0) (w : List ℕ) (b m y n : ℕ) where
     pub ask_start : (v j : ℕ) → y < m → v ≡ head_at w b y → j ≡ v → Asking A w b m y n j
     ask_start v j l q r = ask_last (linked n) j (omega arith) (λ i p s e. absurd (omega arith)) (r ∙ q ∙ g.heads y l)
 
-    module _ (j : ℕ) (c : Asking A w b m y n j) (l : 0 < j) where
-      pub ask_below : j - 1 < n
-      ask_below = omega (arith, c.upto, linked-le n)
+    module _ (j x : ℕ) (c : Asking A w b m y n j) (l : 1 ≤ j) (o : x ≡ j - 1) where
+      pub ask_below : x < n
+      ask_below = omega (arith, o, c.upto, linked-le n)
 
-      link_is : link_at w b (j - 1) ≡ last (bucket_at w b m) y (j - 1)
-      link_is = g.links (j - 1) (omega (arith, c.upto)) ∙ ap (λ (v : ℕ). last (bucket_at w b m) v (j - 1)) (c.chain (j - 1) (omega arith))
+      link_is : link_at w b x ≡ last (bucket_at w b m) y x
+      link_is = g.links x (omega (arith, o, c.upto)) ∙ ap (λ (v : ℕ). last (bucket_at w b m) v x) (c.chain x (omega (arith, o)))
 
-      pub ask_next : (r : Bool) (k : ℕ) → A (j - 1) r → r ≡ false → k ≡ link_at w b (j - 1) → Asking A w b m y n k
-      ask_next r k a u q = ask_last (j - 1) k (omega (arith, c.upto)) (λ i p s e. go i s e (ltb i j) refl p) (q ∙ link_is)
+      pub ask_next : (r : Bool) (k : ℕ) → A x r → r ≡ false → k ≡ link_at w b x → Asking A w b m y n k
+      ask_next r k a u q = ask_last x k (omega (arith, o, c.upto)) (λ i p s e. go i s e (ltb i j) refl p) (q ∙ link_is)
         where
-          go : (i : ℕ) → i < linked n → bucket_at w b m i ≡ y → (t : Bool) → ltb i j ≡ t → j - 1 ≤ i → A i false
-          go i s e true d p = let z : j - 1 ≡ i = omega (arith, ltb-true i j d) in subst (λ (v : ℕ). A v false) z (subst (A (j - 1)) u a)
+          go : (i : ℕ) → i < linked n → bucket_at w b m i ≡ y → (t : Bool) → ltb i j ≡ t → x ≤ i → A i false
+          go i s e true d p = let z : x ≡ i = omega (arith, o, ltb-true i j d) in subst (λ (v : ℕ). A v false) z (subst (A x) u a)
           go i s e false d p = c.no i (ltb-false i j d) s e
 
-      pub ask_less : (k : ℕ) → k ≡ link_at w b (j - 1) → k < j
-      ask_less k q = omega (arith, link_is, last-le (bucket_at w b m) y (j - 1))
+      pub ask_less : (k : ℕ) → k ≡ link_at w b x → k < j
+      ask_less k q = omega (arith, o, link_is, last-le (bucket_at w b m) y x)
 
-      pub ask_found : (r : Bool) → A (j - 1) r → r ≡ true → Searched A w b m y n (Some (j - 1))
+      pub ask_found : (r : Bool) → A x r → r ≡ true → Searched A w b m y n (Some x)
       unfolding Searched
-      ask_found r a u = (ask_below, subst (A (j - 1)) u a)
+      ask_found r a u = (ask_below, subst (A x) u a)
 
   pub ask_rest : (j : ℕ) (r : Option ℕ) → Asking A w b m y n j → j ≤ 0 → Rested A n r → Searched A w b m y n r
   unfolding Searched Rested
@@ -106,32 +106,12 @@ module _ (A : ℕ → Bool → Type 0) (w : List ℕ) (b m y n : ℕ) where
 
 pub ruleset asking = (rules, ask_start, ask_below, ask_next, ask_less, ask_found, ask_rest)
 
--- ---- `rest`: none below k is the one
-pub record Resting (A : ℕ → Bool → Type 0) (n k : ℕ) : Type 0 where
-  pub no : (i : ℕ) → linked n ≤ i → i < k → i < n → A i false
-
+-- ---- `rest`: the first that is in no chain
 module _ (A : ℕ → Bool → Type 0) (n : ℕ) where
-  pub rest_start : Resting A n 4294967295
-  unfolding linked
-  rest_start = record { no = λ i a b c. absurd (omega arith) }
-
-  module _ (k : ℕ) (c : Resting A n k) where
-    pub rest_next : (r : Bool) → A k r → r ≡ false → Resting A n (k + 1)
-    rest_next r a u = record { no = λ i p q s. go i p q s (ltb i k) refl }
-      where
-        go : (i : ℕ) → linked n ≤ i → i < k + 1 → i < n → (t : Bool) → ltb i k ≡ t → A i false
-        go i p q s true d = c.no i p (ltb-true i k d) s
-        go i p q s false d = let z : k ≡ i = omega (arith, ltb-false i k d) in subst (λ (v : ℕ). A v false) z (subst (A k) u a)
-
-    pub rest_found : (r : Bool) → k < n → A k r → r ≡ true → Rested A n (Some k)
-    unfolding Rested
-    rest_found r l a u = (l, subst (A k) u a)
-
-    pub rest_none : n ≤ k → Rested A n None
-    unfolding Rested
-    rest_none l = λ i p q. c.no i p (omega arith) q
-
-pub ruleset resting = (rules, rest_start, rest_next, rest_found, rest_none)
+  pub rested : (r : Option ℕ) → MatchOption r ((k : ℕ) → 4294967295 ≤ k → k < n → A k false) (λ i. (4294967295 ≤ i) × (i < n) × A i true × ((k : ℕ) → 4294967295 ≤ k → k < i → A k false)) → Rested A n r
+  unfolding Rested linked
+  rested (Some i) g = (g.1, g.2)
+  rested None g = λ i l m. g i (omega arith) m
 
 -- ---- what callers conclude, each answer being what `says` tells of its record: one of n, or none
 unfoldable pub Picks : (ℕ → Bool) → ℕ → Option ℕ → Type 0

@@ -12,22 +12,17 @@ use lib.ListN.{length, get_or}
 use mir.Syntax.{w64}
 use mir.Val.{Fits}
 use Rattle.texts.specs.declared.Map.{Map}
-use Rattle.texts.specs.Hash.{hash_of, bucket_of}
-use Rattle.texts.specs.Fields.{mark_at, hash_at, Chained, RecordsKept, Relinking, Relinked, Linked, RecordWritten}
+use Rattle.texts.specs.Hash.{hash_of}
+use Rattle.texts.specs.Fields.{mark_at, hash_at, Chained, RecordsKept, Relinking, Relinked, RecordWritten}
 use Rattle.texts.specs.Texts.{marked_text, Whole, texts_of}
-use Rattle.texts.specs.Table.{texts, linked, Entering, Entered, Started, Spreading, Spread, Growing, Grown}
-use Rattle.texts.proofs.HashLaws.{hash_small, bucket_small}
-use Rattle.texts.proofs.ChainCode.{kept-all, kept_trans, kept-wide, chained_same, chained_more}
+use Rattle.texts.specs.Table.{texts, linked, RecordPut, Entering, Entered, Started, Spreading, Spread, Growing, Grown}
+use Rattle.texts.proofs.ChainCode.{kept_trans, kept-wide}
 use Rattle.texts.proofs.TableStays.{text_agree, whole_agree, whole_stays, hash_stays, texts-stay, linked-le}
-use Rattle.texts.proofs.TableFindCode.{linked-few, linked-many}
+use Rattle.texts.proofs.TableFindCode.{linked-few}
 
 pub linked-small : (k : ℕ) → linked k ≤ 4294967295
 unfolding linked
 linked-small k = omega arith
-
-linked-more : (k : ℕ) → k < 4294967295 → linked (k + 1) ≡ k + 1
-unfolding linked
-linked-more k h = omega arith
 
 linked-mono : (k n : ℕ) → k ≤ n → linked k ≤ linked n
 unfolding linked
@@ -43,105 +38,92 @@ module _ (s w : List ℕ) (m : Map) (x h : ℕ) (g : Entering s w m x h) where
   pub enter-room : m.base + 24 * m.count + 24 ≤ length w
   enter-room = g.room
 
-  pub enter-hash : h < 4294967296
-  enter-hash = rw g.hash (hash_small (marked_text s w x))
-
   pub enter-some : 0 < m.buckets
   enter-some = g.some
 
   pub enter-narrow : m.buckets ≤ 4294967295
   enter-narrow = g.table.narrow
 
-  module _ (c : ℕ) (w1 : List ℕ) (a : RecordWritten w m.base m.count x h c w1) where
-    pub enter-room_again : m.base + 24 * m.count + 24 ≤ length w1
-    enter-room_again = rw a.long g.room
+  pub enter-chained : Chained w m.base m.buckets (linked m.count)
+  enter-chained = g.table.chained
 
-    pub enter-wide : m.base + 24 * m.buckets ≤ length w1
-    enter-wide = rw a.long g.table.wide
+  pub enter-wide : m.base + 24 * m.buckets ≤ length w
+  enter-wide = g.table.wide
 
-    chained_still : Chained w1 m.base m.buckets (linked m.count)
-    chained_still =
-        let l = linked-le m.count in
-        chained_same w w1 m.base m.buckets (linked m.count) (λ i k. a.hashes i (λ e. omega arith)) (λ i k. a.links i) (λ y k. a.heads y) g.table.chained
+  pub enter-fits : length w < 2 ^ 64 → Fits w64 (m.count + 1)
+  enter-fits l = record { fits = omega (arith, g.room) }
 
-    -- whatever happened to the chains
-    module _ (w2 : List ℕ) (k : RecordsKept w1 w2 m.base (m.count + 1) m.buckets) (ch : Chained w2 m.base m.buckets (linked (m.count + 1))) where
-      long_then : length w2 ≡ length w
-      long_then = k.long ∙ a.long
+  module _ (c : ℕ) (w2 : List ℕ) (o : RecordPut w m.base m.buckets m.count x h c w2) where
+    abbrev w1 : List ℕ
+    w1 = o.between
 
-      far : (i : ℕ) → g.low ≤ i → i < length w → get_or w2 i 0 ≡ get_or w i 0
-      far i y z = let r = g.roof in let v = g.wide in k.after i (omega arith) (omega arith) ∙ a.after i (omega arith)
+    abbrev a : RecordWritten w m.base m.count x h c w1
+    a = o.written
 
-      marks_then : (i : ℕ) → i < m.count → mark_at w2 m.base i ≡ mark_at w m.base i
-      marks_then i l = k.marks i ∙ a.marks i (λ e. omega arith)
+    abbrev k : RecordsKept w1 w2 m.base (m.count + 1) m.buckets
+    k = o.kept
 
-      hashes_then : (i : ℕ) → i < m.count → hash_at w2 m.base i ≡ hash_at w m.base i
-      hashes_then i l = k.hashes i ∙ a.hashes i (λ e. omega arith)
+    long_then : length w2 ≡ length w
+    long_then = k.long ∙ a.long
 
-      mark_then : mark_at w2 m.base m.count ≡ x
-      mark_then = k.marks m.count ∙ a.mark
+    far : (i : ℕ) → g.low ≤ i → i < length w → get_or w2 i 0 ≡ get_or w i 0
+    far i y z = let r = g.roof in let v = g.wide in k.after i (omega arith) (omega arith) ∙ a.after i (omega arith)
 
-      text_then : marked_text s w2 (mark_at w2 m.base m.count) ≡ marked_text s w x
-      text_then = ap (marked_text s w2) mark_then ∙ text_agree s w w2 g.low x long_then g.whole g.behind far
+    marks_then : (i : ℕ) → i < m.count → mark_at w2 m.base i ≡ mark_at w m.base i
+    marks_then i l = k.marks i ∙ a.marks i (λ e. omega arith)
 
-      whole_at : (i : ℕ) (t : Bool) → ltb i m.count ≡ t → i < m.count + 1 → Whole s w2 (mark_at w2 m.base i)
-      whole_at i true u l = whole_stays s w w2 m.base m.count g.low g.table.whole g.above.above long_then far marks_then i (ltb-true i m.count u)
-      whole_at i false u l =
-          let z : i ≡ m.count = omega (arith, ltb-false i m.count u) in
-          rw (z, mark_then) (whole_agree s w w2 g.low x long_then g.whole g.behind far)
+    hashes_then : (i : ℕ) → i < m.count → hash_at w2 m.base i ≡ hash_at w m.base i
+    hashes_then i l = k.hashes i ∙ a.hashes i (λ e. omega arith)
 
-      hash_at_lem : (i : ℕ) (t : Bool) → ltb i m.count ≡ t → i < m.count + 1 → hash_at w2 m.base i ≡ hash_of (marked_text s w2 (mark_at w2 m.base i))
-      hash_at_lem i true u l =
-          hash_stays s w w2 m.base m.count g.low g.table.whole g.above.above long_then far marks_then g.table.hashes hashes_then i (ltb-true i m.count u)
-      hash_at_lem i false u l =
-          let z : i ≡ m.count = omega (arith, ltb-false i m.count u) in
-          rw z (k.hashes m.count ∙ a.hash ∙ g.hash ∙ ap hash_of (sym text_then))
+    mark_then : mark_at w2 m.base m.count ≡ x
+    mark_then = k.marks m.count ∙ a.mark
 
-      more_then : texts_of s w2 m.base (m.count + 1) ≡ texts_of s w m.base m.count ++ (marked_text s w x ∷ [])
-      unfolding texts_of
-      more_then =
-          let q = texts-stay s w w2 m.base m.count g.low g.table.whole g.above.above long_then far marks_then m.count (omega arith) in
-          rw (add-one m.count) (cc (q, text_then))
+    text_then : marked_text s w2 (mark_at w2 m.base m.count) ≡ marked_text s w x
+    text_then = ap (marked_text s w2) mark_then ∙ text_agree s w w2 g.low x long_then g.whole g.behind far
 
-      entered_then : Entered s w m x h c (record { base = m.base; count = m.count + 1; buckets = m.buckets }) w2
-      unfolding texts
-      entered_then = record {
-        base = refl;
-        count = refl;
-        buckets = refl;
-        table = record {
-          narrow = g.table.narrow;
-          room = rw long_then (omega (arith, g.room));
-          wide = rw long_then g.table.wide;
-          whole = λ i l. whole_at i (ltb i m.count) refl l;
-          hashes = λ i l. hash_at_lem i (ltb i m.count) refl l;
-          chained = ch;
-        };
-        more = more_then;
-        mark = mark_then;
-        marks = marks_then;
-        cell = k.cells m.count ∙ a.cell;
-        cells = λ i l. k.cells i ∙ a.cells i (λ e. omega arith);
-        before = λ i l. k.before i l ∙ a.before i (omega arith);
-        after = λ i y z. k.after i (omega arith) z ∙ a.after i y;
-      }
+    whole_at : (i : ℕ) (t : Bool) → ltb i m.count ≡ t → i < m.count + 1 → Whole s w2 (mark_at w2 m.base i)
+    whole_at i true u l = whole_stays s w w2 m.base m.count g.low g.table.whole g.above.above long_then far marks_then i (ltb-true i m.count u)
+    whole_at i false u l =
+        let z : i ≡ m.count = omega (arith, ltb-false i m.count u) in
+        rw (z, mark_then) (whole_agree s w w2 g.low x long_then g.whole g.behind far)
 
-    pub entered_linked : (w2 : List ℕ) → m.count < 4294967295 → Linked w1 m.base m.buckets m.count (bucket_of h m.buckets) w2
-        → Entered s w m x h c (record { base = m.base; count = m.count + 1; buckets = m.buckets }) w2
-    entered_linked w2 l k =
-        let c1 : Chained w1 m.base m.buckets m.count = rw (linked-few m.count l) at chained_still in
-        let c2 = chained_more w1 w2 m.base m.buckets m.count h c1 (sym a.hash) (bucket_small h m.buckets enter-hash g.some) k in
-        entered_then w2 k.kept (rw (linked-more m.count l) c2)
+    hash_at_lem : (i : ℕ) (t : Bool) → ltb i m.count ≡ t → i < m.count + 1 → hash_at w2 m.base i ≡ hash_of (marked_text s w2 (mark_at w2 m.base i))
+    hash_at_lem i true u l =
+        hash_stays s w w2 m.base m.count g.low g.table.whole g.above.above long_then far marks_then g.table.hashes hashes_then i (ltb-true i m.count u)
+    hash_at_lem i false u l =
+        let z : i ≡ m.count = omega (arith, ltb-false i m.count u) in
+        rw z (k.hashes m.count ∙ a.hash ∙ g.hash ∙ ap hash_of (sym text_then))
 
-    pub entered_apart : 4294967295 ≤ m.count → Entered s w m x h c (record { base = m.base; count = m.count + 1; buckets = m.buckets }) w1
-    entered_apart l =
-        let e : linked (m.count + 1) ≡ linked m.count = linked-many (m.count + 1) (omega arith) ∙ sym (linked-many m.count l) in
-        entered_then w1 (kept-all w1 m.base (m.count + 1) m.buckets) (rw e chained_still)
+    more_then : texts_of s w2 m.base (m.count + 1) ≡ texts_of s w m.base m.count ++ (marked_text s w x ∷ [])
+    unfolding texts_of
+    more_then =
+        let q = texts-stay s w w2 m.base m.count g.low g.table.whole g.above.above long_then far marks_then m.count (omega arith) in
+        rw (add-one m.count) (cc (q, text_then))
 
-    pub enter-fits : length w < 2 ^ 64 → Fits w64 (m.count + 1)
-    enter-fits l = record { fits = omega (arith, g.room) }
+    pub entered : Entered s w m x h c (record { base = m.base; count = m.count + 1; buckets = m.buckets }) w2
+    unfolding texts
+    entered = record {
+      base = refl;
+      count = refl;
+      buckets = refl;
+      table = record {
+        narrow = g.table.narrow;
+        room = rw long_then (omega (arith, g.room));
+        wide = rw long_then g.table.wide;
+        whole = λ i l. whole_at i (ltb i m.count) refl l;
+        hashes = λ i l. hash_at_lem i (ltb i m.count) refl l;
+        chained = o.chained;
+      };
+      more = more_then;
+      mark = mark_then;
+      marks = marks_then;
+      cell = k.cells m.count ∙ a.cell;
+      cells = λ i l. k.cells i ∙ a.cells i (λ e. omega arith);
+      before = λ i l. k.before i l ∙ a.before i (omega arith);
+      after = λ i y z. k.after i (omega arith) z ∙ a.after i y;
+    }
 
-pub ruleset entering = (rules, enter-room, enter-hash, enter-some, enter-narrow, enter-room_again, enter-wide, enter-fits, entered_linked, entered_apart)
+pub ruleset entering = (rules, enter-room, enter-some, enter-narrow, enter-chained, enter-wide, enter-fits, entered)
 
 -- ---- `start`
 module _ (b n y : ℕ) (e : y ≡ linked n) where

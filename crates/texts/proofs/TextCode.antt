@@ -16,6 +16,9 @@ use Rattle.octets.specs.Plain.Numbers.{le_at}
 use Rattle.octets.specs.Plain.Runs.{part}
 use Rattle.parse_tree.specs.Plain.Tree.{Text}
 use Rattle.texts.specs.declared.Map.{Map}
+use Rattle.texts.specs.declared.mark.Stand.{Stand}
+use Rattle.texts.specs.Marks.{stand_of}
+use Rattle.texts.proofs.MarkLaws.{is_tape, is_work}
 use Rattle.texts.specs.Fields.{mark_at}
 use Rattle.texts.specs.Atoms.{atom_end, atom_text}
 use Rattle.texts.specs.Texts.{holder, place_at, marked_text, Whole, texts_of}
@@ -52,12 +55,6 @@ atom_done s a m n e p = let z : n ≡ le_at 2 s (a + 1) = p ∙ e in rw z
 pub ruleset atoming = (rules, atom_start, atom_two, atom_end_lem, atom_fits_one, atom_fits_three, atom_fits_end, atom_done)
 
 -- ---- `text_at`
-quarter : (x n : ℕ) → x / 4 < n → x < 4 * n
-quarter x n h = omega arith
-
-quarter_not : (x n : ℕ) → n ≤ x / 4 → 4 * n ≤ x
-quarter_not x n h = omega arith
-
 module _ (s w : List ℕ) (x : ℕ) where
   pub on_tape : x < 4 * length s → holder s w x ≡ s
   unfolding holder pick
@@ -75,28 +72,28 @@ module _ (s w : List ℕ) (x : ℕ) where
   unfolding place_at pick
   work_place h = cc (le-ltb x (4 * length s) h)
 
-  pub tape_whole : Whole s w x → x / 4 < length s → atom_end s (x / 4) ≤ length s
-  tape_whole g h = let l = quarter x (length s) h in rw (on_tape l, tape_place l) at g.inside
-
-  pub work_whole : Whole s w x → length s ≤ x / 4 → atom_end w (x + 4 * length s) ≤ length w
-  work_whole g h = let l = quarter_not x (length s) h in rw (in_work l, work_place l) at g.inside
-
-  pub tape_text : (y : Text) → x / 4 < length s → y ≡ atom_text s (x / 4) → y ≡ marked_text s w x
-  unfolding marked_text
-  tape_text y h e = let l = quarter x (length s) h in rw (on_tape l, tape_place l) e
-
-  pub work_text : (y : Text) → length s ≤ x / 4 → y ≡ atom_text w (x + 4 * length s) → y ≡ marked_text s w x
-  unfolding marked_text
-  work_text y h e = let l = quarter_not x (length s) h in rw (in_work l, work_place l) e
-
-  pub work_fits : Whole s w x → length w < 2 ^ 64 → length s ≤ x / 4 → Fits w64 (x + 4 * length s)
+  -- a place in work is a number
+  pub work_fits : Whole s w x → length w < 2 ^ 64 → 4 * length s ≤ x → x + 4 * length s < 2 ^ 64
   unfolding atom_end
-  work_fits g l h = record { fits = omega (arith, work_whole g h) }
+  work_fits g l h = let z : atom_end w (x + 4 * length s) ≤ length w = rw (in_work h, work_place h) at g.inside in omega arith
 
-  pub times-fits : Whole s w x → length w < 2 ^ 64 → length s ≤ x / 4 → Fits w64 (4 * length s)
-  times-fits g l h = record { fits = omega (arith, (work_fits g l h).fits) }
+  -- r is where its command stands
+  module _ (r : Stand) (a : ℕ) (p : r ≡ stand_of (length s) x) where
+    pub tape_whole : r ≡ Stand.Tape a → Whole s w x → atom_end s a ≤ length s
+    tape_whole e g = let q = is_tape (length s) x r a p e in rw (q.1, ← on_tape q.0, ← tape_place q.0) g.inside
 
-pub ruleset addressing = (rules, tape_whole, work_whole, tape_text, work_text, work_fits, times-fits)
+    pub work_whole : r ≡ Stand.Work a → Whole s w x → atom_end w a ≤ length w
+    work_whole e g = let q = is_work (length s) x r a p e in rw (q.1, ← in_work q.0, ← work_place q.0) g.inside
+
+    pub tape_text : (y : Text) → r ≡ Stand.Tape a → y ≡ atom_text s a → y ≡ marked_text s w x
+    unfolding marked_text
+    tape_text y e f = let q = is_tape (length s) x r a p e in rw (on_tape q.0, tape_place q.0) (rw q.1 at f)
+
+    pub work_text : (y : Text) → r ≡ Stand.Work a → y ≡ atom_text w a → y ≡ marked_text s w x
+    unfolding marked_text
+    work_text y e f = let q = is_work (length s) x r a p e in rw (in_work q.0, work_place q.0) (rw q.1 at f)
+
+pub ruleset addressing = (rules, tape_whole, work_whole, tape_text, work_text, work_fits)
 
 -- ---- the texts of the records
 pub length_texts : (s w : List ℕ) (b k : ℕ) → length (texts_of s w b k) ≡ k

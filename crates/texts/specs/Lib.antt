@@ -5,6 +5,7 @@ pub mod Hash
 pub mod Forms
 pub mod Scan
 pub mod Fields
+pub mod Marks
 pub mod Texts
 pub mod Table
 pub mod Search

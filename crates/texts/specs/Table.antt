@@ -6,7 +6,7 @@ use Rattle.parse_tree.specs.Plain.Texts.{has, number}
 use Rattle.texts.specs.declared.Map.{Map}
 use Rattle.std.specs.Prelude.{Option, Some, None}
 use Rattle.texts.specs.Hash.{hash_of}
-use Rattle.texts.specs.Fields.{mark_at, hash_at, cell_at, Chained}
+use Rattle.texts.specs.Fields.{mark_at, hash_at, cell_at, Chained, RecordsKept, RecordWritten}
 use Rattle.texts.specs.Texts.{marked_text, Whole, Behind, texts_of}
 
 -- the texts by number
@@ -16,6 +16,13 @@ texts s w m = texts_of s w m.base m.count
 -- how many of k texts are in chains: a link has four bytes
 unfoldable pub linked : ℕ → ℕ
 linked k = min k 4294967295
+
+-- what `put_record` does: the k-th record is written, and then comes to the chains if they can hold it
+pub record RecordPut (w : List ℕ) (b n k x h c : ℕ) (w' : List ℕ) : Type 0 where
+  pub between : List ℕ
+  pub written : RecordWritten w b k x h c between
+  pub kept : RecordsKept between w' b (k + 1) n
+  pub chained : Chained w' b n (linked (k + 1))
 
 -- THE INVARIANT: the records say texts that stand whole, and from the buckets' heads the links pass just those whose hash falls there
 pub record Table (s w : List ℕ) (m : Map) : Type 0 where

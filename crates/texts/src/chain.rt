@@ -2,12 +2,15 @@
 ghost use Rattle.std.specs.Prelude.{◌≡◌, ◌+◌, ◌*◌, ◌≤◌, ◌<◌, ℕ, length};
 ghost use Rattle.texts.specs.Hash.{bucket_of};
 ghost use Rattle.texts.specs.Fields.{Chained, Linked, Relinking, Relinked};
-ghost use Rattle.texts.specs.Table.{linked};
+ghost use Rattle.texts.specs.Table.{linked, RecordPut};
 ghost use Rattle.texts.specs.Search.{Rested, Searched};
 
 use crate::fields;
-use crate::fields::{hash, head, put_head, put_link};
+use crate::fields::{hash, head, put_head, put_link, write};
 use crate::hash::bucket;
+
+// So many records can be in chains: a link has four bytes, and 0 is none.
+pub const LINKED: usize = 4294967295;
 
 // Puts the k-th record before the others of bucket y.
 fn put_before(work: &mut [u8], base: usize, n: usize, k: usize, y: usize)
@@ -20,12 +23,23 @@ fn put_before(work: &mut [u8], base: usize, n: usize, k: usize, y: usize)
 }
 
 // Puts the k-th record, of this hash, before the others of its bucket.
-pub fn link(work: &mut [u8], base: usize, n: usize, k: usize, h: usize)
-    requires { (base + 24 * k + 24 ≤ length work.old) × (base + 24 * n ≤ length work.old) × (0 < n) × (n ≤ 4294967295) × (k < 4294967295) × (h < 4294967296) }
+pub fn link(work: &mut [u8], base: usize, n: usize, k: usize, h: u32)
+    requires { (base + 24 * k + 24 ≤ length work.old) × (base + 24 * n ≤ length work.old) × (0 < n) × (n ≤ 4294967295) × (k < 4294967295) }
     ensures { Linked work.old base n k (bucket_of h n) work.new }
 {
     let y = bucket(h, n);
     put_before(work, base, n, k, y);
+}
+
+// The k-th record, also in its bucket if a link can hold its number; those before it are there.
+pub fn put_record(work: &mut [u8], base: usize, n: usize, k: usize, mark: usize, h: u32, c: u32)
+    requires { (base + 24 * k + 24 ≤ length work.old) × (base + 24 * n ≤ length work.old) × (0 < n) × (n ≤ 4294967295) × Chained work.old base n (linked k) }
+    ensures { RecordPut work.old base n k mark h c work.new }
+{
+    write(work, base, k, mark, h, c);
+    if k < LINKED {
+        link(work, base, n, k, h);
+    }
 }
 
 // No record in any of n buckets.
@@ -54,12 +68,11 @@ fn rest<F: Fn(usize) -> bool>(n: usize, is: &F) -> Option<usize>
     requires { (i : ℕ) → i < n → F.pre is.now i }
     ensures { Rested (F.post is.now) n result }
 {
-    for i in 4294967295..n {
-        if is(i) {
-            return Some(i);
-        }
-    }
-    None
+    (LINKED..n).find(
+        |&i|
+            requires { F.pre is.now i }
+        { is(i) },
+    )
 }
 
 // The same, among those in bucket y and those in no chain.
@@ -77,8 +90,7 @@ pub fn search<F: Fn(usize) -> bool>(
     ensures { Searched (F.post is) work.now base buckets y n result }
 {
     let mut j = head(work, base, y) as usize;
-    while 0 < j {
-        let i = j - 1;
+    while let Some(i) = j.checked_sub(1) {
         if is(i) {
             return Some(i);
         }

@@ -2,7 +2,7 @@
 // the text's record, in fixed memory, and the class of a text is the least of its bytes'.
 ghost use Rattle.std.specs.Prelude.{◌≡◌, ◌≤◌, ◌<◌, length};
 ghost use Rattle.octets.specs.Plain.Runs.{part};
-ghost use Rattle.parse_tree.specs.Plain.Texts.{starts_name, in_name};
+ghost use Rattle.parse_tree.specs.Plain.Texts.{starts_name};
 ghost use Rattle.texts.specs.Classes.{text_class, byte_class, least};
 
 #[tactic(auto, using(std::proofs::lemmas::Bool::Decides::nat_tests), unfolding(parse_tree::specs::Plain::Texts::starts_name))]
@@ -12,27 +12,7 @@ fn starts_name(b: u8) -> bool
     matches!(b, b'A'..=b'Z' | b'_' | b'a'..=b'z')
 }
 
-#[tactic(auto, using(std::proofs::lemmas::Bool::Decides::nat_tests), unfolding(parse_tree::specs::Plain::Texts::in_name))]
-fn in_name(b: u8) -> bool
-    ensures { result ≡ in_name b }
-{
-    starts_name(b) || matches!(b, b'0'..=b'9')
-}
-
-// By its ranges.
-#[tactic(auto, using(std::proofs::lemmas::Bool::Decides::nat_tests), unfolding(crate::specs::Classes::byte_class, octets::specs::Working::Choice::pick, parse_tree::specs::Plain::Texts::in_name, parse_tree::specs::Plain::Texts::starts_name))]
-fn slow_class(b: u8) -> usize
-    ensures { result ≡ byte_class b }
-{
-    match b {
-        b'A'..=b'Z' | b'_' | b'a'..=b'z' | b'0'..=b'9' => 3,
-        b' '..=b'~' => 2,
-        0..=127 => 1,
-        _ => 0,
-    }
-}
-
-// One value to an arm: a table in memory that is only read, where ranges are asked one by one in the loop over every byte.
+// One value to an arm up to 127: a table in memory that is only read, where ranges are asked one by one in the loop over every byte.
 #[tactic(auto, unfolding(crate::specs::Classes::byte_class, octets::specs::Working::Choice::pick, parse_tree::specs::Plain::Texts::in_name, parse_tree::specs::Plain::Texts::starts_name))]
 pub fn byte_class(b: u8) -> usize
     ensures { result ≡ byte_class b }
@@ -166,11 +146,11 @@ pub fn byte_class(b: u8) -> usize
         125 => 2,
         126 => 2,
         127 => 1,
-        _ => slow_class(b),
+        _ => 0,
     }
 }
 
-// The class of the bytes from a up to e, whose least class is m.
+// The class of the bytes from a up to e, whose least class is m. No match of byte strings: it asks byte by byte, so that "neither of the two" is eleven ways out.
 pub fn class_by(tape: &[u8], a: usize, e: usize, m: usize) -> usize
     requires { (a ≤ e) × (e ≤ length tape.now) × (m ≡ least 3 (part a e tape.now)) }
     ensures { result ≡ text_class (part a e tape.now) }

@@ -4,6 +4,7 @@ ghost use Rattle.octets.specs.Plain.Numbers.{le};
 ghost use Rattle.octets.specs.Working.Stores.{store};
 ghost use Rattle.texts.specs.Fields.{mark_at, class_at, hash_at, link_at, head_at, cell_at, RecordWritten};
 
+use crate::mark::TextMark;
 use octets::numbers::{store32, store64, u32_at, u64_at};
 
 pub fn mark(work: &[u8], base: usize, k: usize) -> usize
@@ -13,20 +14,31 @@ pub fn mark(work: &[u8], base: usize, k: usize) -> usize
     u64_at(work, base + 24 * k) as usize
 }
 
+// That of a text.
+pub fn text_mark(work: &[u8], base: usize, k: usize) -> TextMark
+    requires { base + 24 * k + 24 ≤ length work.now }
+    ensures { result.number ≡ mark_at work.now base k }
+{
+    TextMark {
+        number: mark(work, base, k),
+    }
+}
+
 pub fn class(work: &[u8], base: usize, k: usize) -> usize
     requires { base + 24 * k + 24 ≤ length work.now }
     ensures { result ≡ class_at work.now base k }
 {
-    mark(work, base, k) % 4
+    text_mark(work, base, k).class()
 }
 
-pub fn hash(work: &[u8], base: usize, k: usize) -> usize
+pub fn hash(work: &[u8], base: usize, k: usize) -> u32
     requires { base + 24 * k + 24 ≤ length work.now }
-    ensures { (result ≡ hash_at work.now base k) × (result < 4294967296) }
+    ensures { result ≡ hash_at work.now base k }
 {
-    u32_at(work, base + 24 * k + 8) as usize
+    u32_at(work, base + 24 * k + 8)
 }
 
+// A number and one, 0 for none, as it stands in fixed memory; `search` alone takes it apart.
 pub fn link(work: &[u8], base: usize, k: usize) -> usize
     requires { base + 24 * k + 24 ≤ length work.now }
     ensures { result ≡ link_at work.now base k }
@@ -46,6 +58,13 @@ pub fn cell(work: &[u8], base: usize, k: usize) -> u32
     ensures { result ≡ cell_at work.now base k }
 {
     u32_at(work, base + 24 * k + 20)
+}
+
+pub fn put_mark(work: &mut [u8], base: usize, k: usize, v: usize)
+    requires { base + 24 * k + 24 ≤ length work.old }
+    ensures { work.new ≡ store work.old (base + 24 * k) (le 8 v) }
+{
+    store64(work, base + 24 * k, v as u64);
 }
 
 pub fn put_cell(work: &mut [u8], base: usize, k: usize, v: u32)
@@ -70,12 +89,11 @@ pub fn put_head(work: &mut [u8], base: usize, k: usize, v: u32)
 }
 
 // The record of a text, in no bucket yet.
-pub fn write(work: &mut [u8], base: usize, k: usize, mark: usize, h: usize, c: u32)
-    requires { (base + 24 * k + 24 ≤ length work.old) × (h < 4294967296) }
+pub fn write(work: &mut [u8], base: usize, k: usize, mark: usize, h: u32, c: u32)
+    requires { base + 24 * k + 24 ≤ length work.old }
     ensures { RecordWritten work.old base k mark h c work.new }
 {
-    let r = base + 24 * k;
-    store64(work, r, mark as u64);
-    store32(work, r + 8, h as u32);
-    store32(work, r + 20, c);
+    put_mark(work, base, k, mark);
+    store32(work, base + 24 * k + 8, h);
+    put_cell(work, base, k, c);
 }

@@ -8,7 +8,7 @@ use crate::hash::next;
 // The hash, and the least class of the bytes; 3 where there are none.
 #[derive(Clone, Copy)]
 pub struct Scanned {
-    pub hash: usize,
+    pub hash: u32,
     pub least: usize,
 }
 

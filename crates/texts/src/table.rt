@@ -1,17 +1,18 @@
-// The table: a text by its bytes, and a text more.
+// The table: a text by its bytes, and a text more. What writes has `tape` for the clauses alone.
 ghost use Rattle.std.specs.Prelude.{◌≡◌, [], ◌+◌, ◌*◌, ◌≤◌, ◌<◌, length, get_or};
 ghost use Rattle.octets.specs.Plain.Runs.{same_as};
 ghost use Rattle.texts.specs.Hash.{hash_of};
 ghost use Rattle.texts.specs.Table.{Table, texts, Finds, Entering, Entered, Started, Spreading, Spread, Growing, Grown};
 
 use crate::Map;
-use crate::chain::{empty, link, relink, search};
-use crate::fields::{hash, write};
+use crate::chain::{LINKED, empty, put_record, relink, search};
+use crate::fields::hash;
 use crate::hash::bucket;
+use crate::mark::TextMark;
 use crate::text::text;
 
 // Whether the k-th text is t, whose hash is h.
-fn is<'a>(tape: &'a [u8], work: &'a [u8], m: Map, k: usize, t: &[u8], h: usize) -> bool
+fn is<'a>(tape: &'a [u8], work: &'a [u8], m: Map, k: usize, t: &[u8], h: u32) -> bool
     requires { Table tape.now work.now m × (k < m.count) × (h ≡ hash_of t.now) }
     ensures { result ≡ same_as (get_or (texts tape.now work.now m) k []) t.now }
 {
@@ -19,7 +20,7 @@ fn is<'a>(tape: &'a [u8], work: &'a [u8], m: Map, k: usize, t: &[u8], h: usize) 
 }
 
 // The number of a text by its bytes and their hash.
-pub fn find<'a>(tape: &'a [u8], work: &'a [u8], m: Map, t: &[u8], h: usize) -> Option<usize>
+pub fn find<'a>(tape: &'a [u8], work: &'a [u8], m: Map, t: &[u8], h: u32) -> Option<usize>
     requires { Table tape.now work.now m × (0 < m.buckets) × (h ≡ hash_of t.now) }
     ensures { Finds (texts tape.now work.now m) t.now result }
 {
@@ -30,14 +31,11 @@ pub fn find<'a>(tape: &'a [u8], work: &'a [u8], m: Map, t: &[u8], h: usize) -> O
 }
 
 // The text of a mark, with its hash and its cell, as the next one.
-pub fn enter(tape: &[u8], work: &mut [u8], m: Map, x: usize, h: usize, c: u32) -> Map
-    requires { Entering tape.now work.old m x h }
-    ensures { Entered tape.now work.old m x h c result work.new }
+pub fn enter(tape: &[u8], work: &mut [u8], m: Map, x: TextMark, h: u32, c: u32) -> Map
+    requires { Entering tape.now work.old m x.number h }
+    ensures { Entered tape.now work.old m x.number h c result work.new }
 {
-    write(work, m.base, m.count, x, h, c);
-    if m.count < 4294967295 {
-        link(work, m.base, m.buckets, m.count, h);
-    }
+    put_record(work, m.base, m.buckets, m.count, x.number, h, c);
     Map {
         count: m.count + 1,
         ..m
@@ -49,7 +47,7 @@ pub fn start(tape: &[u8], work: &mut [u8], base: usize, n: usize) -> Map
     requires { base + 24 * n ≤ length work.old }
     ensures { Started tape.now work.old base n result work.new }
 {
-    let y = n.min(4294967295);
+    let y = n.min(LINKED);
     empty(work, base, y);
     Map {
         base,
@@ -63,7 +61,7 @@ pub fn spread(tape: &[u8], work: &mut [u8], m: Map) -> Map
     requires { Spreading tape.now work.old m }
     ensures { Spread tape.now work.old m result work.new }
 {
-    let y = m.count.min(4294967295);
+    let y = m.count.min(LINKED);
     empty(work, m.base, y);
     relink(work, m.base, y, 0, y);
     Map { buckets: y, ..m }
@@ -74,8 +72,8 @@ pub fn grow(tape: &[u8], work: &mut [u8], m: Map, n: usize) -> Map
     requires { Growing tape.now work.old m n }
     ensures { Grown tape.now work.old m n result work.new }
 {
-    let k = m.count.min(4294967295);
-    let e = n.min(4294967295);
+    let k = m.count.min(LINKED);
+    let e = n.min(LINKED);
     relink(work, m.base, m.buckets, k, e);
     Map { count: n, ..m }
 }

@@ -7,7 +7,8 @@ ghost use Rattle.texts.specs.Texts.{marked_text, Whole};
 ghost use Rattle.texts.specs.Table.{Table, texts};
 
 use crate::Map;
-use crate::fields::mark;
+use crate::fields::text_mark;
+use crate::mark::{Stand, TextMark};
 use octets::numbers::{store16, u16_at};
 use octets::runs::copy;
 
@@ -23,14 +24,13 @@ pub fn atom(s: &[u8], at: usize) -> &[u8]
 }
 
 // The text of a mark.
-pub fn text_at<'a>(tape: &'a [u8], work: &'a [u8], x: usize) -> &'a [u8]
-    requires { Whole tape.now work.now x }
-    ensures { result.now ≡ marked_text tape.now work.now x }
+pub fn text_at<'a>(tape: &'a [u8], work: &'a [u8], x: TextMark) -> &'a [u8]
+    requires { Whole tape.now work.now x.number }
+    ensures { result.now ≡ marked_text tape.now work.now x.number }
 {
-    if x / 4 < tape.len() {
-        atom(tape, x / 4)
-    } else {
-        atom(work, x + 4 * tape.len())
+    match x.stand(tape) {
+        Stand::Tape(at) => atom(tape, at),
+        Stand::Work(at) => atom(work, at),
     }
 }
 
@@ -39,16 +39,23 @@ pub fn text<'a>(tape: &'a [u8], work: &'a [u8], m: Map, k: usize) -> &'a [u8]
     requires { Table tape.now work.now m × (k < m.count) }
     ensures { result.now ≡ get_or (texts tape.now work.now m) k [] }
 {
-    let x = mark(work, m.base, k);
-    text_at(tape, work, x)
+    text_at(tape, work, text_mark(work, m.base, k))
 }
 
-// The command of an atom of n bytes, and t, which is its text or begins it.
+// The command of an atom of n bytes, before its text.
+pub fn put_atom_head(n: u16, out: &mut [u8], to: usize)
+    requires { to + 3 ≤ length out.old }
+    ensures { out.new ≡ store out.old to (1 ∷ le 2 n) }
+{
+    out[to] = 1;
+    store16(out, to + 1, n);
+}
+
+// The same, and t behind it, which is its text or begins it.
 pub fn put_atom(t: &[u8], n: u16, out: &mut [u8], to: usize)
     requires { to + 3 + length t.now ≤ length out.old }
     ensures { out.new ≡ store out.old to ((1 ∷ le 2 n) ++ t.now) }
 {
-    out[to] = 1;
-    store16(out, to + 1, n);
+    put_atom_head(n, out, to);
     copy(t, 0, t.len(), out, to + 3);
 }

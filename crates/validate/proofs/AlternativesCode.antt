@@ -2,15 +2,15 @@
 use mathlib.Core.Path.{◌≡◌, refl, sym, ap, ◌∙◌}
 use mathlib.Core.Bool.{Bool}
 use mathlib.Core.List.{List, [], ◌∷◌}
+use denote.Enum.Declared.{tag_of}
+use types.Run.{OneOf}
+use Rattle.parse_tree.specs.contracts.syntax.Node.{the_type}
 use Prim.Native.Nat.{ℕ, ◌+◌, ◌^◌, ◌<◌, ◌≤◌}
 use native.Mathlib.Omega.{arith}
 use lib.ListN.{length}
 use mir.Syntax.{w64}
 use mir.Val.{Fits}
 use borrow.Author.Rules.{rules}
-use denote.Enum.Declared.{tag_of}
-use types.Run.{OneOf}
-use Rattle.parse_tree.specs.contracts.syntax.Node.{the_type}
 use Rattle.parse_tree.specs.Plain.Tree.{syms_of}
 use Rattle.parse_tree.specs.Working.Places.{alternatives_place, attributes_place, conditions_place}
 use Rattle.parse_tree.specs.Plain.Reading.{Reading, then, times}
@@ -19,7 +19,6 @@ use Rattle.parse_tree.specs.Working.Operands.{alternative_of}
 use Rattle.parse_tree.specs.Working.Decode.{ask, read_sym, read_attribute, read_condition, read_alternative, alternative_parts}
 use Rattle.parse_tree.specs.Plain.ReadTape.{first_of}
 use Rattle.parse_tree.specs.declared.syntax.Alternative.{Alternative as AlternativeNode}
-use Rattle.parse_tree.specs.Working.Refusals.{refusal_at}
 use Rattle.parse_tree.specs.declared.refusal.Refusal.{Refusal}
 use Rattle.parse_tree.specs.declared.syntax.Node.{Node}
 use Rattle.texts.specs.Atoms.{atoms_of}
@@ -29,7 +28,7 @@ use Rattle.validate.specs.declared.Atoms.{Atoms}
 use Rattle.std.specs.Prelude.{Result, Ok, Err}
 use Rattle.validate.proofs.CommandKinds.{no_alternative}
 use Rattle.validate.proofs.CommandMean.{attributes_alike, conditions-alike}
-use Rattle.validate.proofs.CommandCode.{asked_got, asked_refused, step-got, step-refused, refuses_step, then_is, refuses_then, step_then, times_none, times-next, times-stop}
+use Rattle.validate.proofs.CommandCode.{stands, asked_got, asked_refused, step-got, step-refused, refuses_step, then_is, refuses_then, step_then, times_none, times-next, times-stop}
 
 -- ---- the step of one reading behind another
 pub step-on : {A B : Type 0} (m : Reading A) (f : A → ℕ → Reading B) (e : ℕ) (y : Result ℕ Refusal) → Ok e ≡ step_of m → ((x : A) → y ≡ step_of (f x e)) → y ≡ step_of (then m f)
@@ -79,9 +78,8 @@ module _ (four : Bool) (s : List ℕ) (w atoms at : ℕ) (r : Result (Node × �
     unfolding read_alternative alternative_parts
     wanted = then_is (ask four w s (atoms_of s atoms) alternatives_place 1 at) _ n e (asked_got (ask four w s (atoms_of s atoms) alternatives_place 1 at) n e (sym u ∙ i))
 
-    pub alternative_other : OneOf (0 ∷ 1 ∷ 2 ∷ 3 ∷ 5 ∷ 6 ∷ 7 ∷ 8 ∷ []) (tag_of the_type n) → (z : Refusal) → z ≡ refusal_at 2 at → Err z ≡ step_of (read_alternative four w s (atoms_of s atoms) at)
-    unfolding step_of
-    alternative_other o z h = ap Err h ∙ sym (ap step_of (wanted ∙ no_alternative at e (alternative_parts four w s (atoms_of s atoms)) n o))
+    pub alternative_other : OneOf (0 ∷ 1 ∷ 2 ∷ 3 ∷ 5 ∷ 6 ∷ 7 ∷ []) (tag_of the_type n) → ⊥
+    alternative_other o = no_alternative n o (stands four s w atoms alternatives_place 1 at n e (asked_got (ask four w s (atoms_of s atoms) alternatives_place 1 at) n e (sym u ∙ i))).allowed
 
     pub alternative_whole : (a : AlternativeNode) (y : Result ℕ Refusal) → n ≡ Node.Alternative a → y ≡ step_of (alternative_parts four w s (atoms_of s atoms) a e) → y ≡ step_of (read_alternative four w s (atoms_of s atoms) at)
     unfolding expect_alternative

@@ -9,8 +9,6 @@ use borrow.Author.Rules.{rules}
 use borrow.Author.Tests.{ltb-true, ltb-false}
 use lib.Dec.{ltb}
 use lib.ListN.{length}
-use mir.Syntax.{w64}
-use mir.Val.{Fits}
 use Rattle.octets.specs.Plain.Runs.{part}
 use Rattle.octets.proofs.PartLaws.{part_length}
 use Rattle.parse_tree.specs.Plain.Tree.{Text}
@@ -109,13 +107,13 @@ module _ (s w : List ℕ) (m : Map) (at end n : ℕ) (g : Going s w m at end n) 
       class_few : c < 4
       class_few = rw o (class_small (part (at + 3) (at + 3 + length t) s))
 
-      pub mark_fits : length w < 2 ^ 64 → Fits w64 (4 * at + c)
-      mark_fits l = record { fits = omega (arith, class_few, next_inside, g.starts.small) }
+      pub mark_small : length w < 2 ^ 64 → 4 * at + c < 2 ^ 64
+      mark_small l = omega (arith, class_few, next_inside, g.starts.small)
 
       mark-text : marked_text s w (4 * at + c) ≡ atom_text s at
       mark-text = tape_mark_text s w at c class_few next_whole
 
-      pub next_entering : (v : ℕ) → v ≡ hash_of t → Entering s w m (4 * at + c) v
+      next_entering : (v : ℕ) → v ≡ hash_of t → Entering s w m (4 * at + c) v
       next_entering v p =
           let a = g.base in
           let b = g.starts.small in
@@ -173,7 +171,7 @@ module _ (s w : List ℕ) (m : Map) (at end n : ℕ) (g : Going s w m at end n) 
         none_known None a p = answer_none (texts s w m) t a
         none_known (Some k) a p = absurd (false≢true (sym p))
 
-        pub next_more : (r : Option ℕ) → Finds (texts s w m) t r → (b : Bool) → b ≡ is_some r → b ≡ false → length w1 ≡ length w → Nexts s m at end n (Some (m1, at + 3 + length t)) w1
+        next_more : (r : Option ℕ) → Finds (texts s w m) t r → (b : Bool) → b ≡ is_some r → b ≡ false → length w1 ≡ length w → Nexts s m at end n (Some (m1, at + 3 + length t)) w1
         unfolding Nexts
         next_more r a b o p l =
             let none = none_known r a (sym o ∙ p) in
@@ -194,7 +192,16 @@ module _ (s w : List ℕ) (m : Map) (at end n : ℕ) (g : Going s w m at end n) 
               on = omega arith;
             }
 
-pub ruleset entering_at = (rules, next_whole, next-some, next_inside, next_least, next_hash, next_known, mark_fits, next_entering, next_more)
+      -- x is its mark
+      module _ (x : ℕ) (d : x ≡ 4 * at + c) where
+        pub marked_entering : (v : ℕ) → v ≡ hash_of t → Entering s w m x v
+        marked_entering v p = rw d (next_entering v p)
+
+        pub marked_more : (v : ℕ) (m1 : Map) (w1 : List ℕ) → Entered s w m x v 0 m1 w1 → (r : Option ℕ) → Finds (texts s w m) t r → (b : Bool) → b ≡ is_some r → b ≡ false → length w1 ≡ length w
+            → Nexts s m at end n (Some (m1, at + 3 + length t)) w1
+        marked_more v m1 w1 a = next_more v m1 w1 (rw d at a)
+
+pub ruleset entering_at = (rules, next_whole, next-some, next_inside, next_least, next_hash, next_known, mark_small, marked_entering, marked_more)
 
 -- ---- `atoms`
 module _ (s w : List ℕ) (end n : ℕ) (g : Starts s w end n) where

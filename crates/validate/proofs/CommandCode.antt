@@ -1,11 +1,11 @@
 -- The ways out of `command`, its answers taken apart, and the loop of `commands`. Assumes nothing.
 use mathlib.Core.Path.{◌≡◌, refl, sym, ap, subst, ◌∙◌}
-use mathlib.Core.Bool.{Bool, true, false, not, false≢true}
+use mathlib.Core.Bool.{Bool, true, false, not, ◌&&◌}
 use mathlib.Core.List.{List, ◌∷◌}
 use Prim.Native.Nat.{ℕ, ◌+◌, ◌<◌, ◌≤◌, zero, suc, ◌-◌}
 use native.Mathlib.Omega.{arith}
 use borrow.Author.Rules.{rules}
-use borrow.Author.Tests.{le-leb, lt-leb, leb-false, not-true, not-false}
+use borrow.Author.Tests.{le-leb, lt-leb, leb-true, leb-false, not-true, not-false}
 use lib.Dec.{leb}
 use lib.ListN.{length}
 use Rattle.octets.specs.Working.Choice.{pick}
@@ -13,7 +13,7 @@ use Rattle.parse_tree.specs.Working.Nodes.{node_at, size_of}
 use Rattle.parse_tree.specs.Working.Places.{class_of, allowed_at}
 use Rattle.parse_tree.specs.Working.Questions.{defined, suits}
 use Rattle.parse_tree.specs.Plain.Reading.{Reading, got, refused, then, times}
-use Rattle.parse_tree.specs.Working.Decode.{ask}
+use Rattle.parse_tree.specs.Working.Decode.{ask_of, ask}
 use Rattle.parse_tree.specs.Working.Refusals.{refusal_at}
 use Rattle.parse_tree.specs.declared.refusal.Refusal.{Refusal}
 use Rattle.parse_tree.specs.declared.syntax.Node.{Node}
@@ -22,61 +22,84 @@ use Rattle.texts.proofs.AtomsLaws.{length_atoms}
 use Rattle.validate.specs.Steps.{asked_of, step_of, Refuses}
 use Rattle.validate.specs.Quick.{PassedCommand}
 use Rattle.validate.specs.declared.Atoms.{Atoms}
-use Rattle.std.specs.Prelude.{Result, Ok, Err}
+use Rattle.std.specs.Prelude.{Option, Some, None, Result, Ok, Err}
+
+-- ---- no command stands there
+module _ (four : Bool) (s : List ℕ) (w atoms place left at : ℕ) (y : Option Node) (p : y ≡ node_at w s at) where
+  pub not_known : (z : Refusal) → z ≡ refusal_at 2 at → y ≡ None → Err z ≡ asked_of (ask four w s (atoms_of s atoms) place left at)
+  unfolding ask ask_of asked_of
+  not_known z e h = let q : node_at w s at ≡ None = sym p ∙ h in ap Err e ∙ simp q
 
 -- ---- n is the command, c its class, o whether it may stand there
-module _ (four : Bool) (s : List ℕ) (w atoms place left at : ℕ) (n : Node) (p : n ≡ node_at w s at) (c : ℕ) (q : c ≡ class_of n) (o : Bool) (r : o ≡ allowed_at place c) where
-  o_is : o ≡ allowed_at place (class_of (node_at w s at))
-  o_is = r ∙ ap (allowed_at place) q ∙ ap (λ (x : Node). allowed_at place (class_of x)) p
+module _ (four : Bool) (s : List ℕ) (w atoms place left at : ℕ) (y : Option Node) (p : y ≡ node_at w s at) (n : Node) (t : y ≡ Some n) (c : ℕ) (q : c ≡ class_of n) (o : Bool) (r : o ≡ allowed_at place c) where
+  here : node_at w s at ≡ Some n
+  here = sym p ∙ t
+
+  o_is : o ≡ allowed_at place (class_of n)
+  o_is = r ∙ ap (allowed_at place) q
 
   pub not_allowed : (z : Refusal) → z ≡ refusal_at 2 at → not o ≡ true → Err z ≡ asked_of (ask four w s (atoms_of s atoms) place left at)
-  unfolding ask pick asked_of
-  not_allowed z e h = ap Err e ∙ simp (← o_is, not-true o h)
+  unfolding ask ask_of pick asked_of
+  not_allowed z e h = ap Err e ∙ simp (here, ← o_is, not-true o h)
 
   -- d is whether its operands are defined
   module _ (h : not o ≡ false) (d : Bool) (x : d ≡ defined atoms n) where
-    d_is : d ≡ defined (length (atoms_of s atoms)) (node_at w s at)
-    d_is = x ∙ ap (defined atoms) p ∙ ap (λ (k : ℕ). defined k (node_at w s at)) (sym (length_atoms s atoms))
+    d_is : d ≡ defined (length (atoms_of s atoms)) n
+    d_is = x ∙ ap (λ (k : ℕ). defined k n) (sym (length_atoms s atoms))
 
     pub not_defined : (z : Refusal) → z ≡ refusal_at 3 at → not d ≡ true → Err z ≡ asked_of (ask four w s (atoms_of s atoms) place left at)
-    unfolding ask pick asked_of
-    not_defined z e g = ap Err e ∙ simp (← o_is, not-false o h, ← d_is, not-true d g)
+    unfolding ask ask_of pick asked_of
+    not_defined z e g = ap Err e ∙ simp (here, ← o_is, not-false o h, ← d_is, not-true d g)
 
     pub too_deep : (z : Refusal) → z ≡ refusal_at 3 at → not d ≡ false → left < 1 → Err z ≡ asked_of (ask four w s (atoms_of s atoms) place left at)
-    unfolding ask pick asked_of
-    too_deep z e g k = ap Err e ∙ simp (← o_is, not-false o h, ← d_is, not-false d g, lt-leb 1 left k)
+    unfolding ask ask_of pick asked_of
+    too_deep z e g k = ap Err e ∙ simp (here, ← o_is, not-false o h, ← d_is, not-false d g, lt-leb 1 left k)
 
     -- u is whether its texts suit
-    module _ (g : not d ≡ false) (k : 1 ≤ left) (u : Bool) (y : u ≡ pick four (suits (atoms_of s atoms) n) true) where
-      u_is : u ≡ pick four (suits (atoms_of s atoms) (node_at w s at)) true
-      u_is = y ∙ ap (λ (x : Node). pick four (suits (atoms_of s atoms) x) true) p
-
+    module _ (g : not d ≡ false) (k : 1 ≤ left) (u : Bool) (v : u ≡ pick four (suits (atoms_of s atoms) n) true) where
       pub not_suited : (z : Refusal) → z ≡ refusal_at 4 at → not u ≡ true → Err z ≡ asked_of (ask four w s (atoms_of s atoms) place left at)
-      unfolding ask pick asked_of
-      not_suited z e f = ap Err e ∙ simp (← o_is, not-false o h, ← d_is, not-false d g, le-leb 1 left k, ← u_is, not-true u f)
-
-      ask_is : not u ≡ false → ask four w s (atoms_of s atoms) place left at ≡ got n (at + size_of w n)
-      unfolding ask pick
-      ask_is f =
-          let here : ask four w s (atoms_of s atoms) place left at ≡ got (node_at w s at) (at + size_of w (node_at w s at)) = simp (← o_is, not-false o h, ← d_is, not-false d g, le-leb 1 left k, ← u_is, not-false u f) in
-          here ∙ ap (λ (x : Node). got x (at + size_of w x)) (sym p)
+      unfolding ask ask_of pick asked_of
+      not_suited z e f = ap Err e ∙ simp (here, ← o_is, not-false o h, ← d_is, not-false d g, le-leb 1 left k, ← v, not-true u f)
 
       pub asked_is : (z : ℕ) → not u ≡ false → z ≡ size_of w n → Ok (n, at + z) ≡ asked_of (ask four w s (atoms_of s atoms) place left at)
-      unfolding asked_of
-      asked_is z f e = rw (e, ask_is f)
+      unfolding ask ask_of pick asked_of
+      asked_is z f e = rw e (simp (here, ← o_is, not-false o h, ← d_is, not-false d g, le-leb 1 left k, ← v, not-false u f))
 
--- a command that is defined begins inside
-pub asked_inside : (s : List ℕ) (w atoms at : ℕ) (n : Node) → n ≡ node_at w s at → (d : Bool) → d ≡ defined atoms n → d ≡ true → at < length s
-unfolding node_at pick defined
-asked_inside s w atoms at n p d x g = go (leb (length s) at) refl
+-- a command that is known begins inside
+pub asked_inside : (s : List ℕ) (w at : ℕ) (y : Option Node) → y ≡ node_at w s at → (n : Node) → y ≡ Some n → at < length s
+unfolding node_at pick
+asked_inside s w at y p n t = go (leb (length s) at) refl
   where
     go : (b : Bool) → leb (length s) at ≡ b → at < length s
     go true e =
-        let u : n ≡ Node.Unknown = p ∙ simp e in
-        absurd (false≢true (ap (defined atoms) (sym u) ∙ sym x ∙ g))
+        let u : None ≡ Some n = sym (p ∙ simp e) ∙ t in
+        absurd (let z : ◌≡◌ {A = ℕ} 0 1 = cc in omega arith)
     go false e = omega (arith, leb-false (length s) at e)
 
-pub ruleset commanding = (rules, not_allowed, not_defined, too_deep, not_suited, asked_is)
+-- a command that was read may stand there, with a level of nesting left
+pub record Stands (place left : ℕ) (n : Node) : Type 0 where
+  pub allowed : allowed_at place (class_of n) ≡ true
+  pub deep : 0 < left
+
+pub stands : (four : Bool) (s : List ℕ) (w atoms place left at : ℕ) (n : Node) (e : ℕ) → ask four w s (atoms_of s atoms) place left at ≡ got n e → Stands place left n
+unfolding ask ask_of pick
+stands four s w atoms place left at n e h = known (node_at w s at) h
+  where
+    go : (x : Node) (a : Bool) → allowed_at place (class_of x) ≡ a → (d l : Bool) → leb 1 left ≡ l → (u : Bool)
+        → pick a (pick (d && l) (pick u (got x (at + size_of w x)) (refused 4 at)) (refused 3 at)) (refused 2 at) ≡ got n e → Stands place left n
+    go x true p true true q true z =
+        let i : x ≡ n = cc in
+        record { allowed = sym (ap (λ (y : Node). allowed_at place (class_of y)) i) ∙ p; deep = leb-true 1 left q }
+    go x true p true true q false z = cc
+    go x true p true false q u z = cc
+    go x true p false l q u z = cc
+    go x false p d l q u z = cc
+
+    known : (y : Option Node) → ask_of four w s (atoms_of s atoms) place left at y ≡ got n e → Stands place left n
+    known None z = cc
+    known (Some x) z = go x (allowed_at place (class_of x)) refl (defined (length (atoms_of s atoms)) x) (leb 1 left) refl (pick four (suits (atoms_of s atoms) x) true) z
+
+pub ruleset commanding = (rules, not_known, not_allowed, not_defined, too_deep, not_suited, asked_is)
 
 -- ---- an answer, taken apart
 pub asked_got : (r : Reading Node) (n : Node) (e : ℕ) → Ok (n, e) ≡ asked_of r → r ≡ got n e

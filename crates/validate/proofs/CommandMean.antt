@@ -14,11 +14,11 @@ use Rattle.parse_tree.specs.Working.Questions.{defined, suits}
 use Rattle.parse_tree.specs.Plain.Reading.{Reading, got, refused, then, times}
 use Rattle.parse_tree.specs.Working.Expect.{expect_argument, expect_attribute, expect_condition}
 use Rattle.parse_tree.specs.Working.Operands.{text_of, attribute_of, condition_of}
-use Rattle.parse_tree.specs.Working.Decode.{ask, read_argument, read_attribute, read_condition}
+use Rattle.parse_tree.specs.Working.Decode.{ask_of, ask, read_argument, read_attribute, read_condition}
 use Rattle.parse_tree.specs.Working.Refusals.{refusal_at}
 use Rattle.parse_tree.specs.declared.syntax.Node.{Node}
 use Rattle.validate.specs.Steps.{step_of}
-use Rattle.std.specs.Prelude.{Ok}
+use Rattle.std.specs.Prelude.{Option, Some, None, Ok}
 use Rattle.validate.proofs.CommandCode.{step-refused, refuses_step, refuses_then}
 
 -- what is read behind a command goes on from it, if it is of a kind that may stand at its place
@@ -32,9 +32,12 @@ module _ {B : Type 0} (place at : ℕ) (f : Node → ℕ → Reading B) (on : (n
   picked n true true true e h = on n e h
 
   then-ask : (four : Bool) (w : ℕ) (s : List ℕ) (ts : List Text) → step_of (then (ask four w s ts place 1 at) f) ≡ step_of (ask four w s ts place 1 at)
-  unfolding ask
-  then-ask four w s ts =
-      picked (node_at w s at) (allowed_at place (class_of (node_at w s at))) (defined (length ts) (node_at w s at) && leb 1 1) (pick four (suits ts (node_at w s at)) true) (at + size_of w (node_at w s at)) refl
+  unfolding ask ask_of then step_of
+  then-ask four w s ts = go (node_at w s at)
+    where
+      go : (o : Option Node) → step_of (then (ask_of four w s ts place 1 at o) f) ≡ step_of (ask_of four w s ts place 1 at o)
+      go None = refl
+      go (Some n) = picked n (allowed_at place (class_of n)) (defined (length ts) n && leb 1 1) (pick four (suits ts n) true) (at + size_of w n) refl
 
 module _ (four : Bool) (w : ℕ) (s : List ℕ) (ts : List Text) (at : ℕ) where
   only_argument : (n : Node) (e : ℕ) → allowed_at arguments_place (class_of n) ≡ true → step_of (expect_argument at (λ a d. got (text_of ts a.0) d) n e) ≡ Ok e
@@ -47,7 +50,6 @@ module _ (four : Bool) (w : ℕ) (s : List ℕ) (ts : List Text) (at : ℕ) wher
   only_argument (Node.Attribute a) e h = absurd (false≢true h)
   only_argument (Node.Condition c) e h = absurd (false≢true h)
   only_argument (Node.Symbol p k) e h = absurd (false≢true h)
-  only_argument Node.Unknown e h = absurd (false≢true h)
 
   only_attribute : (n : Node) (e : ℕ) → allowed_at attributes_place (class_of n) ≡ true → step_of (expect_attribute at (λ a d. got (attribute_of ts a) d) n e) ≡ Ok e
   unfolding expect_attribute step_of allowed_at table class_of
@@ -59,7 +61,6 @@ module _ (four : Bool) (w : ℕ) (s : List ℕ) (ts : List Text) (at : ℕ) wher
   only_attribute (Node.Attribute a) e h = refl
   only_attribute (Node.Condition c) e h = absurd (false≢true h)
   only_attribute (Node.Symbol p k) e h = absurd (false≢true h)
-  only_attribute Node.Unknown e h = absurd (false≢true h)
 
   only_condition : (n : Node) (e : ℕ) → allowed_at conditions_place (class_of n) ≡ true → step_of (expect_condition at (λ c d. got (condition_of ts c) d) n e) ≡ Ok e
   unfolding expect_condition step_of allowed_at table class_of
@@ -71,7 +72,6 @@ module _ (four : Bool) (w : ℕ) (s : List ℕ) (ts : List Text) (at : ℕ) wher
   only_condition (Node.Attribute a) e h = absurd (false≢true h)
   only_condition (Node.Condition c) e h = refl
   only_condition (Node.Symbol p k) e h = absurd (false≢true h)
-  only_condition Node.Unknown e h = absurd (false≢true h)
 
   argument-step : step_of (read_argument four w s ts at) ≡ step_of (ask four w s ts arguments_place 1 at)
   unfolding read_argument

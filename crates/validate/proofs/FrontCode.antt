@@ -6,8 +6,8 @@ use Prim.Native.Nat.{ℕ, zero, suc, ◌+◌, ◌*◌, ◌-◌, ◌^◌, ◌<◌
 use native.Mathlib.Omega.{arith}
 use native.Mathlib.Numerals.{add-one}
 use borrow.Author.Rules.{rules}
-use borrow.Author.Tests.{lt-ltb, le-ltb, eq-eqb, ne_eqb, ltb-true, ltb-false, leb-true, leb-false}
-use lib.Dec.{eqb, ltb, leb}
+use borrow.Author.Tests.{eq-eqb, ne_eqb, ltb-true, ltb-false}
+use lib.Dec.{eqb, ltb}
 use lib.ListN.{length, get_or}
 use mir.Syntax.{w64}
 use mir.Val.{Fits}
@@ -15,9 +15,13 @@ use Rattle.octets.specs.Working.Choice.{pick}
 use Rattle.octets.specs.Plain.Numbers.{le_at}
 use Rattle.octets.proofs.ChoiceLaws.{by_pick}
 use Rattle.texts.specs.Atoms.{atom_end, place_of}
-use Rattle.std.specs.Prelude.{Option, Some, None}
-use Rattle.std.specs.Bool.{then_some}
+use Rattle.std.specs.Prelude.{Option, Some, None, option_map}
+use Rattle.parse_tree.specs.Working.Nodes.{text_node, if_whole}
+use Rattle.parse_tree.specs.declared.syntax.Node.{Node}
 use Rattle.validate.specs.Front.{next_at, AtomEnds, Counted}
+
+some_not : {A : Type 0} {x : A} → ◌≡◌ {A = Option A} (Some x) None → ⊥
+some_not {A} {x} e = let z : ◌≡◌ {A = ℕ} 0 1 = cc in omega arith
 
 module _ (s : List ℕ) (at : ℕ) where
   pub behind_end : length s ≤ at → AtomEnds s at None
@@ -28,24 +32,34 @@ module _ (s : List ℕ) (at : ℕ) where
   unfolding AtomEnds next_at pick
   behind_code n = λ _. cc (ne_eqb (get_or s at 0) 1 n)
 
-  module _ (o : get_or s at 0 ≡ 1) where
-    pub behind_short : length s - at < 3 → AtomEnds s at None
-    unfolding AtomEnds next_at pick
-    behind_short h = λ _. cc (eq-eqb (get_or s at 0) 1 o, lt-ltb (length s - at) 3 h)
+  -- r is what `text_size` answered
+  module _ (o : get_or s at 0 ≡ 1) (l : at < length s) (r : Option ℕ) (e : option_map Node.Text r ≡ text_node s at) where
+    abbrev Ends : Option ℕ → Type 0
+    Ends x = AtomEnds s at (option_map (λ n. at + 3 + n) x)
 
-    module _ (h : 3 ≤ length s - at) (n : ℕ) (p : n ≡ le_at 2 s (at + 1)) where
-      -- b is whether its text is whole
-      pub behind_whole : (b : Bool) (r : Option ℕ) → b ≡ leb (3 + n) (length s - at) → r ≡ then_some b (at + 3 + n) → at < length s → AtomEnds s at r
-      unfolding AtomEnds next_at pick atom_end
-      behind_whole true r q e l =
-          let k : 3 + n ≤ length s - at = leb-true (3 + n) (length s - at) (sym q) in
-          let z : at + 3 + n ≡ next_at s at = cc (eq-eqb (get_or s at 0) 1 o, le-ltb (length s - at) 3 h, le-ltb (length s - at) (3 + le_at 2 s (at + 1)) (omega arith)) in
-          rw e (l, z, omega arith)
-      behind_whole false r q e l =
-          let k : length s - at < 3 + n = leb-false (3 + n) (length s - at) (sym q) in
-          rw e (λ _. cc (eq-eqb (get_or s at 0) 1 o, le-ltb (length s - at) 3 h, lt-ltb (length s - at) (3 + le_at 2 s (at + 1)) (omega arith)))
+    behind_is : Ends r
+    unfolding AtomEnds next_at text_node if_whole pick atom_end
+    behind_is = go (ltb (length s - at) 3) (ltb (length s - at) (3 + le_at 2 s (at + 1))) refl refl r e
+      where
+        go : (b d : Bool) → ltb (length s - at) 3 ≡ b → ltb (length s - at) (3 + le_at 2 s (at + 1)) ≡ d → (r : Option ℕ)
+            → option_map Node.Text r ≡ pick b None (pick d None (Some (Node.Text (le_at 2 s (at + 1))))) → Ends r
+        go true d p q None e = λ _. cc (eq-eqb (get_or s at 0) 1 o, p)
+        go true d p q (Some n) e = absurd (some_not e)
+        go false true p q None e = λ _. cc (eq-eqb (get_or s at 0) 1 o, p, q)
+        go false true p q (Some n) e = absurd (some_not e)
+        go false false p q None e = absurd (some_not (sym e))
+        go false false p q (Some n) e =
+            let k : n ≡ le_at 2 s (at + 1) = cc in
+            let z : at + 3 + n ≡ next_at s at = cc (eq-eqb (get_or s at 0) 1 o, p, q) in
+            (l, z, omega arith)
 
-pub ruleset behinding = (rules, behind_end, behind_code, behind_short, behind_whole)
+    pub behind_none : r ≡ None → AtomEnds s at None
+    behind_none z = rw z at behind_is
+
+    pub behind_whole : (n : ℕ) → r ≡ Some n → (m : ℕ) → m ≡ n → AtomEnds s at (Some (at + 3 + m))
+    behind_whole n z m i = rw i (rw z at behind_is)
+
+pub ruleset behinding = (rules, behind_end, behind_code, behind_none, behind_whole)
 
 abbrev Moves : List ℕ → ℕ → ℕ → Type 0
 Moves s at r = at < r → (r ≡ atom_end s at) × (atom_end s at ≤ length s)

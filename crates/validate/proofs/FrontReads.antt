@@ -8,6 +8,7 @@ use native.Mathlib.Nat.{zero-add}
 use borrow.Author.Tests.{le-leb, lt-leb, le-ltb, ltb-true, ltb-false, eqb-true, not-true}
 use lib.Dec.{eqb, ltb}
 use lib.ListN.{length, get_or}
+use Rattle.std.specs.Prelude.{Option, Some, None}
 use Rattle.octets.specs.Plain.Numbers.{le_at, le, Bytes}
 use Rattle.octets.specs.Plain.Runs.{same_as}
 use Rattle.octets.specs.Working.Choice.{pick}
@@ -48,9 +49,9 @@ distinct-front (t ∷ ts) us d =
 module _ (four : Bool) (w : ℕ) (s : List ℕ) where
   -- ---- one command: a whole atom
   abbrev Reads : ℕ → ℕ → Type 0
-  Reads at r = at < r → node_at w s at ≡ Node.Text (le_at 2 s (at + 1))
+  Reads at r = at < r → node_at w s at ≡ Some (Node.Text (le_at 2 s (at + 1)))
 
-  whole_is : (at : ℕ) → get_or s at 0 ≡ 1 → 3 ≤ length s - at → 3 + le_at 2 s (at + 1) ≤ length s - at → node_at w s at ≡ Node.Text (le_at 2 s (at + 1))
+  whole_is : (at : ℕ) → get_or s at 0 ≡ 1 → 3 ≤ length s - at → 3 + le_at 2 s (at + 1) ≤ length s - at → node_at w s at ≡ Some (Node.Text (le_at 2 s (at + 1)))
   unfolding node_at node_by text_node if_whole pick
   whole_is at c h k = rw (lt-leb (length s) at (omega arith), c, le-ltb (length s - at) 3 h, le-ltb (length s - at) (3 + le_at 2 s (at + 1)) k)
 
@@ -64,7 +65,7 @@ module _ (four : Bool) (w : ℕ) (s : List ℕ) where
       (λ _ h. absurd (omega arith))
 
   -- and any other
-  text_moves : (at l : ℕ) → Bytes s → node_at w s at ≡ Node.Text l → at < next_at s at
+  text_moves : (at l : ℕ) → Bytes s → node_at w s at ≡ Some (Node.Text l) → at < next_at s at
   unfolding node_bytes next_at atom_end pick
   text_moves at l b e =
       let h : Stands w s at (Node.Text l) = rw e at (node_says w s at b) in
@@ -74,17 +75,17 @@ module _ (four : Bool) (w : ℕ) (s : List ℕ) where
       rw (f.1, le-ltb (length s - at) 3 (omega arith), le-ltb (length s - at) (3 + le_at 2 s (at + 1)) (omega arith)) (omega arith)
 
   module _ (ts : List Text) (at m : ℕ) where
-    stops_at : (n : Node) → node_at w s at ≡ n → ((l : ℕ) → n ≡ Node.Text l → ⊥) → read_atoms four w s (suc m) ts at ≡ got ts at
+    stops_at : (n : Option Node) → node_at w s at ≡ n → ((l : ℕ) → n ≡ Some (Node.Text l) → ⊥) → read_atoms four w s (suc m) ts at ≡ got ts at
     unfolding read_atoms
-    stops_at (Node.Text k) e h = absurd (h k refl)
-    stops_at (Node.Nonterminal d) e h = cc
-    stops_at (Node.Terminal t) e h = cc
-    stops_at (Node.Argument a) e h = cc
-    stops_at (Node.Alternative a) e h = cc
-    stops_at (Node.Attribute a) e h = cc
-    stops_at (Node.Condition c) e h = cc
-    stops_at (Node.Symbol sp k) e h = cc
-    stops_at Node.Unknown e h = cc
+    stops_at (Some (Node.Text k)) e h = absurd (h k refl)
+    stops_at (Some (Node.Nonterminal d)) e h = cc
+    stops_at (Some (Node.Terminal t)) e h = cc
+    stops_at (Some (Node.Argument a)) e h = cc
+    stops_at (Some (Node.Alternative a)) e h = cc
+    stops_at (Some (Node.Attribute a)) e h = cc
+    stops_at (Some (Node.Condition c)) e h = cc
+    stops_at (Some (Node.Symbol sp k)) e h = cc
+    stops_at None e h = cc
 
     stopped : Bytes s → next_at s at ≡ at → read_atoms four w s (suc m) ts at ≡ got ts at
     stopped b p = stops_at (node_at w s at) refl (λ l e. absurd (let h = text_moves at l b e in omega arith))

@@ -16,7 +16,6 @@ use Rattle.parse_tree.specs.Working.Operands.{nonterminal_of, terminal_of}
 use Rattle.parse_tree.specs.Working.Decode.{ask, read_argument, read_alternative, read_item, nonterminal_parts}
 use Rattle.parse_tree.specs.declared.syntax.NonterminalData.{NonterminalData}
 use Rattle.parse_tree.specs.declared.syntax.TerminalData.{TerminalData}
-use Rattle.parse_tree.specs.Working.Refusals.{refusal_at}
 use Rattle.parse_tree.specs.declared.refusal.Refusal.{Refusal}
 use Rattle.parse_tree.specs.declared.syntax.Node.{Node}
 use Rattle.texts.specs.Atoms.{atoms_of}
@@ -24,9 +23,9 @@ use Rattle.validate.specs.Steps.{asked_of, step_of}
 use Rattle.validate.specs.Quick.{PassedNonterminal, PassedTerminal, terminal_here}
 use Rattle.validate.specs.declared.Atoms.{Atoms}
 use Rattle.std.specs.Prelude.{Result, Ok, Err}
-use Rattle.validate.proofs.CommandKinds.{no_item}
+use Rattle.validate.proofs.CommandKinds.{never_item}
 use Rattle.validate.proofs.CommandMean.{arguments_alike}
-use Rattle.validate.proofs.CommandCode.{asked_got, asked_refused, refuses_step, then_is, refuses_then, step_then}
+use Rattle.validate.proofs.CommandCode.{stands, asked_got, asked_refused, refuses_step, then_is, refuses_then, step_then}
 use Rattle.validate.proofs.AlternativesCode.{step-on, step-off}
 
 -- ---- `nonterminal_parts`: r is the step over the arguments
@@ -58,9 +57,8 @@ module _ (four : Bool) (s : List ℕ) (w atoms at : ℕ) (r : Result (Node × �
     unfolding read_item nonterminal_parts
     wanted = then_is (ask four w s (atoms_of s atoms) items_place 1 at) _ n e (asked_got (ask four w s (atoms_of s atoms) items_place 1 at) n e (sym u ∙ i))
 
-    pub item_other : ((d : NonterminalData) → n ≡ Node.Nonterminal d → ⊥) → ((t : TerminalData) → n ≡ Node.Terminal t → ⊥) → (z : Refusal) → z ≡ refusal_at 2 at → Err z ≡ step_of (read_item four w s (atoms_of s atoms) at)
-    unfolding step_of
-    item_other o l z h = ap Err h ∙ sym (ap step_of (wanted ∙ no_item at e (nonterminal_parts four w s (atoms_of s atoms)) (λ t d. got (terminal_of (atoms_of s atoms) t) d) n o l))
+    pub item_other : ((d : NonterminalData) → n ≡ Node.Nonterminal d → ⊥) → ((t : TerminalData) → n ≡ Node.Terminal t → ⊥) → ⊥
+    item_other o l = never_item n o l (stands four s w atoms items_place 1 at n e (asked_got (ask four w s (atoms_of s atoms) items_place 1 at) n e (sym u ∙ i))).allowed
 
     kind : (x : Node) → n ≡ x → read_item four w s (atoms_of s atoms) at ≡ expect_item at (nonterminal_parts four w s (atoms_of s atoms)) (λ t d. got (terminal_of (atoms_of s atoms) t) d) x e
     kind x v = wanted ∙ ap (λ (y : Node). expect_item at (nonterminal_parts four w s (atoms_of s atoms)) (λ t d. got (terminal_of (atoms_of s atoms) t) d) y e) v

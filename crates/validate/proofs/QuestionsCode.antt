@@ -195,10 +195,6 @@ module _ (n : ℕ) (x : Node) where
   unfolding defined
   node_argument a r e p = rw (e, p)
 
-  pub node_unknown : x ≡ Node.Unknown → false ≡ defined n x
-  unfolding defined
-  node_unknown e = rw e
-
   module _ (r : Bool) where
     pub node_alternative : (a : Alternative) → x ≡ Node.Alternative a → r ≡ alternative_defined n a → r ≡ defined n x
     unfolding defined
@@ -215,4 +211,4 @@ module _ (n : ℕ) (x : Node) where
     unfolding defined
     node_symbol s k e p = rw e p
 
-pub ruleset nodes = (rules, node_text, no_name, node_nonterminal, node_terminal, node_argument, node_unknown, node_alternative, node_attribute, node_condition, node_symbol)
+pub ruleset nodes = (rules, node_text, no_name, node_nonterminal, node_terminal, node_argument, node_alternative, node_attribute, node_condition, node_symbol)

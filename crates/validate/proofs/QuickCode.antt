@@ -5,7 +5,7 @@ use mathlib.Core.List.{List, [], ◌∷◌}
 use Prim.Native.Nat.{ℕ, zero, suc, ◌+◌, ◌-◌, ◌*◌, ◌^◌, ◌<◌, ◌≤◌}
 use native.Mathlib.Omega.{arith}
 use borrow.Author.Rules.{rules}
-use borrow.Author.Tests.{lt-ltb, le-ltb, le-leb, lt-leb, ne_eqb, not-true, not-false}
+use borrow.Author.Tests.{lt-ltb, le-ltb, le-leb, lt-leb, ltb-true, ltb-false, eqb-true, eqb-false, ne_eqb, not-true, not-false}
 use lib.Dec.{ltb, leb, eqb}
 use lib.ListN.{length, get_or}
 use Rattle.octets.specs.Working.Choice.{pick}
@@ -14,6 +14,7 @@ use Rattle.octets.proofs.ChoiceLaws.{by_pick, pick_same}
 use Rattle.octets.proofs.NumbersLaws.{length-le}
 use Rattle.parse_tree.specs.Plain.Texts.{is_name, is_literal}
 use Rattle.parse_tree.specs.Working.Nodes.{node_at, node_by, symbol_node_at, if_whole, span_in, named_leaf, bare_leaf, leaf_operand, size_of}
+use Rattle.parse_tree.specs.Working.Nested.{inside_by, inside_at}
 use Rattle.parse_tree.specs.Working.Places.{class_of, allowed_at, table, symbols_place}
 use Rattle.parse_tree.specs.Working.Questions.{defined, suits, leaf_defined, leaf_suits, symbol_defined, symbol_suits}
 use Rattle.parse_tree.specs.Working.Operands.{inside_of}
@@ -29,9 +30,9 @@ use Rattle.parse_tree.proofs.TextLaws.{both}
 use Rattle.parse_tree.proofs.SizeLaws.{leaf_size, repeat_size, choose_size, name_size, macro_size, group_size}
 use Rattle.texts.specs.Atoms.{atoms_of}
 use Rattle.validate.specs.Steps.{asked_of, step_of}
-use Rattle.validate.specs.Quick.{Kinded, QuickPassed, QuickInside, held_in, held_of}
+use Rattle.validate.specs.Quick.{Kinded, QuickPassed, QuickInside}
 use Rattle.validate.specs.declared.Atoms.{Atoms}
-use Rattle.std.specs.Prelude.{Option, IfSome, Result, Ok, Err}
+use Rattle.std.specs.Prelude.{Option, Some, None, IfSome, Result, Ok, Err}
 use Rattle.std.specs.Bool.{then_some}
 use mir.Syntax.{w64}
 use mir.Val.{Fits}
@@ -79,7 +80,7 @@ some_if P x false o g q = rw q tt
 
 -- ---- `passes`
 -- a kind that passes where b holds
-module _ (s : List ℕ) (m : Atoms) (c at : ℕ) (k : SymbolKind) (i : symbol_node_at m.width.bytes c s at ≡ Node.Symbol (span_in s (at + 1)) k) where
+module _ (s : List ℕ) (m : Atoms) (c at : ℕ) (k : SymbolKind) (i : symbol_node_at m.width.bytes c s at ≡ Some (Node.Symbol (span_in s (at + 1)) k)) where
   kinded : (z : ℕ) → true ≡ (symbol_defined m.texts.count k && pick m.four (symbol_suits (atoms_of s m.texts.count) k) true) → z ≡ size_of m.width.bytes (Node.Symbol (span_in s (at + 1)) k)
       → z ≤ 10 + m.width.bytes → Kinded s m c at z
   kinded z p q l =
@@ -90,7 +91,7 @@ module _ (s : List ℕ) (m : Atoms) (c at : ℕ) (k : SymbolKind) (i : symbol_no
       → z ≤ 10 + m.width.bytes → r ≡ then_some b z → IfSome r (Kinded s m c at)
   kinded_if b r z p q l e = some_if (Kinded s m c at) z b r (λ t. kinded z (sym t ∙ p) q l) e
 
-pub wholly : (s : List ℕ) (at n : ℕ) (x : Node) → at + n ≤ length s → if_whole s at n x ≡ x
+pub wholly : (s : List ℕ) (at n : ℕ) (x : Node) → at + n ≤ length s → if_whole s at n x ≡ Some x
 unfolding if_whole pick
 wholly s at n x h = simp (le-ltb (length s - at) n (omega arith))
 
@@ -120,31 +121,31 @@ bare_passes n s c four =
 
 -- what the code says of the kind
 module _ (w : ℕ) (s : List ℕ) (c at : ℕ) (room : at + (10 + w) ≤ length s) (narrow : 2 ≤ w) where
-  pub at_named : c < 37 → symbol_node_at w c s at ≡ Node.Symbol (span_in s (at + 1)) (SymbolKind.Leaf (named_leaf c (le_at w s (at + 9))))
+  pub at_named : c < 37 → symbol_node_at w c s at ≡ Some (Node.Symbol (span_in s (at + 1)) (SymbolKind.Leaf (named_leaf c (le_at w s (at + 9)))))
   unfolding symbol_node_at pick
   at_named h = simp (lt-ltb c 37 h) (wholly s at (9 + w) _ (omega arith))
 
-  pub at-macro : c ≡ 37 → symbol_node_at w c s at ≡ Node.Symbol (span_in s (at + 1)) (SymbolKind.Over (Over.Macro (record { 0 = le_at w s (at + 9) }) (get_or s (at + 9 + w) 0)))
+  pub at-macro : c ≡ 37 → symbol_node_at w c s at ≡ Some (Node.Symbol (span_in s (at + 1)) (SymbolKind.Over (Over.Macro (record { 0 = le_at w s (at + 9) }) (get_or s (at + 9 + w) 0))))
   unfolding symbol_node_at pick
   at-macro e = rw e (wholly s at (10 + w) _ (omega arith))
 
-  pub at-repeat : c ≡ 38 → symbol_node_at w c s at ≡ Node.Symbol (span_in s (at + 1)) (SymbolKind.Around (Around.Repeat (get_or s (at + 9) 0)))
+  pub at-repeat : c ≡ 38 → symbol_node_at w c s at ≡ Some (Node.Symbol (span_in s (at + 1)) (SymbolKind.Around (Around.Repeat (get_or s (at + 9) 0))))
   unfolding symbol_node_at pick
   at-repeat e = rw e (wholly s at 10 _ (omega arith))
 
-  pub at-choose : c ≡ 39 → symbol_node_at w c s at ≡ Node.Symbol (span_in s (at + 1)) (SymbolKind.Around Around.Choose)
+  pub at-choose : c ≡ 39 → symbol_node_at w c s at ≡ Some (Node.Symbol (span_in s (at + 1)) (SymbolKind.Around Around.Choose))
   unfolding symbol_node_at pick
   at-choose e = rw e (wholly s at 9 _ (omega arith))
 
-  pub at_name : c ≡ 40 → symbol_node_at w c s at ≡ Node.Symbol (span_in s (at + 1)) (SymbolKind.Around (Around.Name (get_or s (at + 9) 0) (record { 0 = le_at w s (at + 10) })))
+  pub at_name : c ≡ 40 → symbol_node_at w c s at ≡ Some (Node.Symbol (span_in s (at + 1)) (SymbolKind.Around (Around.Name (get_or s (at + 9) 0) (record { 0 = le_at w s (at + 10) }))))
   unfolding symbol_node_at pick
   at_name e = rw e (wholly s at (10 + w) _ (omega arith))
 
-  pub at-group : c ≡ 41 → symbol_node_at w c s at ≡ Node.Symbol (span_in s (at + 1)) (SymbolKind.Over (Over.Group (le_at 2 s (at + 9))))
+  pub at-group : c ≡ 41 → symbol_node_at w c s at ≡ Some (Node.Symbol (span_in s (at + 1)) (SymbolKind.Over (Over.Group (le_at 2 s (at + 9)))))
   unfolding symbol_node_at pick
   at-group e = rw e (wholly s at 11 _ (omega arith))
 
-  pub at_bare : 37 ≤ c → (c ≡ 37 → ⊥) → (c ≡ 38 → ⊥) → (c ≡ 39 → ⊥) → (c ≡ 40 → ⊥) → (c ≡ 41 → ⊥) → symbol_node_at w c s at ≡ Node.Symbol (span_in s (at + 1)) (SymbolKind.Leaf (bare_leaf c))
+  pub at_bare : 37 ≤ c → (c ≡ 37 → ⊥) → (c ≡ 38 → ⊥) → (c ≡ 39 → ⊥) → (c ≡ 40 → ⊥) → (c ≡ 41 → ⊥) → symbol_node_at w c s at ≡ Some (Node.Symbol (span_in s (at + 1)) (SymbolKind.Leaf (bare_leaf c)))
   unfolding symbol_node_at pick
   at_bare h f37 f38 f39 f40 f41 = simp (le-ltb c 37 h, ne_eqb c 37 f37, ne_eqb c 38 f38, ne_eqb c 39 f39, ne_eqb c 40 f40, ne_eqb c 41 f41) (wholly s at 9 _ (omega arith))
 
@@ -153,7 +154,7 @@ module _ (s : List ℕ) (m : Atoms) (c at : ℕ) (room : at + (10 + m.width.byte
       → r ≡ then_some b (9 + m.width.bytes) → IfSome r (Kinded s m c at)
   unfolding symbol_defined symbol_suits
   passes-named k r b h e p q =
-      kinded_if s m c at (SymbolKind.Leaf (named_leaf c k)) (at_named m.width.bytes s c at room m.width.narrow h ∙ ap (λ (x : ℕ). Node.Symbol (span_in s (at + 1)) (SymbolKind.Leaf (named_leaf c x))) (sym e)) b r (9 + m.width.bytes) p
+      kinded_if s m c at (SymbolKind.Leaf (named_leaf c k)) (at_named m.width.bytes s c at room m.width.narrow h ∙ ap (λ (x : ℕ). Some (Node.Symbol (span_in s (at + 1)) (SymbolKind.Leaf (named_leaf c x)))) (sym e)) b r (9 + m.width.bytes) p
       (leaf_size m.width.bytes _ (span_in s (at + 1)) _ refl (named_leaf c k) m.width.bytes refl (named-size m.width.bytes c k)) (omega arith) q
 
   pub passes-macro : (k x : ℕ) (r : Option ℕ) (b : Bool) → c ≡ 37 → x ≡ get_or s (at + 9 + m.width.bytes) 0 → 1 ≤ x → k ≡ le_at m.width.bytes s (at + 9) → b ≡ (ltb k m.texts.count && pick m.four (is_name (get_or (atoms_of s m.texts.count) k [])) true)
@@ -204,47 +205,71 @@ module _ (s : List ℕ) (m : Atoms) (left at c r : ℕ) (e : c ≡ get_or s at 0
   pub quick_yes : (left ≡ 0 → ⊥) → at < length s → 10 + m.width.bytes ≤ length s - at → 32 ≤ c → c ≤ 44 → QuickPassed s m left at (at + r)
   unfolding node_at node_by pick class_of allowed_at table defined suits
   quick_yes d h k l u =
-      let i : node_at m.width.bytes s at ≡ Node.Symbol (span_in s (at + 1)) q.kind = simp (lt-leb (length s) at h, ← e, le-ltb c 32 l, lt-ltb c 45 (omega arith)) q.is in
+      let i : node_at m.width.bytes s at ≡ Some (Node.Symbol (span_in s (at + 1)) q.kind) = simp (lt-leb (length s) at h, ← e, le-ltb c 32 l, lt-ltb c 45 (omega arith)) q.is in
       record {
         kind = q.kind;
         is = rw (← e) q.is;
         asked = asked_got (ask m.four m.width.bytes s (atoms_of s m.texts.count) symbols_place left at) (Node.Symbol (span_in s (at + 1)) q.kind) (at + r)
-            (asked_is m.four s m.width.bytes m.texts.count symbols_place left at (Node.Symbol (span_in s (at + 1)) q.kind) (sym i) 7 refl true refl refl true (sym q.defined) refl (omega arith) true (sym q.suited) r refl q.long);
+            (asked_is m.four s m.width.bytes m.texts.count symbols_place left at (Some (Node.Symbol (span_in s (at + 1)) q.kind)) (sym i) (Node.Symbol (span_in s (at + 1)) q.kind) refl 7 refl true refl refl true (sym q.defined) refl (omega arith) true (sym q.suited) r refl q.long);
         room = omega arith;
         deep = omega arith;
       }
 
 pub ruleset quickly = (rules, quick_fits, quick_yes)
 
--- ---- `held`
-module _ (w : ℕ) (s : List ℕ) (c at : ℕ) (e : c ≡ get_or s at 0) (narrow : 2 ≤ w) (room : at + (10 + w) ≤ length s) where
-  pub held-named : c < 37 → 0 ≡ held_of (symbol_node_at w (get_or s at 0) s at)
-  unfolding held_of held_in
-  held-named h = rw (← e, at_named w s c at room narrow h)
+-- ---- what the code says of the symbols inside is what the command says
+-- how many symbols stand inside one
+unfoldable held_in : SymbolKind → ℕ
+held_in (SymbolKind.Leaf l) = 0
+held_in (SymbolKind.Around a) = 1
+held_in (SymbolKind.Over o) = inside_of o
 
-  pub held-bare : 37 ≤ c → 41 < c → 0 ≡ held_of (symbol_node_at w (get_or s at 0) s at)
-  unfolding held_of held_in
-  held-bare h k = rw (← e, at_bare w s c at room narrow h (λ z. absurd (omega arith)) (λ z. absurd (omega arith)) (λ z. absurd (omega arith)) (λ z. absurd (omega arith)) (λ z. absurd (omega arith)))
+unfoldable held_of : Option Node → ℕ
+held_of None = 0
+held_of (Some (Node.Text n)) = 0
+held_of (Some (Node.Nonterminal d)) = 0
+held_of (Some (Node.Terminal t)) = 0
+held_of (Some (Node.Argument n)) = 0
+held_of (Some (Node.Alternative a)) = 0
+held_of (Some (Node.Attribute a)) = 0
+held_of (Some (Node.Condition c)) = 0
+held_of (Some (Node.Symbol s k)) = held_in k
 
-  pub held-macro : (x r : ℕ) → c ≡ 37 → x ≡ get_or s (at + 9 + w) 0 → r ≡ x → r ≡ held_of (symbol_node_at w (get_or s at 0) s at)
+module _ (w : ℕ) (s : List ℕ) (c at : ℕ) (narrow : 2 ≤ w) (room : at + (10 + w) ≤ length s) where
+  held-named : c < 37 → 0 ≡ held_of (symbol_node_at w c s at)
+  unfolding held_of held_in
+  held-named h = rw (at_named w s c at room narrow h)
+
+  held-bare : 41 < c → 0 ≡ held_of (symbol_node_at w c s at)
+  unfolding held_of held_in
+  held-bare h = rw (at_bare w s c at room narrow (omega arith) (λ z. absurd (omega arith)) (λ z. absurd (omega arith)) (λ z. absurd (omega arith)) (λ z. absurd (omega arith)) (λ z. absurd (omega arith)))
+
+  held-macro : c ≡ 37 → get_or s (at + 9 + w) 0 ≡ held_of (symbol_node_at w c s at)
   unfolding held_of held_in inside_of
-  held-macro x r h y z = rw (← e, at-macro w s c at room narrow h) (z ∙ y)
+  held-macro h = rw (at-macro w s c at room narrow h)
 
-  pub held-group : (x r : ℕ) → c ≡ 41 → x ≡ le_at 2 s (at + 9) → r ≡ x → r ≡ held_of (symbol_node_at w (get_or s at 0) s at)
+  held-group : c ≡ 41 → le_at 2 s (at + 9) ≡ held_of (symbol_node_at w c s at)
   unfolding held_of held_in inside_of
-  held-group x r h y z = rw (← e, at-group w s c at room narrow h) (z ∙ y)
+  held-group h = rw (at-group w s c at room narrow h)
 
-  pub held-around : 37 ≤ c → c ≤ 41 → (c ≡ 37 → ⊥) → (c ≡ 41 → ⊥) → 1 ≡ held_of (symbol_node_at w (get_or s at 0) s at)
+  held-around : 38 ≤ c → c ≤ 40 → 1 ≡ held_of (symbol_node_at w c s at)
   unfolding held_of held_in
-  held-around h k f g = go (c - 38) refl
+  held-around h k = go (c - 38) refl
     where
-      go : (j : ℕ) → c - 38 ≡ j → 1 ≡ held_of (symbol_node_at w (get_or s at 0) s at)
-      go zero z = rw (← e, at-repeat w s c at room narrow (omega arith))
-      go (suc zero) z = rw (← e, at-choose w s c at room narrow (omega arith))
-      go (suc (suc zero)) z = rw (← e, at_name w s c at room narrow (omega arith))
+      go : (j : ℕ) → c - 38 ≡ j → 1 ≡ held_of (symbol_node_at w c s at)
+      go zero z = rw (at-repeat w s c at room narrow (omega arith))
+      go (suc zero) z = rw (at-choose w s c at room narrow (omega arith))
+      go (suc (suc zero)) z = rw (at_name w s c at room narrow (omega arith))
       go (suc (suc (suc j))) z = absurd (omega arith)
 
-pub ruleset holding = (rules, held-named, held-bare, held-macro, held-group, held-around)
+  inside-held : inside_by w s at c ≡ held_of (symbol_node_at w c s at)
+  unfolding inside_by
+  inside-held =
+      let P : ℕ → Type 0 = λ n. n ≡ held_of (symbol_node_at w c s at) in
+      by_pick P (eqb c 37) (λ h. held-macro (eqb-true c 37 h)) (λ h. by_pick P (eqb c 41) (λ i. held-group (eqb-true c 41 i)) (λ i.
+      let d : c ≡ 37 → ⊥ = eqb-false c 37 h in
+      let f : c ≡ 41 → ⊥ = eqb-false c 41 i in
+      by_pick P (ltb c 38) (λ j. held-named (omega (arith, ltb-true c 38 j))) (λ j. by_pick P (ltb 40 c) (λ k. held-bare (omega (arith, ltb-true 40 c k))) (λ k. held-around (ltb-false c 38 j) (ltb-false 40 c k)))))
 
 -- ---- the loop of `symbols`
 times-one : {A : Type 0} (f : ℕ → Reading A) (e : ℕ) → step_of (times f 1 e) ≡ step_of (f e)
@@ -261,19 +286,16 @@ module _ (s : List ℕ) (m : Atoms) (left at f : ℕ) (p : QuickPassed s m left 
   unfolding asked_of
   asked = rw p.asked
 
-  deeper : left ≡ 0 → ⊥
-  deeper z = absurd (omega (arith, p.deep))
-
   inner : (k : SymbolKind) → p.kind ≡ k → (i : ℕ) → i ≡ held_in k → (y : Result ℕ Refusal) → y ≡ step_of (times (read_sym m.four m.width.bytes s (atoms_of s m.texts.count) (left - 1)) i f)
       → y ≡ step_of (read_sym m.four m.width.bytes s (atoms_of s m.texts.count) left at)
   unfolding held_in times step_of
   inner (SymbolKind.Leaf l) v i e y o =
-      (rw e at o) ∙ symbol_leaf m.four s m.width.bytes m.texts.count left at _ asked (Node.Symbol (span_in s (at + 1)) p.kind) f refl deeper (span_in s (at + 1)) p.kind refl l v
+      (rw e at o) ∙ symbol_leaf m.four s m.width.bytes m.texts.count left at _ asked (Node.Symbol (span_in s (at + 1)) p.kind) f refl (span_in s (at + 1)) p.kind refl l v
   inner (SymbolKind.Around a) v i e y o =
-      symbol_around m.four s m.width.bytes m.texts.count left at _ asked (Node.Symbol (span_in s (at + 1)) p.kind) f refl deeper (span_in s (at + 1)) p.kind refl a y v
+      symbol_around m.four s m.width.bytes m.texts.count left at _ asked (Node.Symbol (span_in s (at + 1)) p.kind) f refl (span_in s (at + 1)) p.kind refl a y v
       ((rw e at o) ∙ times-one (read_sym m.four m.width.bytes s (atoms_of s m.texts.count) (left - 1)) f)
   inner (SymbolKind.Over x) v i e y o =
-      symbol_over m.four s m.width.bytes m.texts.count left at _ asked (Node.Symbol (span_in s (at + 1)) p.kind) f refl deeper (span_in s (at + 1)) p.kind refl x i y v e o
+      symbol_over m.four s m.width.bytes m.texts.count left at _ asked (Node.Symbol (span_in s (at + 1)) p.kind) f refl (span_in s (at + 1)) p.kind refl x i y v e o
 
 module _ (s : List ℕ) (m : Atoms) (left at f : ℕ) (q : QuickPassed s m left at f) where
   pub quick_room : at + (10 + m.width.bytes) ≤ length s
@@ -285,10 +307,10 @@ module _ (s : List ℕ) (m : Atoms) (left at f : ℕ) (q : QuickPassed s m left 
   pub quick_falls : (t : ℕ) → 2 * left + 1 ≡ t → 2 * (left - 1) + 1 < t
   quick_falls t e = omega (arith, q.deep)
 
-  module _ (i : ℕ) (e : i ≡ held_of (symbol_node_at m.width.bytes (get_or s at 0) s at)) where
+  module _ (i : ℕ) (e : i ≡ inside_at m.width.bytes s at) where
     said : (y : Result ℕ Refusal) → y ≡ step_of (times (read_sym m.four m.width.bytes s (atoms_of s m.texts.count) (left - 1)) i f) → y ≡ step_of (read_sym m.four m.width.bytes s (atoms_of s m.texts.count) left at)
-    unfolding held_of
-    said y o = inner s m left at f q q.kind refl i (e ∙ ap held_of q.is) y o
+    unfolding inside_at held_of
+    said y o = inner s m left at f q q.kind refl i (e ∙ inside-held m.width.bytes s (get_or s at 0) at m.width.narrow q.room ∙ ap held_of q.is) y o
 
     -- k are to come from `at` on, and x is what all of them say
     module _ (k : ℕ) (x : Result ℕ Refusal) (inv : step_of (times (read_sym m.four m.width.bytes s (atoms_of s m.texts.count) left) k at) ≡ x) where

@@ -23,7 +23,7 @@ use Rattle.parse_tree.specs.declared.syntax.Node.{Node}
 use Rattle.parse_tree.proofs.TextLaws.{both}
 use Rattle.parse_tree.proofs.SizeLaws.{alternative_size, nonterminal_size, terminal_size, argument-size, attribute_size}
 use Rattle.parse_tree.specs.declared.places.Place.{Place}
-use Rattle.std.specs.Prelude.{Option, IfSome}
+use Rattle.std.specs.Prelude.{Option, Some, IfSome}
 use Rattle.std.specs.Bool.{then_some}
 use Rattle.texts.specs.Atoms.{atoms_of}
 use Rattle.parse_tree.specs.Working.Nodes.{alternative_here, nonterminal_here, attribute_here}
@@ -33,12 +33,12 @@ use Rattle.validate.proofs.CommandCode.{asked_got, asked_is}
 use Rattle.validate.proofs.QuickCode.{wholly, some_if}
 
 -- the command at a place that is n, may stand there and passes 3 and 4
-module _ (s : List ℕ) (m : Atoms) (place at : ℕ) (n : Node) (i : node_at m.width.bytes s at ≡ n) (a : allowed_at place (class_of n) ≡ true) where
+module _ (s : List ℕ) (m : Atoms) (place at : ℕ) (n : Node) (i : node_at m.width.bytes s at ≡ Some n) (a : allowed_at place (class_of n) ≡ true) where
   asked_here : (z : ℕ) → z ≡ size_of m.width.bytes n → defined m.texts.count n ≡ true → pick m.four (suits (atoms_of s m.texts.count) n) true ≡ true
       → ask m.four m.width.bytes s (atoms_of s m.texts.count) place 1 at ≡ got n (at + z)
   asked_here z e d u =
       asked_got (ask m.four m.width.bytes s (atoms_of s m.texts.count) place 1 at) n (at + z)
-      (asked_is m.four s m.width.bytes m.texts.count place 1 at n (sym i) (class_of n) refl true (sym a) refl true (sym d) refl (omega arith) true (sym u) z refl e)
+      (asked_is m.four s m.width.bytes m.texts.count place 1 at (Some n) (sym i) n refl (class_of n) refl true (sym a) refl true (sym d) refl (omega arith) true (sym u) z refl e)
 
 -- ---- `quick_alternative`, `quick_nonterminal`
 module _ (s : List ℕ) (m : Atoms) (at : ℕ) (h : at < length s) where
@@ -46,7 +46,7 @@ module _ (s : List ℕ) (m : Atoms) (at : ℕ) (h : at < length s) where
       → r ≡ (alternative_defined m.texts.count a && pick m.four (suits (atoms_of s m.texts.count) (Node.Alternative a)) true) → y ≡ then_some r a → IfSome y (PassedAlternative s m at)
   unfolding node_at node_by pick alternative_node_at defined class_of allowed_at table
   alternative_passed a r y l z q p o =
-      let i : node_at m.width.bytes s at ≡ Node.Alternative a = simp (lt-leb (length s) at h, z, q) (wholly s at (14 + m.width.bytes) _ (omega arith)) in
+      let i : node_at m.width.bytes s at ≡ Some (Node.Alternative a) = simp (lt-leb (length s) at h, z, q) (wholly s at (14 + m.width.bytes) _ (omega arith)) in
       let d : Bool = alternative_defined m.texts.count a in
       let u : Bool = pick m.four (suits (atoms_of s m.texts.count) (Node.Alternative a)) true in
       some_if (PassedAlternative s m at) a r y
@@ -60,7 +60,7 @@ module _ (s : List ℕ) (m : Atoms) (at : ℕ) (h : at < length s) where
       → r ≡ (ltb d.name.0 m.texts.count && pick m.four (is_name (get_or (atoms_of s m.texts.count) d.name.0 [])) true) → y ≡ then_some r d → IfSome y (PassedNonterminal s m at)
   unfolding node_at node_by pick nonterminal_node_at defined suits class_of allowed_at table
   nonterminal_passed d r y l z q f p o =
-      let i : node_at m.width.bytes s at ≡ Node.Nonterminal d = simp (lt-leb (length s) at h, z, q) (wholly s at (13 + m.width.bytes) _ (omega arith)) in
+      let i : node_at m.width.bytes s at ≡ Some (Node.Nonterminal d) = simp (lt-leb (length s) at h, z, q) (wholly s at (13 + m.width.bytes) _ (omega arith)) in
       let j : Bool = ltb d.name.0 m.texts.count in
       let u : Bool = pick m.four (is_name (get_or (atoms_of s m.texts.count) d.name.0 [])) true in
       some_if (PassedNonterminal s m at) d r y
@@ -76,11 +76,11 @@ pub ruleset quick_parts = (rules, alternative_passed, nonterminal_passed)
 
 -- ---- `quick_terminal`
 module _ (s : List ℕ) (m : Atoms) (at : ℕ) where
-  terminal_stands : at < length s → 9 + m.width.bytes ≤ length s - at → 48 ≤ get_or s at 0 → get_or s at 0 ≤ 49 → node_at m.width.bytes s at ≡ Node.Terminal (terminal_here m.width.bytes s at)
+  terminal_stands : at < length s → 9 + m.width.bytes ≤ length s - at → 48 ≤ get_or s at 0 → get_or s at 0 ≤ 49 → node_at m.width.bytes s at ≡ Some (Node.Terminal (terminal_here m.width.bytes s at))
   unfolding node_at node_by pick terminal_node_at terminal_here
   terminal_stands h l f g = go (eqb (get_or s at 0) 48) refl
     where
-      go : (b : Bool) → eqb (get_or s at 0) 48 ≡ b → node_at m.width.bytes s at ≡ Node.Terminal (terminal_here m.width.bytes s at)
+      go : (b : Bool) → eqb (get_or s at 0) 48 ≡ b → node_at m.width.bytes s at ≡ Some (Node.Terminal (terminal_here m.width.bytes s at))
       go true e = simp (lt-leb (length s) at h, le-ltb (get_or s at 0) 32 (omega arith), le-ltb (get_or s at 0) 45 (omega arith), e) (wholly s at (9 + m.width.bytes) _ (omega arith))
       go false e =
           let n : get_or s at 0 ≡ 48 → ⊥ = eqb-false (get_or s at 0) 48 e in
@@ -91,7 +91,7 @@ module _ (s : List ℕ) (m : Atoms) (at : ℕ) where
       → k ≡ le_at m.width.bytes s (at + 9) → r ≡ (ltb k m.texts.count && pick m.four (is_name (get_or (atoms_of s m.texts.count) k [])) true) → y ≡ then_some r (at + (9 + m.width.bytes)) → IfSome y (PassedTerminal s m at)
   unfolding pick terminal_here defined suits class_of allowed_at table
   terminal_passed c k r y h l e f g q p o =
-      let i : node_at m.width.bytes s at ≡ Node.Terminal (terminal_here m.width.bytes s at) = terminal_stands h l (omega arith) (omega arith) in
+      let i : node_at m.width.bytes s at ≡ Some (Node.Terminal (terminal_here m.width.bytes s at)) = terminal_stands h l (omega arith) (omega arith) in
       let j : Bool = ltb k m.texts.count in
       let u : Bool = pick m.four (is_name (get_or (atoms_of s m.texts.count) k [])) true in
       some_if (PassedTerminal s m at) (at + (9 + m.width.bytes)) r y
@@ -114,7 +114,7 @@ module _ (s : List ℕ) (m : Atoms) (at c : ℕ) (h : at < length s) (e : c ≡ 
   unfolding node_at node_by pick attribute_node_at defined class_of allowed_at table
   attribute_passed a r l f q p y o =
       let z : get_or s at 0 ≡ 19 = sym e ∙ f in
-      let i : node_at m.width.bytes s at ≡ Node.Attribute a = simp (lt-leb (length s) at h, z, q) (wholly s at (2 + m.width.bytes + m.width.bytes + m.width.bytes) _ (omega arith)) in
+      let i : node_at m.width.bytes s at ≡ Some (Node.Attribute a) = simp (lt-leb (length s) at h, z, q) (wholly s at (2 + m.width.bytes + m.width.bytes + m.width.bytes) _ (omega arith)) in
       let d : Bool = attribute_defined m.texts.count a in
       let u : Bool = pick m.four (suits (atoms_of s m.texts.count) (Node.Attribute a)) true in
       some_if (PassedCommand s m attributes_place at) (at + (2 + m.width.bytes + m.width.bytes + m.width.bytes)) r y
@@ -129,7 +129,7 @@ module _ (s : List ℕ) (m : Atoms) (at c : ℕ) (h : at < length s) (e : c ≡ 
   argument-passed k r l f q p y o =
       let z : get_or s at 0 ≡ 17 = sym e ∙ f in
       let n : Node = Node.Argument (record { 0 = k }) in
-      let i : node_at m.width.bytes s at ≡ Node.Argument (record { 0 = k }) = simp (lt-leb (length s) at h, z, q) (wholly s at (1 + m.width.bytes) _ (omega arith)) in
+      let i : node_at m.width.bytes s at ≡ Some (Node.Argument (record { 0 = k })) = simp (lt-leb (length s) at h, z, q) (wholly s at (1 + m.width.bytes) _ (omega arith)) in
       let d : Bool = ltb k m.texts.count in
       let u : Bool = pick m.four (is_name (get_or (atoms_of s m.texts.count) k [])) true in
       some_if (PassedCommand s m arguments_place at) (at + (1 + m.width.bytes)) r y

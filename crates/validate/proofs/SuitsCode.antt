@@ -183,10 +183,6 @@ module _ (ts : List Text) (x : Node) where
   unfolding suits
   node_text k e = rw e
 
-  pub node_unknown : x ≡ Node.Unknown → true ≡ suits ts x
-  unfolding suits
-  node_unknown e = rw e
-
   module _ (r : Bool) where
     pub node_nonterminal : (d : NonterminalData) → x ≡ Node.Nonterminal d → r ≡ is_name (get_or ts d.name.0 []) → r ≡ suits ts x
     unfolding suits
@@ -213,7 +209,7 @@ module _ (ts : List Text) (x : Node) where
     unfolding suits
     node_symbol s k e p = rw e p
 
-pub ruleset nodes = (rules, node_text, node_unknown, node_nonterminal, node_terminal, node_argument, node_alternative, node_attribute, node_condition, node_symbol)
+pub ruleset nodes = (rules, node_text, node_nonterminal, node_terminal, node_argument, node_alternative, node_attribute, node_condition, node_symbol)
 
 -- ---- `is_apt`: four says whether question 4 is asked
 pub apt_unasked : (four : Bool) (ts : List Text) (x : Node) → not four ≡ true → true ≡ pick four (suits ts x) true

@@ -2,12 +2,12 @@
 use mathlib.Core.Path.{◌≡◌, sym, ap, ◌∙◌}
 use mathlib.Core.Bool.{Bool}
 use mathlib.Core.List.{List, [], ◌∷◌}
-use Prim.Native.Nat.{ℕ, zero, suc, ◌+◌, ◌-◌, ◌<◌, ◌≤◌}
-use native.Mathlib.Omega.{arith}
-use borrow.Author.Rules.{rules}
 use denote.Enum.Declared.{tag_of}
 use types.Run.{OneOf}
 use Rattle.parse_tree.specs.contracts.syntax.Node.{the_type}
+use Prim.Native.Nat.{ℕ, zero, suc, ◌+◌, ◌-◌, ◌<◌, ◌≤◌}
+use native.Mathlib.Omega.{arith}
+use borrow.Author.Rules.{rules}
 use Rattle.parse_tree.specs.Plain.Tree.{Text, Sym, syms_of}
 use Rattle.parse_tree.specs.Working.Places.{symbols_place}
 use Rattle.parse_tree.specs.Plain.Reading.{Reading, got, then, times}
@@ -20,14 +20,13 @@ use Rattle.parse_tree.specs.declared.syntax.Leaf.{Leaf}
 use Rattle.parse_tree.specs.declared.syntax.Around.{Around}
 use Rattle.parse_tree.specs.declared.syntax.Over.{Over}
 use Rattle.parse_tree.specs.declared.syntax.SymbolKind.{SymbolKind}
-use Rattle.parse_tree.specs.Working.Refusals.{refusal_at}
 use Rattle.parse_tree.specs.declared.refusal.Refusal.{Refusal}
 use Rattle.parse_tree.specs.declared.syntax.Node.{Node}
 use Rattle.texts.specs.Atoms.{atoms_of}
 use Rattle.validate.specs.Steps.{asked_of, step_of, Refuses}
 use Rattle.std.specs.Prelude.{Result, Ok, Err}
 use Rattle.validate.proofs.CommandKinds.{no_symbol}
-use Rattle.validate.proofs.CommandCode.{asked_got, asked_refused, refuses_step, then_is, refuses_then, step_then, times_none, times-next, times-stop}
+use Rattle.validate.proofs.CommandCode.{Stands, stands, asked_got, asked_refused, refuses_step, then_is, refuses_then, step_then, times_none, times-next, times-stop}
 
 -- ---- `symbols`
 module _ (four : Bool) (s : List ℕ) (w atoms left k p : ℕ) (x : Result ℕ Refusal) (inv : step_of (times (read_sym four w s (atoms_of s atoms) left) k p) ≡ x) (r : Result ℕ Refusal) (i : r ≡ step_of (read_sym four w s (atoms_of s atoms) left p)) where
@@ -63,47 +62,45 @@ module _ (four : Bool) (s : List ℕ) (w atoms left at : ℕ) (r : Result (Node 
     asked : ask four w s (atoms_of s atoms) symbols_place left at ≡ got n e
     asked = asked_got (ask four w s (atoms_of s atoms) symbols_place left at) n e (sym q ∙ i)
 
-    pub symbol_deep : (y : Refusal) → y ≡ refusal_at 3 at → left ≡ 0 → Err y ≡ step_of (read_sym four w s (atoms_of s atoms) left at)
-    unfolding read_sym step_of
-    symbol_deep y u z =
-        ap Err u ∙ rw z (sym (ap step_of (then_is (ask four w s (atoms_of s atoms) symbols_place zero at) _ n e (rw z at asked))))
+    stood : Stands symbols_place left n
+    stood = stands four s w atoms symbols_place left at n e asked
 
-    -- with nesting left
-    module _ (h : left ≡ 0 → ⊥) where
-      read : (l : ℕ) → left ≡ suc l → read_sym four w s (atoms_of s atoms) left at ≡ expect_symbol at (in_symbol four w s (atoms_of s atoms) l) n e
-      unfolding read_sym in_symbol
-      read l z = rw z (then_is (ask four w s (atoms_of s atoms) symbols_place (suc l) at) _ n e (rw z at asked))
+    pub symbol_deep : 1 ≤ left
+    symbol_deep = omega (arith, stood.deep)
 
-      level : left ≡ suc (left - 1)
-      level = omega arith
+    pub symbol_other : OneOf (0 ∷ 1 ∷ 2 ∷ 3 ∷ 4 ∷ 5 ∷ 6 ∷ []) (tag_of the_type n) → ⊥
+    symbol_other o = no_symbol n o stood.allowed
 
-      pub symbol_other : OneOf (0 ∷ 1 ∷ 2 ∷ 3 ∷ 4 ∷ 5 ∷ 6 ∷ 8 ∷ []) (tag_of the_type n) → (y : Refusal) → y ≡ refusal_at 2 at → Err y ≡ step_of (read_sym four w s (atoms_of s atoms) left at)
-      unfolding step_of
-      symbol_other o y u = ap Err u ∙ sym (ap step_of (read (left - 1) level ∙ no_symbol at e (in_symbol four w s (atoms_of s atoms) (left - 1)) n o))
+    read : (l : ℕ) → left ≡ suc l → read_sym four w s (atoms_of s atoms) left at ≡ expect_symbol at (in_symbol four w s (atoms_of s atoms) l) n e
+    unfolding read_sym in_symbol
+    read l z = rw z (then_is (ask four w s (atoms_of s atoms) symbols_place (suc l) at) _ n e (rw z at asked))
 
-      -- a symbol of each shape
-      module _ (sp : Span) (k : SymbolKind) (u : n ≡ Node.Symbol sp k) where
-        kind : read_sym four w s (atoms_of s atoms) left at ≡ in_symbol four w s (atoms_of s atoms) (left - 1) sp k e
-        unfolding expect_symbol
-        kind = read (left - 1) level ∙ ap (λ (x : Node). expect_symbol at (in_symbol four w s (atoms_of s atoms) (left - 1)) x e) u
+    level : left ≡ suc (left - 1)
+    level = omega (arith, stood.deep)
 
-        pub symbol_leaf : (l : Leaf) → k ≡ SymbolKind.Leaf l → Ok e ≡ step_of (read_sym four w s (atoms_of s atoms) left at)
-        unfolding in_symbol step_of
-        symbol_leaf l v = sym (ap step_of (kind ∙ ap (λ (x : SymbolKind). in_symbol four w s (atoms_of s atoms) (left - 1) sp x e) v))
+    -- a symbol of each shape
+    module _ (sp : Span) (k : SymbolKind) (u : n ≡ Node.Symbol sp k) where
+      kind : read_sym four w s (atoms_of s atoms) left at ≡ in_symbol four w s (atoms_of s atoms) (left - 1) sp k e
+      unfolding expect_symbol
+      kind = read (left - 1) level ∙ ap (λ (x : Node). expect_symbol at (in_symbol four w s (atoms_of s atoms) (left - 1)) x e) u
 
-        pub symbol_around : (a : Around) (y : Result ℕ Refusal) → k ≡ SymbolKind.Around a → y ≡ step_of (read_sym four w s (atoms_of s atoms) (left - 1) e) → y ≡ step_of (read_sym four w s (atoms_of s atoms) left at)
-        unfolding in_symbol
-        symbol_around a y v o =
-            o ∙ sym (step_then (read_sym four w s (atoms_of s atoms) (left - 1) e) (Sym.around sp (around_of (atoms_of s atoms) a)))
-            ∙ sym (ap step_of (kind ∙ ap (λ (x : SymbolKind). in_symbol four w s (atoms_of s atoms) (left - 1) sp x e) v))
+      pub symbol_leaf : (l : Leaf) → k ≡ SymbolKind.Leaf l → Ok e ≡ step_of (read_sym four w s (atoms_of s atoms) left at)
+      unfolding in_symbol step_of
+      symbol_leaf l v = sym (ap step_of (kind ∙ ap (λ (x : SymbolKind). in_symbol four w s (atoms_of s atoms) (left - 1) sp x e) v))
 
-        pub symbol_over : (x : Over) (j : ℕ) (y : Result ℕ Refusal) → k ≡ SymbolKind.Over x → j ≡ inside_of x → y ≡ step_of (times (read_sym four w s (atoms_of s atoms) (left - 1)) j e)
-            → y ≡ step_of (read_sym four w s (atoms_of s atoms) left at)
-        unfolding in_symbol
-        symbol_over x j y v t o =
-            o ∙ ap (λ (c : ℕ). step_of (times (read_sym four w s (atoms_of s atoms) (left - 1)) c e)) t
-            ∙ sym (step_then (times (read_sym four w s (atoms_of s atoms) (left - 1)) (inside_of x) e) (λ xs. Sym.over sp (over_of (atoms_of s atoms) x) (syms_of xs)))
-            ∙ sym (ap step_of (kind ∙ ap (λ (z : SymbolKind). in_symbol four w s (atoms_of s atoms) (left - 1) sp z e) v))
+      pub symbol_around : (a : Around) (y : Result ℕ Refusal) → k ≡ SymbolKind.Around a → y ≡ step_of (read_sym four w s (atoms_of s atoms) (left - 1) e) → y ≡ step_of (read_sym four w s (atoms_of s atoms) left at)
+      unfolding in_symbol
+      symbol_around a y v o =
+          o ∙ sym (step_then (read_sym four w s (atoms_of s atoms) (left - 1) e) (Sym.around sp (around_of (atoms_of s atoms) a)))
+          ∙ sym (ap step_of (kind ∙ ap (λ (x : SymbolKind). in_symbol four w s (atoms_of s atoms) (left - 1) sp x e) v))
+
+      pub symbol_over : (x : Over) (j : ℕ) (y : Result ℕ Refusal) → k ≡ SymbolKind.Over x → j ≡ inside_of x → y ≡ step_of (times (read_sym four w s (atoms_of s atoms) (left - 1)) j e)
+          → y ≡ step_of (read_sym four w s (atoms_of s atoms) left at)
+      unfolding in_symbol
+      symbol_over x j y v t o =
+          o ∙ ap (λ (c : ℕ). step_of (times (read_sym four w s (atoms_of s atoms) (left - 1)) c e)) t
+          ∙ sym (step_then (times (read_sym four w s (atoms_of s atoms) (left - 1)) (inside_of x) e) (λ xs. Sym.over sp (over_of (atoms_of s atoms) x) (syms_of xs)))
+          ∙ sym (ap step_of (kind ∙ ap (λ (z : SymbolKind). in_symbol four w s (atoms_of s atoms) (left - 1) sp z e) v))
 
 pub inside-macro : (o : Over) (x : NonterminalString) (k r : ℕ) → o ≡ Over.Macro x k → r ≡ k → r ≡ inside_of o
 unfolding inside_of

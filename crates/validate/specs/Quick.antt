@@ -1,11 +1,10 @@
 -- What a look at the bytes of a command finds out. Assumes nothing: these are definitions.
-use Rattle.std.specs.Prelude.{◌≡◌, true, List, ℕ, ◌+◌, ◌<◌, ◌≤◌, length, get_or}
+use Rattle.std.specs.Prelude.{◌≡◌, true, List, ℕ, ◌+◌, ◌-◌, ◌<◌, ◌≤◌, length, get_or}
 use Rattle.octets.specs.Working.Choice.{pick}
 use Rattle.octets.specs.Plain.Numbers.{le_at}
 use Rattle.parse_tree.specs.Working.Nodes.{symbol_node_at, span_in, size_of, alternative_here, nonterminal_here}
 use Rattle.parse_tree.specs.Working.Places.{items_place, alternatives_place, symbols_place}
 use Rattle.parse_tree.specs.Working.Questions.{symbol_defined, symbol_suits}
-use Rattle.parse_tree.specs.Working.Operands.{inside_of}
 use Rattle.parse_tree.specs.Plain.Reading.{got, times}
 use Rattle.parse_tree.specs.Working.Decode.{ask, read_sym}
 use Rattle.parse_tree.specs.declared.syntax.SymbolKind.{SymbolKind}
@@ -16,12 +15,18 @@ use Rattle.parse_tree.specs.declared.syntax.Node.{Node}
 use Rattle.texts.specs.Atoms.{atoms_of}
 use Rattle.validate.specs.Steps.{step_of}
 use Rattle.validate.specs.declared.Atoms.{Atoms}
-use Rattle.std.specs.Prelude.{Ok}
+use Rattle.std.specs.Prelude.{Some, Ok}
+
+-- c is the code at a place from which on n bytes are left, that byte among them
+pub record CodeAt (s : List ℕ) (at n c : ℕ) : Type 0 where
+  pub is : c ≡ get_or s at 0
+  pub inside : at < length s
+  pub room : n ≤ length s - at
 
 -- the symbol whose code is c and stands at a place passes 3 and 4, in r bytes
 pub record Kinded (s : List ℕ) (m : Atoms) (c at r : ℕ) : Type 0 where
   pub kind : SymbolKind
-  pub is : symbol_node_at m.width.bytes c s at ≡ Node.Symbol (span_in s (at + 1)) kind
+  pub is : symbol_node_at m.width.bytes c s at ≡ Some (Node.Symbol (span_in s (at + 1)) kind)
   pub defined : symbol_defined m.texts.count kind ≡ true
   pub suited : pick m.four (symbol_suits (atoms_of s m.texts.count) kind) true ≡ true
   pub long : r ≡ size_of m.width.bytes (Node.Symbol (span_in s (at + 1)) kind)
@@ -30,7 +35,7 @@ pub record Kinded (s : List ℕ) (m : Atoms) (c at r : ℕ) : Type 0 where
 -- the symbol at a place passes 2, 3 and 4, and its command ends at r
 pub record QuickPassed (s : List ℕ) (m : Atoms) (left at r : ℕ) : Type 0 where
   pub kind : SymbolKind
-  pub is : symbol_node_at m.width.bytes (get_or s at 0) s at ≡ Node.Symbol (span_in s (at + 1)) kind
+  pub is : symbol_node_at m.width.bytes (get_or s at 0) s at ≡ Some (Node.Symbol (span_in s (at + 1)) kind)
   pub asked : ask m.four m.width.bytes s (atoms_of s m.texts.count) symbols_place left at ≡ got (Node.Symbol (span_in s (at + 1)) kind) r
   pub room : at + (10 + m.width.bytes) ≤ length s
   pub deep : 0 < left
@@ -38,23 +43,6 @@ pub record QuickPassed (s : List ℕ) (m : Atoms) (left at r : ℕ) : Type 0 whe
 -- the n symbols from a place on are read and end at r
 pub record QuickInside (s : List ℕ) (m : Atoms) (left n at r : ℕ) : Type 0 where
   pub passed : step_of (times (read_sym m.four m.width.bytes s (atoms_of s m.texts.count) left) n at) ≡ Ok r
-
--- how many symbols stand inside one
-unfoldable pub held_in : SymbolKind → ℕ
-held_in (SymbolKind.Leaf l) = 0
-held_in (SymbolKind.Around a) = 1
-held_in (SymbolKind.Over o) = inside_of o
-
-unfoldable pub held_of : Node → ℕ
-held_of (Node.Text n) = 0
-held_of (Node.Nonterminal d) = 0
-held_of (Node.Terminal t) = 0
-held_of (Node.Argument n) = 0
-held_of (Node.Alternative a) = 0
-held_of (Node.Attribute a) = 0
-held_of (Node.Condition c) = 0
-held_of (Node.Symbol s k) = held_in k
-held_of Node.Unknown = 0
 
 -- the alternative at a place, which is a, passes 2, 3 and 4
 pub record PassedAlternative (s : List ℕ) (m : Atoms) (at : ℕ) (a : Alternative) : Type 0 where

@@ -11,9 +11,9 @@ use crate::quick::quick_command;
 use crate::reader::Reader;
 use crate::suits::is_apt;
 use parse_tree::node::node;
-use parse_tree::places::{Place, allowed, class_of};
+use parse_tree::places::{Class, Place, allowed};
 use parse_tree::refusal;
-use parse_tree::refusal::Refusal;
+use parse_tree::refusal::{Question, Refusal};
 use parse_tree::size::size;
 use parse_tree::syntax::Node;
 
@@ -21,15 +21,17 @@ use parse_tree::syntax::Node;
 pub fn command(r: &Reader, place: Place, left: usize, at: usize) -> Result<(Node, usize), Refusal>
     ensures { result ≡ asked_of (ask r.now.atoms.four r.now.atoms.width.bytes r.now.tape.now (atoms_of r.now.tape.now r.now.atoms.texts.count) (row place) left at) }
 {
-    let n = node(r.tape, at, r.atoms.width);
-    if !allowed(place, class_of(n)) {
-        return Err(refusal::at(2, at));
+    let Some(n) = node(r.tape, at, r.atoms.width) else {
+        return Err(refusal::at(Question::Command, at));
+    };
+    if !allowed(place, Class::from(n)) {
+        return Err(refusal::at(Question::Command, at));
     }
     if !is_defined(n, r.atoms.texts.count) || left < 1 {
-        return Err(refusal::at(3, at));
+        return Err(refusal::at(Question::Operand, at));
     }
     if !is_apt(r, n) {
-        return Err(refusal::at(4, at));
+        return Err(refusal::at(Question::Text, at));
     }
     Ok((n, at + size(n, r.atoms.width)))
 }

@@ -4,11 +4,12 @@ ghost use Rattle.validate.specs.Front.{AtomEnds, Counted, Going, Nexts, Starts, 
 
 use crate::Count;
 use crate::regions::layout;
-use octets::numbers::u16_at;
+use parse_tree::node::text_size;
 use parse_tree::refusal;
-use parse_tree::refusal::Refusal;
+use parse_tree::refusal::{Question, Refusal};
 use texts::Map;
 use texts::class::class_by;
+use texts::mark::TextMark;
 use texts::scan::scan;
 use texts::table::{enter, find, start};
 use texts::text::atom;
@@ -20,12 +21,8 @@ fn behind(tape: &[u8], at: usize) -> Option<usize>
     if tape.len() <= at || tape[at] != 1 {
         return None;
     }
-    let room = tape.len() - at;
-    if room < 3 {
-        return None;
-    }
-    let n = usize::from(u16_at(tape, at + 1));
-    (3 + n <= room).then_some(at + 3 + n)
+    let n = text_size(tape, at)?;
+    Some(at + 3 + usize::from(n))
 }
 
 // The atoms at the front.
@@ -41,7 +38,7 @@ pub fn front(tape: &[u8]) -> Count
     Count { at, count }
 }
 
-// The table with the atom at a place, and the place behind it; None where the text is known already.
+// The table with the atom at a place, and the place behind it; None where the text is known already. `end` and `count` for the clauses alone.
 fn enter_at(
     tape: &[u8],
     work: &mut [u8],
@@ -60,7 +57,7 @@ fn enter_at(
     if find(tape, work, m, t, f.hash).is_some() {
         return None;
     }
-    let x = 4 * at + class_by(tape, a, e, f.least);
+    let x = TextMark::on_tape(at, class_by(tape, a, e, f.least));
     let r = enter(tape, work, m, x, f.hash, 0);
     Some((r, e))
 }
@@ -75,7 +72,7 @@ pub fn atoms(tape: &[u8], work: &mut [u8], end: usize, count: usize) -> Result<M
     let mut at = 0;
     while at < end {
         let Some((r, e)) = enter_at(tape, work, m, at, end, count) else {
-            return Err(refusal::at(3, at));
+            return Err(refusal::at(Question::Operand, at));
         };
         m = r;
         at = e;

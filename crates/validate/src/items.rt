@@ -15,7 +15,6 @@ use crate::regions::LIST;
 use crate::symbols::symbols;
 use octets::numbers::store64;
 use parse_tree::places::Place;
-use parse_tree::refusal;
 use parse_tree::refusal::Refusal;
 use parse_tree::syntax::{Alternative, Node, NonterminalData};
 
@@ -36,8 +35,9 @@ fn alternative(r: &Reader, at: usize) -> Result<usize, Refusal>
         return alternative_parts(r, a, at + (14 + r.atoms.width.bytes));
     }
     let (n, e) = command(r, Place::Alternatives, 1, at)?;
+    // The table of places lets nothing else stand here.
     let Node::Alternative(a) = n else {
-        return Err(refusal::at(2, at));
+        unreachable!()
     };
     alternative_parts(r, a, e)
 }
@@ -75,7 +75,8 @@ fn item(r: &Reader, at: usize) -> Result<usize, Refusal>
     match n {
         Node::Terminal(_) => Ok(e),
         Node::Nonterminal(d) => nonterminal_parts(r, d, e),
-        _ => Err(refusal::at(2, at)),
+        // The table of places lets nothing else stand here.
+        _ => unreachable!(),
     }
 }
 

@@ -16,11 +16,12 @@ pub mod symbols;
 use octets::numbers::Width;
 use texts::Map;
 
-// The table of a tape's atoms; then the width of their numbers in bytes. `four` says whether question 4 is asked.
+// The table of a tape's atoms; then the width of their numbers in bytes, and whether question 4 is asked.
 #[derive(Clone, Copy)]
 pub struct Atoms {
     pub texts: Map,
     pub width: Width,
+    // Four functions read it; a const parameter would stand in the signatures of the 31 that are handed a `Reader`.
     pub four: bool,
 }
 

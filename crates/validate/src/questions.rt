@@ -90,6 +90,5 @@ pub fn is_defined(n: Node, atoms: usize) -> bool
         Node::Attribute(a) => attribute_defined(a, atoms),
         Node::Condition(c) => condition_defined(c, atoms),
         Node::Symbol(_, k) => symbol_defined(k, atoms),
-        Node::Unknown => false,
     }
 }

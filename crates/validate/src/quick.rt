@@ -1,18 +1,18 @@
 // The command of a symbol, an alternative, an item, an argument or an attribute, by its bytes: no node is built. What is not found out here is left to `command`.
 ghost use Rattle.std.specs.Prelude.{◌≡◌, true, ◌&&◌, [], ◌+◌, ◌≤◌, ◌<◌, ltb, length, get_or, IfSome};
 ghost use Rattle.octets.specs.Working.Choice.{pick};
-ghost use Rattle.parse_tree.specs.Working.Nodes.{named_leaf, symbol_node_at};
+ghost use Rattle.parse_tree.specs.Working.Nodes.{named_leaf};
 ghost use Rattle.parse_tree.specs.Working.Places.{row, arguments_place, attributes_place};
 ghost use Rattle.parse_tree.specs.Working.Questions.{alternative_defined, attribute_defined, leaf_defined, leaf_suits, suits};
 ghost use Rattle.parse_tree.specs.declared.syntax.Node.{Node};
 ghost use Rattle.texts.specs.Atoms.{atoms_of};
 ghost use Rattle.validate.specs.Uses.{fits};
-ghost use Rattle.validate.specs.Quick.{Kinded, QuickPassed, QuickInside, PassedAlternative, PassedNonterminal, PassedTerminal, PassedCommand, held_of};
+ghost use Rattle.validate.specs.Quick.{Kinded, QuickPassed, QuickInside, PassedAlternative, PassedNonterminal, PassedTerminal, PassedCommand};
 
 use crate::questions::{alternative_defined, attribute_defined};
 use crate::reader::Reader;
 use crate::suits::{Use, alternative_suits, attribute_suits, is_fit};
-use octets::numbers::{Width, atom_at, u16_at};
+use octets::numbers::atom_at;
 use parse_tree::node::{whole_alternative, whole_attribute, whole_nonterminal};
 use parse_tree::places::Place;
 use parse_tree::syntax::{Alternative, Attribute, NonterminalData};
@@ -34,7 +34,8 @@ fn named(r: &Reader, c: u8, k: u32) -> bool
     }
 }
 
-// How long the command of a symbol is that passes 3 and 4; None where it doesn't. c is its code.
+// How long the command of a symbol is that passes 3 and 4; None where it doesn't. c is its code. Its length with it: asked again by the code it would be
+// a second jump for each command.
 fn passes(r: &Reader, at: usize, c: u8) -> Option<usize>
     requires { at + (10 + r.now.atoms.width.bytes) ≤ length r.now.tape.now }
     ensures { IfSome result (Kinded r.now.tape.now r.now.atoms c at) }
@@ -68,28 +69,15 @@ fn passes(r: &Reader, at: usize, c: u8) -> Option<usize>
 pub fn quick(r: &Reader, at: usize, left: usize) -> Option<usize>
     ensures { IfSome result (QuickPassed r.now.tape.now r.now.atoms left at) }
 {
-    if left == 0 || r.tape.len() <= at || r.tape.len() - at < 10 + r.atoms.width.bytes {
+    if left == 0 {
         return None;
     }
-    let c = r.tape[at];
-    if c < 32 || 44 < c {
+    let c = r.code_at(at, 10 + r.atoms.width.bytes)?;
+    if !matches!(c, 32..=44) {
         return None;
     }
     let n = passes(r, at, c)?;
     Some(at + n)
-}
-
-// How many symbols stand inside the symbol at a place.
-pub fn held(tape: &[u8], at: usize, width: Width) -> usize
-    requires { at + (10 + width.bytes) ≤ length tape.now }
-    ensures { result ≡ held_of (symbol_node_at width.bytes (get_or tape.now at 0) tape.now at) }
-{
-    match tape[at] {
-        37 => usize::from(tape[at + 9 + width.bytes]),
-        38..=40 => 1,
-        41 => usize::from(u16_at(tape, at + 9)),
-        _ => 0,
-    }
 }
 
 // The place behind the n symbols inside one, where it is found out here: none, or one leaf with a name.
@@ -99,11 +87,11 @@ pub fn quick_inside(r: &Reader, at: usize, n: usize, left: usize) -> Option<usiz
     if n == 0 {
         return Some(at);
     }
-    if 1 < n || left == 0 || r.tape.len() <= at || r.tape.len() - at < 10 + r.atoms.width.bytes {
+    if 1 < n || left == 0 {
         return None;
     }
-    let c = r.tape[at];
-    if c < 32 || 36 < c {
+    let c = r.code_at(at, 10 + r.atoms.width.bytes)?;
+    if !matches!(c, 32..=36) {
         return None;
     }
     let k = atom_at(r.tape, at + 9, r.atoms.width);
@@ -121,7 +109,7 @@ fn alternative_passes(r: &Reader, a: Alternative) -> bool
 pub fn quick_alternative(r: &Reader, at: usize) -> Option<Alternative>
     ensures { IfSome result (PassedAlternative r.now.tape.now r.now.atoms at) }
 {
-    if r.tape.len() <= at || r.tape.len() - at < 14 + r.atoms.width.bytes || r.tape[at] != 18 {
+    if r.code_at(at, 14 + r.atoms.width.bytes)? != 18 {
         return None;
     }
     let a = whole_alternative(r.tape, at, r.atoms.width);
@@ -132,7 +120,7 @@ pub fn quick_alternative(r: &Reader, at: usize) -> Option<Alternative>
 pub fn quick_nonterminal(r: &Reader, at: usize) -> Option<NonterminalData>
     ensures { IfSome result (PassedNonterminal r.now.tape.now r.now.atoms at) }
 {
-    if r.tape.len() <= at || r.tape.len() - at < 13 + r.atoms.width.bytes || r.tape[at] != 16 {
+    if r.code_at(at, 13 + r.atoms.width.bytes)? != 16 {
         return None;
     }
     let d = whole_nonterminal(r.tape, at, r.atoms.width);
@@ -147,11 +135,8 @@ pub fn quick_terminal(r: &Reader, at: usize) -> Option<usize>
     ensures { IfSome result (PassedTerminal r.now.tape.now r.now.atoms at) }
 {
     let n = 9 + r.atoms.width.bytes;
-    if r.tape.len() <= at || r.tape.len() - at < n {
-        return None;
-    }
-    let c = r.tape[at];
-    if c < 48 || 49 < c {
+    let c = r.code_at(at, n)?;
+    if !matches!(c, 48..=49) {
         return None;
     }
     is_used(r, atom_at(r.tape, at + 9, r.atoms.width), Use::Name).then_some(at + n)
@@ -169,7 +154,7 @@ fn quick_attribute(r: &Reader, at: usize) -> Option<usize>
     ensures { IfSome result (PassedCommand r.now.tape.now r.now.atoms attributes_place at) }
 {
     let n = 2 + r.atoms.width.bytes + r.atoms.width.bytes + r.atoms.width.bytes;
-    if r.tape.len() <= at || r.tape.len() - at < n || r.tape[at] != 19 {
+    if r.code_at(at, n)? != 19 {
         return None;
     }
     attribute_passes(r, whole_attribute(r.tape, at, r.atoms.width)).then_some(at + n)
@@ -180,7 +165,7 @@ fn quick_argument(r: &Reader, at: usize) -> Option<usize>
     ensures { IfSome result (PassedCommand r.now.tape.now r.now.atoms arguments_place at) }
 {
     let n = 1 + r.atoms.width.bytes;
-    if r.tape.len() <= at || r.tape.len() - at < n || r.tape[at] != 17 {
+    if r.code_at(at, n)? != 17 {
         return None;
     }
     is_used(r, atom_at(r.tape, at + 1, r.atoms.width), Use::Name).then_some(at + n)

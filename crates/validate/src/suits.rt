@@ -89,7 +89,7 @@ fn is_suited(r: &Reader, n: Node) -> bool
     ensures { result ≡ suits (atoms_of r.now.tape.now r.now.atoms.texts.count) n }
 {
     match n {
-        Node::Text(_) | Node::Unknown => true,
+        Node::Text(_) => true,
         Node::Nonterminal(d) => is_fit(r, d.name.0, Use::Name),
         Node::Terminal(t) => is_fit(r, t.name.0, Use::Name),
         Node::Argument(a) => is_fit(r, a.0, Use::Name),

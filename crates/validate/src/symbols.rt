@@ -7,10 +7,10 @@ ghost use Rattle.texts.specs.Atoms.{atoms_of};
 ghost use Rattle.validate.specs.Steps.{step_of};
 
 use crate::command::command;
-use crate::quick::{held, quick, quick_inside};
+use crate::quick::{quick, quick_inside};
 use crate::reader::Reader;
+use parse_tree::nested::inside_at;
 use parse_tree::places::Place;
-use parse_tree::refusal;
 use parse_tree::refusal::Refusal;
 use parse_tree::syntax::{Node, Over, SymbolKind};
 
@@ -30,11 +30,9 @@ pub fn symbol(r: &Reader, at: usize, left: usize) -> Result<usize, Refusal>
     ensures { result ≡ step_of (read_sym r.now.atoms.four r.now.atoms.width.bytes r.now.tape.now (atoms_of r.now.tape.now r.now.atoms.texts.count) left at) }
 {
     let (n, e) = command(r, Place::Symbols, left, at)?;
-    if left == 0 {
-        return Err(refusal::at(3, at));
-    }
+    // The table of places lets nothing else stand here, and `command` nothing where no level is left.
     let Node::Symbol(_, k) = n else {
-        return Err(refusal::at(2, at));
+        unreachable!()
     };
     match k {
         SymbolKind::Leaf(_) => Ok(e),
@@ -52,7 +50,7 @@ pub fn symbols(r: &Reader, at: usize, n: usize, left: usize) -> Result<usize, Re
     for _ in 0..n {
         p = match quick(r, p, left) {
             Some(f) => {
-                let i = held(r.tape, p, r.atoms.width);
+                let i = inside_at(r.tape, p, r.atoms.width);
                 match quick_inside(r, f, i, left - 1) {
                     Some(d) => d,
                     None => symbols(r, f, i, left - 1)?,

@@ -8,8 +8,7 @@ use Rattle.texts.specs.declared.Map.{Map}
 use Rattle.texts.specs.Table.{Table, texts}
 use Rattle.passes.specs.Outcome.{yes}
 use Rattle.passes.specs.Calls.{sizes}
-use Rattle.std.specs.Prelude.{Result}
-use Rattle.parse_tree.specs.declared.refusal.Refusal.{Refusal}
+use Rattle.std.specs.Prelude.{Ok}
 use Rattle.output.specs.Working.Handing.{Staged}
 
 -- the last stage g stands in work, its items from `from` up to `end`; n texts are the tape's, whose atoms stand before `at`
@@ -34,5 +33,6 @@ pub record SomeLastStage (s w : List ℕ) (at n cap : ℕ) (m : Map) (from end :
   pub upto : end ≤ length w
   pub room : at + length (bytes_of_each (atom_bytes 2) (drop n (texts s w m))) + (end - from) ≤ cap
 
-unfoldable pub HandsLast : List ℕ → List ℕ → ℕ → ℕ → Map → ℕ → ℕ → List ℕ → Result ℕ Refusal → List ℕ → Type 0
-HandsLast s w at n m from end o r o' = (g : Stage) → LastStands s w at n (length o) m from end g → Staged (yes g) o r o'
+-- the length r of its tree is answered
+unfoldable pub HandsLast : List ℕ → List ℕ → ℕ → ℕ → Map → ℕ → ℕ → List ℕ → ℕ → List ℕ → Type 0
+HandsLast s w at n m from end o r o' = (g : Stage) → LastStands s w at n (length o) m from end g → Staged (yes g) o (Ok r) o'

@@ -1,5 +1,5 @@
 -- From a tape to its tree: questions 2, 3 and 4 of each command before the next. Assumes nothing: these are definitions.
-use Rattle.std.specs.Prelude.{ℕ, zero, suc, ◌+◌, Bool, true, false, ◌&&◌, List, [], ◌∷◌, ◌++◌, length, leb}
+use Rattle.std.specs.Prelude.{ℕ, zero, suc, ◌+◌, Bool, true, false, ◌&&◌, List, [], ◌∷◌, ◌++◌, length, leb, Option, Some, None}
 use Rattle.octets.specs.Working.Choice.{pick}
 use Rattle.octets.specs.Plain.Runs.{part}
 use Rattle.parse_tree.specs.Plain.Tree.{Text, Sym, Attribute, Condition, Alternative, Item, Stage, syms_of}
@@ -19,16 +19,20 @@ use Rattle.parse_tree.specs.declared.syntax.Node.{Node}
 -- the tape s with atom numbers of w bytes; four says whether question 4 is asked
 module _ (four : Bool) (w : ℕ) (s : List ℕ) where
   module _ (ts : List Text) where
-    -- 2, 3 and 4 of the command at a place, with `left` levels of nesting left; a yes is the command
-    unfoldable pub ask : ℕ → ℕ → ℕ → Reading Node
-    ask place left at =
-        pick (allowed_at place (class_of (node_at w s at)))
-        (pick (defined (length ts) (node_at w s at) && leb 1 left)
-        (pick (pick four (suits ts (node_at w s at)) true)
-        (got (node_at w s at) (at + size_of w (node_at w s at)))
+    -- 2, 3 and 4 of a command that was read at a place, with `left` levels of nesting left; a yes is the command
+    unfoldable pub ask_of : ℕ → ℕ → ℕ → Option Node → Reading Node
+    ask_of place left at None = refused 2 at
+    ask_of place left at (Some n) =
+        pick (allowed_at place (class_of n))
+        (pick (defined (length ts) n && leb 1 left)
+        (pick (pick four (suits ts n) true)
+        (got n (at + size_of w n))
         (refused 4 at))
         (refused 3 at))
         (refused 2 at)
+
+    unfoldable pub ask : ℕ → ℕ → ℕ → Reading Node
+    ask place left at = ask_of place left at (node_at w s at)
 
     -- a symbol, with what stands inside it
     unfoldable pub read_sym : ℕ → ℕ → Reading Sym
@@ -84,18 +88,18 @@ module _ (four : Bool) (w : ℕ) (s : List ℕ) where
   unfoldable pub read_atoms : ℕ → List Text → ℕ → Reading (List Text)
   read_atoms zero ts at = got ts at
   read_atoms (suc n) ts at = elim (node_at w s at) [
-    | Node.Text k ↦ elim (has (part (at + 3) (at + 3 + k) s) ts) [
+    | None ↦ got ts at
+    | Some (Node.Text k) ↦ elim (has (part (at + 3) (at + 3 + k) s) ts) [
       | true ↦ refused 3 at
       | false ↦ read_atoms n (ts ++ (part (at + 3) (at + 3 + k) s ∷ [])) (at + 3 + k)
     ]
-    | Node.Nonterminal d ↦ got ts at
-    | Node.Terminal t ↦ got ts at
-    | Node.Argument a ↦ got ts at
-    | Node.Alternative a ↦ got ts at
-    | Node.Attribute a ↦ got ts at
-    | Node.Condition c ↦ got ts at
-    | Node.Symbol sp k ↦ got ts at
-    | Node.Unknown ↦ got ts at
+    | Some (Node.Nonterminal d) ↦ got ts at
+    | Some (Node.Terminal t) ↦ got ts at
+    | Some (Node.Argument a) ↦ got ts at
+    | Some (Node.Alternative a) ↦ got ts at
+    | Some (Node.Attribute a) ↦ got ts at
+    | Some (Node.Condition c) ↦ got ts at
+    | Some (Node.Symbol sp k) ↦ got ts at
   ]
 
   -- atoms, then items

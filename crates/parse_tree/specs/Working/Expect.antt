@@ -23,7 +23,6 @@ module _ {B : Type 0} (at : ℕ) where
   expect_item f g (Node.Attribute a) e = refused 2 at
   expect_item f g (Node.Condition c) e = refused 2 at
   expect_item f g (Node.Symbol s k) e = refused 2 at
-  expect_item f g Node.Unknown e = refused 2 at
 
   -- 11
   unfoldable pub expect_argument : (NonterminalString → ℕ → Reading B) → Node → ℕ → Reading B
@@ -35,7 +34,6 @@ module _ {B : Type 0} (at : ℕ) where
   expect_argument f (Node.Attribute a) e = refused 2 at
   expect_argument f (Node.Condition c) e = refused 2 at
   expect_argument f (Node.Symbol s k) e = refused 2 at
-  expect_argument f Node.Unknown e = refused 2 at
 
   -- 12
   unfoldable pub expect_alternative : (Alternative → ℕ → Reading B) → Node → ℕ → Reading B
@@ -47,7 +45,6 @@ module _ {B : Type 0} (at : ℕ) where
   expect_alternative f (Node.Attribute a) e = refused 2 at
   expect_alternative f (Node.Condition c) e = refused 2 at
   expect_alternative f (Node.Symbol s k) e = refused 2 at
-  expect_alternative f Node.Unknown e = refused 2 at
 
   -- 13
   unfoldable pub expect_attribute : (Attribute → ℕ → Reading B) → Node → ℕ → Reading B
@@ -59,7 +56,6 @@ module _ {B : Type 0} (at : ℕ) where
   expect_attribute f (Node.Attribute a) e = f a e
   expect_attribute f (Node.Condition c) e = refused 2 at
   expect_attribute f (Node.Symbol s k) e = refused 2 at
-  expect_attribute f Node.Unknown e = refused 2 at
 
   -- 14
   unfoldable pub expect_condition : (Condition → ℕ → Reading B) → Node → ℕ → Reading B
@@ -71,7 +67,6 @@ module _ {B : Type 0} (at : ℕ) where
   expect_condition f (Node.Attribute a) e = refused 2 at
   expect_condition f (Node.Condition c) e = f c e
   expect_condition f (Node.Symbol s k) e = refused 2 at
-  expect_condition f Node.Unknown e = refused 2 at
 
   -- 20 to 2c
   unfoldable pub expect_symbol : (Span → SymbolKind → ℕ → Reading B) → Node → ℕ → Reading B
@@ -83,4 +78,3 @@ module _ {B : Type 0} (at : ℕ) where
   expect_symbol f (Node.Attribute a) e = refused 2 at
   expect_symbol f (Node.Condition c) e = refused 2 at
   expect_symbol f (Node.Symbol s k) e = f s k e
-  expect_symbol f Node.Unknown e = refused 2 at

@@ -1,5 +1,5 @@
 -- One command of a tape, read and written. w is the width of an atom's number in bytes. Assumes nothing: these are definitions.
-use Rattle.std.specs.Prelude.{ℕ, ◌+◌, ◌-◌, List, [], ◌∷◌, ◌++◌, length, get_or, leb, ltb, eqb}
+use Rattle.std.specs.Prelude.{ℕ, ◌+◌, ◌-◌, List, [], ◌∷◌, ◌++◌, length, get_or, leb, ltb, eqb, Option, Some, None}
 use Rattle.octets.specs.Working.Choice.{pick}
 use Rattle.octets.specs.Plain.Numbers.{le_at, le}
 use Rattle.parse_tree.specs.declared.syntax.Span.{Span}
@@ -48,7 +48,7 @@ symbol_bytes w s (SymbolKind.Around (Around.Name m n)) = 40 ∷ (span_bytes s ++
 symbol_bytes w s (SymbolKind.Over (Over.Macro n k)) = 37 ∷ (span_bytes s ++ (le w n.0 ++ (k ∷ [])))
 symbol_bytes w s (SymbolKind.Over (Over.Group k)) = 41 ∷ (span_bytes s ++ le 2 k)
 
--- a if_whole command; the bytes of an atom's text stand behind its own
+-- a whole command; the bytes of an atom's text stand behind its own
 unfoldable pub node_bytes : ℕ → Node → List ℕ
 node_bytes w (Node.Text n) = 1 ∷ le 2 n
 node_bytes w (Node.Nonterminal d) = 16 ∷ (span_bytes d.span ++ (le w d.name.0 ++ (d.flags ∷ d.args ∷ le 2 d.alternatives)))
@@ -58,17 +58,52 @@ node_bytes w (Node.Alternative a) = 18 ∷ (span_bytes a.span ++ (a.attributes �
 node_bytes w (Node.Attribute a) = 19 ∷ (le w a.id.0 ++ (a.kind ∷ (le w a.key.0 ++ le w a.value.0)))
 node_bytes w (Node.Condition c) = 20 ∷ (span_bytes c.span ++ (le w c.lhs.0 ++ (c.op ∷ le w c.rhs.0)))
 node_bytes w (Node.Symbol s k) = symbol_bytes w s k
-node_bytes w Node.Unknown = []
 
 -- how many bytes a command has
 unfoldable pub size_of : ℕ → Node → ℕ
 size_of w n = length (node_bytes w n)
 
+-- the same by its code, an atom aside; 9 for a code that no command has
+unfoldable pub code_size : ℕ → ℕ → ℕ
+code_size w c =
+    pick (eqb c 16) (13 + w)
+    (pick (eqb c 17) (1 + w)
+    (pick (eqb c 48) (9 + w)
+    (pick (eqb c 49) (9 + w)
+    (pick (eqb c 18) (14 + w)
+    (pick (eqb c 19) (2 + w + w + w)
+    (pick (eqb c 20) (10 + w + w)
+    (pick (eqb c 32) (9 + w)
+    (pick (eqb c 33) (9 + w)
+    (pick (eqb c 34) (9 + w)
+    (pick (eqb c 35) (9 + w)
+    (pick (eqb c 36) (9 + w)
+    (pick (eqb c 37) (10 + w)
+    (pick (eqb c 38) 10
+    (pick (eqb c 40) (10 + w)
+    (pick (eqb c 41) 11 9)))))))))))))))
+
+-- the same for the commands of an alternative; 9 for a code that none of them has
+unfoldable pub long_of : ℕ → ℕ → ℕ
+long_of w c =
+    pick (eqb c 18) (14 + w)
+    (pick (eqb c 19) (2 + w + w + w)
+    (pick (eqb c 20) (10 + w + w)
+    (pick (eqb c 32) (9 + w)
+    (pick (eqb c 33) (9 + w)
+    (pick (eqb c 34) (9 + w)
+    (pick (eqb c 35) (9 + w)
+    (pick (eqb c 36) (9 + w)
+    (pick (eqb c 37) (10 + w)
+    (pick (eqb c 38) 10
+    (pick (eqb c 40) (10 + w)
+    (pick (eqb c 41) 11 9)))))))))))
+
 -- ---- from bytes
 
--- a command of n bytes, if it is if_whole
-unfoldable pub if_whole : List ℕ → ℕ → ℕ → Node → Node
-if_whole s at n x = pick (ltb (length s - at) n) Node.Unknown x
+-- a command of n bytes, if it is whole
+unfoldable pub if_whole : List ℕ → ℕ → ℕ → Node → Option Node
+if_whole s at n x = pick (ltb (length s - at) n) None (Some x)
 
 unfoldable pub span_in : List ℕ → ℕ → Span
 span_in s at = record { 0 = le_at 4 s at; 1 = le_at 4 s (at + 4) }
@@ -87,7 +122,7 @@ unfoldable pub bare_leaf : ℕ → Leaf
 bare_leaf c = pick (eqb c 42) Leaf.Lookahead (pick (eqb c 43) Leaf.Lookbehind Leaf.Error)
 
 -- a symbol whose code is c, from 20 to 2c
-unfoldable pub symbol_node_at : ℕ → ℕ → List ℕ → ℕ → Node
+unfoldable pub symbol_node_at : ℕ → ℕ → List ℕ → ℕ → Option Node
 symbol_node_at w c s at =
     pick (ltb c 37) (if_whole s at (9 + w) (Node.Symbol (span_in s (at + 1)) (SymbolKind.Leaf (named_leaf c (le_at w s (at + 9))))))
     (pick (eqb c 37) (if_whole s at (10 + w) (Node.Symbol (span_in s (at + 1)) (SymbolKind.Over (Over.Macro (record { 0 = le_at w s (at + 9) }) (get_or s (at + 9 + w) 0)))))
@@ -97,9 +132,9 @@ symbol_node_at w c s at =
     (pick (eqb c 41) (if_whole s at 11 (Node.Symbol (span_in s (at + 1)) (SymbolKind.Over (Over.Group (le_at 2 s (at + 9))))))
     (if_whole s at 9 (Node.Symbol (span_in s (at + 1)) (SymbolKind.Leaf (bare_leaf c)))))))))
 
--- 01 n16, if_whole with its n bytes
-unfoldable pub text_node : List ℕ → ℕ → Node
-text_node s at = if_whole s at 3 (if_whole s at (3 + le_at 2 s (at + 1)) (Node.Text (le_at 2 s (at + 1))))
+-- 01 n16, whole with its n bytes
+unfoldable pub text_node : List ℕ → ℕ → Option Node
+text_node s at = pick (ltb (length s - at) 3) None (if_whole s at (3 + le_at 2 s (at + 1)) (Node.Text (le_at 2 s (at + 1))))
 
 -- the nonterminal that the bytes at a place say
 abbrev pub nonterminal_here : ℕ → List ℕ → ℕ → NonterminalData
@@ -112,15 +147,15 @@ nonterminal_here w s at = record {
 }
 
 -- 10
-unfoldable pub nonterminal_node_at : ℕ → List ℕ → ℕ → Node
+unfoldable pub nonterminal_node_at : ℕ → List ℕ → ℕ → Option Node
 nonterminal_node_at w s at = if_whole s at (13 + w) (Node.Nonterminal (nonterminal_here w s at))
 
 -- 30, 31
-unfoldable pub terminal_node_at : ℕ → ℕ → List ℕ → ℕ → Node
+unfoldable pub terminal_node_at : ℕ → ℕ → List ℕ → ℕ → Option Node
 terminal_node_at w c s at = if_whole s at (9 + w) (Node.Terminal (record { span = span_in s (at + 1); name = record { 0 = le_at w s (at + 9) }; source = c }))
 
 -- 11
-unfoldable pub argument_node_at : ℕ → List ℕ → ℕ → Node
+unfoldable pub argument_node_at : ℕ → List ℕ → ℕ → Option Node
 argument_node_at w s at = if_whole s at (1 + w) (Node.Argument (record { 0 = le_at w s (at + 1) }))
 
 -- the alternative that the bytes at a place say
@@ -135,7 +170,7 @@ alternative_here w s at = record {
 }
 
 -- 12
-unfoldable pub alternative_node_at : ℕ → List ℕ → ℕ → Node
+unfoldable pub alternative_node_at : ℕ → List ℕ → ℕ → Option Node
 alternative_node_at w s at = if_whole s at (14 + w) (Node.Alternative (alternative_here w s at))
 
 -- the attribute that the bytes at a place say
@@ -148,11 +183,11 @@ attribute_here w s at = record {
 }
 
 -- 13
-unfoldable pub attribute_node_at : ℕ → List ℕ → ℕ → Node
+unfoldable pub attribute_node_at : ℕ → List ℕ → ℕ → Option Node
 attribute_node_at w s at = if_whole s at (2 + w + w + w) (Node.Attribute (attribute_here w s at))
 
 -- 14
-unfoldable pub condition_node_at : ℕ → List ℕ → ℕ → Node
+unfoldable pub condition_node_at : ℕ → List ℕ → ℕ → Option Node
 condition_node_at w s at = if_whole s at (10 + w + w) (Node.Condition (record {
   span = span_in s (at + 1);
   lhs = record { 0 = le_at w s (at + 9) };
@@ -161,7 +196,7 @@ condition_node_at w s at = if_whole s at (10 + w + w) (Node.Condition (record {
 }))
 
 -- the command whose code is c
-unfoldable pub node_by : ℕ → ℕ → List ℕ → ℕ → Node
+unfoldable pub node_by : ℕ → ℕ → List ℕ → ℕ → Option Node
 node_by w c s at =
     pick (ltb c 32)
     (pick (eqb c 1) (text_node s at)
@@ -169,11 +204,16 @@ node_by w c s at =
     (pick (eqb c 17) (argument_node_at w s at)
     (pick (eqb c 18) (alternative_node_at w s at)
     (pick (eqb c 19) (attribute_node_at w s at)
-    (pick (eqb c 20) (condition_node_at w s at) Node.Unknown))))))
+    (pick (eqb c 20) (condition_node_at w s at) None))))))
     (pick (ltb c 45) (symbol_node_at w c s at)
     (pick (eqb c 48) (terminal_node_at w c s at)
-    (pick (eqb c 49) (terminal_node_at w c s at) Node.Unknown)))
+    (pick (eqb c 49) (terminal_node_at w c s at) None)))
 
--- the command at a place: Unknown where there is none, or none that is known and if_whole
-unfoldable pub node_at : ℕ → List ℕ → ℕ → Node
-node_at w s at = pick (leb (length s) at) Node.Unknown (node_by w (get_or s at 0) s at)
+-- the command at a place: None where there is none that is known and whole
+unfoldable pub node_at : ℕ → List ℕ → ℕ → Option Node
+node_at w s at = pick (leb (length s) at) None (node_by w (get_or s at 0) s at)
+
+-- how many bytes what was read has: 0 where there is no command
+abbrev pub size_read : ℕ → Option Node → ℕ
+size_read w None = 0
+size_read w (Some n) = size_of w n

@@ -1,5 +1,5 @@
 -- Questions 3 and 4 of one command. Assumes nothing: these are definitions.
-use Rattle.std.specs.Prelude.{ℕ, Bool, true, false, ◌&&◌, List, [], get_or, leb, ltb, eqb}
+use Rattle.std.specs.Prelude.{ℕ, Bool, true, ◌&&◌, List, [], get_or, leb, ltb, eqb}
 use Rattle.octets.specs.Working.Choice.{pick}
 use Rattle.parse_tree.specs.Plain.Tree.{Text}
 use Rattle.parse_tree.specs.Plain.Texts.{is_name, is_literal, is_ascii}
@@ -53,7 +53,6 @@ defined n (Node.Alternative a) = alternative_defined n a
 defined n (Node.Attribute a) = attribute_defined n a
 defined n (Node.Condition c) = ltb c.lhs.0 n && (leb c.op 1 && ltb c.rhs.0 n)
 defined n (Node.Symbol s k) = symbol_defined n k
-defined n Node.Unknown = false
 
 -- ---- "Does each text suit its use?"
 
@@ -88,4 +87,3 @@ suits ts (Node.Alternative a) = pick (has_text a.action) (of_class is_ascii ts a
 suits ts (Node.Attribute a) = of_class is_name ts a.id.0 && pick (eqb a.kind 1) (of_class is_ascii ts a.key.0 && of_class is_ascii ts a.value.0) true
 suits ts (Node.Condition c) = of_class is_name ts c.lhs.0 && of_class is_literal ts c.rhs.0
 suits ts (Node.Symbol s k) = symbol_suits ts k
-suits ts Node.Unknown = true

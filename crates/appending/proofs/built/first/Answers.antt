@@ -1,11 +1,8 @@
 use Rattle.appending.proofs.BuiltCode.{asking}
 use Rattle.appending.proofs.built.first.Goals as goal
 
-pub overflow_add-k : goal.overflow_add-k
-overflow_add-k c = search asking
-
 pub put_word-requires : goal.put_word-requires
-put_word-requires c = search asking
+put_word-requires c = (search asking, search asking, search asking)
 
 pub put_next-requires : goal.put_next-requires
 put_next-requires c = (search asking, search asking, search asking)

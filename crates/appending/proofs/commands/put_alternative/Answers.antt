@@ -1,7 +1,8 @@
 use Rattle.std.proofs.Common.{rules}
 use Prim.Native.Nat.{◌+◌}
-use Rattle.appending.specs.Commands.{alternative_head}
-use Rattle.appending.proofs.CommandsCode.{put_ends, alternative_long}
+use Rattle.precedence.specs.Write.{alternative_head}
+use Rattle.precedence.proofs.WriteCode.{alternative_long}
+use Rattle.appending.proofs.CommandsCode.{put_ends}
 use Rattle.appending.proofs.commands.put_alternative.Goals as goal
 
 pub returns : goal.returns

@@ -10,14 +10,14 @@ put_reference-run-requires c = search coming
 pub returns-then-is_expanded : goal.returns-then-is_expanded
 returns-then-is_expanded c = search coming
 
-pub inside-requires : goal.inside-requires
-inside-requires c = search coming
+pub inside_at-requires : goal.inside_at-requires
+inside_at-requires c = search coming
 
-pub overflow_add-left : goal.overflow_add-left
-overflow_add-left c = search coming
+pub overflow_add-many : goal.overflow_add-many
+overflow_add-many c = search coming
 
-pub put_command-run-requires : goal.put_command-run-requires
-put_command-run-requires c = search coming
+pub copy_command-run-requires : goal.copy_command-run-requires
+copy_command-run-requires c = search coming
 
 pub returns-else-is_expanded : goal.returns-else-is_expanded
 returns-else-is_expanded c = search coming

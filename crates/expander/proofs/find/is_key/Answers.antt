@@ -1,4 +1,4 @@
-use Rattle.expander.proofs.find.is_key.Goals.{then-hash-f-via-then-hash-f, then-hash-f-via-else-hash-f+then-cell-f}
+use Rattle.expander.proofs.find.is_key.Goals.{then-hash-f, else-hash-f}
 use Rattle.expander.proofs.FindCode.{keying}
 use Rattle.expander.proofs.find.is_key.Goals as goal
 
@@ -8,20 +8,20 @@ hash-requires c = search keying
 pub cell-requires : goal.cell-requires
 cell-requires c = search keying
 
-pub returns-then-hash-f : goal.returns-then-hash-f
-returns-then-hash-f c = elim c.then-hash-f.branch [ then-hash-f-via-then-hash-f w ↦ search keying | then-hash-f-via-else-hash-f+then-cell-f w ↦ search keying ]
-
-pub mark-q-requires : goal.mark-q-requires
-mark-q-requires c = search keying
+pub mark-requires : goal.mark-requires
+mark-requires c = search keying
 
 pub overflow_add-g : goal.overflow_add-g
 overflow_add-g c = search keying
 
-pub overflow_add-g-2 : goal.overflow_add-g-2
-overflow_add-g-2 c = search keying
+pub overflow_add-g-then-cell-f : goal.overflow_add-g-then-cell-f
+overflow_add-g-then-cell-f c = search keying
 
 pub same_print-requires : goal.same_print-requires
-same_print-requires c = search keying
+same_print-requires c = let e = c.words.ensures in rw (e.0, e.1, e.2, e.3) (search keying)
 
-pub returns : goal.returns
-returns c = search keying
+pub returns-then-cell-f : goal.returns-then-cell-f
+returns-then-cell-f c = let e = c.words.ensures in let z = rw (e.0, e.1, e.2, e.3) at c.same_print.ensures in search (keying, z)
+
+pub returns-else-cell-f : goal.returns-else-cell-f
+returns-else-cell-f c = elim c.if-hash-f.branch [ then-hash-f w ↦ rw w.value-is (search keying) | else-hash-f w ↦ rw w.value-is (search keying) ]

@@ -1,4 +1,5 @@
-use Rattle.expander.proofs.FindCode.{texting}
+use borrow.Author.Rules.{rules}
+use Rattle.expander.proofs.FindCode.{texting, key_told}
 use Rattle.expander.proofs.find.is_text.Goals as goal
 
 pub returns-then-hash-f : goal.returns-then-hash-f
@@ -10,8 +11,5 @@ overflow_add-start c = search texting
 pub meet_symbol-requires : goal.meet_symbol-requires
 meet_symbol-requires c = search texting
 
-pub returns-in-Some : goal.returns-in-Some
-returns-in-Some c = search texting
-
-pub returns-in-None : goal.returns-in-None
-returns-in-None c = search texting
+pub returns : goal.returns
+returns c = key_told _ _ _ c.requires.0 (search rules) _ c.requires.2 _ _ _ c.text-t.ensures c.meet_symbol.ensures _ _ c.is_some_and.ensures (λ m a. search rules)

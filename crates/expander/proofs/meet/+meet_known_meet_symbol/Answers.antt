@@ -26,17 +26,23 @@ pub meet_symbol-inside-n-requires : goal.meet_symbol-inside-n-requires
 meet_symbol-inside-n-requires t c = search symbol_meeting
 
 pub meet_symbol-before-requires : goal.meet_symbol-before-requires
-meet_symbol-before-requires t c = search symbol_meeting
+meet_symbol-before-requires t c = let e = c.words.ensures in rw (e.1, e.3) (search symbol_meeting)
 
 pub meet_symbol-returns-in_err-held : goal.meet_symbol-returns-in_err-held
-meet_symbol-returns-in_err-held t c = let d = holding_met (record { text = refl; at = refl }) c.before-2.ensures in rw c.from_residual.ensures (search (symbol_meeting, d, c.in_err-held.was))
+meet_symbol-returns-in_err-held t c =
+    let e = c.words.ensures in
+    let b = rw (e.0, e.1, e.2, e.3) at c.before-2.ensures in
+    let d = holding_met (record { text = refl; at = refl }) b in
+    rw c.from_residual.ensures (search (symbol_meeting, d, c.in_err-held.was))
 
 pub meet_symbol-loop-k-init : goal.meet_symbol-loop-k-init
 meet_symbol-loop-k-init t c =
-    let d = holding_met (record { text = refl; at = refl }) c.before-2.ensures in
+    let e = c.words.ensures in
+    let b = rw (e.0, e.1, e.2, e.3) at c.before-2.ensures in
+    let d = holding_met (record { text = refl; at = refl }) b in
     record {
       meeting = meeting_start _ _ _ _ _ _ _ _ _ _ _ c.requires.0 c.requires.1 refl c.inside-n.ensures c.long.ensures.0 d c.in_ok-held.was;
-      held = holding_next (record { text = refl; at = refl }) c.before-2.ensures _ _ c.in_ok-held.was;
+      held = holding_next (record { text = refl; at = refl }) b _ _ c.in_ok-held.was;
     }
 
 pub meet_symbol-returns-in_err-i : goal.meet_symbol-returns-in_err-i

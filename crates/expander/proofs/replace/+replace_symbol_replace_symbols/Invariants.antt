@@ -9,4 +9,4 @@ abbrev pub decreases-replace_symbols : goal.decreases-replace_symbols
 decreases-replace_symbols l = 2 * l.left + 1
 
 abbrev pub invariant-replace_symbols-loop-i : goal.invariant-replace_symbols-loop-i
-invariant-replace_symbols-loop-i l = Replacing l.tape l.initial.work l.g l.left l.p l.k l.c l.n l.initial.q.form l.work l.q l.i (l.k - l.i)
+invariant-replace_symbols-loop-i l = Replacing l.tape l.initial.work l.g l.left l.fn.q.at l.k l.c l.fn.q.pile l.fn.q.form l.work l.r l.i (l.k - l.i)

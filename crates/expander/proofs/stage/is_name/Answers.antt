@@ -1,8 +1,11 @@
 use Rattle.expander.proofs.StageRunCode.{naming}
 use Rattle.expander.proofs.stage.is_name.Goals as goal
 
-pub returns-then-c-ge32 : goal.returns-then-c-ge32
-returns-then-c-ge32 c = search naming
+pub returns-in-32-to-36 : goal.returns-in-32-to-36
+returns-in-32-to-36 c = search naming
 
-pub returns-else-c-ge32 : goal.returns-else-c-ge32
-returns-else-c-ge32 c = search naming
+pub returns-in_default : goal.returns-in_default
+returns-in_default c = search naming
+
+pub returns-in_default-2 : goal.returns-in_default-2
+returns-in_default-2 c = search naming

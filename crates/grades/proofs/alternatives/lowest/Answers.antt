@@ -7,8 +7,8 @@ loop-i-init c = search lowering
 pub returns-then-not-same_level : goal.returns-then-not-same_level
 returns-then-not-same_level c = search lowering
 
-pub returns-then-k-ne3 : goal.returns-then-k-ne3
-returns-then-k-ne3 c = search lowering
+pub returns-then-ne : goal.returns-then-ne
+returns-then-ne c = search lowering
 
 pub loop-i-preserved : goal.loop-i-preserved
 loop-i-preserved c = search lowering

@@ -5,5 +5,5 @@ use Rattle.grades.proofs.grade.decimal_size.Goals as goal
 
 pub returns : goal.returns
 returns c =
-    let e : c.number_size.result ≡ length (level_digits c.args.v) = c.number_size.ensures.0 ∙ sym (ap length (level_number c.args.v c.requires)) in
+    let e : c.number_size.result ≡ length (level_digits c.args.v) = c.number_size.ensures.0 ∙ sym (ap length (level_number c.args.v c.ranges.v.fits)) in
     (e, c.number_size.ensures.1, omega (arith, digits-most c.args.v))

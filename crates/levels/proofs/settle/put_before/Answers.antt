@@ -7,6 +7,9 @@ atom-t-requires c = search before_putting
 pub overflow_sub-to : goal.overflow_sub-to
 overflow_sub-to c = search before_putting
 
+pub overflow_add-to : goal.overflow_add-to
+overflow_add-to c = search before_putting
+
 pub put_level-requires : goal.put_level-requires
 put_level-requires c = search before_putting
 

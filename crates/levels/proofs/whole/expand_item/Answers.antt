@@ -7,10 +7,10 @@ pub has_prec_attr-requires : goal.has_prec_attr-requires
 has_prec_attr-requires c = search stepping
 
 pub expand_nonterm-requires : goal.expand_nonterm-requires
-expand_nonterm-requires c = search (rules, items_standing c.has_prec_attr.result)
+expand_nonterm-requires c = rw c.requires.wide (search (rules, items_standing c.has_prec_attr.result))
 
 pub returns-then-has_prec_attr : goal.returns-then-has_prec_attr
-returns-then-has_prec_attr c = search stepping
+returns-then-has_prec_attr c = let g = rw c.requires.wide at c.expand_nonterm.ensures in search (stepping, g)
 
 pub put_run-to-requires : goal.put_run-to-requires
 put_run-to-requires c = search stepping

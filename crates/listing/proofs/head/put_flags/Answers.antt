@@ -8,4 +8,4 @@ use Rattle.listing.proofs.head.put_flags.Goals.{in-0, in-1, in-2, in_default}
 pub returns : goal.returns
 returns c =
     let e : c.match-f.t.now ≡ flags_line c.args.f = elim c.match-f.branch [ in-0 w ↦ search flagging | in-1 w ↦ search flagging | in-2 w ↦ search flagging | in_default w ↦ search flagging ] in
-    puts_as e c.put_run.ensures
+    puts_as e c.put_slice.ensures

@@ -1,18 +1,18 @@
 use Rattle.macro_expand.proofs.ArgumentsCode.{judging}
 use Rattle.macro_expand.proofs.arguments.evaluate_cond.Goals as goal
-use Rattle.macro_expand.proofs.arguments.evaluate_cond.Goals.{else-p-g-via-then-p-g+else-work-p-eq34, else-p-g-via-else-p-g}
+use Rattle.macro_expand.proofs.arguments.evaluate_cond.Goals.{else-p-x-via-then-p-x+else-x-p-eq34, else-p-x-via-else-p-x}
 
-pub returns-then-c-at : goal.returns-then-c-at
-returns-then-c-at c = search judging
+pub returns-then-x-at : goal.returns-then-x-at
+returns-then-x-at c = search judging
 
-pub returns-else-p-g : goal.returns-else-p-g
-returns-else-p-g c = elim c.else-p-g.branch [
-  | else-p-g-via-then-p-g+else-work-p-eq34 w ↦ search (judging, c.in_ok-p.was)
-  | else-p-g-via-else-p-g w ↦ search (judging, c.in_ok-p.was)
+pub returns-else-p-x : goal.returns-else-p-x
+returns-else-p-x c = elim c.else-p-x.branch [
+  | else-p-x-via-then-p-x+else-x-p-eq34 w ↦ search (judging, c.in_ok-p.was)
+  | else-p-x-via-else-p-x w ↦ search (judging, c.in_ok-p.was)
 ]
 
-pub returns-then-work-p-eq34 : goal.returns-then-work-p-eq34
-returns-then-work-p-eq34 c = search judging
+pub returns-then-x-p-eq34 : goal.returns-then-x-p-eq34
+returns-then-x-p-eq34 c = search judging
 
 pub returns-in_err-p : goal.returns-in_err-p
 returns-in_err-p c = rw c.from_residual.ensures (search judging)

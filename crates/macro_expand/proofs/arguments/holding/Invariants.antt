@@ -3,4 +3,4 @@ use Rattle.macro_expand.proofs.ArgumentsCode.{Holds}
 use Rattle.macro_expand.proofs.arguments.holding.Given as goal
 
 abbrev pub invariant-loop : goal.invariant-loop
-invariant-loop l = Holds l.g l.c l.work l.n l.at (l.n - l.counter) l.p l.k
+invariant-loop l = Holds l.x.g l.x.call l.x.work.now l.n l.at (l.n - l.counter) l.p l.k

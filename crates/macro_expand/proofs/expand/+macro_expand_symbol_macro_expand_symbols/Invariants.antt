@@ -9,4 +9,4 @@ abbrev pub decreases-macro_expand_symbols : goal.decreases-macro_expand_symbols
 decreases-macro_expand_symbols l = 2 * l.left + 1
 
 abbrev pub invariant-macro_expand_symbols-loop : goal.invariant-macro_expand_symbols-loop
-invariant-macro_expand_symbols-loop l = Filling l.tape l.initial.work l.round.g l.round.n l.round.lim l.c l.left l.k l.initial.r l.work l.r (l.k - l.counter)
+invariant-macro_expand_symbols-loop l = Filling l.tape l.initial.work l.c.round.g l.c.round.n l.c.round.lim l.c.call l.left l.k l.initial.r l.work l.r (l.k - l.counter)

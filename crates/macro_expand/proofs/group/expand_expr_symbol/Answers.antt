@@ -7,11 +7,11 @@ u16_at-m-requires c = search expressing
 pub analyze_expr-requires : goal.analyze_expr-requires
 analyze_expr-requires c = search expressing
 
-pub span_at-requires : goal.span_at-requires
-span_at-requires c = search expressing
+pub of_command-requires : goal.of_command-requires
+of_command-requires c = search expressing
 
-pub returns-in-None : goal.returns-in-None
-returns-in-None c = search expressing
+pub returns-in_default : goal.returns-in_default
+returns-in_default c = search expressing
 
-pub returns-in-Some : goal.returns-in-Some
-returns-in-Some c = search expressing
+pub returns : goal.returns
+returns c = search expressing

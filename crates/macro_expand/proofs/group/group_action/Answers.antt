@@ -7,8 +7,8 @@ returns-in-0-eq1 c = search acting
 pub returns-in_default : goal.returns-in_default
 returns-in_default c = search acting
 
-pub returns-in-1-default : goal.returns-in-1-default
-returns-in-1-default c = search acting
+pub returns-in-0-eq1-2 : goal.returns-in-0-eq1-2
+returns-in-0-eq1-2 c = search acting
 
 pub returns-in_default-2 : goal.returns-in_default-2
 returns-in_default-2 c = search acting

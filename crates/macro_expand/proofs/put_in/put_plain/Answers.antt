@@ -4,8 +4,8 @@ use Rattle.macro_expand.proofs.put_in.put_plain.Goals as goal
 pub bounds-work-p : goal.bounds-work-p
 bounds-work-p c = search plain-one
 
-pub inside-k-requires : goal.inside-k-requires
-inside-k-requires c = search plain-one
+pub inside_at-k-requires : goal.inside_at-k-requires
+inside_at-k-requires c = search plain-one
 
 pub put_spanned-to-requires : goal.put_spanned-to-requires
 put_spanned-to-requires c = search plain-one

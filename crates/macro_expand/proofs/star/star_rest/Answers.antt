@@ -4,8 +4,5 @@ use Rattle.macro_expand.proofs.star.star_rest.Goals as goal
 pub put_symbols-x-requires : goal.put_symbols-x-requires
 put_symbols-x-requires c = search star_resting
 
-pub returns-then-x : goal.returns-then-x
-returns-then-x c = search star_resting
-
-pub returns-else-x : goal.returns-else-x
-returns-else-x c = search star_resting
+pub returns : goal.returns
+returns c = search star_resting

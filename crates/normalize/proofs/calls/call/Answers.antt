@@ -1,10 +1,13 @@
 use lib.ListN.{length, replicate}
 use Rattle.std.proofs.Common.{rules, ◌≡◌}
+use Rattle.std.proofs.lemmas.Result.{err_from_is_err_and}
 use Rattle.normalize.proofs.CallsCode.{calling}
 use Rattle.normalize.proofs.calls.call.Goals as goal
 
-pub returns-then-enough : goal.returns-then-enough
-returns-then-enough g c = let z : c.fill.new.self ≡ replicate (length c.run-r.new.work) 0 = search rules in search (calling, z)
+pub returns-in_err-room : goal.returns-in_err-room
+returns-in_err-room g c =
+    let p = err_from_is_err_and c.from_residual.result c.from_residual.ensures.1 in
+    rw (p.1, p.2) (search (calling, c.in_err-room.was, c.in_err-room.ensures))
 
-pub returns-else-enough : goal.returns-else-enough
-returns-else-enough g c = search calling
+pub returns : goal.returns
+returns g c = let z : c.fill.new.self ≡ replicate (length c.run-r.new.work) 0 = search rules in search (calling, z, c.in_ok-room.was, c.in_ok-room.ensures)

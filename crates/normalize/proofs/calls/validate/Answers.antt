@@ -1,8 +1,11 @@
+use Rattle.std.proofs.lemmas.Result.{err_from_is_err_and}
 use Rattle.normalize.proofs.CallsCode.{checking}
 use Rattle.normalize.proofs.calls.validate.Goals as goal
 
-pub returns-then-enough : goal.returns-then-enough
-returns-then-enough c = search checking
+pub returns-in_err-room : goal.returns-in_err-room
+returns-in_err-room c =
+    let p = err_from_is_err_and c.from_residual.result c.from_residual.ensures.1 in
+    rw (p.1, p.2) (search (checking, c.in_err-room.was, c.in_err-room.ensures))
 
 pub returns : goal.returns
-returns c = search checking
+returns c = search (checking, c.in_ok-room.was, c.in_ok-room.ensures)

@@ -1,6 +1,7 @@
-use Rattle.std.proofs.Common.{arith}
-use Rattle.octets.proofs.NumbersLaws.{read_32}
+use Rattle.std.proofs.Common.{◌∙◌, arith}
+use Rattle.octets.proofs.NumbersLaws.{read_32, bytes_read}
 use Rattle.octets.proofs.numbers.u32_at.Goals as goal
 
 pub returns : goal.returns
-returns c = read_32 c.args.s.now c.args.at c.from_le_bytes.result (omega (arith, c.from_le_bytes.ensures))
+returns c = read_32 c.bytes_at.result c.from_le_bytes.result (omega (arith, c.from_le_bytes.ensures))
+    ∙ bytes_read c.args.s.now c.bytes_at.result c.args.at 4 c.bytes_at.ensures 4 (omega arith)

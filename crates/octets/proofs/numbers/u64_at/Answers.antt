@@ -1,6 +1,7 @@
-use Rattle.std.proofs.Common.{arith}
-use Rattle.octets.proofs.NumbersLaws.{read_64}
+use Rattle.std.proofs.Common.{◌∙◌, arith}
+use Rattle.octets.proofs.NumbersLaws.{read_64, bytes_read}
 use Rattle.octets.proofs.numbers.u64_at.Goals as goal
 
 pub returns : goal.returns
-returns c = read_64 c.args.s.now c.args.at c.from_le_bytes.result (omega (arith, c.from_le_bytes.ensures))
+returns c = read_64 c.bytes_at.result c.from_le_bytes.result (omega (arith, c.from_le_bytes.ensures))
+    ∙ bytes_read c.args.s.now c.bytes_at.result c.args.at 8 c.bytes_at.ensures 8 (omega arith)

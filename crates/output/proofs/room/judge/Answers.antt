@@ -1,11 +1,9 @@
-use Rattle.output.proofs.RoomCode.{rooms}
+use Rattle.std.proofs.lemmas.Result.{err_from_is_err_and}
+use Rattle.output.proofs.RoomCode.{judging}
 use Rattle.output.proofs.room.judge.Goals as goal
 
-pub returns-then-atoms-gt65536 : goal.returns-then-atoms-gt65536
-returns-then-atoms-gt65536 c = search rooms
+pub returns-in_err-judge_counts : goal.returns-in_err-judge_counts
+returns-in_err-judge_counts c = let p = err_from_is_err_and c.from_residual.result c.from_residual.ensures.1 in rw (p.1, p.2) (search (judging, c.in_err-judge_counts.was))
 
-pub returns-then-output-n : goal.returns-then-output-n
-returns-then-output-n c = search rooms
-
-pub returns-else-output-n : goal.returns-else-output-n
-returns-else-output-n c = search rooms
+pub returns : goal.returns
+returns c = search (judging, c.in_ok-judge_counts.was)

@@ -39,6 +39,3 @@ returns-in-Macro c = search sizing
 
 pub returns-in-Group : goal.returns-in-Group
 returns-in-Group c = search sizing
-
-pub returns-in-Unknown : goal.returns-in-Unknown
-returns-in-Unknown c = search sizing

@@ -1,5 +1,4 @@
 use Rattle.precedence.proofs.LevelCode.{naming-put}
-use Rattle.precedence.proofs.WriteWholeCode.{rooming, standing_behind}
 use Rattle.precedence.proofs.level.put_named.Goals as goal
 
 pub returns : goal.returns

@@ -17,5 +17,5 @@ search-requires-clause-asks c = search tracing
 
 pub returns : goal.returns
 returns c =
-    name_is c.args.tape.now c.args.work.now c.args.m c.args.n (level_text c.args.tape.now c.args.work.now c.args.m c.args.base c.args.level) c.args.h c.requires.0 c.requires.3 _ c.bucket-y.result
+    name_is c.args.tape.now c.args.work.now c.args.m c.args.n (level_text c.args.tape.now c.args.work.now c.args.m c.args.base c.args.level) c.args.h c.requires.0 c.requires.2 _ c.bucket-y.result
     c.search.result c.bucket-y.ensures c.search.ensures (λ i a k. search rules)

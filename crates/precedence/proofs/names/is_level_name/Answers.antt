@@ -7,5 +7,5 @@ returns-then-k-m c = search naming
 pub returns-then-v-level : goal.returns-then-v-level
 returns-then-v-level c = search naming
 
-pub returns-else-c-base : goal.returns-else-c-base
-returns-else-c-base c = search naming
+pub returns-else-v-level : goal.returns-else-v-level
+returns-else-v-level c = search naming

@@ -16,8 +16,8 @@ returns-in_default-replace_symbols c = search siding
 pub returns-in-NonAssoc : goal.returns-in-NonAssoc
 returns-in-NonAssoc c = search siding
 
-pub returns-then-here-target : goal.returns-then-here-target
-returns-then-here-target c = search siding
+pub returns-then-names : goal.returns-then-names
+returns-then-names c = search siding
 
-pub returns-else-here-target : goal.returns-else-here-target
-returns-else-here-target c = search siding
+pub returns-else-names : goal.returns-else-names
+returns-else-names c = search siding

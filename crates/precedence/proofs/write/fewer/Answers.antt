@@ -1,8 +1,8 @@
 use Rattle.precedence.proofs.WriteWholeCode.{lessening}
 use Rattle.precedence.proofs.write.fewer.Goals as goal
 
-pub returns-then-i-n : goal.returns-then-i-n
-returns-then-i-n c = search lessening
+pub returns-in-Some : goal.returns-in-Some
+returns-in-Some c = search lessening
 
-pub returns-else-i-n : goal.returns-else-i-n
-returns-else-i-n c = search lessening
+pub returns-in-None : goal.returns-in-None
+returns-in-None c = search lessening

@@ -2,4 +2,4 @@ use Rattle.precedence.proofs.WriteCode.{Keeping}
 use Rattle.precedence.proofs.write.put_attributes.Given as goal
 
 abbrev pub invariant-loop-k : goal.invariant-loop-k
-invariant-loop-k l = Keeping l.fn.width.bytes l.lim l.to l.initial.work l.at l.n l.i l.j l.work l.a l.k l.q
+invariant-loop-k l = Keeping l.fn.width.bytes l.lim l.to l.initial.work l.at l.n l.f l.work l.a l.k l.q

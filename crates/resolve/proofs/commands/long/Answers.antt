@@ -31,9 +31,6 @@ returns-in-37 c = search lengthening
 pub returns-in-38 : goal.returns-in-38
 returns-in-38 c = search lengthening
 
-pub returns-in-40 : goal.returns-in-40
-returns-in-40 c = search lengthening
-
 pub returns-in-41 : goal.returns-in-41
 returns-in-41 c = search lengthening
 

@@ -1,5 +1,5 @@
 use Rattle.std.proofs.lemmas.Result.{err_from_is_err_and}
-use Rattle.resolve.proofs.ItemsCode.{itemizing, forgetting}
+use Rattle.resolve.proofs.ItemsCode.{itemizing}
 use Rattle.resolve.proofs.items.validate_item.Goals as goal
 
 pub returns-then-t-p : goal.returns-then-t-p

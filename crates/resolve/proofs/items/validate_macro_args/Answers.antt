@@ -4,8 +4,8 @@ use native.Mathlib.Omega.{arith}
 use Rattle.resolve.proofs.ItemsCode.{marking}
 use Rattle.resolve.proofs.items.validate_macro_args.Goals as goal
 
-pub returns-then-d-ge512 : goal.returns-then-d-ge512
-returns-then-d-ge512 c = let e : 0 < c.args.n - c.loop.counter = omega arith in search marking
+pub returns-then-is_argument : goal.returns-then-is_argument
+returns-then-is_argument c = let e : 0 < c.args.n - c.loop.counter = omega arith in search marking
 
 pub loop-preserved : goal.loop-preserved
 loop-preserved c = let f : 0 < c.args.n - c.loop.counter = omega arith in let e : c.args.n - c.loop.counter ≡ c.args.n - (c.loop.counter + 1) + 1 = omega arith in search marking

@@ -3,4 +3,4 @@ use Rattle.resolve.proofs.ItemsCode.{MarksLeft}
 use Rattle.resolve.proofs.items.validate_macro_args.Given as goal
 
 abbrev pub invariant-loop : goal.invariant-loop
-invariant-loop l = MarksLeft l.m l.width.bytes l.n l.at l.initial.work l.work l.p (l.n - l.counter)
+invariant-loop l = MarksLeft l.s.texts l.s.grammar.width.bytes l.n l.at l.initial.work l.work l.p (l.n - l.counter)

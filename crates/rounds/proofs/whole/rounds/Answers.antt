@@ -1,6 +1,6 @@
 use mathlib.Core.Path.{◌≡◌}
 use Rattle.std.specs.Prelude.{Ok}
-use Rattle.rounds.specs.declared.Progress.{Progress}
+use Rattle.std.specs.declared.ops.ControlFlow.TheVariants.{Continue, Break}
 use Rattle.std.proofs.lemmas.Result.{err_from_is_err_and}
 use Rattle.rounds.proofs.RoundsCode.{turning}
 use Rattle.rounds.proofs.whole.rounds.Goals as goal
@@ -8,14 +8,14 @@ use Rattle.rounds.proofs.whole.rounds.Goals as goal
 pub returns-in_err-y : goal.returns-in_err-y
 returns-in_err-y c = let p = err_from_is_err_and c.from_residual.result c.from_residual.ensures.1 in rw (p.1, p.2) (search (turning, c.in_err-y.was))
 
-pub returns-in-Done : goal.returns-in-Done
-returns-in-Done c = let e : c.round.result ≡ Ok (Progress.Done c.in-Done.y) = cc (c.in_ok-y.was, c.in-Done.is) in search turning
+pub returns-in-Break : goal.returns-in-Break
+returns-in-Break c = let e : c.round.result ≡ Ok (Break c.in-Break.y) = cc (c.in_ok-y.was, c.in-Break.is) in search turning
 
 pub loop-x-smaller : goal.loop-x-smaller
-loop-x-smaller c = let e : c.round.result ≡ Ok (Progress.More c.in-More.y) = cc (c.in_ok-y.was, c.in-More.is) in search turning
+loop-x-smaller c = let e : c.round.result ≡ Ok (Continue c.in-Continue.y) = cc (c.in_ok-y.was, c.in-Continue.is) in search turning
 
 pub loop-x-preserved : goal.loop-x-preserved
-loop-x-preserved c = let e : c.round.result ≡ Ok (Progress.More c.in-More.y) = cc (c.in_ok-y.was, c.in-More.is) in search turning
+loop-x-preserved c = let e : c.round.result ≡ Ok (Continue c.in-Continue.y) = cc (c.in_ok-y.was, c.in-Continue.is) in search turning
 
 pub returns : goal.returns
 returns c = search turning

@@ -1,4 +1,5 @@
-use Rattle.settling.proofs.CopiedPutCode.{symbolling}
+use Rattle.std.proofs.Common.{refl}
+use Rattle.settling.proofs.CopiedPutCode.{symbolling, symbol_closing}
 use Rattle.settling.proofs.copied.put_symbol.Goals as goal
 
 pub bounds-work-at : goal.bounds-work-at
@@ -17,7 +18,8 @@ pub put_parts-z-requires : goal.put_parts-z-requires
 put_parts-z-requires c = search symbolling
 
 pub put_behind-requires : goal.put_behind-requires
-put_behind-requires c = search symbolling
+put_behind-requires c =
+    symbol_closing _ _ _ _ _ _ c.requires.0 c.requires.1 _ refl _ _ c.put_before-q.ensures _ _ _ c.inside-n.ensures c.long.ensures.0 refl _ _ c.put_parts-z.ensures
 
 pub returns : goal.returns
 returns c = search symbolling

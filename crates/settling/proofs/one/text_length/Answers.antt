@@ -4,8 +4,11 @@ use Rattle.settling.proofs.one.text_length.Goals as goal
 pub cell-requires : goal.cell-requires
 cell-requires c = search lengthening
 
-pub returns-then-v-eq0 : goal.returns-then-v-eq0
-returns-then-v-eq0 c = search lengthening
+pub built_length-requires : goal.built_length-requires
+built_length-requires c = search lengthening
 
-pub returns-else-v-eq0 : goal.returns-else-v-eq0
-returns-else-v-eq0 c = search lengthening
+pub returns-in-Print : goal.returns-in-Print
+returns-in-Print c = search lengthening
+
+pub returns-in-BuiltIn : goal.returns-in-BuiltIn
+returns-in-BuiltIn c = search lengthening

@@ -1,26 +1,26 @@
 use mathlib.Core.Path.{◌≡◌}
 use Prim.Native.Nat.{◌+◌, ◌-◌, ◌≤◌, ◌<◌}
 use native.Mathlib.Omega.{arith}
-use Rattle.settling.proofs.PrintListCode.{going_front, going_inside, listing}
+use Rattle.settling.proofs.PrintListCode.{listing}
 use Rattle.settling.proofs.print.+print_list.Goals as goal
 
-pub loop-init : goal.loop-init
-loop-init t c = first_of (search listing, search going_front, search going_inside)
+pub loop-k-init : goal.loop-k-init
+loop-k-init t c = search listing
 
 pub open-f-requires : goal.open-f-requires
-open-f-requires t c = let z : 0 < c.args.n - c.loop.counter = omega arith in first_of (search listing, search going_front, search going_inside)
+open-f-requires t c = let z : 0 < c.args.n - c.loop-k.k = omega arith in search listing
 
 pub overflow_sub-left : goal.overflow_sub-left
-overflow_sub-left t c = let z : 0 < c.args.n - c.loop.counter = omega arith in first_of (search listing, search going_front, search going_inside)
+overflow_sub-left t c = let z : 0 < c.args.n - c.loop-k.k = omega arith in search listing
 
 pub print_list-z-requires : goal.print_list-z-requires
-print_list-z-requires t c = let z : 0 < c.args.n - c.loop.counter = omega arith in first_of (search listing, search going_front, search going_inside)
+print_list-z-requires t c = let z : 0 < c.args.n - c.loop-k.k = omega arith in search listing
 
-pub loop-preserved : goal.loop-preserved
-loop-preserved t c =
-    let z : 0 < c.args.n - c.loop.counter = omega arith in
-    let e : c.args.n - (c.loop.counter + 1) ≡ c.args.n - c.loop.counter - 1 = omega arith in
-    rw e (first_of (search listing, search going_front, search going_inside))
+pub loop-k-preserved : goal.loop-k-preserved
+loop-k-preserved t c =
+    let z : 0 < c.args.n - c.loop-k.k = omega arith in
+    let e : c.args.n - (c.loop-k.k + 1) ≡ c.args.n - c.loop-k.k - 1 = omega arith in
+    rw e (search listing)
 
 pub returns : goal.returns
-returns t c = let z : c.args.n - c.loop.counter ≤ 0 = omega arith in first_of (search listing, search going_front, search going_inside)
+returns t c = let z : c.args.n - c.loop-k.k ≤ 0 = omega arith in search listing

@@ -1,14 +1,14 @@
 use Rattle.settling.proofs.PrintCode.{opening}
 use Rattle.settling.proofs.print.put_before.Goals as goal
 
+pub word_source-p-requires-in-0-to-36 : goal.word_source-p-requires-in-0-to-36
+word_source-p-requires-in-0-to-36 c = search opening
+
+pub returns-in-0-to-36 : goal.returns-in-0-to-36
+returns-in-0-to-36 c = search opening
+
 pub word_source-p-requires : goal.word_source-p-requires
 word_source-p-requires c = search opening
-
-pub returns-then-c-lt37 : goal.returns-then-c-lt37
-returns-then-c-lt37 c = search opening
-
-pub word_source-p-requires-in-37 : goal.word_source-p-requires-in-37
-word_source-p-requires-in-37 c = search opening
 
 pub returns-in-37 : goal.returns-in-37
 returns-in-37 c = search opening

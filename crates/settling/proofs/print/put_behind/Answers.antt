@@ -10,9 +10,6 @@ bounds-work-at c = search closing
 pub returns-in-38 : goal.returns-in-38
 returns-in-38 c = search closing
 
-pub returns-in-39 : goal.returns-in-39
-returns-in-39 c = search closing
-
 pub returns-in-41 : goal.returns-in-41
 returns-in-41 c = search closing
 

@@ -4,8 +4,5 @@ use Rattle.settling.proofs.put.put_inside.Goals as goal
 pub returns-in-34 : goal.returns-in-34
 returns-in-34 c = search quoting
 
-pub returns-in-92 : goal.returns-in-92
-returns-in-92 c = search quoting
-
 pub returns-in_default : goal.returns-in_default
 returns-in_default c = search quoting

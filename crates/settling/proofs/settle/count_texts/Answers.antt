@@ -4,8 +4,8 @@ use Rattle.settling.proofs.settle.count_texts.Goals as goal
 pub loop-i-init : goal.loop-i-init
 loop-i-init c = search counting
 
-pub entry-v-requires : goal.entry-v-requires
-entry-v-requires c = search counting
+pub entry-x-requires : goal.entry-x-requires
+entry-x-requires c = search counting
 
 pub overflow_add-bytes : goal.overflow_add-bytes
 overflow_add-bytes c = search counting

@@ -1,8 +1,8 @@
 use Rattle.settling.proofs.WordsCode.{wording}
 use Rattle.settling.proofs.words.word_source.Goals as goal
 
-pub returns-else-k-m : goal.returns-else-k-m
-returns-else-k-m c = search wording
+pub returns-else-k-page : goal.returns-else-k-page
+returns-else-k-page c = search wording
 
-pub returns-then-k-m : goal.returns-then-k-m
-returns-then-k-m c = search wording
+pub returns-then-k-page : goal.returns-then-k-page
+returns-then-k-page c = search wording

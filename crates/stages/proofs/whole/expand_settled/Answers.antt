@@ -6,10 +6,10 @@ pub resolve_again-requires : goal.resolve_again-requires
 resolve_again-requires c = search expanding_settled
 
 pub run_rounds-requires : goal.run_rounds-requires
-run_rounds-requires c = search (expanding_settled, c.in_ok-t.was)
+run_rounds-requires c = search (expanding_settled, c.in_ok-grammar.was)
 
-pub returns-in_err-t : goal.returns-in_err-t
-returns-in_err-t c = let p = err_from_is_err_and c.from_residual.result c.from_residual.ensures.1 in rw (p.1, p.2) (search (expanding_settled, c.in_err-t.was))
+pub returns-in_err-grammar : goal.returns-in_err-grammar
+returns-in_err-grammar c = let p = err_from_is_err_and c.from_residual.result c.from_residual.ensures.1 in rw (p.1, p.2) (search (expanding_settled, c.in_err-grammar.was))
 
 pub returns : goal.returns
-returns c = search (expanding_settled, c.in_ok-t.was)
+returns c = search (expanding_settled, c.in_ok-grammar.was)

@@ -1,11 +1,11 @@
-use Rattle.texts.proofs.HashLaws.{hashing}
+use Rattle.std.proofs.Common.{rules, ◌∙◌}
+use Rattle.std.proofs.lemmas.Iterator.{YieldsList-from_slice}
+use Rattle.std.proofs.lemmas.Iterator.Consumers.{fold_from_yields_List}
+use Rattle.texts.specs.Hash.{hash_step}
+use Rattle.texts.proofs.HashLaws.{hash_folds}
 use Rattle.texts.proofs.hash.hash.Goals as goal
 
-pub loop-b-init : goal.loop-b-init
-loop-b-init c = search hashing
-
-pub loop-b-preserved : goal.loop-b-preserved
-loop-b-preserved c = search hashing
-
 pub returns : goal.returns
-returns c = search hashing
+returns c =
+    fold_from_yields_List _ hash_step 0 c.fold.result c.fold.ensures.ran (YieldsList-from_slice c.args.t.now cc) (λ a x b q k. search rules)
+    ∙ hash_folds c.args.t.now

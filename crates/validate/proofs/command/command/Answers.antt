@@ -13,7 +13,10 @@ pub returns-then-not-is_apt : goal.returns-then-not-is_apt
 returns-then-not-is_apt c = search commanding
 
 pub overflow_add-result : goal.overflow_add-result
-overflow_add-result c = record { fits = omega (arith, asked_inside c.args.r.now.tape.now _ _ c.args.at c.node-n.result c.node-n.ensures c.is_defined.result c.is_defined.ensures c.if-not-is_defined.false) }
+overflow_add-result c = record { fits = omega (arith, asked_inside c.args.r.now.tape.now _ c.args.at c.node.result c.node.ensures c.in-Some.n c.in-Some.is) }
 
 pub returns : goal.returns
 returns c = search commanding
+
+pub returns-in_default : goal.returns-in_default
+returns-in_default c = search commanding

@@ -13,8 +13,8 @@ returns-then-is_some c = search entering_at
 pub class_by-requires : goal.class_by-requires
 class_by-requires c = search entering_at
 
-pub overflow_add-x : goal.overflow_add-x
-overflow_add-x c = search entering_at
+pub on_tape-x-requires : goal.on_tape-x-requires
+on_tape-x-requires c = search entering_at
 
 pub enter-r-requires : goal.enter-r-requires
 enter-r-requires c = search entering_at

@@ -8,8 +8,8 @@ returns-in-Some c = search alternative
 pub returns-in_err-n : goal.returns-in_err-n
 returns-in_err-n c = let p = err_from_is_err_and c.from_residual.result c.from_residual.ensures.1 in rw (p.1, p.2) (search alternative)
 
-pub returns-in_default-n : goal.returns-in_default-n
-returns-in_default-n c = search (alternative, c.in_ok-n.was)
-
 pub returns : goal.returns
 returns c = search (alternative, c.in_ok-n.was)
+
+pub unreachable-requires : goal.unreachable-requires
+unreachable-requires c = search (alternative, c.in_ok-n.was)

@@ -17,5 +17,5 @@ returns-in-Terminal c = search (item, c.in_ok-n.was)
 pub returns-in-Nonterminal : goal.returns-in-Nonterminal
 returns-in-Nonterminal c = search (item, c.in_ok-n.was)
 
-pub returns-in_default-n : goal.returns-in_default-n
-returns-in_default-n c = search (item, c.in_ok-n.was)
+pub unreachable-requires : goal.unreachable-requires
+unreachable-requires c = search (item, c.in_ok-n.was)

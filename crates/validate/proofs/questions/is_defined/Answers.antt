@@ -20,9 +20,6 @@ returns-in-Attribute c = search nodes
 pub returns-in-Symbol : goal.returns-in-Symbol
 returns-in-Symbol c = search nodes
 
-pub returns-in-Unknown : goal.returns-in-Unknown
-returns-in-Unknown c = search nodes
-
 pub returns-then-d-atoms : goal.returns-then-d-atoms
 returns-then-d-atoms c = search nodes
 

@@ -1,18 +1,27 @@
-use Rattle.std.proofs.Common.{◌≡◌, ◌-◌, ◌+◌, arith}
+use Rattle.std.proofs.Common.{◌≡◌, ◌-◌, ◌+◌, ◌≤◌, arith, rules}
 use Rattle.std.proofs.lemmas.Result.{err_from_is_err_and}
 use Rattle.validate.proofs.QuickCode.{stepping}
-use Rattle.validate.proofs.SymbolsCode.{walking}
+use Rattle.validate.proofs.SymbolsCode.{walking, symbol_deep}
 use Rattle.validate.proofs.symbols.+symbol_symbols.Goals.{symbols-in-None+in_ok-p-in-None, symbols-in-Some+in-None-quick_inside+in_ok-p-in-None-quick_inside, symbols-in-Some+in-Some-quick_inside}
 use Rattle.validate.proofs.symbols.+symbol_symbols.Goals as goal
 
 pub symbol-returns-in_err-n : goal.symbol-returns-in_err-n
 symbol-returns-in_err-n t c = let p = err_from_is_err_and c.from_residual.result c.from_residual.ensures.1 in rw (p.1, p.2) (search walking)
 
-pub symbol-returns-then-left-eq0 : goal.symbol-returns-then-left-eq0
-symbol-returns-then-left-eq0 t c = search (walking, c.in_ok-n.was)
+pub symbol-unreachable-requires : goal.symbol-unreachable-requires
+symbol-unreachable-requires t c = search (walking, c.in_ok-n.was)
 
-pub symbol-returns-in_default : goal.symbol-returns-in_default
-symbol-returns-in_default t c = search (walking, c.in_ok-n.was)
+pub symbol-overflow_sub-left : goal.symbol-overflow_sub-left
+symbol-overflow_sub-left t c = search (walking, c.in_ok-n.was)
+
+pub symbol-symbol-requires : goal.symbol-symbol-requires
+symbol-symbol-requires t c = let deep : 1 ≤ c.args.left = symbol_deep _ _ _ _ _ _ _ c.command.ensures _ _ c.in_ok-n.was in search rules
+
+pub symbol-overflow_sub-left-in-Over : goal.symbol-overflow_sub-left-in-Over
+symbol-overflow_sub-left-in-Over t c = search (walking, c.in_ok-n.was)
+
+pub symbol-symbols-requires : goal.symbol-symbols-requires
+symbol-symbols-requires t c = let deep : 1 ≤ c.args.left = symbol_deep _ _ _ _ _ _ _ c.command.ensures _ _ c.in_ok-n.was in search rules
 
 pub symbol-returns-in-Leaf : goal.symbol-returns-in-Leaf
 symbol-returns-in-Leaf t c = search (walking, c.in_ok-n.was)

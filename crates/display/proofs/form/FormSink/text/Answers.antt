@@ -1,6 +1,0 @@
-use Rattle.std.proofs.Common.{rules}
-use Rattle.display.proofs.SinksLaws.{form_taken}
-use Rattle.display.proofs.form.FormSink.text.Goals as goal
-
-pub returns : goal.returns
-returns c = search (rules, form_taken)

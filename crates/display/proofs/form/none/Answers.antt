@@ -1,5 +1,0 @@
-use Rattle.display.proofs.FormCode.{forming}
-use Rattle.display.proofs.form.none.Goals as goal
-
-pub returns : goal.returns
-returns c = search forming

@@ -1,8 +1,0 @@
-use Rattle.display.proofs.FormCode.{following}
-use Rattle.display.proofs.form.snocs.Goals as goal
-
-pub loop-b-preserved : goal.loop-b-preserved
-loop-b-preserved c = search following
-
-pub returns : goal.returns
-returns c = search following

@@ -1,5 +1,0 @@
-use Rattle.display.proofs.FormCode.{joining}
-use Rattle.display.proofs.form.stopped.Goals as goal
-
-pub returns : goal.returns
-returns c = search joining

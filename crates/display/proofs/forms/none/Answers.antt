@@ -1,0 +1,5 @@
+use Rattle.display.proofs.FormCode.{forming}
+use Rattle.display.proofs.forms.none.Goals as goal
+
+pub returns : goal.returns
+returns c = search forming

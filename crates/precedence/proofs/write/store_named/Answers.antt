@@ -1,0 +1,5 @@
+use Rattle.precedence.proofs.WriteCode.{storing}
+use Rattle.precedence.proofs.write.store_named.Goals as goal
+
+pub returns : goal.returns
+returns c = search storing

@@ -1,8 +1,0 @@
-use Rattle.settling.proofs.PutCode.{escaping}
-use Rattle.settling.proofs.put.escape_from.Goals as goal
-
-pub loop-i-preserved : goal.loop-i-preserved
-loop-i-preserved c = search escaping
-
-pub returns : goal.returns
-returns c = search escaping

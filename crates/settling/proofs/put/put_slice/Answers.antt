@@ -1,0 +1,5 @@
+use Rattle.settling.proofs.PutCode.{slicing}
+use Rattle.settling.proofs.put.put_slice.Goals as goal
+
+pub returns : goal.returns
+returns c = search slicing
