@@ -16,7 +16,7 @@ use Rattle.expander.specs.declared.Ground.{Ground}
 use Rattle.expander.specs.Ground.{stage_in, top_of, key_at, list_place, printed_at, Grounded}
 use Rattle.expander.specs.Names.{listed_texts, named_in}
 use Rattle.expander.proofs.GroundLaws.{list_keys, slots_top}
-use Rattle.appending.specs.Built.{built_text, built_place, built_at, BuiltIs, BuiltNot, Built}
+use Rattle.appending.specs.Built.{built_text, built_at, BuiltIs, BuiltNot, Built}
 
 -- theorem: the places of pushed symbols
 pub key_agree : (s w w' : List ℕ) (g : Ground) → Grounded s w g → Agree w w' (list_place g 0) (top_of g) → (n c : ℕ) → Built s w g n c → (j : ℕ) → j < n → key_at w' g j ≡ key_at w g j
@@ -26,7 +26,6 @@ key_agree s w w' g r k n c b j h = le_at-agree 8 w w' (g.keys + 24 * j) (λ a x 
 module _ (s w w' : List ℕ) (g : Ground) (r : Grounded s w g) (k : Agree w w' (list_place g 0) (top_of g)) (items : stage_in w' g ≡ stage_in w g) (found : texts s w' g.m ≡ texts s w g.m)
     (n c : ℕ) (named : named_in s w' g c ≡ named_in s w g c) (b : Built s w g n c) where
   word_same : (i : ℕ) → i < 9 → built_at w' g i ≡ built_at w g i
-  unfolding built_at built_place
   word_same i h =
       le_at-agree 8 w w' (g.slots - 72 + 8 * i)
       (λ a x y. k.agree a (omega (arith, list_keys s w g r, r.fits, b.room)) (omega (arith, slots_top s w g r, r.fits, b.room)))

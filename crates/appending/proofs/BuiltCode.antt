@@ -68,11 +68,9 @@ module _ (s w : List ℕ) (g : Ground) (n c i : ℕ) (e : Grounded s w g) (k : S
     next_room y = omega (arith, built_room s w g n c i (unasked k.built) (not_found y) k.places k.names k.built l, keys_slots s w g e, slots_top s w g e, e.top)
 
     pub next_number_fits : r ≡ None → Fits w64 (g.m.count + c)
-    unfolding list_place
     next_number_fits y = record { fits = omega (arith, next_room y, e.short) }
 
     pub next_count_fits : r ≡ None → Fits w64 (c + 1)
-    unfolding list_place
     next_count_fits y = record { fits = omega (arith, next_room y, e.short) }
 
     pub next_done : r ≡ None → (w' : List ℕ) → w' ≡ store (store w (list_place g c) (le 8 (2 * i + 1))) (built_place g i) (le 8 (g.m.count + c + 1))

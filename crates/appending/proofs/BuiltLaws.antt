@@ -56,7 +56,6 @@ module _ (s w : List ℕ) (g : Ground) (n c p : ℕ) (ps : List ℕ) (r : Number
   key_same j l = key_kept w w' g n e.fits b.room (λ i x y. kept i x (omega arith)) j l
 
   word_same : (i : ℕ) → i < 9 → built_at w' g i ≡ built_at w g i
-  unfolding built_at built_place
   word_same i l = le_at-agree 8 w w' (built_place g i) (λ q x y. kept q (omega (arith, e.fits, b.room)) (omega (arith, e.fits, b.room)))
 
   -- a new one is the print of a pushed symbol, so no built-in text

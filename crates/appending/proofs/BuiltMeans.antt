@@ -36,11 +36,9 @@ unfolding texts
 length_found s w g = length_texts s w g.m.base g.m.count
 
 list_long : (g : Ground) (c : ℕ) → g.m.count + c ≤ list_place g c
-unfolding list_place
 list_long g c = omega arith
 
 list_room : (g : Ground) (c : ℕ) → list_place g c + 8 ≤ g.keys → list_place g (c + 1) ≤ g.keys
-unfolding list_place
 list_room g c l = omega arith
 
 module _ (s w : List ℕ) (g : Ground) (n c : ℕ) (ps : List ℕ) (e : Grounded s w g) (h : Names s w g n c ps) (b : Built s w g n c) (i : ℕ) (l : i < 9) where
@@ -90,22 +88,18 @@ module _ (s w : List ℕ) (g : Ground) (n c : ℕ) (ps : List ℕ) (e : Grounded
 
   -- ---- where the words stand
   pub word_from : (j : ℕ) → g.keys ≤ built_place g j
-  unfolding built_place
   word_from j = omega (arith, e.fits, b.room)
 
   word_start : (j : ℕ) → g.slots - 72 ≤ built_place g j
-  unfolding built_place
   word_start j = omega arith
 
   pub word_end : (j : ℕ) → j < 9 → built_place g j + 8 ≤ g.slots
-  unfolding built_place
   word_end j m = omega (arith, e.fits, b.room)
 
   pub word_inside : (j : ℕ) → j < 9 → built_place g j + 8 ≤ length w
   word_inside j m = omega (arith, word_end j m, slots_top s w g e, e.top)
 
   word_beside : (j : ℕ) → (j ≡ i → ⊥) → (built_place g j + 8 ≤ built_place g i) ⊎ (built_place g i + 8 ≤ built_place g j)
-  unfolding built_place
   word_beside j d = go (ltb j i) refl
     where
       go : (x : Bool) → ltb j i ≡ x → (g.slots - 72 + 8 * j + 8 ≤ g.slots - 72 + 8 * i) ⊎ (g.slots - 72 + 8 * i + 8 ≤ g.slots - 72 + 8 * j)
@@ -118,7 +112,6 @@ module _ (s w : List ℕ) (g : Ground) (n c : ℕ) (ps : List ℕ) (e : Grounded
   stored_other u v q (inr m) = get_d_store_after u (built_place g i) (le 8 v) q (omega (arith, length-le 8 v, word_end i l))
 
   stored_rest : (u : List ℕ) (v j : ℕ) → (j ≡ i → ⊥) → built_at (store u (built_place g i) (le 8 v)) g j ≡ built_at u g j
-  unfolding built_at
   stored_rest u v j d = le_at-other 8 u (built_place g i) (le 8 v) (built_place g j) (go (word_beside j d))
     where
       go : (built_place g j + 8 ≤ built_place g i) ⊎ (built_place g i + 8 ≤ built_place g j) → (built_place g j + 8 ≤ built_place g i) ⊎ (built_place g i + length (le 8 v) ≤ built_place g j)
@@ -126,7 +119,6 @@ module _ (s w : List ℕ) (g : Ground) (n c : ℕ) (ps : List ℕ) (e : Grounded
       go (inr x) = inr (omega (arith, length-le 8 v))
 
   stored_own : (u : List ℕ) (v : ℕ) → length u ≡ length w → v < 256 ^ 8 → built_at (store u (built_place g i) (le 8 v)) g i ≡ v
-  unfolding built_at
   stored_own u v m k = le_at-same 8 u (built_place g i) v (omega (arith, word_inside i l)) k
 
   words_behind : g.keys ≤ g.slots - 72
@@ -200,13 +192,11 @@ module _ (s w : List ℕ) (g : Ground) (n c : ℕ) (ps : List ℕ) (e : Grounded
         number_small = omega (arith, list_long g c, room, keys_slots s w g e, slots_top s w g e, e.top, e.short)
 
     next_rest : (j : ℕ) → j < 9 → (j ≡ i → ⊥) → built_at w' g j ≡ built_at w g j
-    unfolding built_at
     next_rest j m d =
         ap (λ (u : List ℕ). built_at u g j) stored ∙ stored_rest w1 (g.m.count + c + 1) j d
         ∙ le_at-other 8 w (list_place g c) (le 8 (2 * i + 1)) (built_place g j) (inr (omega (arith, room, length-le 8 (2 * i + 1), word_from j)))
 
     list_own : list_at w' g c ≡ 2 * i + 1
-    unfolding list_at
     list_own =
         ap (λ (u : List ℕ). le_at 8 u (list_place g c)) stored
         ∙ le_at-other 8 w1 (built_place g i) (le 8 (g.m.count + c + 1)) (list_place g c) (inl (omega (arith, room, word_from i)))

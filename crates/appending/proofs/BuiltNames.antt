@@ -29,7 +29,6 @@ pub record Worded (g : Ground) (c : ℕ) (w w' : List ℕ) : Type 0 where
 
 module _ (s w w' : List ℕ) (g : Ground) (n c : ℕ) (ps : List ℕ) (e : Grounded s w g) (h : Names s w g n c ps) (b : Built s w g n c) (k : Worded g c w w') where
   list_up : list_place g 0 ≤ list_place g c
-  unfolding list_place
   list_up = omega arith
 
   pub around : Around g w w'
@@ -49,14 +48,12 @@ module _ (s w w' : List ℕ) (g : Ground) (n c : ℕ) (ps : List ℕ) (e : Groun
   key_print j l = ap (printed_at s w' g) (key_same j l) ∙ printed_around s w w' g e around (key_at w g j)
 
   slot_same : (p : ℕ) → slot_at w' g p ≡ slot_at w g p
-  unfolding slot_at slot_place
   slot_same p = le_at-agree 8 w w' (slot_place g p) (λ a x y. k.others a (inr (inr (omega arith))))
 
   key_slot : (j : ℕ) → j < n → slot_at w' g (key_at w' g j) ≡ slot_at w g (key_at w g j)
   key_slot j l = ap (slot_at w' g) (key_same j l) ∙ slot_same (key_at w g j)
 
   pub list_same : (i : ℕ) → i < c → list_at w' g i ≡ list_at w g i
-  unfolding list_at list_place
   list_same i l = le_at-agree 8 w w' (list_place g i) (λ a x y. k.others a (inl (omega arith)))
 
   pub named-kept : named_in s w' g c ≡ named_in s w g c

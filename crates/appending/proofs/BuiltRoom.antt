@@ -181,7 +181,6 @@ module _ (s w : List ℕ) (g : Ground) (n c : ℕ) (ps : List ℕ) (h : Names s 
   one_more = different_few (c + 1) (n + 9) (λ i. code_of n (entry i)) (λ i l. code_less n (entry i) (entry_good i)) (λ i j l m e. entry_one i j l m (code_one n (entry i) (entry j) (entry_good i) (entry_good j) e))
 
   pub entry_room : list_place g (n + 9) ≤ g.keys → list_place g c + 8 ≤ g.keys
-  unfolding list_place
   entry_room l = omega (arith, one_more)
 
 -- theorem: there is room for the text of every symbol that has a reference

@@ -155,7 +155,7 @@ module _ (s w : List ℕ) (g : Ground) (n lim : ℕ) (ps : List ℕ) (four : Boo
       pub first_few : count (cons y ys) ≡ x.many → x.many - 1 + h ≤ length w
       first_few m = omega (arith, many_is m, count-few wd ts zs, first_step.lies.end, first_step.below)
 
-      module _ (r : Copied) (w' : List ℕ) (P : PutsCommand w g lim q c r w') where
+      module _ (r : Copied) (w' : List ℕ) (P : PutsCommand w g.from g.width.bytes lim q c r w') where
         -- the bytes of the command
         command : Lies w here (node_bytes wd (sym_node ts y)) (here + long_of wd c)
         unfolding size_of

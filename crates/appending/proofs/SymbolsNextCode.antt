@@ -109,7 +109,7 @@ module _ (s w : List ℕ) (g : Ground) (n lim : ℕ) (x : Coming) (K : SomeRefer
           fits = omega (arith, first_few s w g n lim F.places F.four F.left F.end F.one F.others x F.going F.referring (own_key ∙ f) c d h j F.many, F.going.ground.short);
         }
 
-        pub next_copied : (r : Copied) (w' : List ℕ) → PutsCommand w g lim x.run c r w' → PutsNext s w g n lim x (record { many = x.many - 1 + h; run = r }) w'
+        pub next_copied : (r : Copied) (w' : List ℕ) → PutsCommand w g.from g.width.bytes lim x.run c r w' → PutsNext s w g n lim x (record { many = x.many - 1 + h; run = r }) w'
         unfolding count
         next_copied r w' P = record {
           long = copied_long s w g n lim F.places F.four F.left F.end F.one F.others x F.going F.referring (own_key ∙ f) c d h j r w' P;

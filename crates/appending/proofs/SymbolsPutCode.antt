@@ -1,4 +1,4 @@
--- The way out of put_command. Assumes nothing.
+-- The way out of copy_command. Assumes nothing.
 use mathlib.Core.Path.{◌≡◌, refl, ap, subst}
 use mathlib.Core.List.{List}
 use Prim.Native.Nat.{ℕ, ◌+◌}
@@ -6,17 +6,16 @@ use borrow.Author.Rules.{rules}
 use Rattle.octets.specs.Plain.Runs.{part}
 use Rattle.parse_tree.specs.Working.Nodes.{long_of}
 use Rattle.precedence.specs.Write.{Puts}
-use Rattle.expander.specs.declared.Ground.{Ground}
 use Rattle.appending.specs.declared.symbols.Copied.{Copied}
 use Rattle.appending.specs.Symbols.{PutsCommand}
 
--- ---- put_command
-pub command_put : (w : List ℕ) (g : Ground) (lim : ℕ) (q : Copied) (c k : ℕ) → k ≡ long_of g.width.bytes c → (r : ℕ) (w1 : List ℕ) → Puts w lim q.out.to (part (g.from + q.at) (g.from + q.at + k) w) r w1
-    → PutsCommand w g lim q c (record { at = q.at + k; out = record { to = r; count = q.out.count; deep = q.out.deep } }) w1
-command_put w g lim q c k e r w1 p = record {
+-- ---- copy_command
+pub command_put : (w : List ℕ) (from wd lim : ℕ) (q : Copied) (c k : ℕ) → k ≡ long_of wd c → (r : ℕ) (w1 : List ℕ) → Puts w lim q.out.to (part (from + q.at) (from + q.at + k) w) r w1
+    → PutsCommand w from wd lim q c (record { at = q.at + k; out = record { to = r; count = q.out.count; deep = q.out.deep } }) w1
+command_put w from wd lim q c k e r w1 p = record {
   at = ap (λ (i : ℕ). q.at + i) e;
   out = refl;
-  puts = subst (λ (i : ℕ). Puts w lim q.out.to (part (g.from + q.at) (g.from + q.at + i) w) r w1) e p;
+  puts = subst (λ (i : ℕ). Puts w lim q.out.to (part (from + q.at) (from + q.at + i) w) r w1) e p;
 }
 
 pub ruleset commanding = (rules, command_put)

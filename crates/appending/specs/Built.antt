@@ -26,10 +26,10 @@ number_of BuiltIn.All = 8
 unfoldable pub built_text : ℕ → Text
 built_text i = get_or built_ins i []
 
-unfoldable pub built_place : Ground → ℕ → ℕ
+abbrev pub built_place : Ground → ℕ → ℕ
 built_place g i = g.slots - 72 + 8 * i
 
-unfoldable pub built_at : List ℕ → Ground → ℕ → ℕ
+abbrev pub built_at : List ℕ → Ground → ℕ → ℕ
 built_at w g i = le_at 8 w (built_place g i)
 
 -- the word of a text that has a number or none

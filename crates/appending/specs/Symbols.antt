@@ -72,11 +72,11 @@ unfoldable pub PutsReference : List ℕ → List ℕ → Ground → ℕ → ℕ 
 PutsReference s w g n lim q r w' = (ps : List ℕ) (four : Bool) (left e : ℕ) (y : Sym) → Reference s w g n lim q ps four left e y
     → (r.at ≡ e) × Appends s g n lim ps w q.out (symbols_piece g.width.bytes (cons y nil)) r.out w'
 
--- ---- one command of the code c, copied
-pub record PutsCommand (w : List ℕ) (g : Ground) (lim : ℕ) (q : Copied) (c : ℕ) (r : Copied) (w' : List ℕ) : Type 0 where
-  pub at : r.at ≡ q.at + long_of g.width.bytes c
+-- ---- one command of the code c, copied; its place is counted from `from`
+pub record PutsCommand (w : List ℕ) (from wd lim : ℕ) (q : Copied) (c : ℕ) (r : Copied) (w' : List ℕ) : Type 0 where
+  pub at : r.at ≡ q.at + long_of wd c
   pub out : r.out ≡ record { to = r.out.to; count = q.out.count; deep = q.out.deep }
-  pub puts : Puts w lim q.out.to (part (g.from + q.at) (g.from + q.at + long_of g.width.bytes c) w) r.out.to w'
+  pub puts : Puts w lim q.out.to (part (from + q.at) (from + q.at + long_of wd c) w) r.out.to w'
 
 -- ---- one symbol or command of those to come: the symbols zs are to come then
 pub record Onward (s w : List ℕ) (g : Ground) (n lim : ℕ) (ps : List ℕ) (four : Bool) (left e : ℕ) (ys : Syms) (x r : Coming) (w' : List ℕ) : Type 0 where

@@ -71,7 +71,6 @@ pub fn bytes(text: BuiltIn) -> &'static [u8]
 }
 
 // What its word says: its number among the texts, if it was asked for.
-#[tactic(auto, unfolding(crate::specs::Built::built_place, crate::specs::Built::built_at))]
 fn word(work: &[u8], g: Ground, text: BuiltIn) -> Option<usize>
     requires { (72 ≤ g.slots) × (built_place g (number_of text) + 8 ≤ length work.now) }
     ensures { built_at work.now g (number_of text) ≡ word_of result }
@@ -81,7 +80,6 @@ fn word(work: &[u8], g: Ground, text: BuiltIn) -> Option<usize>
 }
 
 // The text has the number k: its word is the number and one.
-#[tactic(auto, unfolding(crate::specs::Built::built_place))]
 fn put_word(work: &mut [u8], g: Ground, text: BuiltIn, k: usize)
     requires { (72 ≤ g.slots) × (built_place g (number_of text) + 8 ≤ length work.old) × (k + 1 < 2 ^ 64) }
     ensures { work.new ≡ store work.old (built_place g (number_of text)) (le 8 (k + 1)) }
@@ -90,12 +88,11 @@ fn put_word(work: &mut [u8], g: Ground, text: BuiltIn, k: usize)
 }
 
 // The text is the c-th new one.
-#[tactic(auto, unfolding(crate::specs::Built::built_place, expander::specs::Ground::list_place))]
 fn put_next(work: &mut [u8], g: Ground, c: usize, text: BuiltIn)
     requires { (72 ≤ g.slots) × (list_place g c + 8 ≤ length work.old) × (built_place g (number_of text) + 8 ≤ length work.old) }
     ensures { work.new ≡ store (store work.old (list_place g c) (le 8 (2 * number_of text + 1))) (built_place g (number_of text)) (le 8 (g.m.count + c + 1)) }
 {
-    put_entry(work, g, c, NewText::BuiltIn(number_of(text)));
+    put_entry(work, g.m, c, NewText::BuiltIn(number_of(text)));
     put_word(work, g, text, g.m.count + c);
 }
 
@@ -108,7 +105,7 @@ fn find_built(tape: &[u8], work: &[u8], m: Map, text: BuiltIn) -> Option<usize>
     find(tape, work, m, t, hash(t))
 }
 
-// The number of a text that was not asked for yet.
+// The number of a text that was not asked for yet. `n` for the clauses alone.
 fn first(tape: &[u8], work: &mut [u8], g: Ground, n: usize, c: usize, text: BuiltIn) -> Numbered
     requires { Grounded tape.now work.old g × SomeBuilt tape.now work.old g n c × (built_at work.old g (number_of text) ≡ 0) }
     ensures { GivesBuilt tape.now work.old g n c (number_of text) result work.new }

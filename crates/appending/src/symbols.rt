@@ -7,14 +7,13 @@ ghost use Rattle.appending.specs.Symbols.{Nameable, PutsNamed, SomeReference, Pu
 
 use crate::commands::put_nonterminal;
 use crate::{Appended, Round};
-use expander::Ground;
 use expander::replace::is_expanded;
 use expander::slots::number;
 use grades::skip::skip;
-use octets::numbers::u64_at;
+use octets::numbers::{Width, u64_at};
 use parse_tree::nested::inside_at;
+use parse_tree::size::long;
 use precedence::write::put_run;
-use resolve::commands::long;
 
 // The place to read on at, counted from the first item (in macro_expand::expand from the start of work), and what is appended.
 #[derive(Clone, Copy)]
@@ -66,13 +65,21 @@ fn put_reference(tape: &[u8], work: &mut [u8], round: Round, q: Copied) -> Copie
     }
 }
 
-// The command at q.at, of the code c, as it stands.
-fn copy_command(work: &mut [u8], g: Ground, lim: usize, q: Copied, c: u8) -> Copied
-    requires { (g.from + q.at + long_of g.width.bytes c ≤ q.out.to) × (lim ≤ length work.old) × (g.from + q.at + 17 ≤ length work.old) }
-    ensures { PutsCommand work.old g lim q c result work.new }
+// The command at q.at, counted from `from`, of the code c, as it stands. Inlined: both callers call it for each command.
+#[inline(always)]
+pub fn copy_command(
+    work: &mut [u8],
+    from: usize,
+    width: Width,
+    lim: usize,
+    q: Copied,
+    c: u8,
+) -> Copied
+    requires { (from + q.at + long_of width.bytes c ≤ q.out.to) × (lim ≤ length work.old) × (from + q.at + 17 ≤ length work.old) }
+    ensures { PutsCommand work.old from width.bytes lim q c result work.new }
 {
-    let at = g.from + q.at;
-    let k = long(c, g.width);
+    let at = from + q.at;
+    let k = long(c, width);
     let to = put_run(work, at, at + k, lim, q.out.to);
     Copied {
         at: q.at + k,
@@ -96,7 +103,7 @@ fn put_next(tape: &[u8], work: &mut [u8], round: Round, x: Coming) -> Coming
         }
     } else {
         let many = x.many - 1 + inside_at(work, at, round.g.width);
-        let run = copy_command(work, round.g, round.lim, q, c);
+        let run = copy_command(work, round.g.from, round.g.width, round.lim, q, c);
         Coming { many, run }
     }
 }

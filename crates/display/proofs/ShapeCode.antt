@@ -5,12 +5,14 @@ use mathlib.Core.List.{List, append-nil}
 use Prim.Native.Nat.{ℕ, ◌+◌, ◌-◌, ◌*◌, ◌^◌, ◌<◌, ◌≤◌}
 use native.Mathlib.Omega.{arith}
 use borrow.Author.Rules.{rules}
+use lib.Dec.{eqb}
 use lib.ListN.{length, get_or}
+use lib.Pointwise.{pointwise}
 use mir.Syntax.{w64}
 use mir.Val.{Fits}
 use Rattle.octets.specs.Plain.Runs.{Lies, part, same_as}
 use Rattle.octets.proofs.LiesLaws.{lies_split}
-use Rattle.octets.proofs.SameLaws.{same_as-eq, eq_same_as}
+use Rattle.octets.proofs.SameLaws.{same_as-eq, eq_same_as, said-same}
 use Rattle.parse_tree.specs.Plain.Tree.{Sym, Syms, nil, cons, count}
 use Rattle.parse_tree.specs.Plain.Display.{print}
 use Rattle.parse_tree.specs.Working.Encode.{sym_bytes, syms_bytes}
@@ -32,8 +34,12 @@ use Rattle.display.proofs.StandsLaws.{Reads, before_text, between_text, behind_t
 use Rattle.display.proofs.ShapeLaws.{Same, part_same, before_same, behind_same, inside-same, parts_alike, alike_split}
 
 -- ---- `same_operands`
-pub operands_done : (w : List ℕ) (p q n : ℕ) (r : Bool) → r ≡ same_as (part (p + 9) (p + 9 + (n - 9)) w) (part (q + 9) (q + 9 + (n - 9)) w) → OperandsAlike w p q n r
-operands_done w p q n r e = record { says = λ t. part_same w p q 9 n (same_as-eq _ _ (sym e ∙ t)) }
+pub operands_done : (w : List ℕ) (p q n : ℕ) (r : Bool) → 9 ≤ n → r ≡ pointwise eqb (part (p + 9) (p + n) w) (part (q + 9) (q + n) w) → OperandsAlike w p q n r
+operands_done w p q n r h e =
+    let a : p + n ≡ p + 9 + (n - 9) = omega arith in
+    let b : q + n ≡ q + 9 + (n - 9) = omega arith in
+    let z : r ≡ same_as (part (p + 9) (p + 9 + (n - 9)) w) (part (q + 9) (q + 9 + (n - 9)) w) = rw (sym a, sym b) (said-same _ _ r e) in
+    record { says = λ t. part_same w p q 9 n (same_as-eq _ _ (sym z ∙ t)) }
 
 pub ruleset operands = (rules, operands_done)
 

@@ -6,15 +6,17 @@ use Prim.Native.Nat.{ℕ, ◌+◌, ◌-◌, ◌<◌, ◌≤◌}
 use native.Mathlib.Omega.{arith}
 use borrow.Author.Rules.{rules}
 use lib.Dec.{eqb, ltb, leb}
+use lib.Pointwise.{pointwise}
 use borrow.Author.Tests.{ltb-true, ltb-false, leb-true, leb-false, eqb-true, eqb-false, eq-eqb, ne_eqb, le-leb, lt-leb}
 use lib.ListN.{length, take, drop, take-append-drop}
 use lib.Seq.{take-append_seam, length-take-le}
+use Rattle.std.proofs.lemmas.List.{take_all}
 use Rattle.octets.specs.Working.Choice.{pick}
 use Rattle.octets.specs.Working.Sink.{lay, adv, Laid}
 use Rattle.octets.specs.Plain.Runs.{part, same_as}
 use Rattle.octets.proofs.ChoiceLaws.{by_pick}
 use Rattle.octets.proofs.StoreLaws.{store_is}
-use Rattle.octets.proofs.SameLaws.{same_as-eq}
+use Rattle.octets.proofs.SameLaws.{same_as-eq, said-same}
 use Rattle.parse_tree.specs.Plain.Display.{print}
 use Rattle.texts.specs.declared.Map.{Map}
 use Rattle.display.specs.declared.window.Verdict.{Verdict}
@@ -109,29 +111,41 @@ module _ (x y xs ys : List ℕ) (i j : ℕ) (l : length x ≡ length y) (a : i �
         cc (take-append-drop w xs, take-append-drop w ys)
 
 -- ---- judge
+part_front : (n : ℕ) (xs : List ℕ) → part 0 (0 + n) xs ≡ take n xs
+unfolding part
+part_front n xs = let z : 0 + n - 0 ≡ n = omega arith in ap (λ (k : ℕ). take k xs) z
+
+-- what `==` says of the first n bytes of two slices
+fronts : (n : ℕ) (xs ys : List ℕ) (r : Bool) → r ≡ pointwise eqb (take n xs) (take n ys) → r ≡ same_as (part 0 (0 + n) xs) (part 0 (0 + n) ys)
+fronts n xs ys r e = rw (part_front n xs, part_front n ys) (said-same _ _ r e)
+
+-- and of all of them
+wholes : (n : ℕ) (xs ys : List ℕ) (r : Bool) → length xs ≡ n → length ys ≡ n → r ≡ pointwise eqb xs ys → r ≡ same_as (part 0 (0 + n) xs) (part 0 (0 + n) ys)
+wholes n xs ys r l k e = fronts n xs ys r (rw (take_all n xs (omega arith), take_all n ys (omega arith)) e)
+
 module _ (x y : List ℕ) (i j : ℕ) where
   pub judge_not : (i ≡ j → ⊥) → Differ ≡ judged x y i j
   unfolding judged pick
   judge_not h = cc (ne_eqb i j h)
 
   module _ (k : i ≡ j) (r : Bool) where
-    module _ (h : i ≤ length x) (e : r ≡ same_as (part 0 (0 + i) x) (part 0 (0 + i) y)) where
+    module _ (h : i ≤ length x) (e : r ≡ pointwise eqb (take i x) (take i y)) where
       pub judge_same : r ≡ true → Same ≡ judged x y i j
       unfolding judged pick
-      judge_same v = cc (eq-eqb i j k, le-leb i (length x) h)
+      judge_same v = cc (fronts i x y r e, eq-eqb i j k, le-leb i (length x) h)
 
       pub judge_other : r ≡ false → Differ ≡ judged x y i j
       unfolding judged pick
-      judge_other v = cc (eq-eqb i j k, le-leb i (length x) h)
+      judge_other v = cc (fronts i x y r e, eq-eqb i j k, le-leb i (length x) h)
 
-    module _ (h : length x < i) (e : r ≡ same_as (part 0 (0 + length x) x) (part 0 (0 + length x) y)) where
+    module _ (l : length x ≡ length y) (h : length x < i) (e : r ≡ pointwise eqb x y) where
       pub judge_more : r ≡ true → More ≡ judged x y i j
       unfolding judged pick
-      judge_more v = cc (eq-eqb i j k, lt-leb i (length x) h)
+      judge_more v = cc (wholes (length x) x y r refl (sym l) e, eq-eqb i j k, lt-leb i (length x) h)
 
       pub judge_unlike : r ≡ false → Differ ≡ judged x y i j
       unfolding judged pick
-      judge_unlike v = cc (eq-eqb i j k, lt-leb i (length x) h)
+      judge_unlike v = cc (wholes (length x) x y r refl (sym l) e, eq-eqb i j k, lt-leb i (length x) h)
 
 pub ruleset judging = (rules, judge_not, judge_same, judge_other, judge_more, judge_unlike)
 

@@ -4,15 +4,14 @@ ghost use Rattle.display.specs.Shape.{OperandsAlike, SomeTwo, PrintsAlike};
 
 use crate::follow::inside;
 use octets::numbers::Width;
-use octets::runs::same;
-use resolve::commands::long;
+use parse_tree::size::long;
 
 // Whether two commands of n bytes are the same behind their spans.
 fn same_operands(work: &[u8], p: usize, q: usize, n: usize) -> bool
     requires { (9 ≤ n) × (p + n ≤ length work.now) × (q + n ≤ length work.now) }
     ensures { OperandsAlike work.now p q n result }
 {
-    same(work, p + 9, work, q + 9, n - 9)
+    work[p + 9..p + n] == work[q + 9..q + n]
 }
 
 // A flat run over the commands of both: k symbols are to come.

@@ -10,7 +10,7 @@ ghost use Rattle.display.specs.Follow.{quoted_text, word_at, leaf_text, mark_tex
 
 use crate::follow::{inside, op_byte, word};
 use grades::words::Words;
-use resolve::commands::long;
+use parse_tree::size::long;
 
 pub trait Sink {
     // What it becomes by a byte.
@@ -129,7 +129,7 @@ pub fn before<S: Sink>(s: &mut S, words: Words, at: usize, c: u8)
     }
 }
 
-// What stands behind them.
+// What stands behind them. `width` for the clauses alone.
 pub fn behind<S: Sink>(s: &mut S, work: &[u8], width: usize, at: usize, c: u8)
     requires { (at + long_of width c ≤ length work.now) }
     ensures { Taken S.more s.old (behind_by work.now at c) s.new }

@@ -7,7 +7,6 @@ use crate::emit::{Spot, Window};
 use crate::shape::same_shape;
 use crate::sink::print_list;
 use grades::words::Words;
-use octets::runs::same;
 
 // What a window says of two forms: they end in it and are the same, they differ, or both go on and were the same so far.
 #[derive(Clone, Copy)]
@@ -35,14 +34,13 @@ fn judge(x: &[u8], y: &[u8], i: usize, j: usize) -> Verdict
     if i != j {
         return Verdict::Differ;
     }
-    let w = x.len();
-    if i <= w {
-        if same(x, 0, y, 0, i) {
+    if i <= x.len() {
+        if x[..i] == y[..i] {
             Verdict::Same
         } else {
             Verdict::Differ
         }
-    } else if same(x, 0, y, 0, w) {
+    } else if x == y {
         Verdict::More
     } else {
         Verdict::Differ

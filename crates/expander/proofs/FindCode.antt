@@ -12,12 +12,12 @@ use lib.ListN.{length, get_or}
 use Rattle.octets.specs.Plain.Runs.{same_as}
 use Rattle.octets.proofs.SameLaws.{same_as-eq, same_as-sym}
 use Rattle.parse_tree.specs.Plain.Tree.{Text}
-use Rattle.texts.specs.Hash.{hash_of, bucket_of}
-use Rattle.texts.specs.Fields.{mark_at, hash_at, cell_at}
+use Rattle.texts.specs.Hash.{hash_of}
+use Rattle.texts.specs.Fields.{mark_at, cell_at}
 use Rattle.texts.specs.Forms.{stop}
 use Rattle.texts.specs.Search.{Searched}
 use Rattle.texts.specs.Table.{texts, Finds}
-use Rattle.texts.proofs.TableFindCode.{is_not, finding, find_is}
+use Rattle.texts.proofs.TableFindCode.{find_is}
 use Rattle.display.specs.declared.form.Form.{Form}
 use Rattle.display.specs.Form.{text_form}
 use Rattle.display.specs.Standing.{SomeSym}
@@ -81,17 +81,12 @@ module _ (s w : List ℕ) (g : Ground) (n i : ℕ) (G : Grounded s w g) (R : Rec
         ∙ ap (λ (u : ℕ). same_as (printed_at s w g u) (printed_at s w g p)) e
 
   module _ (p : ℕ) (f : Form) (a : f ≡ text_form (printed_at s w g p)) where
-    pub record_hash : (r : ℕ) → r ≡ hash_at w g.keys i → (r ≡ f.hash → ⊥) → false ≡ same_as (printed_at s w g (key_at w g i)) (printed_at s w g p)
-    record_hash r e d =
-        unlike (printed_at s w g (key_at w g i)) (printed_at s w g p)
-        (λ c. d (e ∙ R.hashes i l ∙ ap hash_of c ∙ sym (form_hash (printed_at s w g p) f a)))
-
     pub record_length : (v r : ℕ) → v ≡ cell_at w g.keys i → r ≡ v → (r ≡ f.len → ⊥) → false ≡ same_as (printed_at s w g (key_at w g i)) (printed_at s w g p)
     record_length v r e h d =
         unlike (printed_at s w g (key_at w g i)) (printed_at s w g p)
         (λ c. d (h ∙ e ∙ R.lengths i l ∙ ap (λ (t : Text). stop (length t)) c ∙ sym (form_length (printed_at s w g p) f a)))
 
-pub ruleset keying = (rules, grounded_readable, place_some, place_fits, record_room, record_some, record_fits, record_same, record_hash, record_length)
+pub ruleset keying = (rules, grounded_readable, place_some, place_fits, record_room, record_some, record_fits, record_same, record_length)
 
 -- ---- `is_text`
 module _ (s w : List ℕ) (g : Ground) (G : Grounded s w g) (b : (j : ℕ) → Bound.Fits w8 (get_or w j 0)) (p : ℕ) (y : KeyAt s w g p) where
@@ -131,14 +126,11 @@ module _ (s w : List ℕ) (g : Ground) (G : Grounded s w g) (b : (j : ℕ) → B
         go (Some m) z h = a m h ∙ key_same m z
         go None z h = h ∙ key_differs z
 
-pub ruleset texting = (rules, place_fits, form_hash, is_not, key_inner)
+pub ruleset texting = (rules, place_fits, key_inner)
 
 -- ---- `written`: the table is gone through as by `find`
-pub ruleset seeking = (finding, form_hash)
-
 module _ (s w : List ℕ) (g : Ground) (p : ℕ) (f : Form) (G : Grounded s w g) (e : f ≡ text_form (printed_at s w g p)) where
-  pub written_is : (A : ℕ → Bool → Type 0) (y : ℕ) (r : Option ℕ) → y ≡ bucket_of f.hash g.m.buckets → Searched A w g.m.base g.m.buckets y g.m.count r
-      → ((i : ℕ) (a : Bool) → A i a → a ≡ same_as (get_or (texts s w g.m) i []) (printed_at s w g p)) → Finds (texts s w g.m) (printed_at s w g p) r
+  pub written_is : (A : ℕ → Bool → Type 0) (r : Option ℕ) → Searched A w g.m.base g.m.count f.hash r → ((i : ℕ) (a : Bool) → A i a → a ≡ same_as (get_or (texts s w g.m) i []) (printed_at s w g p)) → Finds (texts s w g.m) (printed_at s w g p) r
   written_is = find_is s w g.m (printed_at s w g p) f.hash G.table (form_hash (printed_at s w g p) f e)
 
 -- ---- `is_pushed`

@@ -27,7 +27,6 @@ pub record Around (g : Ground) (w w' : List ℕ) : Type 0 where
 
 -- ---- where the regions stand
 pub list_start : (g : Ground) → list_place g 0 ≡ g.m.base + 24 * g.m.count
-unfolding list_place
 list_start g = omega arith
 
 module _ (s w : List ℕ) (g : Ground) (h : Grounded s w g) where

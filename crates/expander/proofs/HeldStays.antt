@@ -131,11 +131,9 @@ module _ (s w w' : List ℕ) (g : Ground) (a e lim : ℕ) (G : Grounded s w g) (
 
   -- ---- slots and the list of new texts
   slot_same : (p : ℕ) → HasRef p x → slot_at w' g p ≡ slot_at w g p
-  unfolding slot_at
   slot_same p i = field_same 8 (slot_place g p) (omega (arith, slot_inside s w g n c x h G p i))
 
   list_same : (i : ℕ) → i < c → list_at w' g i ≡ list_at w g i
-  unfolding list_at list_place
   list_same i l = field_same 8 (list_place g i) (omega (arith, h.room, keys_slots s w g G, slots_top s w g G))
 
   new_same : (i : ℕ) → i < c → new_at w' g i ≡ new_at w g i

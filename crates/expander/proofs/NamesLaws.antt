@@ -153,11 +153,9 @@ module _ (s w w' : List ℕ) (g : Ground) (r : Grounded s w g) (k : Agree w w' (
   key_same j l = key_stays w w' g r.fits kept j (omega (arith, h.records.few))
 
   slot_same : (p : ℕ) → among p ps ≡ true → slot_at w' g p ≡ slot_at w g p
-  unfolding slot_at slot_place
   slot_same p i = le_at-agree 8 w w' (slot_place g p) (λ a x y. k.agree a (omega (arith, list_keys s w g r, keys_slots s w g r)) (omega (arith, place_inside s w g r p (h.inside p i))))
 
   list_same : (i : ℕ) → i < c → list_at w' g i ≡ list_at w g i
-  unfolding list_at list_place
   list_same i l = le_at-agree 8 w w' (list_place g i) (λ a x y. k.agree a (omega arith) (omega (arith, h.room, keys_slots s w g r, slots_top s w g r)))
 
   key_slot : (j : ℕ) → j < n → slot_at w' g (key_at w' g j) ≡ slot_at w g (key_at w g j)

@@ -39,22 +39,19 @@ module _ (w w2 : List ℕ) (g : Ground) (p v : ℕ) (o : w2 ≡ store w (slot_pl
   slot_long = rw o (length_store w (slot_place g p) (le 8 v))
 
   pub slot_before : (i : ℕ) → i < g.slots → get_or w2 i 0 ≡ get_or w i 0
-  unfolding slot_place
   slot_before i h = rw o (get_d_store_before w (g.slots + 8 * (p / 9)) (le 8 v) i (omega arith))
 
   pub slot_here : slot_place g p + 8 ≤ length w → v < 256 ^ 8 → slot_at w2 g p ≡ v
-  unfolding slot_at
   slot_here h f = rw o (le_at-same 8 w (slot_place g p) v h f)
 
   pub slot_other : (q : ℕ) → (q + 9 ≤ p) ⊎ (p + 9 ≤ q) → slot_at w2 g q ≡ slot_at w g q
-  unfolding slot_at slot_place
   slot_other q h = rw o (le_at-other 8 w (g.slots + 8 * (p / 9)) (le 8 v) (g.slots + 8 * (q / 9)) (elim h [
     | inl a ↦ inl (omega arith)
     | inr a ↦ inr (omega (arith, length-le 8 v))
   ]))
 
   pub slot_after : p + 9 ≤ size_in g → (i : ℕ) → top_of g ≤ i → get_or w2 i 0 ≡ get_or w i 0
-  unfolding top_of slot_place
+  unfolding top_of
   slot_after h i a = rw o (get_d_store_after w (g.slots + 8 * (p / 9)) (le 8 v) i (omega (arith, length-le 8 v)))
 
 -- ---- from w to w2 keys, slots of places with references, and the list are as they were; the slot of p is v

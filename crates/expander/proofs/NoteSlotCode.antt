@@ -17,7 +17,7 @@ use Rattle.replacing.specs.Slots.{Ref, text, like, Slots, ref_at, among, refer, 
 use Rattle.replacing.specs.Sound.{HasRef, Sound}
 use Rattle.replacing.proofs.SlotsMean.{or_skip}
 use Rattle.expander.specs.declared.Ground.{Ground}
-use Rattle.expander.specs.Ground.{size_in, top_of, slot_place, slot_at, key_at, list_place, list_at, pushed_text, symbol_in, KeyAt, same_at, text_in, Grounded, Records, KeptAround}
+use Rattle.expander.specs.Ground.{size_in, top_of, slot_place, slot_at, key_at, list_at, pushed_text, symbol_in, KeyAt, same_at, text_in, Grounded, Records, KeptAround}
 use Rattle.expander.specs.Held.{down, keep_if, any_of, ref_in, ref_by, followed, is_like, is_text, Refers, Held, Off, NotedBy}
 use Rattle.expander.proofs.GroundLaws.{Around, keys_slots, slots_top, kept-around, stage_around, texts-around, pushed-around, sound_around}
 use Rattle.expander.proofs.RecordsLaws.{key_stays, records_stay}
@@ -25,7 +25,7 @@ use Rattle.expander.proofs.SlotsCode.{followed-even, followed-odd, ref_text, ref
 use Rattle.expander.proofs.NoteHeldCode.{slot_long, slot_before, slot_here, slot_other, slot_after, ref_same, key_followed, firsts_then, pile_then, marks_then, held_then}
 
 pub place_room : (s w : List ℕ) (g : Ground) (p : ℕ) → Grounded s w g → p + 9 ≤ size_in g → slot_place g p + 8 ≤ length w
-unfolding slot_place top_of
+unfolding top_of
 place_room s w g p d h = omega (arith, d.top)
 
 -- w1 is w but for records of pushed symbols, of which m are there; the slot of p is written then. What noting is is sound
@@ -59,11 +59,9 @@ module _ (s w w1 w2 : List ℕ) (g : Ground) (n c m v p : ℕ) (x : Slots) (d : 
   keys j l = keys_same j (omega (arith, h.records.few)) ∙ before j l
 
   slots : (q : ℕ) → HasRef q x → slot_at w2 g q ≡ slot_at w g q
-  unfolding slot_at slot_place
   slots q a = slot_other w1 w2 g p v o q (off q a) ∙ le_at-agree 8 w w1 (g.slots + 8 * (q / 9)) (λ i y z. others i (inr (omega arith)))
 
   list : (i : ℕ) → i < c → list_at w2 g i ≡ list_at w g i
-  unfolding list_at list_place
   list i l = let r = h.room in le_at-agree 8 w w2 (g.m.base + 24 * g.m.count + 8 * i) (λ j y z. kept_then.others j (inl (omega arith)))
 
   here : slot_at w2 g p ≡ v

@@ -27,7 +27,6 @@ odd_one v e = omega arith
 
 -- ---- the number of a new text
 pub number_fits : (w : List ℕ) (g : Ground) (c : ℕ) → list_place g c + 8 ≤ length w → length w < 2 ^ 64 → Fits w64 (g.m.count + c)
-unfolding list_place
 number_fits w g c h l = record { fits = omega arith }
 
 -- ---- references
@@ -82,7 +81,7 @@ module _ (w : List ℕ) (g : Ground) (n m p : ℕ) (f : Refers n m (slot_at w g 
 -- ---- where slots and records stand
 module _ (s w : List ℕ) (g : Ground) (r : Grounded s w g) where
   pub place_inside : (p : ℕ) → p + 9 ≤ size_in g → slot_place g p + 8 ≤ top_of g
-  unfolding slot_place top_of
+  unfolding top_of
   place_inside p i = omega arith
 
   pub record_inside : (n j : ℕ) → n ≤ size_in g / 9 → j < n → g.keys + 24 * j + 24 ≤ g.slots

@@ -42,7 +42,6 @@ within i c l e = omega arith
 
 -- places nine apart have slots that are apart
 nine : (g : Ground) (a b : ℕ) → a + 9 ≤ b → slot_place g a + 8 ≤ slot_place g b
-unfolding slot_place
 nine g a b l = omega arith
 
 -- ---- the j-th pushed symbol, which stands at q and has no number, gets the next one
@@ -67,15 +66,12 @@ module _ {s w w' : List ℕ} {g : Ground} {n c : ℕ} {ps : List ℕ} {j q : ℕ
 
   -- ---- what changed
   slot_from : (p : ℕ) → g.slots ≤ slot_place g p
-  unfolding slot_place
   slot_from p = omega arith
 
   list_from : (i e : ℕ) → i < e → list_place g i + 8 ≤ list_place g e
-  unfolding list_place
   list_from i e l = omega arith
 
   list_zero : list_place g 0 ≤ list_place g c
-  unfolding list_place
   list_zero = omega arith
 
   slot_top : slot_place g q + 8 ≤ top_of g
@@ -102,7 +98,6 @@ module _ {s w w' : List ℕ} {g : Ground} {n c : ℕ} {ps : List ℕ} {j q : ℕ
 
   -- ---- slots
   pub slot_other : (p : ℕ) → among p ps ≡ true → (p ≡ q → ⊥) → slot_at w' g p ≡ slot_at w g p
-  unfolding slot_at
   slot_other p i e =
       ap (λ (u : List ℕ). le_at 8 u (slot_place g p)) k.stored ∙ le_at-other 8 w1 (slot_place g q) (le 8 (2 * (g.m.count + c))) (slot_place g p) (beside (k.names.off p q i key_in))
       ∙ le_at-other 8 w (list_place g c) (le 8 (2 * j)) (slot_place g p) (inr (omega (arith, k.room, length-le 8 (2 * j), keys_slots s w g r, slot_from p)))
@@ -113,18 +108,15 @@ module _ {s w w' : List ℕ} {g : Ground} {n c : ℕ} {ps : List ℕ} {j q : ℕ
       beside (inr (inr l)) = inr (omega (arith, length-le 8 (2 * (g.m.count + c)), nine g q p l))
 
   twice_few : 2 * (g.m.count + c) < 256 ^ 8
-  unfolding list_place
   twice_few = omega (arith, k.room, keys_slots s w g r, slots_top s w g r, r.top, r.short)
 
   pub slot_own : slot_at w' g q ≡ 2 * (g.m.count + c)
-  unfolding slot_at
   slot_own =
       ap (λ (u : List ℕ). le_at 8 u (slot_place g q)) k.stored
       ∙ le_at-same 8 w1 (slot_place g q) (2 * (g.m.count + c)) (omega (arith, length_store w (list_place g c) (le 8 (2 * j)), slot_top, r.top)) twice_few
 
   -- ---- the list of new texts
   pub list_other : (i : ℕ) → i < c → list_at w' g i ≡ list_at w g i
-  unfolding list_at
   list_other i l =
       let z = list_from i c l in
       ap (λ (u : List ℕ). le_at 8 u (list_place g i)) k.stored
@@ -132,7 +124,6 @@ module _ {s w w' : List ℕ} {g : Ground} {n c : ℕ} {ps : List ℕ} {j q : ℕ
       ∙ le_at-other 8 w (list_place g c) (le 8 (2 * j)) (list_place g i) (inl z)
 
   pub list_own : list_at w' g c ≡ 2 * j
-  unfolding list_at
   list_own =
       ap (λ (u : List ℕ). le_at 8 u (list_place g c)) k.stored
       ∙ le_at-other 8 w1 (slot_place g q) (le 8 (2 * (g.m.count + c))) (list_place g c) (inl (omega (arith, k.room, keys_slots s w g r, slot_from q)))
@@ -175,5 +166,4 @@ module _ {s w w' : List ℕ} {g : Ground} {n c : ℕ} {ps : List ℕ} {j q : ℕ
   new_alone i l z = none_before i l z ∙ k.names.own i l (was_odd i l z)
 
   pub next_room : list_place g (c + 1) ≤ g.keys
-  unfolding list_place
   next_room = omega (arith, k.room)

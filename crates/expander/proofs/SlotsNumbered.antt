@@ -121,7 +121,6 @@ module _ (s w : List ℕ) (g : Ground) (c p : ℕ) (room : NameRoom w g c p) (r 
   sum_fits l = number_fits w g c list_room l
 
   pub next_fits : length w < 2 ^ 64 → Fits w64 (c + 1)
-  unfolding list_place
   next_fits l = record { fits = omega (arith, list_room) }
 
 -- ---- `number`

@@ -14,7 +14,8 @@ use lib.ListN.{length, get_or, drop}
 use lib.Seq.{get_or-take, get_or-drop}
 use Rattle.octets.specs.Working.Choice.{pick}
 use Rattle.octets.specs.Plain.Runs.{part}
-use Rattle.parse_tree.specs.Working.Nodes.{code_size, node_at, size_read, long_of}
+use Rattle.parse_tree.specs.Working.Nodes.{code_size, node_at, size_read, nonterminal_here}
+use Rattle.parse_tree.specs.declared.syntax.NonterminalData.{NonterminalData}
 use Rattle.parse_tree.proofs.SizeLaws.{size_16}
 use Rattle.replacing.specs.Runs.{is_item, hop, hops}
 use Rattle.expander.specs.declared.Ground.{Ground}
@@ -51,12 +52,12 @@ pub ruleset beginning = (rules, item_first, item_second, item_between, item_abov
 
 -- ---- `is_macro`
 module _ (wd : ℕ) (w : List ℕ) (at c : ℕ) where
-  pub macro_room : c ≡ 16 → at + code_size wd c ≤ length w → at + 10 + wd < length w
+  pub macro_room : c ≡ 16 → at + code_size wd c ≤ length w → at + (13 + wd) ≤ length w
   macro_room e h = let z = size_16 wd c e in omega arith
 
-  pub macro_is : (b : ℕ) → c ≡ 16 → b ≡ get_or w (at + 10 + wd) 0 → ltb 0 b ≡ macro_at wd w at c
+  pub macro_is : (d : NonterminalData) → c ≡ 16 → d ≡ nonterminal_here wd w at → ltb 0 d.args ≡ macro_at wd w at c
   unfolding macro_at pick
-  macro_is b e h = cc
+  macro_is d e h = let z : d.args ≡ get_or w (at + 10 + wd) 0 = ap (λ (n : NonterminalData). n.args) h in cc
 
   pub macro_not : (c ≡ 16 → ⊥) → false ≡ macro_at wd w at c
   unfolding macro_at pick

@@ -70,11 +70,9 @@ key_node None e = absurd (false≢true (sym e))
 
 -- the list grows by at most one
 list_next : (g : Ground) (c d left : ℕ) → d ≤ c + 1 → 1 ≤ left → list_place g (c + left) ≤ g.keys → list_place g (d + (left - 1)) ≤ g.keys
-unfolding list_place
 list_next g c d left h k l = omega arith
 
 list_one : (g : Ground) (c left : ℕ) → 1 ≤ left → list_place g (c + left) ≤ g.keys → list_place g c + 8 ≤ g.keys
-unfolding list_place
 list_one g c left k l = omega arith
 
 module _ (s w : List ℕ) (g : Ground) (r : Replaced) (G : Grounded s w g) (T : SomeTurn s w g r) (l : r.at < size_in g) (b : (j : ℕ) → Bound.Fits w8 (get_or w j 0)) where

@@ -30,10 +30,10 @@ slot_code (Noted.Text k) = 2 * k
 slot_code (Noted.Pushed j) = 2 * j + 1
 
 -- the slot of the symbol at a place
-unfoldable pub slot_place : Ground → ℕ → ℕ
+abbrev pub slot_place : Ground → ℕ → ℕ
 slot_place g p = g.slots + 8 * (p / 9)
 
-unfoldable pub slot_at : List ℕ → Ground → ℕ → ℕ
+abbrev pub slot_at : List ℕ → Ground → ℕ → ℕ
 slot_at w g p = le_at 8 w (slot_place g p)
 
 -- behind the slots
@@ -45,10 +45,10 @@ unfoldable pub key_at : List ℕ → Ground → ℕ → ℕ
 key_at w g j = mark_at w g.keys j
 
 -- the entry of the i-th new text in the list: twice the number of its record
-unfoldable pub list_place : Ground → ℕ → ℕ
+abbrev pub list_place : Ground → ℕ → ℕ
 list_place g i = g.m.base + 24 * g.m.count + 8 * i
 
-unfoldable pub list_at : List ℕ → Ground → ℕ → ℕ
+abbrev pub list_at : List ℕ → Ground → ℕ → ℕ
 list_at w g i = le_at 8 w (list_place g i)
 
 -- the place of the symbol whose print it is

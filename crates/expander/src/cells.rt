@@ -1,5 +1,8 @@
 // What is known of a text while macros are expanded, in the cell of its record.
-ghost use Rattle.std.specs.Prelude.{◌≡◌, ◌+◌, ◌-◌, ◌%◌, ◌≤◌, ◌<◌, leb};
+ghost use Rattle.std.specs.Prelude.{◌≡◌, ◌+◌, ◌-◌, ◌*◌, ◌%◌, ◌≤◌, ◌<◌, leb, length};
+ghost use Rattle.texts.specs.Fields.{cell_at};
+
+use texts::fields::cell;
 
 // A number, as records lie in fixed memory: the highest bit says whether a symbol that prints so was pushed, the rest is the index of the macro's definition that the text names, and one.
 #[derive(Clone, Copy)]
@@ -32,4 +35,12 @@ impl TextCell {
     {
         TextCell(self.0 % 2147483648 + 2147483648)
     }
+}
+
+// That of text k of the records from base on.
+pub fn text_cell(work: &[u8], base: usize, k: usize) -> TextCell
+    requires { base + 24 * k + 24 ≤ length work.now }
+    ensures { result.0 ≡ cell_at work.now base k }
+{
+    TextCell(cell(work, base, k))
 }

@@ -1,12 +1,11 @@
 // The list of new texts behind the table's records: what each entry describes, as it stands in work.
-ghost use Rattle.std.specs.Prelude.{◌≡◌, ◌+◌, ◌^◌, ◌≤◌, ◌<◌, length};
-ghost use Rattle.octets.specs.Plain.Numbers.{le};
+ghost use Rattle.std.specs.Prelude.{◌≡◌, ◌+◌, ◌*◌, ◌^◌, ◌≤◌, ◌<◌, length};
+ghost use Rattle.octets.specs.Plain.Numbers.{le, le_at};
 ghost use Rattle.octets.specs.Working.Stores.{store};
-ghost use Rattle.expander.specs.Ground.{list_place, list_at};
 ghost use Rattle.expander.specs.Entries.{entry_code};
 
-use crate::Ground;
 use octets::numbers::{store64, u64_at};
+use texts::Map;
 
 // A new text: the print of the symbol of a record, or a built-in text, by their numbers.
 // That of a built-in text is no enum: `BuiltIn` is that of the crate appending, above this one, and what stands in work may be any number until `Entry` (settling) says that it is below 9.
@@ -28,13 +27,20 @@ fn code(x: NewText) -> usize
     }
 }
 
-// What the i-th entry describes.
-#[tactic(auto, unfolding(crate::specs::Ground::list_at))]
-pub fn entry(work: &[u8], g: Ground, i: usize) -> NewText
-    requires { list_place g i + 8 ≤ length work.now }
-    ensures { entry_code result ≡ list_at work.now g i }
+// The place of the i-th entry in the list of new texts.
+fn place(m: Map, i: usize) -> usize
+    requires { m.base + 24 * m.count + 8 * i < 2 ^ 64 }
+    ensures { result ≡ m.base + 24 * m.count + 8 * i }
 {
-    let v = u64_at(work, g.list_place(i)) as usize;
+    m.base + 24 * m.count + 8 * i
+}
+
+// What the i-th entry describes.
+pub fn entry(work: &[u8], m: Map, i: usize) -> NewText
+    requires { m.base + 24 * m.count + 8 * i + 8 ≤ length work.now }
+    ensures { entry_code result ≡ le_at 8 work.now (m.base + 24 * m.count + 8 * i) }
+{
+    let v = u64_at(work, place(m, i)) as usize;
     if v % 2 == 0 {
         NewText::Print(v / 2)
     } else {
@@ -42,9 +48,9 @@ pub fn entry(work: &[u8], g: Ground, i: usize) -> NewText
     }
 }
 
-pub fn put_entry(work: &mut [u8], g: Ground, i: usize, x: NewText)
-    requires { (list_place g i + 8 ≤ length work.old) × (entry_code x < 2 ^ 64) }
-    ensures { work.new ≡ store work.old (list_place g i) (le 8 (entry_code x)) }
+pub fn put_entry(work: &mut [u8], m: Map, i: usize, x: NewText)
+    requires { (m.base + 24 * m.count + 8 * i + 8 ≤ length work.old) × (entry_code x < 2 ^ 64) }
+    ensures { work.new ≡ store work.old (m.base + 24 * m.count + 8 * i) (le 8 (entry_code x)) }
 {
-    store64(work, g.list_place(i), code(x) as u64);
+    store64(work, place(m, i), code(x) as u64);
 }

@@ -15,19 +15,17 @@ use display::Met;
 use display::form::Form;
 use display::window::same_print;
 use texts::chain::search;
-use texts::fields::{cell, hash, mark};
-use texts::hash::bucket;
+use texts::fields::{cell, mark};
 use texts::text::text;
 
 // Whether the i-th pushed symbol prints as the one at p, whose form is f.
-// Not inlined: else the closure in `pending` is too long to be, and what it captures is stored at each search.
+// Not inlined: else the closure in `pending` is too long to be, and what it captures is stored at each search. `n` for the clauses alone.
 #[inline(never)]
 fn is_key(tape: &[u8], work: &[u8], g: Ground, n: usize, i: usize, p: usize, f: Form) -> bool
     requires { Grounded tape.now work.now g × Records tape.now work.now g n × (i < n) × KeyAt tape.now work.now g p × (f ≡ text_form (printed_at tape.now work.now g p)) }
     ensures { result ≡ same_as (printed_at tape.now work.now g (key_at work.now g i)) (printed_at tape.now work.now g p) }
 {
-    hash(work, g.keys, i) == f.hash
-        && cell(work, g.keys, i) as usize == f.len
+    cell(work, g.keys, i) as usize == f.len
         && same_print(
             g.words(tape, work),
             64,
@@ -41,20 +39,16 @@ pub fn pending(tape: &[u8], work: &[u8], g: Ground, n: usize, p: usize, f: Form)
     requires { Grounded tape.now work.now g × Records tape.now work.now g n × KeyAt tape.now work.now g p × (f ≡ text_form (printed_at tape.now work.now g p)) }
     ensures { FindsKey tape.now work.now g n p result }
 {
-    let y = bucket(f.hash, g.buckets);
-    search(work, g.keys, g.buckets, y, n, |i| {
+    search(work, g.pushed(n), f.hash, |i| {
         is_key(tape, work, g, n, i, p, f)
     })
 }
 
 // Whether the k-th text is the printed form of the symbol at p.
-fn is_text(tape: &[u8], work: &[u8], g: Ground, k: usize, p: usize, f: Form) -> bool
-    requires { Grounded tape.now work.now g × (k < g.m.count) × KeyAt tape.now work.now g p × InnerNoted tape.now work.now g p × (f ≡ text_form (printed_at tape.now work.now g p)) }
+fn is_text(tape: &[u8], work: &[u8], g: Ground, k: usize, p: usize) -> bool
+    requires { Grounded tape.now work.now g × (k < g.m.count) × KeyAt tape.now work.now g p × InnerNoted tape.now work.now g p }
     ensures { result ≡ same_as (get_or (texts tape.now work.now g.m) k []) (printed_at tape.now work.now g p) }
 {
-    if hash(work, g.m.base, k) != f.hash {
-        return false;
-    }
     let t = text(tape, work, g.m, k);
     let start = Met {
         at: g.from + p,
@@ -68,13 +62,10 @@ pub fn written(tape: &[u8], work: &[u8], g: Ground, p: usize, f: Form) -> Option
     requires { Grounded tape.now work.now g × KeyAt tape.now work.now g p × InnerNoted tape.now work.now g p × (f ≡ text_form (printed_at tape.now work.now g p)) }
     ensures { Finds (texts tape.now work.now g.m) (printed_at tape.now work.now g p) result }
 {
-    let y = bucket(f.hash, g.m.buckets);
-    search(work, g.m.base, g.m.buckets, y, g.m.count, |k| {
-        is_text(tape, work, g, k, p, f)
-    })
+    search(work, g.m, f.hash, |k| is_text(tape, work, g, k, p))
 }
 
-// Whether a symbol that prints as text k was pushed in an earlier round.
+// Whether a symbol that prints as text k was pushed in an earlier round. `tape` for the clauses alone.
 pub fn is_pushed(tape: &[u8], work: &[u8], g: Ground, k: usize) -> bool
     requires { Grounded tape.now work.now g × (k < g.m.count) }
     ensures { result ≡ pushed_text work.now g k }

@@ -4,7 +4,7 @@
 #![tactic(auto)]
 
 ghost use Rattle.std.specs.Prelude.{◌≡◌, ◌+◌, ◌-◌, ◌*◌, ◌^◌, ◌≤◌, ◌<◌};
-ghost use Rattle.expander.specs.Ground.{slot_place, list_place, Grounded};
+ghost use Rattle.expander.specs.Ground.{Grounded};
 
 use grades::words::Words;
 use octets::numbers::Width;
@@ -50,22 +50,15 @@ impl Ground {
         }
     }
 
-    // The place of the slot of the symbol at p.
-    #[tactic(auto, unfolding(crate::specs::Ground::slot_place))]
-    pub fn slot_place(self, p: usize) -> usize
-        requires { slot_place self p < 2 ^ 64 }
-        ensures { result ≡ slot_place self p }
+    // The records of the first n pushed symbols.
+    pub fn pushed(self, n: usize) -> Map
+        ensures { (result.base ≡ self.keys) × (result.count ≡ n) × (result.buckets ≡ self.buckets) }
     {
-        self.slots + 8 * (p / 9)
-    }
-
-    // The place of the i-th entry in the list of new texts, behind the table's records.
-    #[tactic(auto, unfolding(crate::specs::Ground::list_place))]
-    pub fn list_place(self, i: usize) -> usize
-        requires { list_place self i < 2 ^ 64 }
-        ensures { result ≡ list_place self i }
-    {
-        self.m.base + 24 * self.m.count + 8 * i
+        Map {
+            base: self.keys,
+            count: n,
+            buckets: self.buckets,
+        }
     }
 
     // The place of the word of the i-th built-in text: the nine words stand before the slots.

@@ -11,7 +11,7 @@ use display::Met;
 use display::follow::{Held, inside, meet};
 use display::sink::{before, behind, between};
 use octets::numbers::Width;
-use resolve::commands::long;
+use parse_tree::size::long;
 use texts::text::text;
 
 // The place behind the symbol at a place: a flat run, k symbols are to come. (`grades::skip` asks for bytes behind the items, which need not be there.)
@@ -37,7 +37,7 @@ fn known(work: &[u8], g: Ground, at: usize) -> Option<usize>
     if !is_expanded(work[at]) {
         return None;
     }
-    match tells(work, g, at - g.from) {
+    match tells(work, g.slots, at - g.from) {
         Noted::Text(k) if k < g.m.count => Some(k),
         _ => None,
     }

@@ -13,12 +13,12 @@ use crate::slots::{Noted, put_slot};
 use display::form::Form;
 use texts::chain::put_record;
 
-// The symbol at p, whose form is f, as the n-th pushed one.
+// The symbol at p, whose form is f, as the n-th pushed one. `tape` for the clauses alone.
 fn push(tape: &[u8], work: &mut [u8], g: Ground, n: usize, p: usize, f: Form)
     requires { Grounded tape.now work.old g × Records tape.now work.old g n × (n < size_in g / 9) × KeyAt tape.now work.old g p × (f ≡ text_form (printed_at tape.now work.old g p)) }
     ensures { Pushed tape.now work.old g n p work.new }
 {
-    put_record(work, g.keys, g.buckets, n, p, f.hash, f.len as u32);
+    put_record(work, g.pushed(n), p, f.hash, f.len as u32);
 }
 
 // The symbol at p, which no symbol of this round prints as.
@@ -29,16 +29,16 @@ fn push_new(tape: &[u8], work: &mut [u8], g: Ground, n: usize, p: usize, f: Form
     match written(tape, work, g, p, f) {
         Some(k) => {
             if is_pushed(tape, work, g, k) {
-                put_slot(work, g, p, Noted::Text(k));
+                put_slot(work, g.slots, p, Noted::Text(k));
                 return n;
             }
             push(tape, work, g, n, p, f);
-            put_slot(work, g, p, Noted::Text(k));
+            put_slot(work, g.slots, p, Noted::Text(k));
             n + 1
         }
         None => {
             push(tape, work, g, n, p, f);
-            put_slot(work, g, p, Noted::Pushed(n));
+            put_slot(work, g.slots, p, Noted::Pushed(n));
             n + 1
         }
     }
@@ -51,7 +51,7 @@ pub fn note(tape: &[u8], work: &mut [u8], g: Ground, n: usize, p: usize, f: Form
 {
     match pending(tape, work, g, n, p, f) {
         Some(j) => {
-            put_slot(work, g, p, Noted::Pushed(j));
+            put_slot(work, g.slots, p, Noted::Pushed(j));
             n
         }
         None => push_new(tape, work, g, n, p, f),

@@ -9,7 +9,7 @@ use display::follow::inside;
 use display::form::Form;
 use display::forms::{join, none};
 use display::sink::{before, behind, between};
-use resolve::commands::long;
+use parse_tree::size::long;
 
 // The place behind symbols, a form with theirs behind, and how many symbols are pushed.
 #[derive(Clone, Copy)]

@@ -1,6 +1,6 @@
 // Slots: what is known of a symbol that is expanded, by its place; and the numbers of texts.
-ghost use Rattle.std.specs.Prelude.{◌≡◌, ◌+◌, ◌*◌, ◌%◌, ◌^◌, ◌≤◌, ◌<◌, length};
-ghost use Rattle.octets.specs.Plain.Numbers.{le};
+ghost use Rattle.std.specs.Prelude.{◌≡◌, ◌+◌, ◌*◌, ◌/◌, ◌%◌, ◌^◌, ◌≤◌, ◌<◌, length};
+ghost use Rattle.octets.specs.Plain.Numbers.{le, le_at};
 ghost use Rattle.octets.specs.Working.Stores.{store};
 ghost use Rattle.expander.specs.Ground.{slot_code, slot_place, slot_at, list_place, Grounded};
 ghost use Rattle.expander.specs.Held.{followed, Followable, Numbers};
@@ -45,13 +45,20 @@ fn code(x: Noted) -> usize
     }
 }
 
-// What the slot of the symbol at a place tells.
-#[tactic(auto, unfolding(crate::specs::Ground::slot_at))]
-pub fn tells(work: &[u8], g: Ground, p: usize) -> Noted
-    requires { slot_place g p + 8 ≤ length work.now }
-    ensures { slot_code result ≡ slot_at work.now g p }
+// The place of the slot of the symbol at p.
+fn place(slots: usize, p: usize) -> usize
+    requires { slots + 8 * (p / 9) < 2 ^ 64 }
+    ensures { result ≡ slots + 8 * (p / 9) }
 {
-    let v = u64_at(work, g.slot_place(p)) as usize;
+    slots + 8 * (p / 9)
+}
+
+// What the slot of the symbol at p tells, the slots standing from a place on.
+pub fn tells(work: &[u8], slots: usize, p: usize) -> Noted
+    requires { slots + 8 * (p / 9) + 8 ≤ length work.now }
+    ensures { slot_code result ≡ le_at 8 work.now (slots + 8 * (p / 9)) }
+{
+    let v = u64_at(work, place(slots, p)) as usize;
     if v % 2 == 0 {
         Noted::Text(v / 2)
     } else {
@@ -59,11 +66,11 @@ pub fn tells(work: &[u8], g: Ground, p: usize) -> Noted
     }
 }
 
-pub fn put_slot(work: &mut [u8], g: Ground, p: usize, x: Noted)
-    requires { (slot_place g p + 8 ≤ length work.old) × (slot_code x < 2 ^ 64) }
-    ensures { work.new ≡ store work.old (slot_place g p) (le 8 (slot_code x)) }
+pub fn put_slot(work: &mut [u8], slots: usize, p: usize, x: Noted)
+    requires { (slots + 8 * (p / 9) + 8 ≤ length work.old) × (slot_code x < 2 ^ 64) }
+    ensures { work.new ≡ store work.old (slots + 8 * (p / 9)) (le 8 (slot_code x)) }
 {
-    store64(work, g.slot_place(p), code(x) as u64);
+    store64(work, place(slots, p), code(x) as u64);
 }
 
 // What the slot of the symbol at a place tells, or that of the pushed one that it refers to.
@@ -71,23 +78,22 @@ pub fn reference(work: &[u8], g: Ground, p: usize) -> Noted
     requires { Followable work.now g p }
     ensures { slot_code result ≡ followed work.now g (slot_at work.now g p) }
 {
-    match tells(work, g, p) {
+    match tells(work, g.slots, p) {
         Noted::Text(k) => Noted::Text(k),
-        Noted::Pushed(j) => tells(work, g, mark(work, g.keys, j)),
+        Noted::Pushed(j) => tells(work, g.slots, mark(work, g.keys, j)),
     }
 }
 
 // The text of the j-th pushed symbol, which stands at q, is the c-th new one.
-#[tactic(auto, unfolding(crate::specs::Ground::list_place))]
 fn put_new(work: &mut [u8], g: Ground, c: usize, j: usize, q: usize)
     requires { (list_place g c + 8 ≤ length work.old) × (slot_place g q + 8 ≤ length work.old) × (24 * j ≤ length work.old) }
     ensures { work.new ≡ store (store work.old (list_place g c) (le 8 (2 * j))) (slot_place g q) (le 8 (2 * (g.m.count + c))) }
 {
-    put_entry(work, g, c, NewText::Print(j));
-    put_slot(work, g, q, Noted::Text(g.m.count + c));
+    put_entry(work, g.m, c, NewText::Print(j));
+    put_slot(work, g.slots, q, Noted::Text(g.m.count + c));
 }
 
-// The number of the text of the symbol at a place: the next one, if it has none yet. n symbols were pushed, c texts are new.
+// The number of the text of the symbol at a place: the next one, if it has none yet. n symbols were pushed, c texts are new. `tape` and `n` for the clauses alone.
 pub fn number(tape: &[u8], work: &mut [u8], g: Ground, n: usize, c: usize, p: usize) -> Numbered
     requires { Grounded tape.now work.old g × SomeNamed tape.now work.old g n c p × NameRoom work.old g c p }
     ensures { Numbers tape.now work.old g n c p result work.new × NamesOne tape.now work.old g n c p result work.new }

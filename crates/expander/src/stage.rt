@@ -9,6 +9,7 @@ use crate::Ground;
 use crate::replace::{Keyed, is_expanded, replace_symbol};
 use crate::slots::number;
 use octets::numbers::{Width, u64_at};
+use parse_tree::node::whole_nonterminal;
 use parse_tree::size::size_by_code;
 use precedence::write::{copy_within, put_nonterminal};
 
@@ -28,16 +29,16 @@ pub fn is_item(c: u8) -> bool
     matches!(c, 16 | 48..=49)
 }
 
-// Whether the definition of a macro begins at a place of work, where a command of the code c stands. One field, read by its place: a reader would read the whole command.
+// Whether the definition of a macro begins at a place of work, where a command of the code c stands.
 fn is_macro(work: &[u8], width: Width, at: usize, c: u8) -> bool
     requires { at + code_size width.bytes c ≤ length work.now }
     ensures { result ≡ macro_at width.bytes work.now at c }
 {
-    c == 16 && 0 < work[at + 10 + width.bytes]
+    c == 16 && 0 < whole_nonterminal(work, at, width).args
 }
 
 // The place of the next item from p on, or the end.
-// A loop, here and in `run_end` and `replace_items`: what is read at a place decides where the next turn begins, so an iterator of commands would be this loop with its place in a struct.
+// A loop, here and in `run_end` and `replace_items`: what is read at a place decides where the next turn begins, so an iterator of commands would be this loop with its place in a struct. `tape` for the clauses alone.
 fn next_item(tape: &[u8], work: &[u8], g: Ground, p: usize) -> usize
     requires { Grounded tape.now work.now g × SomeHops work.now g p }
     ensures { Skips work.now g p result }
@@ -69,7 +70,7 @@ fn is_left(work: &[u8], width: Width, at: usize, c: u8) -> bool
     is_expanded(c) || is_macro(work, width, at, c)
 }
 
-// The place behind the commands from p on that are copied: of a symbol that is expanded, of the definition of a macro, or the end.
+// The place behind the commands from p on that are copied: of a symbol that is expanded, of the definition of a macro, or the end. `tape` for the clauses alone.
 fn run_end(tape: &[u8], work: &[u8], g: Ground, p: usize) -> usize
     requires { Grounded tape.now work.now g × SomeWalk tape.now work.now g p }
     ensures { Copies tape.now work.now g p result }

@@ -1,17 +1,19 @@
 -- Grading all alternatives, and the lowest level: the ways out of the code. Assumes nothing.
 use mathlib.Core.Path.{◌≡◌, refl, sym, ap, ◌∙◌}
-use mathlib.Core.Bool.{Bool, true, false, not}
+use mathlib.Core.Bool.{Bool, true, false, not, cond}
 use mathlib.Core.Logic.{inl, inr}
-use mathlib.Core.List.{List}
-use Prim.Native.Nat.{ℕ, zero, suc, ◌+◌, ◌-◌, ◌*◌, ◌/◌, ◌%◌, ◌≤◌, ◌<◌}
+use mathlib.Core.List.{List, [], ◌∷◌, map}
+use Prim.Native.Nat.{ℕ, zero, suc, ◌+◌, ◌-◌, ◌*◌, ◌%◌, ◌≤◌, ◌<◌}
 use native.Mathlib.Omega.{arith}
 use native.Mathlib.Nat.{mul_comm}
 use borrow.Author.Rules.{rules}
-use borrow.Author.Tests.{not-true, not-false, lt-ltb, le-ltb, le-leb, lt-leb, leb-false}
+use borrow.Author.Tests.{tests, lt-ltb, le-ltb, le-leb, lt-leb, leb-false}
 use denote.Enum.Bare.{sameb}
 use lib.Dec.{eqb, leb, ltb}
 use lib.ListN.{length, get_or}
-use Rattle.std.specs.Prelude.{Option, Some, None, Result, Ok, Err}
+use Rattle.std.specs.Prelude.{Option, Some, None, MatchOption, Result, Ok, Err}
+use Rattle.std.specs.List.{range_with_len, take_while, find}
+use Rattle.std.proofs.lemmas.List.Sums.{take_while-cons}
 use Rattle.octets.specs.Working.Choice.{pick}
 use Rattle.octets.specs.Plain.Numbers.{le_at, le}
 use Rattle.octets.specs.Working.Stores.{store}
@@ -220,23 +222,7 @@ module _ (s w₀ : List ℕ) (m : Map) (wd : ℕ) (ids : Ids) (places keys n at 
 
 pub ruleset walking = (rules, walk_start, read_before, walk_worded, walk_inside, walk_last, walk_done, walk_few, walk_place, walk_key, walk_refused, walk_same, walk-next)
 
--- ---- place_of
-module _ (w : List ℕ) (places n k i : ℕ) (e : i ≡ k / 4 % 65536) where
-  pub place_there : i < n → (x : ℕ) → x ≡ le_at 8 w (places + 8 * i) → Some x ≡ place_of_key w places n k
-  unfolding place_of_key pick
-  place_there h x q = cc (lt-ltb i n h)
-
-  pub place_none : n ≤ i → None ≡ place_of_key w places n k
-  unfolding place_of_key pick
-  place_none h = cc (le-ltb i n h)
-
-pub ruleset placing = (rules, place_there, place_none)
-
--- ---- lowest: what is left from i on says the whole
-not_twice : (b : Bool) → not (not b) ≡ b
-not_twice true = refl
-not_twice false = refl
-
+-- ---- lowest
 -- a key's side is FullyAssoc where its last number is 3
 side_all : (k : ℕ) → sameb assoc_type (key_side k) Assoc.FullyAssoc ≡ eqb (k % 4) 3
 unfolding key_side pick
@@ -249,37 +235,47 @@ side_all k = go (k % 4) (omega arith)
     go (suc (suc (suc zero))) h = refl
     go (suc (suc (suc (suc n)))) h = absurd (omega arith)
 
-pub record Lowering (w : List ℕ) (keys places n i : ℕ) : Type 0 where
-  pub left : ℕ
-  pub many : i + left ≡ n
-  pub rest : lowest_from w keys places n i left ≡ lowest_from w keys places n 0 n
+abbrev pub sided : ℕ → Bool
+sided k = not (eqb (k % 4) 3)
 
-pub low_start : (w : List ℕ) (keys places n : ℕ) → Lowering w keys places n 0
-low_start w keys places n = record { left = n; many = omega arith; rest = refl }
+pub sided_is : (k : ℕ) (s : Assoc) (b : Bool) → s ≡ key_side k → b ≡ not (sameb assoc_type s Assoc.FullyAssoc) → b ≡ sided k
+sided_is k s b p q = q ∙ ap (λ (a : Assoc). not (sameb assoc_type a Assoc.FullyAssoc)) p ∙ ap not (side_all k)
 
-module _ (w : List ℕ) (keys places n i : ℕ) (g : Lowering w keys places n i) where
-  pub low_done : n ≤ i → None ≡ lowest_from w keys places n 0 n
+-- the i-th key is of the first key's level
+abbrev pub low_level : List ℕ → ℕ → ℕ → Bool
+low_level w keys i = eqb (level_at w keys i) (level_at w keys 0)
+
+abbrev pub low_key : List ℕ → ℕ → ℕ → ℕ
+low_key w keys i = le_at 8 w (keys + 8 * i)
+
+-- what is found among the keys left from the i-th on
+abbrev pub found_low : List ℕ → ℕ → ℕ → ℕ → Option ℕ
+found_low w keys i left = find sided (map (low_key w keys) (take_while (low_level w keys) (range_with_len i left)))
+
+module _ (w : List ℕ) (keys places n : ℕ) where
+  abbrev placed : Option ℕ → Option ℕ
+  placed None = None
+  placed (Some k) = place_of_key w places n k
+
+  one_by : (c d : Bool) (i : ℕ) (xs : List ℕ) (r : Option ℕ) → r ≡ placed (find sided (map (low_key w keys) xs)) → eqb (low_key w keys i % 4) 3 ≡ d
+      → pick c (pick d r (place_of_key w places n (low_key w keys i))) None ≡ placed (find sided (map (low_key w keys) (cond c (i ∷ xs) [])))
+  unfolding pick
+  one_by true true i xs r e h = rw h e
+  one_by true false i xs r e h = rw h refl
+  one_by false d i xs r e h = refl
+
+  chain_is : (left i : ℕ) → lowest_from w keys places n i left ≡ placed (found_low w keys i left)
   unfolding lowest_from
-  low_done h = let z : g.left ≡ 0 = omega (arith, g.many) in sym (cc z) ∙ g.rest
+  chain_is zero i = refl
+  chain_is (suc left) i =
+      let later = take_while (low_level w keys) (range_with_len (i + 1) left) in
+      rw (take_while-cons (low_level w keys) i (range_with_len (i + 1) left)) (one_by (low_level w keys i) (eqb (low_key w keys i % 4) 3) i later (lowest_from w keys places n (i + 1) left) (chain_is left (i + 1)) refl)
 
-  module _ (h : i < n) (c : Bool) (q : c ≡ eqb (level_at w keys i) (level_at w keys 0)) where
-    low_one : g.left ≡ suc (g.left - 1)
-    low_one = omega (arith, g.many)
+  pub lowest_is : (o r : Option ℕ) → o ≡ found_low w keys 0 n → MatchOption o (r ≡ None) (λ k. r ≡ place_of_key w places n k) → r ≡ lowest_from w keys places n 0 n
+  lowest_is o r e f = go o f ∙ ap placed e ∙ sym (chain_is n 0)
+    where
+      go : (x : Option ℕ) → MatchOption x (r ≡ None) (λ k. r ≡ place_of_key w places n k) → r ≡ placed x
+      go None h = h
+      go (Some k) h = h
 
-    pub low_other : not c ≡ true → None ≡ lowest_from w keys places n 0 n
-    unfolding lowest_from pick
-    low_other z = cc (low_one, q, not-true c z) ∙ g.rest
-
-    module _ (z : not c ≡ false) (k : ℕ) (l : k ≡ le_at 8 w (keys + 8 * i)) (s : Assoc) (t : s ≡ key_side k) (y : Bool) (x : y ≡ not (sameb assoc_type s Assoc.FullyAssoc)) where
-      low_side : not y ≡ eqb (k % 4) 3
-      low_side = ap not x ∙ not_twice (sameb assoc_type s Assoc.FullyAssoc) ∙ ap (λ (a : Assoc). sameb assoc_type a Assoc.FullyAssoc) t ∙ side_all k
-
-      pub low_place : y ≡ true → (r : Option ℕ) → r ≡ place_of_key w places n k → r ≡ lowest_from w keys places n 0 n
-      unfolding lowest_from pick
-      low_place u r o = cc (low_one, q, not-false c z, sym low_side ∙ ap not u, l, o) ∙ g.rest
-
-      pub low_next : y ≡ false → Lowering w keys places n (i + 1)
-      unfolding lowest_from pick
-      low_next u = record { left = g.left - 1; many = omega (arith, g.many); rest = cc (low_one, q, not-false c z, sym low_side ∙ ap not u, l) ∙ g.rest }
-
-pub ruleset lowering = (rules, low_start, low_done, low_other, low_place, low_next)
+pub ruleset lowering = (rules, tests, sided_is)

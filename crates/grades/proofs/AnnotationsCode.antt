@@ -2,17 +2,21 @@
 use mathlib.Core.Path.{◌≡◌, refl, sym, ap, ◌∙◌}
 use mathlib.Core.Bool.{Bool, true, false}
 use mathlib.Core.List.{List}
-use Prim.Native.Nat.{ℕ, zero, suc, ◌+◌, ◌-◌, ◌*◌, ◌^◌, ◌≤◌, ◌<◌}
+use Prim.Native.Nat.{ℕ, zero, suc, ◌+◌, ◌*◌, ◌^◌, ◌≤◌, ◌<◌}
 use native.Mathlib.Omega.{arith}
-use native.Mathlib.Nat.{mul-suc, mul-le-mul, mul-le-mul_right}
+use native.Mathlib.Nat.{mul-suc, mul-le-mul, mul-le-mul_left, mul-le-mul_right}
 use borrow.Author.Rules.{rules}
-use borrow.Author.Tests.{eq-eqb, ne_eqb}
+use borrow.Author.Tests.{eq-eqb, ne_eqb, eqb-true, eqb-false}
 use mir.Val.{Fits}
 use mir.Syntax.{w64}
+use lib.Dec.{eqb}
 use lib.ListN.{length, get_or}
-use Rattle.std.specs.Prelude.{Option, Some, None, is_some, option_map}
+use Rattle.std.specs.Prelude.{Option, Some, None, MatchOption, IfSome, is_some, option_map}
 use Rattle.octets.specs.Working.Choice.{pick}
 use Rattle.octets.specs.Plain.Numbers.{le_at}
+use Rattle.parse_tree.specs.declared.syntax.Alternative.{Alternative}
+use Rattle.parse_tree.specs.declared.syntax.NonterminalData.{NonterminalData}
+use Rattle.parse_tree.specs.Working.Nodes.{alternative_here, nonterminal_here}
 use Rattle.grades.specs.declared.Indices.{Indices}
 use Rattle.grades.specs.declared.Ids.{Ids}
 use Rattle.grades.specs.Skip.{skip_out}
@@ -36,90 +40,75 @@ no_id wd w p (suc n) = ap (option_map suc) (no_id wd w (p + (2 + 3 * wd)) n)
 pub look_none : (wd : ℕ) (id : Option ℕ) (w : List ℕ) (at n : ℕ) → id ≡ None → Finding wd id w at n None
 look_none wd id w at n e = rw e record { index = sym (no_id wd w at n); below = tt }
 
--- an index behind i
-abbrev pub from : ℕ → Option ℕ → Option ℕ
-from i o = option_map (λ j. i + j) o
+-- which attribute is the first of an id, as a search of them says
+abbrev pub FirstFound : (ℕ → Type 0) → (ℕ → Type 0) → ℕ → Option ℕ → Type 0
+FirstFound Yes No n r = MatchOption r ((k : ℕ) → 0 ≤ k → k < n → No k) (λ i. (0 ≤ i) × (i < n) × Yes i × ((k : ℕ) → 0 ≤ k → k < i → No k))
 
-from_start : (o : Option ℕ) → o ≡ from 0 o
-from_start None = refl
-from_start (Some j) = ap Some (omega arith)
+module _ (wd k : ℕ) (w : List ℕ) where
+  -- the i-th has the id, has another
+  abbrev pub Has : ℕ → ℕ → Type 0
+  Has p i = k ≡ le_at wd w (p + (2 + 3 * wd) * i + 1)
 
-from_next : (i : ℕ) (o : Option ℕ) → from i (option_map suc o) ≡ from (i + 1) o
-from_next i None = refl
-from_next i (Some j) = ap Some (omega arith)
+  abbrev pub HasNot : ℕ → ℕ → Type 0
+  HasNot p i = Has p i → ⊥
 
--- `left` attributes are to come, and the index among them is the rest of that among all
-pub record Looking (wd k : ℕ) (id : Option ℕ) (w : List ℕ) (at n size p i : ℕ) : Type 0 where
-  pub narrow : 2 ≤ wd
-  pub wide : wd ≤ 3
-  pub long : size ≡ 2 + 3 * wd
-  pub is : id ≡ Some k
-  pub left : ℕ
-  pub many : i + left ≡ n
-  pub room : p + attributes_long wd left ≤ length w
-  pub rest : first_with wd id w at n ≡ from i (first_with wd id w p left)
+  behind : (p i : ℕ) → p + (2 + 3 * wd) + (2 + 3 * wd) * i + 1 ≡ p + (2 + 3 * wd) * suc i + 1
+  behind p i = omega (arith, mul-suc (2 + 3 * wd) i)
 
-pub look_start : (wd k : ℕ) (id : Option ℕ) (w : List ℕ) (at n : ℕ) → 2 ≤ wd → wd ≤ 3 → id ≡ Some k → at + attributes_long wd n ≤ length w → Looking wd k id w at n (2 + 3 * wd) at 0
-look_start wd k id w at n h l e r =
-    record { narrow = h; wide = l; long = refl; is = e; left = n; many = omega arith; room = r; rest = from_start (first_with wd id w at n) }
+  first-place : (p : ℕ) → p + (2 + 3 * wd) * 0 + 1 ≡ p + 1
+  first-place p = omega arith
 
-none_left : (wd : ℕ) (id : Option ℕ) (w : List ℕ) (p l : ℕ) → l ≡ 0 → first_with wd id w p l ≡ None
-unfolding first_with
-none_left wd id w p l e = cc
+  -- the same at a place that is said otherwise
+  moved : (x y : ℕ) → x ≡ y → k ≡ le_at wd w x → k ≡ le_at wd w y
+  moved x y e h = rw (← e) h
 
-module _ (wd k : ℕ) (id : Option ℕ) (w : List ℕ) (at n size p i : ℕ) (g : Looking wd k id w at n size p i) where
-  pub look_done : n ≤ i → Finding wd id w at n None
-  look_done h = record { index = sym (g.rest ∙ ap (from i) (none_left wd id w p g.left (omega (arith, g.many)))); below = tt }
+  not_behind : (p n : ℕ) → ((i : ℕ) → 0 ≤ i → i < suc n → HasNot p i) → (i : ℕ) → 0 ≤ i → i < n → HasNot (p + (2 + 3 * wd)) i
+  not_behind p n f i _ l h = f (suc i) (omega arith) (omega arith) (moved _ _ (behind p i) h)
 
-  module _ (h : i < n) where
-    abbrev next : ℕ
-    next = g.left - 1
+  rest_found : (p n : ℕ) (r : Option ℕ) → FirstFound (Has p) (HasNot p) (suc n) r → HasNot p 0
+      → (s : Option ℕ) × FirstFound (Has (p + (2 + 3 * wd))) (HasNot (p + (2 + 3 * wd))) n s × (r ≡ option_map suc s)
+  rest_found p n None f h = (None, not_behind p n f, refl)
+  rest_found p n (Some zero) f h = absurd (h f.2)
+  rest_found p n (Some (suc i)) f h = (Some i, (omega arith, omega (arith, f.1), moved _ _ (sym (behind p i)) f.2, not_behind p i f.3), refl)
 
-    one : g.left ≡ suc next
-    one = omega (arith, g.many)
+  now_found : (p n : ℕ) (r : Option ℕ) → FirstFound (Has p) (HasNot p) (suc n) r → Has p 0 → r ≡ Some 0
+  now_found p n None f h = absurd (f 0 (omega arith) (omega arith) h)
+  now_found p n (Some zero) f h = refl
+  now_found p n (Some (suc i)) f h = absurd (f.3 0 (omega arith) (omega arith) h)
 
-    long_next : attributes_long wd g.left ≡ attributes_long wd next + (2 + 3 * wd)
-    long_next = ap (attributes_long wd) one ∙ long_more wd next
+  found_first : (p n : ℕ) (r : Option ℕ) → FirstFound (Has p) (HasNot p) n r → r ≡ first_with wd (Some k) w p n
+  unfolding first_with pick
+  found_first p zero None f = refl
+  found_first p zero (Some i) f = absurd (omega (arith, f.1))
+  found_first p (suc n) r f = go (found_first (p + (2 + 3 * wd)) n) (eqb k (le_at wd w (p + 1))) refl
+    where
+      go : ((s : Option ℕ) → FirstFound (Has (p + (2 + 3 * wd))) (HasNot (p + (2 + 3 * wd))) n s → s ≡ first_with wd (Some k) w (p + (2 + 3 * wd)) n)
+          → (b : Bool) → eqb k (le_at wd w (p + 1)) ≡ b → r ≡ pick b (Some 0) (option_map suc (first_with wd (Some k) w (p + (2 + 3 * wd)) n))
+      go h true z = now_found p n r f (moved _ _ (sym (first-place p)) (eqb-true k (le_at wd w (p + 1)) z))
+      go h false z =
+          let g = rest_found p n r f (λ e. eqb-false k (le_at wd w (p + 1)) z (moved _ _ (first-place p) e)) in
+          g.2 ∙ ap (option_map suc) (h g.0 g.1)
 
-    pub look_fits : p + 1 + wd ≤ length w
-    look_fits = omega (arith, long_next, g.room)
+  pub found_is : (p n : ℕ) (id r : Option ℕ) → id ≡ Some k → FirstFound (Has p) (HasNot p) n r → Finding wd id w p n r
+  found_is p n id r e f = rw e record { index = found_first p n r f; below = below_is r f }
+    where
+      below_is : (o : Option ℕ) → FirstFound (Has p) (HasNot p) n o → IfSome o (λ i. i < n)
+      below_is None g = tt
+      below_is (Some i) g = g.1
 
-    opened : first_with wd id w at n ≡ from i (first_with wd id w p (suc next))
-    opened = g.rest ∙ ap (λ (l : ℕ). from i (first_with wd id w p l)) one
+-- what is looked at of the i-th of n lies in work
+pub look_fits : (wd at n i m : ℕ) → at + attributes_long wd n ≤ m → i < n → at + (2 + 3 * wd) * i + (2 + wd + wd + wd) ≤ m
+unfolding attributes_long
+look_fits wd at n i m h l = omega (arith, mul-le-mul_left {m = suc i} {n = n} (2 + 3 * wd) (omega arith), mul-suc (2 + 3 * wd) i)
 
-    module _ (x v : ℕ) (r : x ≡ le_at wd w (p + 1)) (q : v ≡ x) where
-      here : k ≡ v → first_with wd id w p (suc next) ≡ Some 0
-      unfolding first_with pick
-      here e = let z = eq-eqb k (le_at wd w (p + 1)) (e ∙ q ∙ r) in let y = g.is in cc
-
-      pub look_found : k ≡ v → Finding wd id w at n (Some i)
-      look_found e = record { index = sym (opened ∙ ap (from i) (here e) ∙ ap Some (omega arith)); below = h }
-
-      later : (k ≡ v → ⊥) → first_with wd id w p (suc next) ≡ option_map suc (first_with wd id w (p + (2 + 3 * wd)) next)
-      unfolding first_with pick
-      later e = let z = ne_eqb k (le_at wd w (p + 1)) (λ z. e (z ∙ sym r ∙ sym q)) in let y = g.is in cc
-
-      pub look_next : (k ≡ v → ⊥) → Looking wd k id w at n size (p + size) (i + 1)
-      look_next e =
-          let z : p + size ≡ p + (2 + 3 * wd) = omega (arith, g.long) in
-          record {
-            narrow = g.narrow;
-            wide = g.wide;
-            long = g.long;
-            is = g.is;
-            left = next;
-            many = omega (arith, g.many);
-            room = omega (arith, long_next, g.room, g.long);
-            rest = opened ∙ ap (from i) (later e) ∙ from_next i (first_with wd id w (p + (2 + 3 * wd)) next) ∙ ap (λ (y : ℕ). from (i + 1) (first_with wd id w y next)) (sym z);
-          }
-
-pub ruleset looking = (rules, look_none, look_start, look_done, look_fits, look_found, look_next)
+pub ruleset looking = (rules, look_none, look_fits)
 
 -- ---- annotated
-pub end_whole : (wd : ℕ) (w : List ℕ) (at x n : ℕ) → attributes_end wd w at ≤ length w → x ≡ get_or w (at + 9) 0 → n ≡ x → at + 14 + wd + attributes_long wd n ≤ length w
-end_whole wd w at x n h p q = let z : n ≡ get_or w (at + 9) 0 = q ∙ p in rw z h
+pub end_whole : (wd : ℕ) (w : List ℕ) (at n : ℕ) (d : Alternative) → attributes_end wd w at ≤ length w → d ≡ alternative_here wd w at → n ≡ d.attributes
+    → at + 14 + wd + attributes_long wd n ≤ length w
+end_whole wd w at n d h p q = let z : n ≡ get_or w (at + 9) 0 = cc in rw z h
 
-module _ (wd : ℕ) (ids : Ids) (w : List ℕ) (at x n : ℕ) (p : x ≡ get_or w (at + 9) 0) (q : n ≡ x) (f : Indices) (a : Annotates wd ids w (at + 14 + wd) n f) where
+module _ (wd : ℕ) (ids : Ids) (w : List ℕ) (at n : ℕ) (d : Alternative) (p : d ≡ alternative_here wd w at) (q : n ≡ d.attributes) (f : Indices) (a : Annotates wd ids w (at + 14 + wd) n f) where
   pub annotated-level : is_some f.precedence ≡ true → true ≡ annotated_at wd ids w at
   unfolding annotated_at pick
   annotated-level h = cc (a.precedence.index)
@@ -141,9 +130,9 @@ module _ (wd n : ℕ) (h : wd ≤ 3) (k : n < 256) where
   pub few_behind : (m at : ℕ) → m * 1 < 2 ^ 63 → at + 13 + wd ≤ m → Fits w64 (at + 13 + wd + (1 + wd) * n)
   few_behind m at l r = omega (arith, few)
 
-pub first-is : (wd : ℕ) (w : List ℕ) (at x n : ℕ) → x ≡ get_or w (at + 10 + wd) 0 → n ≡ x → at + 13 + wd + (1 + wd) * n ≡ first_alternative wd w at
+pub first-is : (wd : ℕ) (w : List ℕ) (at n : ℕ) (d : NonterminalData) → d ≡ nonterminal_here wd w at → n ≡ d.args → at + 13 + wd + (1 + wd) * n ≡ first_alternative wd w at
 unfolding first_alternative
-first-is wd w at x n p q = ap (λ (k : ℕ). at + 13 + wd + (1 + wd) * k) (q ∙ p)
+first-is wd w at n d p q = cc
 
 pub ruleset placing = (rules, few_fits, few_behind, first-is)
 
@@ -153,12 +142,15 @@ module _ (wd : ℕ) (w : List ℕ) (at : ℕ) where
   unfolding has_prec_attr pick
   has_other ids h = cc (ne_eqb (get_or w at 0) 16 h)
 
-  module _ (e : get_or w at 0 ≡ 16) (v : ℕ) (j : v ≡ le_at 2 w (at + 11 + wd)) where
-    pub has-none : (ids : Ids) → v ≡ 0 → false ≡ has_prec_attr wd ids w at
+  module _ (e : get_or w at 0 ≡ 16) (d : NonterminalData) (y : d ≡ nonterminal_here wd w at) where
+    j : d.alternatives ≡ le_at 2 w (at + 11 + wd)
+    j = ap (λ (z : NonterminalData). z.alternatives) y
+
+    pub has-none : (ids : Ids) → d.alternatives ≡ 0 → false ≡ has_prec_attr wd ids w at
     unfolding has_prec_attr pick
     has-none ids h = cc (eq-eqb (get_or w at 0) 16 e, eq-eqb (le_at 2 w (at + 11 + wd)) 0 (sym j ∙ h))
 
-    module _ (h : v ≡ 0 → ⊥) (a : ℕ) (p : a ≡ first_alternative wd w at) where
+    module _ (h : d.alternatives ≡ 0 → ⊥) (a : ℕ) (p : a ≡ first_alternative wd w at) where
       pub has-fits : HeadInside wd w at → attributes_end wd w a ≤ length w
       has-fits g = rw p (g.first e (λ z. h (j ∙ z)))
 
@@ -196,8 +188,8 @@ symbols_are w wd p n m z y = cc
 pub ruleset symboling = (rules, times-attributes, times-conditions, sum_attributes, sum_conditions, symbols_are)
 
 -- ---- alternative_end
-pub end_is : (wd : ℕ) (w : List ℕ) (at e s x n r : ℕ) → s ≡ symbols_from wd w at → x ≡ le_at 2 w (at + 12 + wd) → n ≡ x → r ≡ skip_out wd e w s e n → r ≡ alternative_end wd w at e
+pub end_is : (wd : ℕ) (w : List ℕ) (at e s n r : ℕ) (d : Alternative) → s ≡ symbols_from wd w at → d ≡ alternative_here wd w at → n ≡ d.symbols → r ≡ skip_out wd e w s e n → r ≡ alternative_end wd w at e
 unfolding alternative_end
-end_is wd w at e s x n r p q i j = cc
+end_is wd w at e s n r d p q i j = cc
 
 pub ruleset ending = (rules, end_is)

@@ -1,39 +1,31 @@
 -- Numbers in decimal: the loops of number_size and put_digits. Assumes nothing.
 use mathlib.Core.Path.{◌≡◌, refl, sym, ap, ◌∙◌}
 use mathlib.Core.List.{List, [], ◌∷◌}
-use Prim.Native.Nat.{ℕ, zero, suc, ◌+◌, ◌-◌, ◌/◌, ◌%◌, ◌^◌, ◌≤◌, ◌<◌}
+use Prim.Native.Nat.{ℕ, zero, suc, ◌+◌, ◌-◌, ◌*◌, ◌/◌, ◌%◌, ◌^◌, ◌≤◌, ◌<◌}
 use native.Mathlib.Omega.{arith}
 use borrow.Author.Rules.{rules}
 use lib.ListN.{length, set}
 use lib.Seq.{sets, set_comm}
+use Rattle.std.specs.Prelude.{Option, Some, None, IfNone, IfSome, MatchOption}
 use Rattle.octets.specs.Working.Stores.{store}
 use Rattle.octets.proofs.StoreLaws.{store-none, length_store}
 use Rattle.grades.specs.Grade.{number_digits}
 use Rattle.grades.proofs.DecimalLaws.{last, size_by, front, number-front, number_long, size_one, size_more}
 
--- ---- number_size: n digits are counted but for those that q has, which are at most one more than `left`
-pub record Sizing (v n q : ℕ) : Type 0 where
-  pub left : ℕ
-  pub some : 1 ≤ n
-  pub sum : n + left ≡ 20
-  pub below : q < 10 ^ suc left
-  pub rest : n + size_by (suc left) q ≡ suc (length (number_digits v))
+-- ---- number_size
+size_power : (j k q : ℕ) → k ≤ j → 10 ^ k ≤ q → q < 10 * 10 ^ k → size_by (suc j) q ≡ k + 1
+size_power j zero q l h m = size_one j q (omega arith)
+size_power zero (suc k) q l h m = absurd (omega arith)
+size_power (suc j) (suc k) q l h m = size_more (suc j) q (omega arith) ∙ ap suc (size_power j k (q / 10) (omega arith) (omega arith) (omega arith)) ∙ omega arith
 
-pub size_start : (v : ℕ) → v < 2 ^ 64 → Sizing v 1 v
-size_start v h = record { left = 19; some = omega arith; sum = refl; below = omega arith; rest = omega (arith, number_long v) }
+module _ (v : ℕ) where
+  abbrev Size : ℕ → Type 0
+  Size n = (n ≡ length (number_digits v)) × (1 ≤ n) × (n ≤ 20)
 
-module _ (v n q : ℕ) (c : Sizing v n q) where
-  pub size_next : 9 < q → Sizing v (n + 1) (q / 10)
-  size_next h = go c.left c.sum c.below c.rest
-    where
-      go : (l : ℕ) → n + l ≡ 20 → q < 10 ^ suc l → n + size_by (suc l) q ≡ suc (length (number_digits v)) → Sizing v (n + 1) (q / 10)
-      go zero s b r = absurd (omega arith)
-      go (suc l) s b r = record { left = l; some = omega arith; sum = omega arith; below = omega arith; rest = omega (arith, r, size_more (suc l) q h) }
-
-  pub size_done : q ≤ 9 → n ≡ length (number_digits v)
-  size_done h = omega (arith, c.rest, size_one c.left q h)
-
-pub ruleset sizing = (rules, size_start, size_next, size_done)
+  pub size_is_power : (o : Option ℕ) (n : ℕ) → IfNone o (v ≡ 0) → IfSome o (λ k. 10 ^ k ≤ v) → IfSome o (λ k. v < 10 * 10 ^ k) → IfSome o (λ k. k < 20)
+      → MatchOption o (n ≡ 1) (λ k. n ≡ k + 1) → Size n
+  size_is_power None n e l m h r = (r ∙ sym (number_long v ∙ size_one 19 v (omega (arith, e))), omega (arith, r), omega (arith, r))
+  size_is_power (Some k) n e l m h r = (r ∙ sym (number_long v ∙ size_power 19 k v (omega (arith, h)) l m), omega (arith, r), omega (arith, r, h))
 
 -- ---- put_digits
 sets_set : (b w : List ℕ) (i a d : ℕ) → a < i → set (sets w i b) a d ≡ sets (set w a d) i b

@@ -1,22 +1,28 @@
--- What the texts of attributes say: the ways out of read_level, read_digits and read_assoc. Assumes nothing.
+-- What the texts of attributes say: the ways out of read_level and read_assoc. Assumes nothing.
 use mathlib.Core.Path.{◌≡◌, refl, sym, ap, ◌∙◌}
 use mathlib.Core.Bool.{Bool, true, false, cond, ◌&&◌}
 use mathlib.Core.List.{List, [], ◌∷◌}
 use mathlib.Core.Option.{none, some}
-use Prim.Native.Nat.{ℕ, suc, ◌+◌, ◌*◌, ◌-◌, ◌≤◌, ◌<◌}
+use Prim.Native.Nat.{ℕ, zero, suc, ◌+◌, ◌*◌, ◌-◌, ◌≤◌, ◌<◌}
 use native.Mathlib.Omega.{arith}
-use native.Mathlib.Numerals.{add-one}
 use borrow.Author.Rules.{rules}
-use borrow.Author.Tests.{le-leb, lt-leb, eq-eqb, ne_eqb, eqb-true, eqb-false, leb-true, leb-false}
+use borrow.Author.Tests.{le-leb, lt-leb, eqb-true, eqb-false, leb-true, leb-false}
 use lib.Dec.{leb, eqb}
-use lib.ListN.{length, get_or, take, drop, drop_of_length-le}
-use lib.Seq.{drop-cons, take-length}
-use Rattle.std.specs.Prelude.{Option, Some, None}
-use lib.Pointwise.{pointwise}
-use Rattle.octets.proofs.SameLaws.{said-same}
-use Rattle.passes.specs.Grades.{is_digit, digits, unsigned}
+use lib.ListN.{length, get_or}
+use Rattle.std.specs.Prelude.{Some, None, Result, Ok, Err}
+use Rattle.std.specs.Int.{IsInRange}
+use Rattle.std.specs.Result.{OkIff, result_ok}
+use Rattle.std.specs.Str.{IsUtf8, IsAscii}
+use Rattle.std.specs.Str.Parse.{AllDigits, ParsesUnsigned}
+use Rattle.std.proofs.lemmas.Fmt.{IsAscii-from_digits}
+use Rattle.std.proofs.lemmas.Str.{IsUtf8-from_ascii}
+use Rattle.std.proofs.lemmas.Str.Parse.{IsNumeralModel, numerals_by_fold, tells_digits, parse_plain, parse_plus}
+use Rattle.octets.specs.Plain.Runs.{same_as}
+use Rattle.octets.proofs.SameLaws.{same_as-eq}
+use Rattle.passes.specs.Grades.{all, non, left, right, is_digit, digits, unsigned}
 use Rattle.grades.specs.declared.Assoc.{Assoc}
-use Rattle.grades.specs.Grade.{level_answer, level_said, digits_said, assoc_said}
+use Rattle.grades.specs.Grade.{assoc_answer, level_answer, level_said, assoc_said}
+use Rattle.grades.proofs.DecimalLaws.{value_from}
 
 -- ---- digits
 not_digit : (b v : ℕ) (bs : List ℕ) → is_digit b ≡ false → digits v (b ∷ bs) ≡ none
@@ -25,24 +31,6 @@ not_digit b v bs e = ap (λ (x : Bool). cond x (digits (v * 10 + (b - 48)) bs) n
 is_digit_lem : (b v : ℕ) (bs : List ℕ) → is_digit b ≡ true → digits v (b ∷ bs) ≡ digits (v * 10 + (b - 48)) bs
 is_digit_lem b v bs e = ap (λ (x : Bool). cond x (digits (v * 10 + (b - 48)) bs) none) e
 
-low-is : (b : ℕ) → b < 48 → is_digit b ≡ false
-low-is b h = ap (λ (x : Bool). x && leb b 57) (lt-leb 48 b h)
-
-high_is : (b : ℕ) → 48 ≤ b → 57 < b → is_digit b ≡ false
-high_is b h k = ap (λ (x : Bool). x && leb b 57) (le-leb 48 b h) ∙ lt-leb b 57 k
-
-digit_is : (b : ℕ) → 48 ≤ b → b ≤ 57 → is_digit b ≡ true
-digit_is b h k = ap (λ (x : Bool). x && leb b 57) (le-leb 48 b h) ∙ le-leb b 57 k
-
--- a number that is too large stays so
-digits-over : (bs : List ℕ) (v : ℕ) → 4294967295 < v → digits v bs ≡ none
-digits-over [] v h = ap (λ (x : Bool). cond x (some v) none) (lt-leb v 4294967295 h)
-digits-over (b ∷ bs) v h = go (is_digit b) refl (digits-over bs (v * 10 + (b - 48)) (omega arith))
-  where
-    go : (x : Bool) → is_digit b ≡ x → digits (v * 10 + (b - 48)) bs ≡ none → digits v (b ∷ bs) ≡ none
-    go true e i = is_digit_lem b v bs e ∙ i
-    go false e i = not_digit b v bs e
-
 not-less : (m n : ℕ) → (m < n → ⊥) → n ≤ m
 not-less m n h = go (leb n m) refl
   where
@@ -50,105 +38,121 @@ not-less m n h = go (leb n m) refl
     go true e = leb-true n m e
     go false e = absurd (h (leb-false n m e))
 
--- what is left from i on, behind the number v, says what the whole says
-pub record Reading (t : List ℕ) (x : Option ℕ) (i v : ℕ) : Type 0 where
-  pub rest : level_answer (digits v (drop i t)) ≡ x
-  pub fits : v < 4294967296
+in_digits : (b : ℕ) → is_digit b ≡ true → IsInRange 48 57 b
+in_digits b e = go (leb 48 b) (leb b 57) refl refl e
+  where
+    go : (x y : Bool) → leb 48 b ≡ x → leb b 57 ≡ y → x && y ≡ true → IsInRange 48 57 b
+    go true true p q z = (leb-true 48 b p, leb-true b 57 q)
+    go true false p q z = cc
+    go false y p q z = cc
 
-open_text : (t : List ℕ) (i : ℕ) → i < length t → drop i t ≡ get_or t i 0 ∷ drop (i + 1) t
-open_text t i h = rw add-one (drop-cons t i 0 h)
+digit_in : (b : ℕ) → IsInRange 48 57 b → is_digit b ≡ true
+digit_in b r = ap (λ (x : Bool). x && leb b 57) (le-leb 48 b r.0) ∙ le-leb b 57 r.1
 
-module _ (r : Bool) where
-  pub digits-none : (t : List ℕ) → r ≡ eqb (length t) 0 → r ≡ true → None ≡ digits_said t
-  unfolding digits_said
-  digits-none [] e h = refl
-  digits-none (b ∷ t) e h = let z = eqb-true (length (b ∷ t)) 0 (sym e ∙ h) in absurd (omega arith)
+own : IsNumeralModel (AllDigits 10) (value_from 0)
+unfolding value_from
+own = numerals_by_fold (AllDigits 10) tells_digits value_from (search rules)
 
-  pub digits-start : (t : List ℕ) → r ≡ eqb (length t) 0 → r ≡ false → Reading t (digits_said t) 0 0
-  unfolding digits_said
-  digits-start [] e h = absurd (eqb-false 0 0 (sym e ∙ h) refl)
-  digits-start (b ∷ t) e h = record { rest = refl; fits = omega arith }
+some_digits : (bs : List ℕ) (v : ℕ) → AllDigits 10 bs → value_from v bs < 4294967296 → digits v bs ≡ some (value_from v bs)
+unfolding value_from
+some_digits [] v d h = ap (λ (x : Bool). cond x (some v) none) (le-leb v 4294967295 (omega arith))
+some_digits (b ∷ bs) v d h =
+    let z = tells_digits.parts b bs d in
+    is_digit_lem b v bs (digit_in b z.0) ∙ some_digits bs (v * 10 + (b - 48)) z.1 h
 
-module _ (t : List ℕ) (x : Option ℕ) (i v : ℕ) (c : Reading t x i v) where
-  opened : (b : ℕ) → b ≡ get_or t i 0 → i < length t → level_answer (digits v (b ∷ drop (i + 1) t)) ≡ x
-  opened b e h = rw e (ap (λ (l : List ℕ). level_answer (digits v l)) (sym (open_text t i h)) ∙ c.rest)
+no_digits : (bs : List ℕ) (v : ℕ) → (AllDigits 10 bs → value_from v bs < 4294967296 → ⊥) → digits v bs ≡ none
+unfolding value_from
+no_digits [] v h = ap (λ (x : Bool). cond x (some v) none) (lt-leb v 4294967295 (omega (arith, not-less v 4294967296 (h tt))))
+no_digits (b ∷ bs) v h = go (is_digit b) refl (no_digits bs (v * 10 + (b - 48)))
+  where
+    go : (x : Bool) → is_digit b ≡ x → ((AllDigits 10 bs → value_from (v * 10 + (b - 48)) bs < 4294967296 → ⊥) → digits (v * 10 + (b - 48)) bs ≡ none) → digits v (b ∷ bs) ≡ none
+    go true e i = is_digit_lem b v bs e ∙ i (λ d. h (tells_digits.more b bs (in_digits b e) d))
+    go false e i = not_digit b v bs e
 
-  refused : (l : List ℕ) → level_answer (digits v l) ≡ x → digits v l ≡ none → None ≡ x
-  refused l p e = sym (ap level_answer e) ∙ p
+-- ---- read_level: what is no UTF-8 is no level
+one_more : (b : ℕ) (bs : List ℕ) → b < 128 → IsAscii bs → IsAscii (b ∷ bs)
+one_more b bs h a zero = h
+one_more b bs h a (suc i) = a i
 
-  module _ (h : i < length t) (b : ℕ) (e : b ≡ get_or t i 0) where
-    pub digits_low : b < 48 → None ≡ x
-    digits_low l = refused (b ∷ drop (i + 1) t) (opened b e h) (not_digit b v (drop (i + 1) t) (low-is b l))
+not_digits : (bs : List ℕ) → (AllDigits 10 bs → ⊥) → level_answer (unsigned bs) ≡ None
+not_digits [] h = refl
+not_digits (b ∷ bs) h = ap level_answer (no_digits (b ∷ bs) 0 (λ d k. h d))
 
-    pub digits-high : 48 ≤ b → 57 < b → None ≡ x
-    digits-high l k = refused (b ∷ drop (i + 1) t) (opened b e h) (not_digit b v (drop (i + 1) t) (high_is b l k))
+pub level_no_text : (t : List ℕ) → (IsUtf8 t → ⊥) → None ≡ level_said t
+unfolding level_said
+level_no_text [] h = refl
+level_no_text (b ∷ bs) h = go (eqb b 43) refl
+  where
+    go : (x : Bool) → eqb b 43 ≡ x → None ≡ level_answer (cond x (unsigned bs) (unsigned (b ∷ bs)))
+    go true e = let z = eqb-true b 43 e in sym (not_digits bs (λ d. h (IsUtf8-from_ascii (b ∷ bs) (one_more b bs (omega (arith, z)) (IsAscii-from_digits bs d)))))
+    go false e = sym (not_digits (b ∷ bs) (λ d. h (IsUtf8-from_ascii (b ∷ bs) (IsAscii-from_digits (b ∷ bs) d))))
 
-    digits-large : 48 ≤ b → b ≤ 57 → 4294967295 < v * 10 + (b - 48) → None ≡ x
-    digits-large l k o =
-        refused (b ∷ drop (i + 1) t) (opened b e h) (is_digit_lem b v (drop (i + 1) t) (digit_is b l k) ∙ digits-over (drop (i + 1) t) (v * 10 + (b - 48)) o)
+-- what `parse` says of digits
+digits_parsed : {E : Type 0} (bs : List ℕ) (r : Result ℕ E) → OkIff r (AllDigits 10 bs × (0 < length bs) × (value_from 0 bs < 4294967296)) (value_from 0 bs) → result_ok r ≡ level_answer (unsigned bs)
+digits_parsed [] (Ok x) h = absurd (omega (arith, h.0.1))
+digits_parsed [] (Err e) h = refl
+digits_parsed (b ∷ bs) (Ok x) h = ap Some h.1 ∙ sym (ap level_answer (some_digits (b ∷ bs) 0 h.0.0 h.0.2))
+digits_parsed (b ∷ bs) (Err e) h = sym (ap level_answer (no_digits (b ∷ bs) 0 (λ d k. h (d, omega arith, k))))
 
-    pub digits-times : 48 ≤ b → b ≤ 57 → (v * 10 < 4294967296 → ⊥) → None ≡ x
-    digits-times l k o = digits-large l k (omega (arith, not-less (v * 10) 4294967296 o))
+pub level_parsed : {E : Type 0} (t : List ℕ) (r : Result ℕ E) → ParsesUnsigned 32 10 t r → result_ok r ≡ level_said t
+unfolding level_said
+level_parsed [] r h = digits_parsed [] r (parse_plain own 32 [] r h (λ e. cc))
+level_parsed (b ∷ bs) r h = go (eqb b 43) refl
+  where
+    go : (x : Bool) → eqb b 43 ≡ x → result_ok r ≡ level_answer (cond x (unsigned bs) (unsigned (b ∷ bs)))
+    go true e = digits_parsed bs r (parse_plus own 32 (b ∷ bs) r h (eqb-true b 43 e))
+    go false e = digits_parsed (b ∷ bs) r (parse_plain own 32 (b ∷ bs) r h (eqb-false b 43 e))
 
-    pub digits-plus : 48 ≤ b → b ≤ 57 → (v * 10 + (b - 48) < 4294967296 → ⊥) → None ≡ x
-    digits-plus l k o = digits-large l k (omega (arith, not-less (v * 10 + (b - 48)) 4294967296 o))
-
-    pub digits-next : 48 ≤ b → b ≤ 57 → v * 10 + (b - 48) ≤ 4294967295 → Reading t x (i + 1) (v * 10 + (b - 48))
-    digits-next l k o = record {
-      rest = ap level_answer (sym (is_digit_lem b v (drop (i + 1) t) (digit_is b l k))) ∙ opened b e h;
-      fits = omega arith;
-    }
-
-  pub digits-done : length t ≤ i → Some v ≡ x
-  digits-done h = sym (ap level_answer (ap (digits v) (drop_of_length-le t {i = i} h) ∙ ap (λ (y : Bool). cond y (some v) none) (le-leb v 4294967295 (omega (arith, c.fits))))) ∙ c.rest
-
-pub ruleset digiting = (rules, digits-none, digits-start, digits_low, digits-high, digits-times, digits-plus, digits-next, digits-done)
-
--- ---- read_level
-whole : (t : List ℕ) → take (suc (length t) - 1) t ≡ t
-whole t = let z : suc (length t) - 1 ≡ length t = omega arith in rw z (take-length t)
-
-module _ (k : Bool) where
-  pub level_none : (t : List ℕ) → k ≡ eqb (length t) 0 → k ≡ true → None ≡ level_said t
-  unfolding level_said
-  level_none [] h e = refl
-  level_none (b ∷ t) h e = let z = eqb-true (length (b ∷ t)) 0 (sym h ∙ e) in absurd (omega arith)
-
-pub level_plus : (t : List ℕ) (r : Option ℕ) (k : Bool) → k ≡ eqb (length t) 0 → k ≡ false → get_or t 0 0 ≡ 43 → r ≡ digits_said (take (length t - 1) (drop 1 t)) → r ≡ level_said t
-unfolding level_said digits_said
-level_plus [] r k h g e c = absurd (eqb-false 0 0 (sym h ∙ g) refl)
-level_plus (b ∷ t) r k h g e c = c ∙ ap (λ (l : List ℕ). level_answer (unsigned l)) (whole t) ∙ sym (ap (λ (x : Bool). level_answer (cond x (unsigned t) (unsigned (b ∷ t)))) (eq-eqb b 43 e))
-
-pub level_plain : (t : List ℕ) (r : Option ℕ) (k : Bool) → k ≡ eqb (length t) 0 → k ≡ false → (get_or t 0 0 ≡ 43 → ⊥) → r ≡ digits_said t → r ≡ level_said t
-unfolding level_said digits_said
-level_plain [] r k h g e c = absurd (eqb-false 0 0 (sym h ∙ g) refl)
-level_plain (b ∷ t) r k h g e c = c ∙ sym (ap (λ (x : Bool). level_answer (cond x (unsigned t) (unsigned (b ∷ t)))) (ne_eqb b 43 e))
-
-pub ruleset levelling = (rules, level_none, level_plus, level_plain)
+pub ruleset levelling = (rules, level_no_text, level_parsed)
 
 -- ---- read_assoc
-module _ (t : List ℕ) (a : Bool) (p : a ≡ pointwise eqb t (97 ∷ 108 ∷ 108 ∷ [])) where
-  pub assoc-all : a ≡ true → Some Assoc.FullyAssoc ≡ assoc_said t
+bytes_from : ℕ → ℕ → List ℕ → List ℕ
+bytes_from zero i t = []
+bytes_from (suc n) i t = get_or t i 0 ∷ bytes_from n (suc i) t
+
+bytes_behind : (n i b : ℕ) (t : List ℕ) → bytes_from n i t ≡ bytes_from n (suc i) (b ∷ t)
+unfolding bytes_from
+bytes_behind zero i b t = refl
+bytes_behind (suc n) i b t = ap (λ (l : List ℕ). get_or t i 0 ∷ l) (bytes_behind n (suc i) b t)
+
+bytes_are : (n : ℕ) (t : List ℕ) → length t ≡ n → t ≡ bytes_from n 0 t
+unfolding bytes_from
+bytes_are zero [] e = refl
+bytes_are zero (b ∷ t) e = absurd (omega arith)
+bytes_are (suc n) [] e = absurd (omega arith)
+bytes_are (suc n) (b ∷ t) e = ap (λ (l : List ℕ). b ∷ l) (bytes_are n t (omega arith) ∙ bytes_behind n 0 b t)
+
+module _ (t : List ℕ) where
+  pub assoc-all : 3 ≤ length t → length t < 4 → get_or t 0 0 ≡ 97 → get_or t 1 0 ≡ 108 → get_or t 2 0 ≡ 108 → Some Assoc.FullyAssoc ≡ assoc_said t
+  unfolding assoc_said bytes_from same_as
+  assoc-all n m a b c = let z : t ≡ 97 ∷ 108 ∷ 108 ∷ [] = cc (bytes_are 3 t (omega arith)) in rw z refl
+
+  module _ (n : 4 ≤ length t) (m : length t < 5) where
+    pub assoc-non : get_or t 0 0 ≡ 110 → get_or t 1 0 ≡ 111 → get_or t 2 0 ≡ 110 → get_or t 3 0 ≡ 101 → Some Assoc.NonAssoc ≡ assoc_said t
+    unfolding assoc_said bytes_from same_as
+    assoc-non a b c d = let z : t ≡ 110 ∷ 111 ∷ 110 ∷ 101 ∷ [] = cc (bytes_are 4 t (omega arith)) in rw z refl
+
+    pub assoc-left : get_or t 0 0 ≡ 108 → get_or t 1 0 ≡ 101 → get_or t 2 0 ≡ 102 → get_or t 3 0 ≡ 116 → Some Assoc.Left ≡ assoc_said t
+    unfolding assoc_said bytes_from same_as
+    assoc-left a b c d = let z : t ≡ 108 ∷ 101 ∷ 102 ∷ 116 ∷ [] = cc (bytes_are 4 t (omega arith)) in rw z refl
+
+  pub assoc-right : 5 ≤ length t → length t < 6 → get_or t 0 0 ≡ 114 → get_or t 1 0 ≡ 105 → get_or t 2 0 ≡ 103 → get_or t 3 0 ≡ 104 → get_or t 4 0 ≡ 116 → Some Assoc.Right ≡ assoc_said t
+  unfolding assoc_said bytes_from same_as
+  assoc-right n m a b c d e = let z : t ≡ 114 ∷ 105 ∷ 103 ∷ 104 ∷ 116 ∷ [] = cc (bytes_are 5 t (omega arith)) in rw z refl
+
+  pub assoc-nothing : (length t ≡ 3 → get_or t 0 0 ≡ 97 → get_or t 1 0 ≡ 108 → get_or t 2 0 ≡ 108 → ⊥)
+      → (length t ≡ 4 → get_or t 0 0 ≡ 110 → get_or t 1 0 ≡ 111 → get_or t 2 0 ≡ 110 → get_or t 3 0 ≡ 101 → ⊥)
+      → (length t ≡ 4 → get_or t 0 0 ≡ 108 → get_or t 1 0 ≡ 101 → get_or t 2 0 ≡ 102 → get_or t 3 0 ≡ 116 → ⊥)
+      → (length t ≡ 5 → get_or t 0 0 ≡ 114 → get_or t 1 0 ≡ 105 → get_or t 2 0 ≡ 103 → get_or t 3 0 ≡ 104 → get_or t 4 0 ≡ 116 → ⊥) → None ≡ assoc_said t
   unfolding assoc_said
-  assoc-all h = cc (said-same t _ a p)
-
-  module _ (h : a ≡ false) (b : Bool) (q : b ≡ pointwise eqb t (110 ∷ 111 ∷ 110 ∷ 101 ∷ [])) where
-    pub assoc-non : b ≡ true → Some Assoc.NonAssoc ≡ assoc_said t
-    unfolding assoc_said
-    assoc-non i = cc (said-same t _ a p, said-same t _ b q)
-
-    module _ (i : b ≡ false) (c : Bool) (r : c ≡ pointwise eqb t (108 ∷ 101 ∷ 102 ∷ 116 ∷ [])) where
-      pub assoc-left : c ≡ true → Some Assoc.Left ≡ assoc_said t
-      unfolding assoc_said
-      assoc-left j = cc (said-same t _ a p, said-same t _ b q, said-same t _ c r)
-
-      module _ (j : c ≡ false) (d : Bool) (s : d ≡ pointwise eqb t (114 ∷ 105 ∷ 103 ∷ 104 ∷ 116 ∷ [])) where
-        pub assoc-right : d ≡ true → Some Assoc.Right ≡ assoc_said t
-        unfolding assoc_said
-        assoc-right k = cc (said-same t _ a p, said-same t _ b q, said-same t _ c r, said-same t _ d s)
-
-        pub assoc-nothing : d ≡ false → None ≡ assoc_said t
-        unfolding assoc_said
-        assoc-nothing k = cc (said-same t _ a p, said-same t _ b q, said-same t _ c r, said-same t _ d s)
+  assoc-nothing a b c d = go (same_as t (97 ∷ 108 ∷ 108 ∷ [])) refl (same_as t (110 ∷ 111 ∷ 110 ∷ 101 ∷ [])) refl (same_as t (108 ∷ 101 ∷ 102 ∷ 116 ∷ [])) refl (same_as t (114 ∷ 105 ∷ 103 ∷ 104 ∷ 116 ∷ [])) refl
+    where
+      go : (x : Bool) → same_as t (97 ∷ 108 ∷ 108 ∷ []) ≡ x → (y : Bool) → same_as t (110 ∷ 111 ∷ 110 ∷ 101 ∷ []) ≡ y → (z : Bool) → same_as t (108 ∷ 101 ∷ 102 ∷ 116 ∷ []) ≡ z
+          → (u : Bool) → same_as t (114 ∷ 105 ∷ 103 ∷ 104 ∷ 116 ∷ []) ≡ u → None ≡ assoc_answer (cond x (some all) (cond y (some non) (cond z (some left) (cond u (some right) none))))
+      go true e y f z g u h = let s = same_as-eq t _ e in absurd (a (rw s refl) (rw s refl) (rw s refl) (rw s refl))
+      go false e true f z g u h = let s = same_as-eq t _ f in absurd (b (rw s refl) (rw s refl) (rw s refl) (rw s refl) (rw s refl))
+      go false e false f true g u h = let s = same_as-eq t _ g in absurd (c (rw s refl) (rw s refl) (rw s refl) (rw s refl) (rw s refl))
+      go false e false f false g true h = let s = same_as-eq t _ h in absurd (d (rw s refl) (rw s refl) (rw s refl) (rw s refl) (rw s refl) (rw s refl))
+      go false e false f false g false h = refl
 
 pub ruleset siding = (rules, assoc-all, assoc-non, assoc-left, assoc-right, assoc-nothing)

@@ -1,5 +1,5 @@
 -- Reading level and side: the ways out of the code. Assumes nothing.
-use mathlib.Core.Path.{◌≡◌, refl}
+use mathlib.Core.Path.{◌≡◌, refl, ap, ◌∙◌}
 use mathlib.Core.List.{List, []}
 use Prim.Native.Nat.{ℕ, suc, ◌+◌, ◌*◌, ◌^◌, ◌≤◌, ◌<◌}
 use native.Mathlib.Omega.{arith}
@@ -12,9 +12,11 @@ use lib.ListN.{get_or}
 use Rattle.std.specs.Prelude.{Option, Some, None, IfSome, Result, Ok, Err}
 use Rattle.std.specs.Option.{ok_or}
 use Rattle.octets.specs.Working.Choice.{pick}
-use Rattle.octets.specs.Plain.Numbers.{le_at}
 use Rattle.parse_tree.specs.Plain.Tree.{Text}
 use Rattle.parse_tree.specs.declared.refusal.Question.{Question}
+use Rattle.parse_tree.specs.declared.syntax.Alternative.{Alternative}
+use Rattle.parse_tree.specs.declared.syntax.Attribute.{Attribute}
+use Rattle.parse_tree.specs.Working.Nodes.{alternative_here, attribute_here}
 use Rattle.texts.specs.declared.Map.{Map}
 use Rattle.texts.specs.Table.{texts}
 use Rattle.grades.specs.declared.Assoc.{Assoc}
@@ -27,15 +29,17 @@ use Rattle.grades.specs.Grading.{graded_as, side_said, sided_at, level_then, gra
 use Rattle.grades.proofs.AnnotationsCode.{long_more, end_whole}
 
 -- ---- value
-module _ (wd : ℕ) (s w : List ℕ) (m : Map) (at : ℕ) where
-  pub value_none : get_or w (at + 1 + wd) 0 ≡ 0 → [] ≡ value_text wd (texts s w m) w at
-  unfolding value_text pick
-  value_none h = cc
+module _ (wd : ℕ) (s w : List ℕ) (m : Map) (at : ℕ) (d : Attribute) (y : d ≡ attribute_here wd w at) where
+  is : d.kind ≡ get_or w (at + 1 + wd) 0
+  is = ap (λ (z : Attribute). z.kind) y
 
-  pub value_some : (get_or w (at + 1 + wd) 0 ≡ 0 → ⊥) → (x k : ℕ) → x ≡ le_at wd w (at + 2 + wd + wd) → k ≡ x
-      → (t : List ℕ) → t ≡ get_or (texts s w m) k [] → t ≡ value_text wd (texts s w m) w at
+  pub value_none : d.kind ≡ 0 → [] ≡ value_text wd (texts s w m) w at
   unfolding value_text pick
-  value_some h x k j q t e = cc (ne_eqb (get_or w (at + 1 + wd) 0) 0 h)
+  value_none h = cc is
+
+  pub value_some : (d.kind ≡ 0 → ⊥) → (k : ℕ) → k ≡ d.value.0 → (t : List ℕ) → t ≡ get_or (texts s w m) k [] → t ≡ value_text wd (texts s w m) w at
+  unfolding value_text pick
+  value_some h k q t e = cc (ne_eqb (get_or w (at + 1 + wd) 0) 0 (λ z. h (is ∙ z)), q ∙ ap (λ (z : Attribute). z.value.0) y)
 
 pub ruleset valuing = (rules, value_none, value_some)
 
@@ -114,7 +118,7 @@ pub ruleset siding = (rules, index_below, sided_same, sided_bad, sided_is)
 pub assoc_below : (wd : ℕ) (ids : Ids) (w : List ℕ) (at n : ℕ) (f : Indices) → Annotates wd ids w at n f → IfSome f.assoc (λ i. i < n)
 assoc_below wd ids w at n f a = a.assoc.below
 
-module _ (wd : ℕ) (ids : Ids) (ts : List Text) (w : List ℕ) (at level : ℕ) (side : Assoc) (x n : ℕ) (p : x ≡ get_or w (at + 9) 0) (q : n ≡ x) (f : Indices)
+module _ (wd : ℕ) (ids : Ids) (ts : List Text) (w : List ℕ) (at level : ℕ) (side : Assoc) (n : ℕ) (d : Alternative) (p : d ≡ alternative_here wd w at) (q : n ≡ d.attributes) (f : Indices)
     (a : Annotates wd ids w (at + 14 + wd) n f) where
   pub level_below : (i : ℕ) → f.precedence ≡ Some i → i < n
   level_below i e = index_below f.precedence i n a.precedence.below e

@@ -2,7 +2,7 @@
 use Rattle.std.specs.Prelude.{◌≡◌, List, [], ℕ, ◌+◌, length, Option as Maybe, Some, None}
 use Rattle.std.proofs.Math.Option.{Option, none, some}
 use Rattle.octets.specs.Working.Stores.{store}
-use Rattle.passes.specs.Grades.{Side, all, non, left, right, unsigned, level_in, side_in}
+use Rattle.passes.specs.Grades.{Side, all, non, left, right, level_in, side_in}
 use Rattle.passes.specs.Levels.{decimal, decimal_from}
 use Rattle.grades.specs.declared.Assoc.{Assoc}
 
@@ -14,10 +14,6 @@ level_answer (some v) = Some v
 -- what the text of `precedence` says
 unfoldable pub level_said : List ℕ → Maybe ℕ
 level_said t = level_answer (level_in t)
-
--- and what it says behind a plus
-unfoldable pub digits_said : List ℕ → Maybe ℕ
-digits_said t = level_answer (unsigned t)
 
 -- a side as the code has it
 abbrev pub assoc_of : Side → Assoc

@@ -100,26 +100,17 @@ fn place_of(work: &[u8], places: usize, n: usize, k: Key) -> Option<usize>
     ensures { result ≡ place_of_key work.now places n k.number }
 {
     let i = k.index();
-    if i < n {
-        Some(u64_at(work, places + 8 * i) as usize)
-    } else {
-        None
-    }
+    (i < n).then(|| u64_at(work, places + 8 * i) as usize)
 }
 
-// Among n sorted keys the first of the lowest level whose side is not FullyAssoc. A loop: the first key of another level ends it.
+// Among n sorted keys the first of the lowest level whose side is not FullyAssoc.
 pub fn lowest(work: &[u8], keys: usize, n: usize, places: usize) -> Option<usize>
     requires { (keys + 8 * n ≤ length work.now) × (places + 8 * n ≤ length work.now) }
     ensures { result ≡ lowest_from work.now keys places n 0 n }
 {
-    for i in 0..n {
-        if !same_level(work, keys, 0, i) {
-            return None;
-        }
-        let k = Key::read(work, keys, i);
-        if k.side() != Assoc::FullyAssoc {
-            return place_of(work, places, n, k);
-        }
-    }
-    None
+    (0..n)
+        .take_while(|&i| same_level(work, keys, 0, i))
+        .map(|i| Key::read(work, keys, i))
+        .find(|k| k.side() != Assoc::FullyAssoc)
+        .and_then(|k| place_of(work, places, n, k))
 }

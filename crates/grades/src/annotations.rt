@@ -1,10 +1,11 @@
 // The attributes `precedence` and `assoc` of alternatives that stand in work.
-ghost use Rattle.std.specs.Prelude.{◌≡◌, ◌+◌, ◌≤◌, ◌<◌, length};
+ghost use Rattle.std.specs.Prelude.{◌≡◌, ◌+◌, ◌*◌, ◌≤◌, ◌<◌, length};
 ghost use Rattle.grades.specs.Annotations.{attributes_long, Finding, Annotates, attributes_end, annotated_at, first_alternative, HeadInside, has_prec_attr, symbols_from, alternative_end};
 
 use crate::skip::skip;
 use crate::{Ids, Indices};
-use octets::numbers::{Width, atom_at, u16_at};
+use octets::numbers::Width;
+use parse_tree::node::{whole_alternative, whole_attribute, whole_nonterminal};
 
 // The index of the first attribute of an id among the n that stand from a place on.
 fn position(work: &[u8], at: usize, n: usize, width: Width, id: Option<usize>) -> Option<usize>
@@ -13,14 +14,7 @@ fn position(work: &[u8], at: usize, n: usize, width: Width, id: Option<usize>) -
 {
     let k = id?;
     let size = 2 + 3 * width.bytes;
-    let mut p = at;
-    for i in 0..n {
-        if k == atom_at(work, p + 1, width) as usize {
-            return Some(i);
-        }
-        p += size;
-    }
-    None
+    (0..n).find(|&i| k == whole_attribute(work, at + size * i, width).id.0 as usize)
 }
 
 // Of both ids.
@@ -39,7 +33,7 @@ fn annotated(work: &[u8], at: usize, width: Width, ids: Ids) -> bool
     requires { attributes_end width.bytes work.now at ≤ length work.now }
     ensures { result ≡ annotated_at width.bytes ids work.now at }
 {
-    let n = usize::from(work[at + 9]);
+    let n = usize::from(whole_alternative(work, at, width).attributes);
     let f = annotations(work, at + 14 + width.bytes, n, width, ids);
     f.precedence.is_some() || f.assoc.is_some()
 }
@@ -49,7 +43,7 @@ pub fn first_alternative(work: &[u8], at: usize, width: Width) -> usize
     requires { at + 13 + width.bytes ≤ length work.now }
     ensures { result ≡ first_alternative width.bytes work.now at }
 {
-    let args = usize::from(work[at + 10 + width.bytes]);
+    let args = usize::from(whole_nonterminal(work, at, width).args);
     at + 13 + width.bytes + (1 + width.bytes) * args
 }
 
@@ -59,11 +53,11 @@ pub fn has_prec_attr(work: &[u8], at: usize, width: Width, ids: Ids) -> bool
     ensures { result ≡ has_prec_attr width.bytes ids work.now at }
 {
     work[at] == 16
-        && u16_at(work, at + 11 + width.bytes) != 0
+        && whole_nonterminal(work, at, width).alternatives != 0
         && annotated(work, first_alternative(work, at, width), width, ids)
 }
 
-// Where the symbols of the alternative at p begin.
+// Where the symbols of the alternative at p begin. Two counts, read by their places: a reader of the whole command would ask for more than 11 bytes.
 pub fn symbols(work: &[u8], p: usize, width: Width) -> usize
     requires { p + 11 ≤ length work.now }
     ensures { result ≡ symbols_from width.bytes work.now p }
@@ -78,12 +72,6 @@ pub fn alternative_end(work: &[u8], at: usize, e: usize, width: Width) -> usize
     requires { (at < e) × (e + 16 ≤ length work.now) }
     ensures { result ≡ alternative_end width.bytes work.now at e }
 {
-    let s = symbols(work, at, width);
-    skip(
-        work,
-        s,
-        e,
-        usize::from(u16_at(work, at + 12 + width.bytes)),
-        width,
-    )
+    let n = usize::from(whole_alternative(work, at, width).symbols);
+    skip(work, symbols(work, at, width), e, n, width)
 }

@@ -7,13 +7,7 @@ ghost use Rattle.grades.specs.Grade.{number_digits};
 pub fn number_size(v: usize) -> usize
     ensures { (result ≡ length (number_digits v)) × (1 ≤ result) × (result ≤ 20) }
 {
-    let mut n = 1;
-    let mut q = v;
-    while 9 < q {
-        q /= 10;
-        n += 1;
-    }
-    n
+    v.checked_ilog10().map_or(1, |k| k as usize + 1)
 }
 
 // One digit.

@@ -8,7 +8,7 @@ use crate::annotations::annotations;
 use crate::grade::{read_assoc, read_level};
 use crate::words::Words;
 use crate::{Assoc, Graded, Ids};
-use octets::numbers::atom_at;
+use parse_tree::node::{whole_alternative, whole_attribute};
 use parse_tree::refusal::Question;
 
 // The text of the value of the attribute at a place; empty where it has none.
@@ -16,15 +16,15 @@ fn value<'a>(t: Words<'a>, at: usize) -> &'a [u8]
     requires { at + (2 + 3 * t.width.bytes) ≤ length t.work.now }
     ensures { result.now ≡ value_text t.entry.width.bytes (texts t.entry.tape.now t.entry.work.now t.entry.m) t.entry.work.now at }
 {
-    let width = t.width.bytes;
-    if t.work[at + 1 + width] == 0 {
+    let attribute = whole_attribute(t.work, at, t.width);
+    if attribute.kind == 0 {
         &t.tape[0..0]
     } else {
-        t.text(atom_at(t.work, at + 2 + width + width, t.width) as usize)
+        t.text(attribute.value.0 as usize)
     }
 }
 
-// That of the i-th of n attributes from a place on.
+// That of the i-th of n attributes from a place on. `n` for the clauses alone.
 fn nth_value<'a>(t: Words<'a>, at: usize, n: usize, i: usize) -> &'a [u8]
     requires { (n < 256) × (i < n) × (at + attributes_long t.width.bytes n ≤ length t.work.now) }
     ensures { result.now ≡ value_text t.entry.width.bytes (texts t.entry.tape.now t.entry.work.now t.entry.m) t.entry.work.now (at + attributes_long t.entry.width.bytes i) }
@@ -57,7 +57,7 @@ pub fn graded<'a>(t: Words<'a>, at: usize, ids: Ids, before: Graded) -> Result<G
     requires { attributes_end t.width.bytes t.work.now at ≤ length t.work.now }
     ensures { result ≡ graded_at t.entry.width.bytes ids (texts t.entry.tape.now t.entry.work.now t.entry.m) t.entry.work.now at before.level before.side }
 {
-    let n = usize::from(t.work[at + 9]);
+    let n = usize::from(whole_alternative(t.work, at, t.width).attributes);
     let a = at + 14 + t.width.bytes;
     let f = annotations(t.work, a, n, t.width, ids);
     match f.precedence {

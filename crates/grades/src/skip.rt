@@ -4,7 +4,7 @@ ghost use Rattle.grades.specs.Skip.{skip_out};
 
 use octets::numbers::Width;
 use parse_tree::nested::inside_at;
-use resolve::commands::long;
+use parse_tree::size::long;
 
 // The place behind n symbols, before e. There are never more to come than bytes.
 pub fn skip(work: &[u8], at: usize, e: usize, n: usize, width: Width) -> usize

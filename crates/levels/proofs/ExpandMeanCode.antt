@@ -12,7 +12,8 @@ use Rattle.std.specs.Prelude.{Option as Maybe, Some, None, Result, Ok, Err}
 use Rattle.octets.specs.Plain.Numbers.{le_at}
 use Rattle.parse_tree.specs.Plain.Tree.{Nonterminal}
 use Rattle.parse_tree.specs.declared.refusal.Refusal.{Refusal}
-use Rattle.parse_tree.specs.Working.Nodes.{span_in}
+use Rattle.parse_tree.specs.Working.Nodes.{span_in, nonterminal_here}
+use Rattle.parse_tree.specs.declared.syntax.NonterminalData.{NonterminalData}
 use Rattle.parse_tree.specs.Working.Refusals.{number_of, refusal_over}
 use Rattle.parse_tree.specs.declared.refusal.Question.{Question}
 use Rattle.texts.specs.declared.Map.{Map}
@@ -65,6 +66,10 @@ module _ (s : List ℕ) (m : Map) (room : Room) (wd : ℕ) (ids : Ids) (p e : �
       go : (o : Outcome (Unit {0})) → Said o → ExpandedBy s m room wd ids p e (after o (λ u. check_lowest (grouped d.name (graded d)))) d v w r w3
       go (yes u) k = f
       go (no q sp) k = absurd (is_not k.answer)
+
+-- theorem: how many alternatives are read
+pub read_many : (wd : ℕ) (w : List ℕ) (p n : ℕ) {d : NonterminalData} → d ≡ nonterminal_here wd w p → n ≡ d.alternatives → n ≡ le_at 2 w (p + 11 + wd)
+read_many wd w p n e i = i ∙ ap (λ (k : NonterminalData). k.alternatives) e
 
 -- ---- the code: there is such a nonterminal, and so it is of each
 module _ {s : List ℕ} {m : Map} {room : Room} {wd : ℕ} {ids : Ids} {p e : ℕ} {v : Written} {w : List ℕ} (narrow : 2 ≤ wd) (wide : wd ≤ 3)

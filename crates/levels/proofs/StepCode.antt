@@ -12,6 +12,8 @@ use mir.Syntax.{w8}
 use mir.Val as Bound
 use Rattle.octets.specs.Plain.Numbers.{le_at}
 use Rattle.parse_tree.specs.Plain.Tree.{Text, Nonterminal}
+use Rattle.parse_tree.specs.Working.Nodes.{nonterminal_here}
+use Rattle.parse_tree.specs.declared.syntax.NonterminalData.{NonterminalData}
 use Rattle.texts.specs.declared.Map.{Map}
 use Rattle.passes.specs.Levels.{level_name}
 use Rattle.grades.specs.declared.Ids.{Ids}
@@ -36,7 +38,7 @@ module _ (s : List ℕ) (m : Map) (room : Room) (wd : ℕ) (ids : Ids) (p e plac
   with_level four d o (v0 ∷ above) T h L f = f v0 above refl L
 
   module _ (S : SomeLeft s m room wd ids p e places keys n i below v w) (h : i < n) where
-    module _ (j : ℕ) (g : GroupEnd w keys n i j) (a base u y : ℕ) (r : a ≡ le_at wd w (p + 9)) (b : base ≡ a) (l : u ≡ le_at 8 w (keys + 8 * i)) (q : y ≡ key_level u) where
+    module _ (j : ℕ) (g : GroupEnd w keys n i j) (a : NonterminalData) (base u y : ℕ) (r : a ≡ nonterminal_here wd w p) (b : base ≡ a.name.0) (l : u ≡ le_at 8 w (keys + 8 * i)) (q : y ≡ key_level u) where
       -- theorem: the name of the next level can be described
       pub next_describing : eqb j n ≡ false → Describing s w m v.count base y
       next_describing other =

@@ -10,8 +10,8 @@ use grades::alternatives::{grade, lowest};
 use grades::annotations::first_alternative;
 use grades::key::Key;
 use grades::sort::{group_end, sort};
-use octets::numbers::{Width, atom_at, u16_at};
-use parse_tree::refusal;
+use octets::numbers::Width;
+use parse_tree::node::whole_nonterminal;
 use parse_tree::refusal::{Question, Refusal};
 use precedence::level::{Keyed, Level, write_level};
 use precedence::names::{LevelName, level_name};
@@ -82,7 +82,7 @@ fn next_level(
     ensures { Steps tape.now g.m g.room g.width.bytes g.ids a.p a.e a.places a.keys a.n i below v work.old result work.new }
 {
     let j = group_end(work, a.keys, a.n, i);
-    let base = atom_at(work, a.p + 9, g.width) as usize;
+    let base = whole_nonterminal(work, a.p, g.width).name.0 as usize;
     let level = Key::read(work, a.keys, i).level();
     let x = name_level(tape, work, g.m, v.count, base, level, j == a.n);
     let name = x.name as u32;
@@ -151,21 +151,21 @@ pub fn expand_nonterm(
     requires { SomeExpandable tape.now g.m g.room g.width.bytes g.ids p e v work.old }
     ensures { ExpandsOne tape.now g.m g.room g.width.bytes g.ids p e v work.old result work.new }
 {
-    let n = usize::from(u16_at(work, p + 11 + g.width.bytes));
+    let n = usize::from(whole_nonterminal(work, p, g.width).alternatives);
     let places = g.room.arrays;
     let keys = places + 8 * n + 8;
     let at = first_alternative(work, p, g.width);
     let ascending = match grade(tape, work, g.m, g.width, g.ids, places, keys, n, at, e) {
         Ok(ascending) => ascending,
         Err(why) => match why.question {
-            Some(q) => return Err(refusal::of_command(q, work, why.at)),
+            Some(q) => return Err(q.of_command(work, why.at)),
             // The n alternatives stand before e.
             None => unreachable!(),
         },
     };
     let keys = sorted(work, keys, keys + 8 * n, n, ascending);
     if let Some(low) = lowest(work, keys, n, places) {
-        return Err(refusal::of_command(Question::LowestLevel, work, low));
+        return Err(Question::LowestLevel.of_command(work, low));
     }
     let a = Annotated {
         p,

@@ -9,7 +9,6 @@ use grades::identify::ids;
 use parse_tree::refusal::Refusal;
 use precedence::write::put_run;
 use resolve::Grammar;
-use resolve::items::place;
 use texts::Map;
 
 // The i-th item, from p up to e: as it stands, or level by level.
@@ -25,8 +24,8 @@ fn expand_item(
     requires wide { g.width ≡ t.width }
     ensures { ItemSteps tape.now g.m t g.room g.ids i v work.old result work.new }
 {
-    let p = place(work, t, i);
-    let e = place(work, t, i + 1);
+    let p = t.place(work, i);
+    let e = t.place(work, i + 1);
     if has_prec_attr(work, p, t.width, g.ids) {
         return expand_nonterm(tape, work, g, p, e, v);
     }

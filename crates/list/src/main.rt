@@ -6,22 +6,16 @@ use std::alloc::Global;
 use std::io;
 use std::io::{Read, Write};
 
-// The bytes of work from a place up to another, if they are there.
-fn print_part(work: &[u8], from: usize, to: usize, writer: &mut impl Write) -> io::Result<()> {
-    match work.get(from..to) {
-        Some(part) => writer.write_all(part),
-        None => Ok(()),
-    }
-}
-
 fn list_tape(
     tape: &[u8],
     output: &mut [u8],
     work: &mut [u8],
     writer: &mut impl Write,
 ) -> io::Result<()> {
-    let r = listing(tape, output, work);
-    print_part(work, r.from, r.to, writer)
+    match listing(tape, output, work) {
+        Some(r) => writer.write_all(&work[r.from..r.to]),
+        None => Ok(()),
+    }
 }
 
 // A tree of 4,096 bytes has a text of fewer than 800,000: the most is made by some 180 symbols of one text of some 2,000 bytes to be escaped.

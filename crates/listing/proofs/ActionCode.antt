@@ -1,10 +1,10 @@
 -- The ways out of put_arrow, put_action and put_tail. Assumes nothing.
-use mathlib.Core.Path.{◌≡◌, refl, sym, ap, ◌∙◌}
+use mathlib.Core.Path.{◌≡◌, refl, ap, ◌∙◌}
 use mathlib.Core.List.{List, [], ◌∷◌, ◌++◌}
-use Prim.Native.Nat.{ℕ, ◌+◌, ◌<◌, ◌≤◌}
+use Prim.Native.Nat.{ℕ, ◌+◌}
 use native.Mathlib.Omega.{arith}
 use borrow.Author.Rules.{rules}
-use borrow.Author.Tests.{ne_eqb, lt-ltb, le-ltb}
+use borrow.Author.Tests.{ne_eqb, le-ltb}
 use lib.ListN.{length, get_or}
 use Rattle.octets.specs.Working.Choice.{pick}
 use Rattle.parse_tree.specs.Plain.Tree.{Text}
@@ -22,11 +22,11 @@ use Rattle.listing.specs.Tree.{arrow_text, side_text, action_by, action_at}
 
 -- ---- put_arrow
 module _ (s w : List ℕ) (m : Map) (wd at lim to : ℕ) (g : Printable s w m wd lim to) (p : Source) (d : PlacedText s w m (word_at wd (texts s w m) w at) p) (t : Text) (q : ℕ) (w1 : List ℕ) (u : Puts w lim to t q w1) where
-  pub text_later : Fixed (length s) (length w1) lim p
-  text_later = fixed_same (length s) (length w) lim p (length w1) (d.fixed lim g.above) u.long
+  pub text_later : Fixed (length w1) lim p
+  text_later = fixed_same (length w) lim p (length w1) (d.fixed lim g.above) u.long
 
-  pub arrow_put : (r : ℕ) (w2 : List ℕ) → Puts w1 lim q (source_text s w1 p) r w2 → Puts w lim to (t ++ word_at wd (texts s w m) w at) r w2
-  arrow_put r w2 v = then u (puts_as (source_next s w lim p (d.fixed lim g.above) to t q w1 u ∙ d.text) v)
+  pub arrow_put : (r : ℕ) (w2 : List ℕ) → Puts w1 lim q (source_text w1 p) r w2 → Puts w lim to (t ++ word_at wd (texts s w m) w at) r w2
+  arrow_put r w2 v = then u (puts_as (source_next w lim p (d.fixed lim g.above) to t q w1 u ∙ d.text) v)
 
 pub ruleset arrowing = (rules, text_later, arrow_put)
 

@@ -7,7 +7,6 @@ use native.Mathlib.Omega.{arith}
 use borrow.Author.Rules.{rules}
 use lib.ListN.{length}
 use Rattle.octets.specs.Working.Choice.{pick}
-use Rattle.octets.specs.Plain.Numbers.{le_at}
 use Rattle.parse_tree.specs.Plain.Tree.{Text, Alternative, count}
 use Rattle.parse_tree.specs.Plain.Display.{shown_all}
 use Rattle.parse_tree.specs.Working.Encode.{alternative_bytes}

@@ -53,11 +53,11 @@ line_put w w1 w2 w3 from end f lim to x y a b r i j p q u = rw (← i, ← j) (t
 pub ruleset lining = (rules, line_put)
 
 -- ---- put_word, put_head
-pub text_fixed : (s w : List ℕ) (m : Map) (wd lim to : ℕ) → Printable s w m wd lim to → (t : Text) (p : Source) → PlacedText s w m t p → Fixed (length s) (length w) lim p
+pub text_fixed : (s w : List ℕ) (m : Map) (wd lim to : ℕ) → Printable s w m wd lim to → (t : Text) (p : Source) → PlacedText s w m t p → Fixed (length w) lim p
 text_fixed s w m wd lim to g t p d = d.fixed lim g.above
 
 pub word_put : (s w : List ℕ) (m : Map) (wd at lim to r : ℕ) (w1 : List ℕ) (p : Source) → PlacedText s w m (word_at wd (texts s w m) w at) p
-    → Puts w lim to (source_text s w p) r w1 → Puts w lim to (word_at wd (texts s w m) w at) r w1
+    → Puts w lim to (source_text w p) r w1 → Puts w lim to (word_at wd (texts s w m) w at) r w1
 word_put s w m wd at lim to r w1 p d u = puts_as d.text u
 
 pub head_put : (s w : List ℕ) (m : Map) (wd at lim to q r : ℕ) (d : NonterminalData) (w1 w2 : List ℕ) → d ≡ nonterminal_here wd w at

@@ -1,14 +1,10 @@
 -- The ways out of put_led and list_refusal. Assumes nothing.
 use mathlib.Core.List.{List, [], ◌∷◌}
-use Prim.Native.Nat.{ℕ, ◌-◌}
-use native.Mathlib.Omega.{arith}
+use Prim.Native.Nat.{ℕ}
 use borrow.Author.Rules.{rules}
-use lib.ListN.{length}
-use lib.Seq.{take_all}
-use Rattle.octets.specs.Plain.Runs.{part}
 use Rattle.parse_tree.specs.declared.refusal.Refusal.{Refusal}
 use Rattle.precedence.specs.Write.{Puts}
-use Rattle.settling.proofs.PutLaws.{then, puts_as}
+use Rattle.settling.proofs.PutLaws.{then}
 use Rattle.listing.specs.Listing.{shown_number, listed}
 use Rattle.listing.specs.Tree.{refused_word, refused_by, places_text}
 

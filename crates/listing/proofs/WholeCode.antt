@@ -29,11 +29,12 @@ use Rattle.listing.specs.declared.Listed.{Listed}
 use Rattle.listing.specs.Listing.{listed}
 use Rattle.listing.specs.Tree.{refused_by}
 use Rattle.listing.specs.Walk.{PutsFrom, ListsRead, ListsTree}
-use Rattle.listing.specs.Whole.{FrontFits, ListsFront}
+use Rattle.listing.specs.Whole.{listed_from, FrontFits, ListsFront, PutsListing}
 
 -- ---- `list_no`
-pub no_done : (w : List ℕ) (why : Refusal) (r : ℕ) (w₁ : List ℕ) → Puts w (length w) 0 (listed (refused_by why)) r w₁ → PutsFrom (length w) 0 (listed (refused_by why)) r w₁
-no_done w why r w₁ p = record { work = w; long = refl; puts = p }
+pub no_done : (w : List ℕ) (why : Refusal) (r : ℕ) (w₁ : List ℕ) → Puts w (length w) 0 (listed (refused_by why)) r w₁ → PutsListing (length w) (refused_by why) (record { from = 0; to = r }) w₁
+unfolding refused_by listed_from
+no_done w why r w₁ p = record { from = refl; puts = record { work = w; long = refl; puts = p } }
 
 pub ruleset listing_no = (rules, no_done)
 
@@ -57,9 +58,9 @@ module _ (s o w : List ℕ) (y : Result ℕ Refusal) (o₁ w₁ : List ℕ) (c :
   abbrev x : Outcome Stage
   x = whole true 2 s 64 (length o) (length w)
 
-  pub list_refused : length w₁ ≡ length w → (why : Refusal) → y ≡ Err why → (r : Listed) (w₂ : List ℕ) → PutsFrom (length w₁) r.from (listed (refused_by why)) r.to w₂ → PutsFrom (length w) r.from (listed x) r.to w₂
+  pub list_refused : length w₁ ≡ length w → (why : Refusal) → y ≡ Err why → (r : Listed) (w₂ : List ℕ) → PutsListing (length w₁) (refused_by why) r w₂ → PutsListing (length w) x r w₂
   unfolding answer_of refused_by
-  list_refused l why e r w₂ p = subst (λ (k : ℕ). PutsFrom k r.from (listed x) r.to w₂) l (subst (λ (u : Outcome Stage). PutsFrom (length w₁) r.from (listed u) r.to w₂) (go x (sym e ∙ c.answered)) p)
+  list_refused l why e r w₂ p = subst (λ (k : ℕ). PutsListing k x r w₂) l (subst (λ (u : Outcome Stage). PutsListing (length w₁) u r w₂) (go x (sym e ∙ c.answered)) p)
     where
       go : (z : Outcome Stage) → Err why ≡ answer_of z → refused_by why ≡ z
       go (yes g) i = absurd (let q : ◌≡◌ {A = ℕ} 0 1 = cc in omega arith)
@@ -97,8 +98,8 @@ module _ (s o w : List ℕ) (y : Result ℕ Refusal) (o₁ w₁ : List ℕ) (c :
         let t = tape_of 2 accepted.0 in
         ap (λ (k : ℕ). take k o₁) accepted.2 ∙ ap (take (length t)) tree_is ∙ take-append_seam t (drop (length t) o)
 
-    pub list_accepted : ((j : ℕ) → Bound.Fits w8 (get_or s j 0)) → length w₁ ≡ length w → (r : Listed) (w₂ : List ℕ) → ListsFront o₁ n (length w₁) r w₂ → PutsFrom (length w) r.from (listed x) r.to w₂
-    unfolding ListsTree ListsRead
+    pub list_accepted : ((j : ℕ) → Bound.Fits w8 (get_or s j 0)) → length w₁ ≡ length w → (r : Listed) (w₂ : List ℕ) → ListsFront o₁ n (length w₁) r w₂ → PutsListing (length w) x r w₂
+    unfolding ListsTree ListsRead listed_from
     list_accepted b l r w₂ d =
         let g = accepted.0 in
         let t = tape_of 2 g in
@@ -106,7 +107,7 @@ module _ (s o w : List ℕ) (y : Result ℕ Refusal) (o₁ w₁ : List ℕ) (c :
         let a : ListsRead (decode_by false 2 t) (length t) (length w₁) r.to w₂ = subst (λ (z : List ℕ). ListsTree z (length w₁) r.to w₂) front_is d.lists in
         let p : PutsFrom (length w₁) (8 * length t) (listed (yes g)) r.to w₂ = subst (λ (z : Reading Stage). ListsRead z (length t) (length w₁) r.to w₂) read a in
         let f : 8 * length t ≡ r.from = omega (arith, d.from, accepted.2) in
-        subst (λ (k : ℕ). PutsFrom k r.from (listed x) r.to w₂) l
-        (subst (λ (k : ℕ). PutsFrom (length w₁) k (listed x) r.to w₂) f (subst (λ (z : Outcome Stage). PutsFrom (length w₁) (8 * length t) (listed z) r.to w₂) (sym accepted.1) p))
+        subst (λ (z : Outcome Stage). PutsListing (length w) z r w₂) (sym accepted.1)
+        (record { from = sym f; puts = subst (λ (k : ℕ). PutsFrom k r.from (listed (yes g)) r.to w₂) l (subst (λ (k : ℕ). PutsFrom (length w₁) k (listed (yes g)) r.to w₂) f p) })
 
 pub ruleset listing_tape = (rules, list_refused, list_fits, list_accepted)

@@ -17,10 +17,10 @@ fn put_arrow(page: Page, work: &mut [u8], arrow: &[u8], at: usize, to: usize) ->
 {
     let p = word_source(page, work, at);
     let q = put_slice(work, arrow, page.lim, to);
-    put_text(page.tape, work, p, page.lim, q)
+    put_text(work, p, page.lim, q)
 }
 
-// That of the alternative at a place.
+// That of the alternative at a place. Its kind is read by its place: a reader of the whole command would ask for one byte more.
 fn put_action(page: Page, work: &mut [u8], at: usize, to: usize) -> usize
     requires { Printable page.tape.now work.old page.m page.width.bytes page.lim to × (at + 14 + page.width.bytes ≤ page.lim + 1) }
     ensures { Puts work.old page.entry.lim to (action_at page.entry.width.bytes (texts page.entry.tape.now work.old page.entry.m) work.old at) result work.new }

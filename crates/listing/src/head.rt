@@ -43,7 +43,7 @@ fn put_word(page: Page, work: &mut [u8], at: usize, to: usize) -> usize
     ensures { Puts work.old page.entry.lim to (word_at page.entry.width.bytes (texts page.entry.tape.now work.old page.entry.m) work.old at) result work.new }
 {
     let p = word_source(page, work, at);
-    put_text(page.tape, work, p, page.lim, to)
+    put_text(work, p, page.lim, to)
 }
 
 // The line of the nonterminal at a place.

@@ -11,7 +11,7 @@ pub mod refused;
 pub mod tree;
 pub mod whole;
 
-// Where a text stands in work: its place and the one behind it, which is behind work's end where the text doesn't fit.
+// Where a text stands in work: its place and the one behind it.
 #[derive(Clone, Copy)]
 pub struct Listed {
     pub from: usize,

@@ -10,9 +10,10 @@ use lib.ListN.{length}
 use Rattle.octets.specs.Plain.Numbers.{le_at, le}
 use Rattle.octets.specs.Plain.Runs.{part, Lies}
 use Rattle.parse_tree.specs.Plain.Tree.{Text, Syms, Alternative, count}
-use Rattle.parse_tree.specs.Working.Nodes.{span_bytes}
+use Rattle.parse_tree.specs.Working.Nodes.{span_bytes, alternative_here}
 use Rattle.parse_tree.specs.Working.Encode.{alternative_bytes, syms_bytes}
 use Rattle.parse_tree.specs.Working.Within.{SymsWithin, AlternativeWithin}
+use Rattle.parse_tree.specs.declared.syntax.Alternative.{Alternative as Command}
 use Rattle.parse_tree.specs.declared.syntax.Span.{Span}
 use Rattle.texts.specs.Table.{texts}
 use Rattle.texts.proofs.TableStays.{part-agree}
@@ -141,8 +142,8 @@ module _ (s w : List ℕ) (g : Ground) (n lim : ℕ) (c : Call) (p : ℕ) (v : A
   ends : conditions_from g.width.bytes w p ≤ I.end
   ends = alternative_upto s w g n lim c p v K.places K.names K.args I.four I.end I.alternative K.framed I.within I.placed
 
-  pub single_count : p + 12 + g.width.bytes + 2 ≤ length w
-  single_count = omega (arith, ahead, ends, I.placed.behind)
+  pub single_whole : p + (14 + g.width.bytes) ≤ length w
+  single_whole = omega (arith, ahead, ends, I.placed.behind)
 
   pub single_head_lem : p + 11 ≤ length w
   single_head_lem = omega (arith, ahead, ends, I.placed.behind)
@@ -163,9 +164,12 @@ module _ (s w : List ℕ) (g : Ground) (n lim : ℕ) (c : Call) (p : ℕ) (v : A
     pub single_room : d ≤ length w
     single_room = omega (arith, ends, I.placed.behind)
 
-    module _ (j : ℕ) (y : j ≡ le_at 2 w (p + 12 + g.width.bytes)) (k : ℕ) (i : k ≡ j) (b : ℕ) (t : b ≡ symbols_from g.width.bytes w p) (span to : ℕ) (w1 : List ℕ) (A : Puts w lim v.to (bare_out w p d span) to w1) where
+    module _ (j : Command) (y : j ≡ alternative_here g.width.bytes w p) (k : ℕ) (i : k ≡ j.symbols) (b : ℕ) (t : b ≡ symbols_from g.width.bytes w p) (span to : ℕ) (w1 : List ℕ) (A : Puts w lim v.to (bare_out w p d span) to w1) where
       put : Puts w lim v.to (bare_out w p (conditions_from g.width.bytes w p) span) to w1
       put = subst (λ (q : ℕ). Puts w lim v.to (bare_out w p q span) to w1) z A
+
+      many : k ≡ le_at 2 w (p + 12 + g.width.bytes)
+      many = i ∙ ap (λ (q : Command). q.symbols) y
 
       pub single_opens : OpensAlternative s w g n lim c span p v (record { many = k; run = record { at = b; out = record { to = to; count = v.count; deep = v.deep } } }) w1
       unfolding PutsAlternative
@@ -180,16 +184,16 @@ module _ (s w : List ℕ) (g : Ground) (n lim : ℕ) (c : Call) (p : ℕ) (v : A
           four = I.four;
           end = I.end;
           symbols = I.alternative.symbols;
-          many = symbols_many s w g n lim c p v K.places K.names K.args I.four I.end I.alternative K.framed I.within I.placed to w1 span put ∙ sym (i ∙ y);
+          many = symbols_many s w g n lim c p v K.places K.names K.args I.four I.end I.alternative K.framed I.within I.placed to w1 span put ∙ sym many;
           within = symbols_within s w g n lim c p v K.places K.names K.args I.four I.end I.alternative K.framed I.within I.placed to w1 span put;
           placed = symbols_placed s w g n lim c p v K.places K.names K.args I.four I.end I.alternative K.framed I.within I.placed to w1 span put;
         });
         carry = λ r w2 U ps names args four e a sp F W P E S.
-            alternative_whole s w g n lim c p v ps names args four e a F W P to w1 span put sp S k (i ∙ y) r w2
+            alternative_whole s w g n lim c p v ps names args four e a F W P to w1 span put sp S k many r w2
             (subst (λ (q : ℕ). PutsInAll s w1 g n lim c 64 k (record { at = q; out = record { to = to; count = v.count; deep = v.deep } }) r w2) t U);
       }
 
-pub ruleset singling = (rules, single_count, single_head_lem, single_inside, single_cursor, single_ahead, single_before, single_room, single_opens)
+pub ruleset singling = (rules, single_whole, single_head_lem, single_inside, single_cursor, single_ahead, single_before, single_room, single_opens)
 
 -- ---- expand_alternative
 module _ (s w : List ℕ) (g : Ground) (n lim : ℕ) (c : Call) (span p : ℕ) (v : Appended) (r : Coming) (w' : List ℕ) (O : OpensAlternative s w g n lim c span p v r w') where

@@ -12,6 +12,8 @@ use lib.ListN.{length, get_or}
 use Rattle.octets.specs.Working.Choice.{pick}
 use Rattle.octets.specs.Plain.Numbers.{le_at}
 use Rattle.std.specs.Prelude.{Option, Some, None}
+use Rattle.parse_tree.specs.Working.Nodes.{alternative_here}
+use Rattle.parse_tree.specs.declared.syntax.Alternative.{Alternative}
 use Rattle.grades.specs.Skip.{skip_out}
 use Rattle.grades.specs.Annotations.{conditions_from, alternative_end}
 use Rattle.grades.proofs.AnnotationsCode.{times-attributes, sum_attributes}
@@ -149,14 +151,17 @@ pub ruleset conditioning = (rules, times-attributes, sum_attributes, conditions-
 
 -- ---- holds
 module _ (g : Ground) (c : Call) (w : List ℕ) (p : ℕ) where
-  pub holds_plain : get_or w (p + 10) 0 ≡ 0 → Ok true ≡ holds_at g c w p
+  pub holds_plain : (d : Alternative) → d ≡ alternative_here g.width.bytes w p → d.conditions ≡ 0 → Ok true ≡ holds_at g c w p
   unfolding holds_at pick
-  holds_plain e = cc (eq-eqb (get_or w (p + 10) 0) 0 e)
+  holds_plain d i z = let e : get_or w (p + 10) 0 ≡ 0 = sym (ap (λ (x : Alternative). x.conditions) i) ∙ z in cc (eq-eqb (get_or w (p + 10) 0) 0 e)
 
-  pub holds_asked : (get_or w (p + 10) 0 ≡ 0 → ⊥) → (q : ℕ) → q ≡ conditions_from g.width.bytes w p → (o : Option Bool) → o ≡ judged_at g c w q → (r : Result Bool NotLiteral) → r ≡ ok_or o (record { at = q }) → r ≡ holds_at g c w p
+  pub holds_asked : (d : Alternative) → d ≡ alternative_here g.width.bytes w p → (d.conditions ≡ 0 → ⊥) → (q : ℕ) → q ≡ conditions_from g.width.bytes w p → (o : Option Bool) → o ≡ judged_at g c w q → (r : Result Bool NotLiteral) → r ≡ ok_or o (record { at = q }) → r ≡ holds_at g c w p
   unfolding holds_at pick
-  holds_asked e q j None k r z = cc (ne_eqb (get_or w (p + 10) 0) 0 e)
-  holds_asked e q j (Some b) k r z = cc (ne_eqb (get_or w (p + 10) 0) 0 e)
+  holds_asked d i n q j o k r z = let e : get_or w (p + 10) 0 ≡ 0 → ⊥ = λ t. n (ap (λ (x : Alternative). x.conditions) i ∙ t) in go e o k z
+    where
+      go : (get_or w (p + 10) 0 ≡ 0 → ⊥) → (o : Option Bool) → o ≡ judged_at g c w q → r ≡ ok_or o (record { at = q }) → r ≡ holds_at g c w p
+      go e None k z = cc (ne_eqb (get_or w (p + 10) 0) 0 e)
+      go e (Some b) k z = cc (ne_eqb (get_or w (p + 10) 0) 0 e)
 
 pub ruleset asking = (rules, holds_plain, holds_asked)
 

@@ -38,11 +38,12 @@ use Rattle.appending.specs.declared.Appended.{Appended}
 use Rattle.appending.specs.declared.symbols.Copied.{Copied}
 use Rattle.appending.specs.declared.symbols.Coming.{Coming}
 use Rattle.appending.specs.Pieces.{plainly, then_piece, Appends}
+use Rattle.appending.specs.Symbols.{PutsCommand}
 use Rattle.appending.proofs.PiecesLaws.{steady_plainly, appends_then, appends_is, appends_puts}
 use Rattle.appending.proofs.SymbolsStays.{texts-stay}
 use Rattle.macro_expand.specs.declared.arguments.Call.{Call}
 use Rattle.macro_expand.specs.Arguments.{ReadableCall, argument_for}
-use Rattle.macro_expand.specs.PutIn.{sym_piece, syms_piece, Placed, Framed, Frame, Argument, AnyArgument, PutsArgument, parameter_at, PutsHere, SomeInside, SomeInsides, PutsIn, PutsInAll, Opens}
+use Rattle.macro_expand.specs.PutIn.{sym_piece, syms_piece, Placed, Framed, Frame, Argument, AnyArgument, PutsArgument, parameter_at, SomeInside, SomeInsides, PutsIn, PutsInAll, Opens}
 use Rattle.macro_expand.proofs.FrameLaws.{placed_split, placed_stays, frame_stays, Answers, Finds, frame_readable, frame_finds, argument-renamed}
 use Rattle.macro_expand.proofs.PutInPlain.{named-extends}
 use Rattle.macro_expand.proofs.ExpandTrees.{is_names, code_names, Stays, other_stays, copy_bytes, copy_texts, copy_fits}
@@ -62,17 +63,6 @@ module _ (g : Ground) (c : Call) (w : List ℕ) (p : ℕ) where
   by_name b e = cc
 
 pub ruleset parametric = (rules, parameter_named, parameter_not)
-
--- ---- put_here
-pub here_put : (w : List ℕ) (g : Ground) (lim : ℕ) (x : Copied) (k : ℕ) → k ≡ long_of g.width.bytes (get_or w x.at 0) → (to : ℕ) (w' : List ℕ) → Puts w lim x.out.to (part x.at (x.at + k) w) to w'
-    → PutsHere w g lim x (record { at = x.at + k; out = record { to = to; count = x.out.count; deep = x.out.deep } }) w'
-here_put w g lim x k e to w' P = record {
-  at = ap (λ (j : ℕ). x.at + j) e;
-  out = refl;
-  puts = subst (λ (j : ℕ). Puts w lim x.out.to (part x.at (x.at + j) w) to w') e P;
-}
-
-pub ruleset putting_here = (rules, here_put)
 
 -- ---- what is found
 abbrev is_at : Maybe ℕ → Bool
@@ -249,15 +239,18 @@ module _ (s w : List ℕ) (g : Ground) (n lim : ℕ) (c : Call) (left : ℕ) (x 
         go true k = name_stays y k refl W P.lies
         go false k = other_stays names (renamed_all args) y k
 
-    module _ (k : ℕ) (i : k ≡ inside_at wd w p) (r : Copied) (w1 : List ℕ) (H : PutsHere w g lim x r w1) where
+    module _ (k : ℕ) (i : k ≡ inside_at wd w p) (r : Copied) (w1 : List ℕ) (H : PutsCommand w 0 g.width.bytes lim x (get_or w x.at 0) r w1) where
       abbrev bytes : List ℕ
       bytes = part p (p + long_of wd (get_or w p 0)) w
 
       bytes_are : bytes ≡ node_bytes wd (sym_node ts y)
       bytes_are = ap (λ (j : ℕ). part p j w) size_is ∙ lies_part w p (p + length (node_bytes wd (sym_node ts y))) (node_bytes wd (sym_node ts y)) parts.0.lies
 
+      puts : Puts w lim x.out.to bytes r.out.to w1
+      puts = let z : 0 + p ≡ p = omega arith in rw z at H.puts
+
       head : Appends s g n lim ps w x.out (plainly bytes) r.out w1
-      head = subst (λ (v : Appended). Appends s g n lim ps w x.out (plainly bytes) v w1) (sym H.out) (appends_puts s g n lim ps w x.out bytes r.out.to w1 F.going H.puts)
+      head = subst (λ (v : Appended). Appends s g n lim ps w x.out (plainly bytes) v w1) (sym H.out) (appends_puts s g n lim ps w x.out bytes r.out.to w1 F.going puts)
 
       same : texts s w1 g.m ≡ ts
       same = texts-stay s g n lim ps w x.out F.going (plainly bytes) r.out w1 head
@@ -305,7 +298,10 @@ module _ (s w : List ℕ) (g : Ground) (n lim : ℕ) (c : Call) (left : ℕ) (x 
   pub one_behind : x.at + (10 + g.width.bytes) ≤ length w
   one_behind = omega (arith, long, g.width.wide, I.placed.behind)
 
-  pub one_far : x.at + 17 ≤ length w
+  pub one_here : x.at < length w
+  one_here = omega (arith, long, I.placed.behind)
+
+  pub one_far : 0 + x.at + 17 ≤ length w
   one_far = omega (arith, long, I.placed.behind)
 
   pub one_span : x.at + 1 + 8 ≤ length w
@@ -317,8 +313,8 @@ module _ (s w : List ℕ) (g : Ground) (n lim : ℕ) (c : Call) (left : ℕ) (x 
   pub one_deep : 1 ≤ left
   one_deep = symbol_deep s w g n lim c left x K.places K.names K.args I.four I.end I.symbol K.framed I.within I.placed
 
-  pub one_upto : x.at + long_of g.width.bytes (get_or w x.at 0) ≤ x.out.to
-  one_upto = symbol_upto s w g n lim c left x K.places K.names K.args I.four I.end I.symbol K.framed I.within I.placed
+  pub one_upto : 0 + x.at + long_of g.width.bytes (get_or w x.at 0) ≤ x.out.to
+  one_upto = omega (arith, symbol_upto s w g n lim c left x K.places K.names K.args I.four I.end I.symbol K.framed I.within I.placed)
 
   module _ (q : ℕ) (h : Some q ≡ parameter_at g c w x.at) (b : (j : ℕ) → Bound.Fits w8 (get_or w j 0)) (span : ℕ) (j : span ≡ le_at 8 w (x.at + 1)) where
     pub one_argument : AnyArgument s w g n lim q span x.out
@@ -334,7 +330,7 @@ module _ (s w : List ℕ) (g : Ground) (n lim : ℕ) (c : Call) (left : ℕ) (x 
   pub one_none : (f : Maybe ℕ) → f ≡ parameter_at g c w x.at → f ≡ None → None ≡ parameter_at g c w x.at
   one_none f i h = sym h ∙ i
 
-  module _ (h : None ≡ parameter_at g c w x.at) (k : ℕ) (j : k ≡ inside_at g.width.bytes w x.at) (r : Copied) (w1 : List ℕ) (H : PutsHere w g lim x r w1) where
+  module _ (h : None ≡ parameter_at g c w x.at) (k : ℕ) (j : k ≡ inside_at g.width.bytes w x.at) (r : Copied) (w1 : List ℕ) (H : PutsCommand w 0 g.width.bytes lim x (get_or w x.at 0) r w1) where
     pub one_opens : Opens s w g n lim c left x (record { many = k; run = r }) w1
     unfolding PutsIn
     one_opens = record {
@@ -375,6 +371,6 @@ module _ (s w : List ℕ) (g : Ground) (n lim : ℕ) (c : Call) (left : ℕ) (x 
 
 pub ruleset giving_way = (rules, one_span, one_argument, one_parameter)
 
-pub ruleset opening = (rules, one_behind, one_far, one_inside, one_upto, one_opens)
+pub ruleset opening = (rules, one_here, one_behind, one_far, one_inside, one_upto, one_opens)
 
 pub ruleset expanding_one = (rules, one_readable, one_behind, one_found, one_none, opened_deep, opened_falls, opened_frame, opened_insides, opened_carry)

@@ -44,7 +44,7 @@ use Rattle.macro_expand.specs.Expand.{ExpandsTo}
 use Rattle.macro_expand.specs.Call.{Calls, SomeCall, ExpandsMacro}
 use Rattle.macro_expand.specs.PutIn.{Placed, Framed, Frame}
 use Rattle.macro_expand.specs.Alternatives.{alternatives_piece, held, SomeAlternatives, PutsHolding}
-use Rattle.macro_expand.specs.Macro.{ReadsCall, macro_piece, PutsHead, expanded_by, StartsMacro, PutsMacro}
+use Rattle.macro_expand.specs.Macro.{ReadsCall, macro_piece, PutsHead, expanded_by, PutsMacro}
 use Rattle.macro_expand.proofs.FrameLaws.{placed_stays, frame_stays, frame_readable}
 use Rattle.macro_expand.proofs.HoldMean.{Tells, hold_means, held-few}
 use Rattle.macro_expand.proofs.CallCode.{call_head, call_inside, call_flags, call_framed, call_many, call_placed, call_upto}
@@ -136,7 +136,13 @@ module _ (s w : List ℕ) (g : Ground) (n lim q d : ℕ) (v : Appended) (ps : Li
           ∙ ap (λ (h : ℕ). (16 ∷ (le 8 span ++ (le wd (number T key) ++ (flags ∷ (0 ∷ le 2 h))))) ++ bytes_of_each (alternative_bytes wd T) as') (sym k))
           (ap (λ (b : Bool). b && each alternative_fits (held sp D.args (renamed_all xs) D.alternatives)) (lt-ltb (length (held sp D.args (renamed_all xs) D.alternatives)) 65536 (omega (arith, k))))
 
--- ---- start
+-- ---- put_macro
+-- the item's command was appended, and its alternatives are to come
+pub record StartsMacro (s w : List ℕ) (g : Ground) (n lim q d : ℕ) (x : Macro) (m : ℕ) (v r : Appended) (w' : List ℕ) : Type 0 where
+  pub frame : Frame s w' g n lim x.call r
+  pub some : SomeAlternatives s w' g x.call x.span x.many x.from r
+  pub carry : (t : Appended) (w'' : List ℕ) → PutsHolding s w' g n lim x.call x.span x.many x.from r t w'' → PutsMacro s w g n lim q d m v t w''
+
 module _ (s w : List ℕ) (g : Ground) (n lim q d : ℕ) (v : Appended) (K : SomeCall s w g n lim q d v) where
   abbrev C0 : Calls s w g n lim q d v K.places K.four K.left K.end K.span K.name K.arguments K.four' K.behind K.definition
   C0 = K.calls
@@ -188,20 +194,13 @@ module _ (s w : List ℕ) (g : Ground) (n lim q d : ℕ) (v : Appended) (K : Som
       pub macro_starts : m < 65536 → StartsMacro s w g n lim q d x m v u w1
       macro_starts l = record { frame = macro_frame; some = macro_some; carry = λ t w2 U. macro_put l t w2 U }
 
-pub ruleset starting_macro = (rules, macro_starts)
+-- ---- the same of the call and the definition that were read
+module _ (s w : List ℕ) (g : Ground) (n lim q d : ℕ) (v : Appended) (x : Macro) (R : ReadsCall w g q d x) where
+  pub macro_some_call : SomeCall s w g n lim q d v → SomeCall s w g n lim x.at x.definition v
+  macro_some_call K = rw (R.at, R.definition) K
 
--- ---- put_macro
-module _ (s w : List ℕ) (g : Ground) (n lim q d : ℕ) (x : Macro) (m : ℕ) (v r : Appended) (w' : List ℕ) (S : StartsMacro s w g n lim q d x m v r w') where
-  pub started-frame : Frame s w' g n lim x.call r
-  started-frame = S.frame
-
-  pub started-some : SomeAlternatives s w' g x.call x.span x.many x.from r
-  started-some = S.some
-
-  pub started-carry : (t : Appended) (w'' : List ℕ) → PutsHolding s w' g n lim x.call x.span x.many x.from r t w'' → PutsMacro s w g n lim q d m v t w''
-  started-carry t w'' U = S.carry t w'' U
-
-pub ruleset putting_macro = (rules, started-frame, started-some, started-carry)
+  pub macro_reads : ReadsCall w g x.at x.definition x
+  macro_reads = subst (λ (i : ℕ). ReadsCall w g i x.definition x) (sym R.at) (subst (λ (i : ℕ). ReadsCall w g q i x) (sym R.definition) R)
 
 -- ---- expand_macro_symbol: what was handed on of what was counted
 abbrev ok_in : ℕ → Result ℕ Refusal → ℕ
@@ -241,11 +240,11 @@ module _ (s w : List ℕ) (g : Ground) (n lim q d : ℕ) (v : Appended) (K : Som
         let z = subst (Tells s w g n lim x.call v K.places K.definition.args K.arguments (F s w g n lim q d v K.places K.four K.left K.end K.span K.name K.arguments K.four' K.behind K.definition K.calls x R) K.span K.definition.alternatives 0) h tells in
         omega (arith, z.1, held-few K.span K.definition.args (renamed_all K.arguments) K.definition.alternatives, K.calls.defines.within.fewer)
 
-    pub expand_is : (r : Appended) (w' : List ℕ) → PutsMacro s w g n lim q d m v r w' → ExpandsMacro s w g n lim q d v (Ok r) w'
+    pub expand_is : (r : Appended) (w' : List ℕ) → PutsMacro s w g n lim x.at x.definition m v r w' → ExpandsMacro s w g n lim q d v (Ok r) w'
     unfolding ExpandsMacro ExpandsTo PutsMacro
     expand_is r w' U ps four left e sp t xs four' end D C =
         let z = subst (Tells s w g n lim x.call v ps D.args xs (F s w g n lim q d v ps four left e sp t xs four' end D C x R) sp D.alternatives 0) h (call_tells s w g n lim q d v ps four left e sp t xs four' end D C x R u i) in
         subst (λ (a : Outcome (List Alternative)). ExpandsTo s w g n lim q v ps (after a (λ as'. yes (record { span = sp; name = print (over sp (macro t) xs); inline = D.inline; public = D.public; args = []; alternatives = as' }))) (Ok r) w') (sym z.0)
-        (r, refl, U ps four left e sp t xs four' end D C (omega (arith, z.1)))
+        (r, refl, (rw (R.at, R.definition) at U) ps four left e sp t xs four' end D C (omega (arith, z.1)))
 
-pub ruleset expanding_macro = (rules, macro_call, macro_definition, macro_readable, macro_few, expand_room, expand_refused, expand_few, expand_is)
+pub ruleset expanding_macro = (rules, macro_call, macro_definition, macro_readable, macro_some_call, macro_reads, macro_few, expand_room, expand_refused, expand_few, expand_is)

@@ -13,12 +13,13 @@ use Rattle.appending.specs.Commands.{item_head}
 use Rattle.appending.specs.Pieces.{Piece, item_piece, Appends}
 use Rattle.macro_expand.specs.declared.call.Macro.{Macro}
 use Rattle.macro_expand.specs.Expand.{Popped}
-use Rattle.macro_expand.specs.PutIn.{Frame}
 use Rattle.macro_expand.specs.Call.{Calls}
-use Rattle.macro_expand.specs.Alternatives.{held, SomeAlternatives, PutsHolding}
+use Rattle.macro_expand.specs.Alternatives.{held}
 
 -- the call at q and the definition at d
 pub record ReadsCall (w : List ℕ) (g : Ground) (q d : ℕ) (r : Macro) : Type 0 where
+  pub at : r.at ≡ q
+  pub definition : r.definition ≡ d
   pub params : r.call.params ≡ d + 13 + g.width.bytes
   pub many : r.call.many ≡ get_or w (d + 10 + g.width.bytes) 0
   pub args : r.call.args ≡ g.from + q + (10 + g.width.bytes)
@@ -45,9 +46,3 @@ unfoldable pub PutsMacro : List ℕ → List ℕ → Ground → ℕ → ℕ → 
 PutsMacro s w g n lim q d m v r w' = (ps : List ℕ) (four : Bool) (left e : ℕ) (sp : Span) (t : Text) (xs : Syms) (four' : Bool) (end : ℕ) (D : Nonterminal)
     → Calls s w g n lim q d v ps four left e sp t xs four' end D → m ≡ length (held sp D.args (renamed_all xs) D.alternatives)
     → Appends s g n lim ps w v (item_piece g.width.bytes (item (expanded_by sp (print (over sp (macro t) xs)) (renamed_all xs) D))) r w'
-
--- the item's command was appended, and its alternatives are to come
-pub record StartsMacro (s w : List ℕ) (g : Ground) (n lim q d : ℕ) (x : Macro) (m : ℕ) (v r : Appended) (w' : List ℕ) : Type 0 where
-  pub frame : Frame s w' g n lim x.call r
-  pub some : SomeAlternatives s w' g x.call x.span x.many x.from r
-  pub carry : (t : Appended) (w'' : List ℕ) → PutsHolding s w' g n lim x.call x.span x.many x.from r t w'' → PutsMacro s w g n lim q d m v t w''

@@ -1,7 +1,7 @@
 -- Symbols of a macro's definition with a call's arguments put in. s is the tape, w is work; places in the definition are those in work. Assumes nothing: these are definitions.
 use Rattle.std.specs.Prelude.{◌≡◌, Bool, true, false, ◌⊎◌, List, ℕ, zero, suc, ◌+◌, ◌-◌, ◌≤◌, eqb, leb, length, get_or}
 use Rattle.octets.specs.Working.Choice.{pick}
-use Rattle.octets.specs.Plain.Runs.{part, Lies}
+use Rattle.octets.specs.Plain.Runs.{Lies}
 use Rattle.parse_tree.specs.Plain.Tree.{Text, Sym, Syms, nil, cons, count}
 use Rattle.parse_tree.specs.Plain.Texts.{is_name}
 use Rattle.parse_tree.specs.Plain.References.{sym_texts, syms_texts}
@@ -15,7 +15,6 @@ use Rattle.std.specs.Prelude.{Option, None}
 use Rattle.texts.specs.Table.{texts}
 use Rattle.passes.specs.Sizes.{sym_fits, syms_fit}
 use Rattle.passes.specs.Macros.{at, macro_expand_symbol, macro_expand_symbols}
-use Rattle.precedence.specs.Write.{Puts}
 use Rattle.replacing.specs.Trees.{is_key, renamed, renamed_all}
 use Rattle.expander.specs.declared.Ground.{Ground}
 use Rattle.expander.specs.Ground.{top_of, list_place}
@@ -109,12 +108,6 @@ wrapping c = pick (eqb c 39) true (eqb c 40)
 unfoldable pub fits_at : ℕ → ℕ → List ℕ → ℕ → ℕ → Bool
 fits_at wd e w zero p = false
 fits_at wd e w (suc left) p = pick (leb e p) true (pick (wrapping (get_or w p 0)) (fits_at wd e w left (p + long_of wd (get_or w p 0))) true)
-
--- ---- a command of the definition, as it stands
-pub record PutsHere (w : List ℕ) (g : Ground) (lim : ℕ) (x r : Copied) (w' : List ℕ) : Type 0 where
-  pub at : r.at ≡ x.at + long_of g.width.bytes (get_or w x.at 0)
-  pub out : r.out ≡ record { to = r.out.to; count = x.out.count; deep = x.out.deep }
-  pub puts : Puts w lim x.out.to (part x.at (x.at + long_of g.width.bytes (get_or w x.at 0)) w) r.out.to w'
 
 -- ---- the symbol for the parameter at a place, if one stands there
 unfoldable pub parameter_at : Ground → Call → List ℕ → ℕ → Option ℕ

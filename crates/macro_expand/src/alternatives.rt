@@ -10,7 +10,7 @@ use crate::put_in::put_spanned;
 use appending::Appended;
 use appending::symbols::{Coming, Copied};
 use grades::annotations::{alternative_end, symbols};
-use octets::numbers::u16_at;
+use parse_tree::node::whole_alternative;
 use precedence::write::{put_byte, put_run};
 
 // The command at p with another span and no condition, and its attributes, up to e.
@@ -23,13 +23,12 @@ fn put_bare(work: &mut [u8], p: usize, e: usize, span: u64, lim: usize, to: usiz
     put_run(work, p + 11, e, lim, r)
 }
 
-// The command of the alternative at p, and how many symbols it has.
+// The command of the alternative at p, and how many symbols it has. `tape` for the clauses alone.
 fn open_alternative(tape: &[u8], work: &mut [u8], c: Expansion, p: usize, v: Appended) -> Coming
     requires { Frame tape.now work.old c.round.g c.round.n c.round.lim c.call v × SomeAlternative tape.now work.old c.round.g c.call p v }
     ensures { OpensAlternative tape.now work.old c.round.g c.round.n c.round.lim c.call c.span p v result work.new }
 {
-    // One field, read by its place: a reader would read the whole command.
-    let many = usize::from(u16_at(work, p + 12 + c.round.g.width.bytes));
+    let many = usize::from(whole_alternative(work, p, c.round.g.width).symbols);
     let at = symbols(work, p, c.round.g.width);
     let e = conditions(work, p, c.round.g.width);
     let to = put_bare(work, p, e, c.span, c.round.lim, v.to);

@@ -7,6 +7,7 @@ use expander::Ground;
 use grades::annotations::alternative_end;
 use grades::skip::skip;
 use octets::numbers::{Width, atom_at};
+use parse_tree::node::whole_alternative;
 
 // Where the parameters and the symbols for them stand, how many there are, and the place before which the definition ends.
 #[derive(Clone, Copy)]
@@ -87,7 +88,7 @@ pub fn evaluate_cond(x: Arguments, at: usize) -> Option<bool>
     }
 }
 
-// Where the conditions of the alternative at p begin. One field, read by its place, here and below: a reader would read the whole command.
+// Where the conditions of the alternative at p begin. One count, read by its place: a reader of the whole command would ask for more than 11 bytes.
 pub fn conditions(work: &[u8], p: usize, width: Width) -> usize
     requires { p + 11 ≤ length work.now }
     ensures { result ≡ conditions_from width.bytes work.now p }
@@ -101,7 +102,7 @@ pub fn holds(x: Arguments, p: usize) -> Result<bool, NotLiteral>
     requires { p < x.call.end }
     ensures { result ≡ holds_at x.entry.g x.entry.call x.entry.work.now p }
 {
-    if x.work[p + 10] == 0 {
+    if whole_alternative(x.work, p, x.g.width).conditions == 0 {
         return Ok(true);
     }
     let at = conditions(x.work, p, x.g.width);

@@ -8,24 +8,23 @@ use crate::look::expand_lookaround_symbol;
 use crate::repeat::expand_repeat_symbol;
 use appending::{Appended, Round};
 use expander::Ground;
-use expander::cells::TextCell;
+use expander::cells::text_cell;
 use octets::numbers::atom_at;
 use parse_tree::refusal::Refusal;
 use resolve::Grammar;
-use resolve::items::place;
-use texts::fields::{cell, mark};
+use texts::fields::mark;
 
-// The place of the definition of the macro that is called at q.
+// The place of the definition of the macro that is called at q. `tape` for the clauses alone.
 fn definition(tape: &[u8], work: &[u8], g: Ground, t: Grammar, q: usize) -> usize
     requires { SomeDefinition tape.now work.now g t q }
     ensures { IsDefinition tape.now work.now g t q result }
 {
     let k = atom_at(work, g.from + q + 9, g.width) as usize;
-    let c = TextCell(cell(work, g.m.base, k));
-    place(work, t, c.macro_index())
+    let c = text_cell(work, g.m.base, k);
+    t.place(work, c.macro_index())
 }
 
-// The item of the j-th pushed symbol, which stands at q with the code c and is no macro call.
+// The item of the j-th pushed symbol, which stands at q with the code c and is no macro call. `t` and `j` for the clauses alone.
 fn expand_other(
     tape: &[u8],
     work: &mut [u8],

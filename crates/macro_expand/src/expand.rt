@@ -1,17 +1,13 @@
 // Symbols of a macro's definition, appended with a call's arguments put in. Places in the definition are those in work.
-ghost use Rattle.std.specs.Prelude.{◌≡◌, ◌+◌, ◌≤◌, length, get_or};
-ghost use Rattle.parse_tree.specs.Working.Nodes.{long_of};
-ghost use Rattle.macro_expand.specs.PutIn.{parameter_at, PutsHere, Opens, Frame, SomeInside, SomeInsides, PutsIn, PutsInAll};
+ghost use Rattle.std.specs.Prelude.{◌≡◌, ◌+◌, ◌≤◌, length};
+ghost use Rattle.macro_expand.specs.PutIn.{parameter_at, Opens, Frame, SomeInside, SomeInsides, PutsIn, PutsInAll};
 
 use crate::arguments::{Arguments, Call, argument};
 use crate::put_in::put_argument;
-use appending::symbols::{Coming, Copied};
-use appending::{Appended, Round};
-use expander::Ground;
+use appending::Round;
+use appending::symbols::{Coming, Copied, copy_command};
 use octets::numbers::{atom_at, u64_at};
 use parse_tree::nested::inside_at;
-use precedence::write::put_run;
-use resolve::commands::long;
 
 // What stays as it is while a call's definition is put in: the round, the call, and its span. What is known of them (`Frame`) holds of work and of what is appended as well.
 #[derive(Clone, Copy)]
@@ -33,20 +29,6 @@ fn parameter(x: Arguments, at: usize) -> Option<usize>
     }
 }
 
-// The command at x.at, as it stands. `copy_command` of appending is the same from another place on: what both do is `put_run`, and a common form is no shorter.
-fn put_here(work: &mut [u8], g: Ground, lim: usize, x: Copied) -> Copied
-    requires { (x.at + long_of g.width.bytes (get_or work.old x.at 0) ≤ x.out.to) × (lim ≤ length work.old) × (x.at + 17 ≤ length work.old) }
-    ensures { PutsHere work.old g lim x result work.new }
-{
-    let at = x.at;
-    let k = long(work[at], g.width);
-    let to = put_run(work, at, at + k, lim, x.out.to);
-    Copied {
-        at: at + k,
-        out: Appended { to, ..x.out },
-    }
-}
-
 // The parameter at x.at, for which the symbol at p stands.
 fn put_parameter(
     tape: &[u8],
@@ -65,13 +47,15 @@ fn put_parameter(
     Copied { at: e, out }
 }
 
-// The command at x.at, which is no parameter, and how many symbols stand straight inside.
+// The command at x.at, which is no parameter, and how many symbols stand straight inside. `tape` and `left` for the clauses alone.
 fn open(tape: &[u8], work: &mut [u8], c: Expansion, left: usize, x: Copied) -> Coming
     requires { Frame tape.now work.old c.round.g c.round.n c.round.lim c.call x.out × SomeInside tape.now work.old c.round.g left x × (None ≡ parameter_at c.round.g c.call work.old x.at) }
     ensures { Opens tape.now work.old c.round.g c.round.n c.round.lim c.call left x result work.new }
 {
-    let many = inside_at(work, x.at, c.round.g.width);
-    let run = put_here(work, c.round.g, c.round.lim, x);
+    let width = c.round.g.width;
+    let code = work[x.at];
+    let many = inside_at(work, x.at, width);
+    let run = copy_command(work, 0, width, c.round.lim, x, code);
     Coming { many, run }
 }
 

@@ -10,7 +10,6 @@ use appending::built::BuiltIn;
 use appending::symbols::put_symbols;
 use appending::{Appended, Round};
 use octets::numbers::u16_at;
-use parse_tree::refusal;
 use parse_tree::refusal::{Question, Refusal};
 
 // The built-in text of the action, where some of k symbols are chosen.
@@ -56,7 +55,7 @@ pub fn expand_expr_symbol(
     let m = u16_at(work, at + 9);
     let k = usize::from(m);
     let Some(chosen) = analyze_expr(tape, work, round.g, q + 11, k) else {
-        return Err(refusal::of_command(Question::Group, work, at));
+        return Err(Question::Group.of_command(work, at));
     };
     let text = group_action(chosen, k);
     Ok(put_group(tape, work, round, q, text, m, v))

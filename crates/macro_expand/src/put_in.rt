@@ -10,8 +10,8 @@ use appending::{Appended, Round};
 use expander::replace::is_expanded;
 use octets::numbers::Width;
 use parse_tree::nested::inside_at;
+use parse_tree::size::long;
 use precedence::write::{copy_within, put_command};
-use resolve::commands::long;
 
 // A code, a span, and the bytes from a up to e, if they end at lim or before. Not by `put`: 9 + (e - a) is known to be a number only behind the first test. Nor by `put` and then `put_run`, which
 // asks that e is at its cursor or before: that cursor is lim + 1 where the first did not fit, and e may be behind it.

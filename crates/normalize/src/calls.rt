@@ -7,7 +7,6 @@ ghost use Rattle.output.specs.Plain.Answers.{Called, Checked};
 ghost use Rattle.normalize.specs.Calls.{in_room};
 
 use output::room::enough;
-use parse_tree::refusal;
 use parse_tree::refusal::{Question, Refusal};
 use stages::expanding::Expanding;
 use stages::levelling::Levelling;
@@ -21,7 +20,7 @@ fn room(tape: usize, output: usize, work: usize) -> Result<(), Refusal>
     ensures { MatchResult result (λ _. 8 * (tape + output) ≤ work) (λ why. (why ≡ refusal_at (number_of Question.Room) 0) × (work < 8 * (tape + output))) }
 {
     if !enough(tape, output, work) {
-        return Err(refusal::at(Question::Room, 0));
+        return Err(Question::Room.at(0));
     }
     Ok(())
 }

@@ -51,6 +51,3 @@ pointwise-same (x ∷ xs) (y ∷ ys) = go (eqb x y) (pointwise-same xs ys)
 
 pub said-same : (xs ys : List ℕ) (r : Bool) → r ≡ pointwise eqb xs ys → r ≡ same_as xs ys
 said-same xs ys r e = e ∙ pointwise-same xs ys
-
-pub said-text : (xs ys zs : List ℕ) (r : Bool) → ys ≡ zs → r ≡ pointwise eqb xs ys → r ≡ same_as xs zs
-said-text xs ys zs r d e = rw (sym d) (said-same xs ys r e)

@@ -7,7 +7,6 @@ pub mod NodeSays
 pub mod NodeBack
 mod NodeCode
 mod PlacesCode
-mod Refusing
 pub mod SizeLaws
 pub mod NestedCode
 -- Trees and their tapes; RoundTrip has the theorems.

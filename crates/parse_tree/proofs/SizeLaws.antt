@@ -11,7 +11,7 @@ use lib.ListN.{length, length-append}
 use Rattle.octets.specs.Working.Choice.{pick}
 use Rattle.octets.proofs.ChoiceLaws.{by_pick}
 use Rattle.octets.proofs.NumbersLaws.{length-le}
-use Rattle.parse_tree.specs.Working.Nodes.{code_size, span_bytes, leaf_operand, symbol_bytes, node_bytes, size_of}
+use Rattle.parse_tree.specs.Working.Nodes.{code_size, long_of, span_bytes, leaf_operand, symbol_bytes, node_bytes, size_of}
 use Rattle.parse_tree.specs.Working.Questions.{defined}
 use Rattle.parse_tree.specs.declared.syntax.Span.{Span}
 use Rattle.parse_tree.specs.declared.syntax.Atom.{Atom}
@@ -124,7 +124,64 @@ module _ (w : ℕ) (n : Node) (s : Span) (k : SymbolKind) (p : n ≡ Node.Symbol
 
 pub ruleset sizing = (rules, ambiguous_size, bare_size, quoted_size, regex_size, nonterminal_leaf_size, lookahead_size, lookbehind_size, error_size, text_size, nonterminal_size, terminal_size, argument-size, alternative_size, attribute_size, condition_size, leaf_size, repeat_size, choose_size, name_size, macro_size, group_size)
 
--- ---- the same by its code
+-- ---- a command of an alternative, by its code
+module _ (w c : ℕ) where
+  pub long_18 : c ≡ 18 → 14 + w ≡ long_of w c
+  unfolding long_of pick
+  long_18 e = rw e refl
+
+  pub long_19 : c ≡ 19 → 2 + w + w + w ≡ long_of w c
+  unfolding long_of pick
+  long_19 e = rw e refl
+
+  pub long_20 : c ≡ 20 → 10 + w + w ≡ long_of w c
+  unfolding long_of pick
+  long_20 e = rw e refl
+
+  pub long_32 : c ≡ 32 → 9 + w ≡ long_of w c
+  unfolding long_of pick
+  long_32 e = rw e refl
+
+  pub long_33 : c ≡ 33 → 9 + w ≡ long_of w c
+  unfolding long_of pick
+  long_33 e = rw e refl
+
+  pub long_34 : c ≡ 34 → 9 + w ≡ long_of w c
+  unfolding long_of pick
+  long_34 e = rw e refl
+
+  pub long_35 : c ≡ 35 → 9 + w ≡ long_of w c
+  unfolding long_of pick
+  long_35 e = rw e refl
+
+  pub long_36 : c ≡ 36 → 9 + w ≡ long_of w c
+  unfolding long_of pick
+  long_36 e = rw e refl
+
+  pub long_37 : c ≡ 37 → 10 + w ≡ long_of w c
+  unfolding long_of pick
+  long_37 e = rw e refl
+
+  pub long_38 : c ≡ 38 → 10 ≡ long_of w c
+  unfolding long_of pick
+  long_38 e = rw e refl
+
+  pub long_40 : c ≡ 40 → 10 + w ≡ long_of w c
+  unfolding long_of pick
+  long_40 e = rw e refl
+
+  pub long_41 : c ≡ 41 → 11 ≡ long_of w c
+  unfolding long_of pick
+  long_41 e = rw e refl
+
+  pub long_other : (c ≡ 18 → ⊥) → (c ≡ 19 → ⊥) → (c ≡ 20 → ⊥) → (c ≡ 32 → ⊥) → (c ≡ 33 → ⊥) → (c ≡ 34 → ⊥) → (c ≡ 35 → ⊥) → (c ≡ 36 → ⊥) → (c ≡ 37 → ⊥) → (c ≡ 38 → ⊥) → (c ≡ 40 → ⊥) → (c ≡ 41 → ⊥) → 9 ≡ long_of w c
+  unfolding long_of pick
+  long_other n18 n19 n20 n32 n33 n34 n35 n36 n37 n38 n40 n41 =
+      simp (ne_eqb c 18 n18, ne_eqb c 19 n19, ne_eqb c 20 n20, ne_eqb c 32 n32, ne_eqb c 33 n33, ne_eqb c 34 n34, ne_eqb c 35 n35, ne_eqb c 36 n36, ne_eqb c 37 n37, ne_eqb c 38 n38, ne_eqb c 40 n40, ne_eqb c 41 n41)
+
+pub ruleset lengthening = (rules, long_18, long_19, long_20, long_32, long_33, long_34, long_35, long_36, long_37, long_38, long_40, long_41, long_other)
+
+-- ---- a command by its code
 module _ (w c : ℕ) where
   pub size_16 : c ≡ 16 → 13 + w ≡ code_size w c
   unfolding code_size pick
@@ -135,36 +192,16 @@ module _ (w c : ℕ) where
   size_17 e = rw e refl
 
   pub size_18 : c ≡ 18 → 14 + w ≡ code_size w c
-  unfolding code_size pick
+  unfolding code_size long_of pick
   size_18 e = rw e refl
 
   pub size_19 : c ≡ 19 → 2 + w + w + w ≡ code_size w c
-  unfolding code_size pick
+  unfolding code_size long_of pick
   size_19 e = rw e refl
 
   pub size_20 : c ≡ 20 → 10 + w + w ≡ code_size w c
-  unfolding code_size pick
+  unfolding code_size long_of pick
   size_20 e = rw e refl
-
-  pub size_32 : c ≡ 32 → 9 + w ≡ code_size w c
-  unfolding code_size pick
-  size_32 e = rw e refl
-
-  pub size_33 : c ≡ 33 → 9 + w ≡ code_size w c
-  unfolding code_size pick
-  size_33 e = rw e refl
-
-  pub size_34 : c ≡ 34 → 9 + w ≡ code_size w c
-  unfolding code_size pick
-  size_34 e = rw e refl
-
-  pub size_35 : c ≡ 35 → 9 + w ≡ code_size w c
-  unfolding code_size pick
-  size_35 e = rw e refl
-
-  pub size_36 : c ≡ 36 → 9 + w ≡ code_size w c
-  unfolding code_size pick
-  size_36 e = rw e refl
 
   pub size_48 : c ≡ 48 → 9 + w ≡ code_size w c
   unfolding code_size pick
@@ -175,23 +212,23 @@ module _ (w c : ℕ) where
   size_49 e = rw e refl
 
   pub size_37 : c ≡ 37 → 10 + w ≡ code_size w c
-  unfolding code_size pick
+  unfolding code_size long_of pick
   size_37 e = rw e refl
 
   pub size_38 : c ≡ 38 → 10 ≡ code_size w c
-  unfolding code_size pick
+  unfolding code_size long_of pick
   size_38 e = rw e refl
 
   pub size_39 : c ≡ 39 → 9 ≡ code_size w c
-  unfolding code_size pick
+  unfolding code_size long_of pick
   size_39 e = rw e refl
 
   pub size_40 : c ≡ 40 → 10 + w ≡ code_size w c
-  unfolding code_size pick
+  unfolding code_size long_of pick
   size_40 e = rw e refl
 
   pub size_41 : c ≡ 41 → 11 ≡ code_size w c
-  unfolding code_size pick
+  unfolding code_size long_of pick
   size_41 e = rw e refl
 
   outside : (c ≡ 32 → ⊥) → (c ≡ 33 → ⊥) → (c ≡ 34 → ⊥) → (c ≡ 35 → ⊥) → (c ≡ 36 → ⊥) → (c < 32) ⊎ (36 < c)
@@ -205,7 +242,7 @@ module _ (w c : ℕ) where
   by_code : (P : ℕ → Type 0) → (c ≡ 16 → P (13 + w)) → (c ≡ 17 → P (1 + w)) → (c ≡ 18 → P (14 + w)) → (c ≡ 19 → P (2 + w + w + w)) → (c ≡ 20 → P (10 + w + w))
       → (32 ≤ c → c ≤ 36 → P (9 + w)) → (c ≡ 37 → P (10 + w)) → (c ≡ 38 → P 10) → (c ≡ 40 → P (10 + w)) → (c ≡ 41 → P 11) → (48 ≤ c → c ≤ 49 → P (9 + w))
       → ((c < 32) ⊎ (36 < c) → P 9) → P (code_size w c)
-  unfolding code_size
+  unfolding code_size long_of
   by_code P f16 f17 f18 f19 f20 named f37 f38 f40 f41 terminal other =
       by_pick P _ (λ e. f16 (eqb-true c 16 e)) (λ n16.
       by_pick P _ (λ e. f17 (eqb-true c 17 e)) (λ n17.
@@ -245,18 +282,16 @@ module _ (w c : ℕ) where
   pub size_between : 37 ≤ c → c < 48 → (c ≡ 37 → ⊥) → (c ≡ 38 → ⊥) → (c ≡ 40 → ⊥) → (c ≡ 41 → ⊥) → 9 ≡ code_size w c
   size_between l h n37 n38 n40 n41 = by_code (λ (z : ℕ). 9 ≡ z) (λ e. absurd (omega arith)) (λ e. absurd (omega arith)) (λ e. absurd (omega arith)) (λ e. absurd (omega arith)) (λ e. absurd (omega arith)) (λ x y. absurd (omega arith)) (λ e. absurd (n37 e)) (λ e. absurd (n38 e)) (λ e. absurd (n40 e)) (λ e. absurd (n41 e)) (λ x y. absurd (omega arith)) (λ _. refl)
 
-  -- 27, 2a, 2b, 2c, and what no command has, by the codes that it is not
-  pub size_other : (c ≡ 16 → ⊥) → (c ≡ 17 → ⊥) → (c ≡ 18 → ⊥) → (c ≡ 19 → ⊥) → (c ≡ 20 → ⊥) → (c ≡ 32 → ⊥) → (c ≡ 33 → ⊥) → (c ≡ 34 → ⊥) → (c ≡ 35 → ⊥) → (c ≡ 36 → ⊥)
-      → (c ≡ 37 → ⊥) → (c ≡ 38 → ⊥) → (c ≡ 40 → ⊥) → (c ≡ 41 → ⊥) → (c ≡ 48 → ⊥) → (c ≡ 49 → ⊥) → 9 ≡ code_size w c
+  -- what no item, argument or terminal has
+  pub size_long : (l : ℕ) → l ≡ long_of w c → (c ≡ 16 → ⊥) → (c ≡ 17 → ⊥) → (c ≡ 48 → ⊥) → (c ≡ 49 → ⊥) → l ≡ code_size w c
   unfolding code_size pick
-  size_other n16 n17 n18 n19 n20 n32 n33 n34 n35 n36 n37 n38 n40 n41 n48 n49 =
-      simp (ne_eqb c 16 n16, ne_eqb c 17 n17, ne_eqb c 48 n48, ne_eqb c 49 n49, ne_eqb c 18 n18, ne_eqb c 19 n19, ne_eqb c 20 n20, ne_eqb c 32 n32, ne_eqb c 33 n33, ne_eqb c 34 n34, ne_eqb c 35 n35, ne_eqb c 36 n36, ne_eqb c 37 n37, ne_eqb c 38 n38, ne_eqb c 40 n40, ne_eqb c 41 n41)
+  size_long l e n16 n17 n48 n49 = simp (ne_eqb c 16 n16, ne_eqb c 17 n17, ne_eqb c 48 n48, ne_eqb c 49 n49) e
 
   -- a symbol has a span
   pub size_symbol : 32 ≤ c → 9 ≤ code_size w c
   size_symbol l = by_code (λ (z : ℕ). 9 ≤ z) (λ e. absurd (omega arith)) (λ e. absurd (omega arith)) (λ e. absurd (omega arith)) (λ e. absurd (omega arith)) (λ e. absurd (omega arith)) (λ x y. omega arith) (λ e. omega arith) (λ e. omega arith) (λ e. omega arith) (λ e. omega arith) (λ x y. omega arith) (λ x. omega arith)
 
-pub ruleset coding = (rules, size_16, size_17, size_18, size_19, size_20, size_32, size_33, size_34, size_35, size_36, size_37, size_38, size_40, size_41, size_48, size_49, size_other)
+pub ruleset coding = (rules, size_16, size_17, size_48, size_49, size_long)
 
 -- a command that is known has a byte
 symbol_positive : (w : ℕ) (sp : Span) (k : SymbolKind) → 0 < length (symbol_bytes w sp k)

@@ -42,31 +42,54 @@ pub struct Refusal {
 }
 
 // "2 to 4 the command's offset twice"
-pub fn at(question: Question, place: usize) -> Refusal
-    ensures { result ≡ refusal_at (number_of question) place }
+#[tactic(auto, unfolding(crate::specs::Working::Refusals::refusal_at))]
+pub fn at(number: usize, place: usize) -> Refusal
+    ensures { result ≡ refusal_at number place }
 {
     Refusal {
-        number: question as usize,
+        number,
         from: place,
         to: place,
     }
 }
 
 // A span.
-pub fn over(question: Question, span: Span) -> Refusal
-    ensures { result ≡ refusal_over (number_of question) span }
+#[tactic(auto, unfolding(crate::specs::Working::Refusals::refusal_over))]
+pub fn over(number: usize, span: Span) -> Refusal
+    ensures { result ≡ refusal_over number span }
 {
     Refusal {
-        number: question as usize,
+        number,
         from: span.0 as usize,
         to: span.1 as usize,
     }
 }
 
-// The span of the command at a place, which begins behind its code.
-pub fn of_command(question: Question, bytes: &[u8], at: usize) -> Refusal
-    requires { at + 9 ≤ length bytes.now }
-    ensures { result ≡ refusal_over (number_of question) (span_in bytes.now (at + 1)) }
-{
-    over(question, span_at(bytes, at + 1))
+// The refusals of a question, so that its number is made of it here alone.
+impl Question {
+    fn number(self) -> usize
+        ensures { result ≡ number_of self }
+    {
+        self as usize
+    }
+
+    pub fn at(self, place: usize) -> Refusal
+        ensures { result ≡ refusal_at (number_of self) place }
+    {
+        at(self.number(), place)
+    }
+
+    pub fn over(self, span: Span) -> Refusal
+        ensures { result ≡ refusal_over (number_of self) span }
+    {
+        over(self.number(), span)
+    }
+
+    // Over the span of the command at a place, which begins behind its code.
+    pub fn of_command(self, bytes: &[u8], at: usize) -> Refusal
+        requires { at + 9 ≤ length bytes.now }
+        ensures { result ≡ refusal_over (number_of self) (span_in bytes.now (at + 1)) }
+    {
+        self.over(span_at(bytes, at + 1))
+    }
 }

@@ -1,6 +1,6 @@
 // How long a command is.
 ghost use Rattle.std.specs.Prelude.{◌≡◌, ◌+◌, ◌≤◌, ◌<◌, length};
-ghost use Rattle.parse_tree.specs.Working.Nodes.{code_size, leaf_operand, size_of};
+ghost use Rattle.parse_tree.specs.Working.Nodes.{code_size, leaf_operand, long_of, size_of};
 
 use crate::syntax::{Around, Leaf, Node, Over, SymbolKind};
 use octets::numbers::Width;
@@ -46,13 +46,11 @@ pub fn size(n: Node, width: Width) -> usize
     }
 }
 
-// The same by its code, an atom aside; 9 for a code that no command has. Mostly one arm to a code, as in `resolve::commands::long`, where a range was tried: five machine instructions more for each command.
-pub fn size_by_code(code: u8, width: Width) -> usize
-    ensures { (result ≡ code_size width.bytes code) × (0 < result) × (result ≤ 17) }
+// The same by its code, of a command of an alternative: an alternative, an attribute, a condition or a symbol. One arm for 32 to 36 was tried: five machine instructions more for each command, since no table is made then.
+pub fn long(code: u8, width: Width) -> usize
+    ensures { (result ≡ long_of width.bytes code) × (0 < result) × (result ≤ 17) }
 {
     match code {
-        16 => 13 + width.bytes,
-        17 => 1 + width.bytes,
         18 => 14 + width.bytes,
         19 => 2 + width.bytes + width.bytes + width.bytes,
         20 => 10 + width.bytes + width.bytes,
@@ -64,8 +62,18 @@ pub fn size_by_code(code: u8, width: Width) -> usize
         37 | 40 => 10 + width.bytes,
         38 => 10,
         41 => 11,
-        48 => 9 + width.bytes,
-        49 => 9 + width.bytes,
         _ => 9,
+    }
+}
+
+// The same by its code, an atom aside; 9 for a code that no command has.
+pub fn size_by_code(code: u8, width: Width) -> usize
+    ensures { (result ≡ code_size width.bytes code) × (0 < result) × (result ≤ 17) }
+{
+    match code {
+        16 => 13 + width.bytes,
+        17 => 1 + width.bytes,
+        48 | 49 => 9 + width.bytes,
+        _ => long(code, width),
     }
 }

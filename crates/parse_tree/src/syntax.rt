@@ -1,5 +1,5 @@
 // The commands of a tape as values. Names of one kind are a type of their own, as in the Rust's parse tree. Codes and operands stay the bytes of
-// document 01: a run over work tests one byte, and an enum would be made for one test.
+// document 01, also where they are written: an enum of codes would be made by a match of the same numbers wherever a byte is read, to be asked by one more match. Operands: question 3 asks of a node whether they are defined, so it holds any byte.
 
 #[derive(Clone, Copy)]
 pub struct Span(pub u32, pub u32);

@@ -1,5 +1,5 @@
 -- The ways out of count_of and write_level. Assumes nothing.
-use mathlib.Core.Path.{◌≡◌, ◌∙◌}
+use mathlib.Core.Path.{◌≡◌, ap, ◌∙◌}
 use mathlib.Core.Logic.{inl}
 use mathlib.Core.List.{List}
 use Prim.Native.Nat.{ℕ, ◌+◌, ◌-◌, ◌≤◌}
@@ -9,6 +9,8 @@ use lib.ListN.{length}
 use Rattle.std.specs.Prelude.{Some, None}
 use Rattle.octets.specs.Plain.Numbers.{le_at}
 use Rattle.texts.proofs.TableStays.{le_at-agree}
+use Rattle.parse_tree.specs.declared.syntax.NonterminalData.{NonterminalData}
+use Rattle.parse_tree.specs.Working.Nodes.{nonterminal_here}
 use Rattle.grades.specs.declared.Ids.{Ids}
 use Rattle.grades.specs.Annotations.{first_alternative}
 use Rattle.precedence.specs.declared.level.Level.{Level}
@@ -46,10 +48,10 @@ module _ (wd : ℕ) (w : List ℕ) (p places keys : ℕ) (l : Level) (lim to : �
           let on = puts_on w w1 lim to xs q x g.stop in
           le_at-agree 8 w w2 (p + 1) (λ i h k. y.others i (inl (omega (arith, g.head))) ∙ puts_beside w w1 lim to xs q x i (inl (omega (arith, g.head))))
 
-  module _ (ids : Ids) (many target q r : ℕ) (w1 w2 : List ℕ) (c : many ≡ level_count l) (t : target ≡ le_at wd w (p + 9)) (x : Puts w lim to (nonterminal_out wd w p l.name many) q w1)
-      (y : PutsAlternatives wd ids places keys target l lim w1 q r w2) where
+  module _ (ids : Ids) (many q r : ℕ) (w1 w2 : List ℕ) (d : NonterminalData) (c : many ≡ level_count l) (t : d ≡ nonterminal_here wd w p) (x : Puts w lim to (nonterminal_out wd w p l.name many) q w1)
+      (y : PutsAlternatives wd ids places keys d.name.0 l lim w1 q r w2) where
     whole : (e : ℕ) (w3 : List ℕ) → Puts w2 lim r (lower_bytes wd (le_at 8 w (p + 1)) l.below) e w3 → PutsLevel wd ids p places keys l lim w to e w3
-    whole e w3 z = record { headed = w1; filled = w2; behind = q; last = r; head = rw c at x; alternatives = rw t at y; falls = z }
+    whole e w3 z = record { headed = w1; filled = w2; behind = q; last = r; head = rw c at x; alternatives = rw (ap (λ (z : NonterminalData). z.name.0) t) at y; falls = z }
 
     pub level_lowest : l.below ≡ None → PutsLevel wd ids p places keys l lim w to r w2
     unfolding lower_bytes
@@ -58,7 +60,7 @@ module _ (wd : ℕ) (w : List ℕ) (p places keys : ℕ) (l : Level) (lim to : �
     pub level_falls : (below : ℕ) → l.below ≡ Some below → (e : ℕ) (w3 : List ℕ) → Puts w2 lim r (fall_bytes wd (le_at 8 w2 (p + 1)) below) e w3 → PutsLevel wd ids p places keys l lim w to e w3
     unfolding lower_bytes
     level_falls below b e w3 z =
-        let s = span_stays (nonterminal_out wd w p l.name many) q w1 x ids target r w2 y in
+        let s = span_stays (nonterminal_out wd w p l.name many) q w1 x ids d.name.0 r w2 y in
         whole e w3 (rw (b, ← s) z)
 
 pub ruleset levelled-put = (rules, level_lowest, level_falls)

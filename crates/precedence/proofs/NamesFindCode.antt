@@ -1,4 +1,4 @@
--- find_name: a name is in the bucket of its hash. Assumes nothing.
+-- find_name: a name is among those of its hash. Assumes nothing.
 use mathlib.Core.Path.{◌≡◌, refl, sym, ap, ◌∙◌}
 use mathlib.Core.Bool.{Bool, true, false}
 use mathlib.Core.List.{List, [], ◌∷◌, ◌++◌}
@@ -14,11 +14,10 @@ use Rattle.octets.proofs.SameLaws.{same_as-eq}
 use Rattle.parse_tree.specs.Plain.Tree.{Text}
 use Rattle.texts.specs.declared.Map.{Map}
 use Rattle.std.specs.Prelude.{Option, min}
-use Rattle.texts.specs.Hash.{hash_of, bucket_of}
-use Rattle.texts.specs.Fields.{mark_at, bucket_at, Chained}
+use Rattle.texts.specs.Hash.{hash_of}
+use Rattle.texts.specs.Fields.{mark_at, hash_at, Chained}
 use Rattle.texts.specs.Search.{Searched}
 use Rattle.texts.specs.Table.{linked, Finds}
-use Rattle.texts.proofs.HashLaws.{hash_small, bucket_small}
 use Rattle.texts.proofs.SearchCode.{picked}
 use Rattle.texts.proofs.TableFindCode.{picked_text}
 use Rattle.precedence.specs.Names.{Naming, Based, Spelled, named_text, named_texts}
@@ -63,25 +62,17 @@ named-at s w m (suc n) k h = go (ltb k n) refl (named-at s w m n k)
 
 -- ---- the walk asks of each name
 module _ (s w : List ℕ) (m : Map) (n : ℕ) (x : Text) (h : ℕ) (g : Naming s w m n) (p : h ≡ hash_of x) where
-  pub name_small : h < 4294967296
-  name_small = rw p (hash_small x)
+  -- a name that is x has its hash
+  name_of : (i : ℕ) → i < n → same_as (named_text s w m i) x ≡ true → hash_at w m.base i ≡ h
+  name_of i l d = g.hashes i l ∙ ap hash_of (same_as-eq (named_text s w m i) x d) ∙ sym p
 
-  pub name_bucket : (y : ℕ) → y ≡ bucket_of h m.buckets → y < m.buckets
-  name_bucket y e = omega (arith, bucket_small h m.buckets name_small g.some)
-
-  -- a name that is x is in its bucket
-  name_of : (y : ℕ) → y ≡ bucket_of h m.buckets → (i : ℕ) → i < n → same_as (named_text s w m i) x ≡ true → bucket_at w m.base m.buckets i ≡ y
-  unfolding bucket_at
-  name_of y e i l d = ap (λ (v : ℕ). bucket_of v m.buckets) (g.hashes i l ∙ ap hash_of (same_as-eq (named_text s w m i) x d) ∙ sym p) ∙ sym e
-
-  pub name_is : (A : ℕ → Bool → Type 0) (y : ℕ) (r : Option ℕ) → y ≡ bucket_of h m.buckets → Searched A w m.base m.buckets y n r
-      → ((i : ℕ) (a : Bool) → A i a → a ≡ same_as (named_text s w m i) x) → Finds (named_texts s w m n) x r
-  name_is A y r e d same =
+  pub name_is : (A : ℕ → Bool → Type 0) (r : Option ℕ) → Searched A w m.base n h r → ((i : ℕ) (a : Bool) → A i a → a ≡ same_as (named_text s w m i) x) → Finds (named_texts s w m n) x r
+  name_is A r d same =
       picked_text (named_texts s w m n) (named_text s w m) x n (length_named s w m n) (named-at s w m n) r
-      (picked (λ i. same_as (named_text s w m i) x) A w m.base m.buckets y n r d same (name_of y e))
+      (picked (λ i. same_as (named_text s w m i) x) A w m.base n h r d same name_of)
 
 pub name_chained : (s w : List ℕ) (m : Map) (n : ℕ) → Naming s w m n → Chained w m.base m.buckets (linked n)
 unfolding linked
 name_chained s w m n g = let z : min n 4294967295 ≡ n = omega (arith, g.few) in rw z g.chained
 
-pub ruleset tracing = (rules, naming-based, naming-spelled, name_small, name_bucket, name_chained)
+pub ruleset tracing = (rules, naming-based, naming-spelled, name_chained)

@@ -5,8 +5,8 @@ use mathlib.Core.List.{List, [], ◌∷◌, ◌++◌}
 use Prim.Native.Nat.{ℕ, zero, suc, ◌+◌, ◌*◌, ◌-◌, ◌/◌, ◌%◌, ◌≤◌, ◌<◌}
 use native.Mathlib.Omega.{arith}
 use borrow.Author.Rules.{rules}
-use borrow.Author.Tests.{lt-ltb, le-ltb, ne_eqb}
-use lib.Dec.{eqb, ltb}
+use borrow.Author.Tests.{lt-ltb, le-ltb}
+use lib.Dec.{ltb}
 use lib.ListN.{length, get_or}
 use lib.Seq.{take_all}
 use mir.Syntax.{w8}
@@ -29,7 +29,6 @@ use Rattle.texts.proofs.HashLaws.{from_none, from_more}
 use Rattle.texts.proofs.TextCode.{texts-at}
 use Rattle.grades.specs.Grade.{level_digits}
 use Rattle.precedence.specs.Names.{Based, Spelled, BaseText, level_text, described_text, named_text}
-use Rattle.precedence.proofs.NamesCode.{unlike}
 
 -- ---- base_text
 two_small : (s : List ℕ) (a : ℕ) → ((i : ℕ) → Fits w8 (get_or s i 0)) → le_at 2 s a < 65536
@@ -108,9 +107,6 @@ module _ (s w : List ℕ) (m : Map) (k : ℕ) where
     pub spell_base : (x : ℕ) → m.count ≤ k → x ≡ mark_at w m.base k → Based s w m (x / 4294967296)
     spell_base x h e = rw e (c.base h)
 
-    pub match_not : (r h : ℕ) (t : Text) → h ≡ hash_of t → r ≡ hash_at w m.base k → (r ≡ h → ⊥) → eqb r h ≡ same_as (named_text s w m k) t
-    match_not r h t p q n = ne_eqb r h n ∙ unlike (named_text s w m k) t (λ e. n (q ∙ c.hash ∙ ap hash_of e ∙ sym p))
-
   pub spell_same : (b v x : ℕ) → m.count ≤ k → x ≡ mark_at w m.base k → (x / 4294967296 ≡ b) × (x % 4294967296 ≡ v) → true ≡ same_as (named_text s w m k) (level_text s w m b v)
   unfolding described_text
   spell_same b v x h e (p, q) =
@@ -131,5 +127,3 @@ module _ (s w : List ℕ) (m : Map) (k : ℕ) where
         q ∙ ap (λ (u : Text). same_as u (y ++ level_digits v)) z ∙ ap (λ (u : Text). same_as (named_text s w m k) (u ++ level_digits v)) d.text
 
 pub ruleset naming = (rules, spell_whole, spell_base, spell_same, spell_table, spell_described)
-
-pub ruleset matching = (rules, match_not)

@@ -4,77 +4,39 @@ use mathlib.Core.Logic.{◌⊎◌, inl, inr}
 use mathlib.Core.List.{List, [], ◌∷◌, ◌++◌, append_assoc}
 use Prim.Native.Nat.{ℕ, suc, ◌+◌, ◌-◌, ◌*◌, ◌<◌, ◌≤◌}
 use native.Mathlib.Omega.{arith}
-use native.Mathlib.Numerals.{add-one}
 use borrow.Author.Rules.{rules}
 use mathlib.Core.Bool.{Bool, true, false}
 use lib.Dec.{eqb}
 use Rattle.std.specs.Prelude.{Some}
 use Rattle.std.specs.Option.{option_eq}
-use lib.ListN.{length, set, get_or, length-set, length-append}
-use lib.Seq.{get_or-set_other}
+use lib.ListN.{length, set, take, drop, get_or, length-set, length-append}
+use Rattle.std.proofs.lemmas.List.{drop-take, take-take}
 use Rattle.octets.specs.Working.Choice.{pick}
 use Rattle.octets.specs.Plain.Numbers.{le}
 use Rattle.octets.specs.Plain.Runs.{part}
 use Rattle.octets.specs.Working.Stores.{store}
 use Rattle.octets.proofs.NumbersLaws.{length-le}
-use Rattle.octets.proofs.PartLaws.{part_none, part-one, part_length}
-use Rattle.octets.proofs.StoreLaws.{store-none, store-append, length_store}
+use Rattle.octets.proofs.PartLaws.{part_length}
+use Rattle.octets.proofs.StoreLaws.{store-append, store-copied, length_store}
 use Rattle.texts.proofs.TableStays.{part-agree}
 use Rattle.resolve.proofs.CellsLaws.{store-past}
 use Rattle.grades.specs.declared.Indices.{Indices}
 use Rattle.precedence.specs.Write.{Puts, is_left_out, kept_one, kept_bytes, alternative_head, fall_bytes}
 use Rattle.precedence.proofs.WriteLaws.{fits_or_not, puts_beside, puts_on, puts_upto, puts_append, puts_none, puts_whole, puts_not}
 
--- ---- copy_long: what is left, from i to e, goes to q on; what is below `to` is as it was
-pub record Moving (w : List ℕ) (a e to : ℕ) (out : List ℕ) (i q : ℕ) : Type 0 where
-  pub carry : store out q (part i e w) ≡ store w to (part a e w)
-  pub upto : i ≤ e
-  pub below : e ≤ to
-  pub on : to ≤ q
-  pub room : q + (e - i) ≤ length out
-  pub same : length out ≡ length w
-  pub kept : (k : ℕ) → k < to → get_or out k 0 ≡ get_or w k 0
+-- ---- copy_long
+-- a part of what stands before a place
+part_before : (w : List ℕ) (a e to : ℕ) → a ≤ e → e ≤ to → take (e - a) (drop a (take to w)) ≡ part a e w
+unfolding part
+part_before w a e to h k =
+    let z : to ≡ a + (to - a) = omega arith in
+    ap (λ (n : ℕ). take (e - a) (drop a (take n w))) z ∙ ap (take (e - a)) (drop-take a (to - a) w) ∙ take-take (e - a) (to - a) (drop a w) (omega arith)
 
-pub moving_start : (w : List ℕ) (a e to : ℕ) → a ≤ e → e ≤ to → to + (e - a) ≤ length w → Moving w a e to w (a + 0) (to + 0)
-moving_start w a e to h k l = let x : a + 0 ≡ a = omega arith in let y : to + 0 ≡ to = omega arith in rw (x, y) record { carry = refl; upto = h; below = k; on = omega arith; room = l; same = refl; kept = λ k h. refl }
-
-store-one : (s : List ℕ) (at v : ℕ) (vs : List ℕ) → store s at (v ∷ vs) ≡ store (set s at v) (at + 1) vs
-unfolding store
-store-one s at v vs = rw add-one
-
-module _ (w : List ℕ) (a e to : ℕ) (out : List ℕ) (k : ℕ) (g : Moving w a e to out (a + k) (to + k)) where
-  pub moving_room : k < e - a → to + k < length out
-  moving_room h = omega (arith, g.room)
-
-  pub moving_inside : k < e - a → a + k < length out
-  moving_inside h = omega (arith, g.room, g.below, g.on)
-
-  pub moving_next : k < e - a → Moving w a e to (set out (to + k) (get_or out (a + k) 0)) (a + (k + 1)) (to + (k + 1))
-  moving_next h =
-      let i = a + k in
-      let q = to + k in
-      let l : i < e = omega arith in
-      let y : a + (k + 1) ≡ i + 1 = omega arith in
-      let z : to + (k + 1) ≡ q + 1 = omega arith in
-      let v : get_or out i 0 ≡ get_or w i 0 = g.kept i (omega (arith, g.below)) in
-      let n = length-set out q (get_or out i 0) in
-      rw (y, z) (record {
-        carry = sym (store-one out q (get_or out i 0) (part (i + 1) e w)) ∙ ap (λ (x : ℕ). store out q (x ∷ part (i + 1) e w)) v ∙ ap (store out q) (sym (part-one i e w l (omega (arith, g.below, g.on, g.room, g.same)))) ∙ g.carry;
-        upto = omega arith;
-        below = g.below;
-        on = omega (arith, g.on);
-        room = omega (arith, g.room, n);
-        same = n ∙ g.same;
-        kept = λ j p. get_or-set_other out q j (get_or out i 0) 0 (λ z. absurd (omega (arith, g.on, z))) ∙ g.kept j p;
-      })
-
-  pub moving_done : e - a ≤ k → out ≡ store w to (part a e w)
-  moving_done h = sym (store-none out (to + k)) ∙ ap (store out (to + k)) (sym (part_none (a + k) e w (omega arith))) ∙ g.carry
-
-  pub moving_same : length out ≡ length w
-  moving_same = g.same
-
-pub ruleset moving = (rules, moving_start, moving_room, moving_inside, moving_next, moving_done, moving_same)
+pub moved : (w before behind run : List ℕ) (a e to : ℕ) → a ≤ e → e ≤ to → to + (e - a) ≤ length w → before ≡ take to w → behind ≡ drop to w → run ≡ take (e - a) (drop a before)
+    → before ++ (run ++ drop (e - a) behind) ≡ store w to (part a e w)
+moved w before behind run a e to h k l p q r =
+    let z : run ≡ part a e w = r ∙ ap (λ (x : List ℕ). take (e - a) (drop a x)) p ∙ part_before w a e to h k in
+    rw (p, q) (store-copied w run (part a e w) to (e - a) z l (sym (part_length a e w (omega arith))))
 
 -- ---- put_run
 pub run_ends : (w : List ℕ) (a e lim to r : ℕ) (w1 : List ℕ) → a ≤ e → e ≤ to → lim ≤ length w → (to + (e - a) ≤ lim → (r ≡ to + (e - a)) × (w1 ≡ store w to (part a e w))) → (lim < to + (e - a) → (r ≡ lim + 1) × (w1 ≡ w))
@@ -113,10 +75,11 @@ pub record Keeping (wd lim to : ℕ) (w : List ℕ) (at n : ℕ) (f : Indices) (
   pub kept : (x : ℕ) → x < to → get_or out x 0 ≡ get_or w x 0
   pub carry : (r : ℕ) (w1 : List ℕ) → Puts out lim q (kept_bytes wd w a (n - k) k f) r w1 → Puts w lim to (kept_bytes wd w at n 0 f) r w1
 
-pub keeping_start : (wd lim to : ℕ) (w : List ℕ) (at n : ℕ) (f : Indices) → at + n * (2 + 3 * wd) ≤ to → to ≤ lim + 1 → lim + 16 ≤ length w → Keeping wd lim to w at n f w at 0 to
+pub keeping_start : (wd lim to : ℕ) (w : List ℕ) (at n : ℕ) (f : Indices) → at + n * (2 + 3 * wd) ≤ to → to ≤ lim + 1 → lim + 16 ≤ length w → Keeping wd lim to w at n f w (at + 0 * (2 + 3 * wd)) 0 to
 keeping_start wd lim to w at n f h k l =
     let z : n - 0 ≡ n = omega arith in
-    record { place = rw z h; on = omega arith; stop = k; inside = l; same = refl; kept = λ x h. refl; carry = λ r w1 p. rw z at p }
+    let y : at + 0 * (2 + 3 * wd) ≡ at = omega arith in
+    rw y record { place = rw z h; on = omega arith; stop = k; inside = l; same = refl; kept = λ x h. refl; carry = λ r w1 p. rw z at p }
 
 -- one more is so many bytes more
 one_more : (m s : ℕ) → suc m * s ≡ s + m * s
@@ -150,7 +113,7 @@ module _ (wd lim to : ℕ) (w : List ℕ) (at n : ℕ) (f : Indices) (out : List
   unfolding kept_bytes
   bytes_step h = let z : n - k ≡ suc (n - (k + 1)) = omega arith in rw z
 
-  pub keeping_next : k < n → (r : ℕ) (w1 : List ℕ) → Puts out lim q (kept_one out a (a + (2 + 3 * wd)) k f) r w1 → Keeping wd lim to w at n f w1 (a + (2 + 3 * wd)) (k + 1) r
+  keeping_next : k < n → (r : ℕ) (w1 : List ℕ) → Puts out lim q (kept_one out a (a + (2 + 3 * wd)) k f) r w1 → Keeping wd lim to w at n f w1 (a + (2 + 3 * wd)) (k + 1) r
   keeping_next h r w1 p =
       let z = rest-is h in
       let y = kept-agree w out a (a + (2 + 3 * wd)) k f g.same (keeping_small h) (λ x l. g.kept x (omega (arith, g.place, z))) in
@@ -174,7 +137,15 @@ module _ (wd lim to : ℕ) (w : List ℕ) (at n : ℕ) (f : Indices) (out : List
   pub keeping_done : n ≤ k → Puts w lim to (kept_bytes wd w at n 0 f) q out
   keeping_done h = let z = none_left h in g.carry q out (rw z (puts_none out lim q g.stop))
 
-pub ruleset keeping = (rules, keeping_start, keeping_place, keeping_small, keeping_stop, keeping_inside, keeping_same, keeping_next, keeping_done)
+-- the k-th attribute
+module _ (wd lim to : ℕ) (w : List ℕ) (at n : ℕ) (f : Indices) (out : List ℕ) (k q : ℕ) (g : Keeping wd lim to w at n f out (at + k * (2 + 3 * wd)) k q) where
+  pub keeping_more : k < n → (r : ℕ) (w1 : List ℕ) → Puts out lim q (kept_one out (at + k * (2 + 3 * wd)) (at + k * (2 + 3 * wd) + (2 + 3 * wd)) k f) r w1
+      → Keeping wd lim to w at n f w1 (at + (k + 1) * (2 + 3 * wd)) (k + 1) r
+  keeping_more h r w1 p =
+      let z : at + (k + 1) * (2 + 3 * wd) ≡ at + k * (2 + 3 * wd) + (2 + 3 * wd) = omega arith in
+      rw z (keeping_next wd lim to w at n f out (at + k * (2 + 3 * wd)) k q g h r w1 p)
+
+pub ruleset keeping = (rules, keeping_start, keeping_place, keeping_small, keeping_stop, keeping_inside, keeping_same, keeping_more, keeping_done)
 
 -- ---- put_command, store_named
 set_store : (s : List ℕ) (at v : ℕ) → set s at v ≡ store s at (v ∷ [])

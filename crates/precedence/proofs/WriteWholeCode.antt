@@ -1,5 +1,5 @@
 -- The ways out of put_byte, put_head, fewer, put_parts and put_alternative. Assumes nothing.
-use mathlib.Core.Path.{◌≡◌, refl, ◌∙◌}
+use mathlib.Core.Path.{◌≡◌, refl, ap, ◌∙◌}
 use mathlib.Core.Logic.{inl}
 use mathlib.Core.List.{List, [], ◌∷◌, ◌++◌}
 use Prim.Native.Nat.{ℕ, zero, suc, ◌+◌, ◌-◌, ◌*◌, ◌^◌, ◌<◌, ◌≤◌}
@@ -15,6 +15,8 @@ use Rattle.octets.specs.Working.Choice.{pick}
 use Rattle.octets.specs.Plain.Runs.{part}
 use Rattle.octets.specs.Working.Stores.{store}
 use Rattle.texts.proofs.TableStays.{part-agree}
+use Rattle.parse_tree.specs.declared.syntax.Alternative.{Alternative}
+use Rattle.parse_tree.specs.Working.Nodes.{alternative_here}
 use Rattle.grades.specs.declared.Indices.{Indices}
 use Rattle.grades.specs.Annotations.{conditions_from, symbols_from}
 use Rattle.grades.proofs.AnnotationsCode.{times-attributes}
@@ -83,22 +85,24 @@ module _ (m : ℕ) (i : Option ℕ) where
 pub ruleset lessening = (rules, fewer_none, fewer_zero, fewer_one)
 
 -- ---- put_parts
-module _ (w : List ℕ) (wd p e lim to : ℕ) (c : conditions_from wd w p ≤ e) (d : e ≤ to) (k : to ≤ lim + 1) (l : lim + 16 ≤ length w) where
+module _ (w : List ℕ) (wd p e lim to : ℕ) (c : conditions_from wd w p ≤ e) (before : e ≤ to) (k : to ≤ lim + 1) (l : lim + 16 ≤ length w) where
   pub head_inside : p + (14 + wd) ≤ to
   unfolding conditions_from
   head_inside = omega arith
 
-  pub nine_inside : p + 9 < length w
-  unfolding conditions_from
-  nine_inside = omega arith
-
-  pub nine_fits : length w < 2 ^ 64 → Fits w64 (p + 9)
-  nine_fits h = record { fits = omega (arith, nine_inside) }
+  pub whole_inside : p + (14 + wd) ≤ length w
+  whole_inside = omega (arith, head_inside)
 
   pub head_fits : length w < 2 ^ 64 → Fits w64 (p + (14 + wd))
   head_fits h = record { fits = omega (arith, head_inside) }
 
-  module _ (n : ℕ) (z : n ≡ get_or w (p + 9) 0) where
+  module _ (n : ℕ) (d : Alternative) (here : d ≡ alternative_here wd w p) (count : n ≡ d.attributes) where
+    m : d.attributes ≡ get_or w (p + 9) 0
+    m = ap (λ (a : Alternative). a.attributes) here
+
+    z : n ≡ get_or w (p + 9) 0
+    z = count ∙ m
+
     pub conditions-fit : p + (14 + wd) + n * (2 + 3 * wd) ≤ e
     unfolding conditions_from
     conditions-fit = rw z c
@@ -109,26 +113,26 @@ module _ (w : List ℕ) (wd p e lim to : ℕ) (c : conditions_from wd w p ≤ e)
     pub attributes_below : (xs : List ℕ) (q : ℕ) (w1 : List ℕ) → Puts w lim to xs q w1 → p + (14 + wd) + n * (2 + 3 * wd) ≤ q
     attributes_below xs q w1 g = omega (arith, conditions-fit, puts_on w w1 lim to xs q g k)
 
-    pub parts_put : (v : Indices) (f g q r s : ℕ) (w1 w2 w3 : List ℕ) → f ≡ fewer_by (get_or w (p + 9) 0) v.precedence → g ≡ fewer_by f v.assoc
+    pub parts_put : (v : Indices) (f g q r s : ℕ) (w1 w2 w3 : List ℕ) → f ≡ fewer_by d.attributes v.precedence → g ≡ fewer_by f v.assoc
         → Puts w lim to (head_out wd w p g) q w1 → Puts w1 lim q (kept_bytes wd w1 (p + (14 + wd)) n 0 v) r w2
         → Puts w2 lim r (part (p + (14 + wd) + n * (2 + 3 * wd)) e w2) s w3 → Puts w lim to (stripped_out wd w p e v) s w3
     unfolding stripped_out conditions_from
     parts_put v f g q r s w1 w2 w3 x y a b t =
         let o = conditions-fit in
-        let h : fewer_by (fewer_by (get_or w (p + 9) 0) v.precedence) v.assoc ≡ g = cc in
+        let h : fewer_by (fewer_by (get_or w (p + 9) 0) v.precedence) v.assoc ≡ g = cc m in
         let u = puts_on w w1 lim to (head_out wd w p g) q a k in
         let kb = kept-stays w w1 lim to (head_out wd w p g) q a wd (p + (14 + wd)) n 0 v (omega arith) (omega arith) in
         let p2 = part-one_stays w1 w2 lim q (kept_bytes wd w1 (p + (14 + wd)) n 0 v) r b (p + (14 + wd) + n * (2 + 3 * wd)) e (omega arith) (omega (arith, a.long)) in
-        let p1 = part-one_stays w w1 lim to (head_out wd w p g) q a (p + (14 + wd) + n * (2 + 3 * wd)) e d (omega arith) in
+        let p1 = part-one_stays w w1 lim to (head_out wd w p g) q a (p + (14 + wd) + n * (2 + 3 * wd)) e before (omega arith) in
         let both = puts_append w1 w2 lim q (kept_bytes wd w1 (p + (14 + wd)) n 0 v) r b (part (p + (14 + wd) + n * (2 + 3 * wd)) e w2) s w3 t in
         let whole = puts_append w w1 lim to (head_out wd w p g) q a (kept_bytes wd w1 (p + (14 + wd)) n 0 v ++ part (p + (14 + wd) + n * (2 + 3 * wd)) e w2) s w3 both in
-        let same : head_out wd w p g ++ (kept_bytes wd w1 (p + (14 + wd)) n 0 v ++ part (p + (14 + wd) + n * (2 + 3 * wd)) e w2) ≡ stripped_out wd w p e v = cc in
+        let same : head_out wd w p g ++ (kept_bytes wd w1 (p + (14 + wd)) n 0 v ++ part (p + (14 + wd) + n * (2 + 3 * wd)) e w2) ≡ stripped_out wd w p e v = cc z in
         rw same at whole
 
 pub behind_two : (w w1 w2 : List ℕ) (lim to : ℕ) (xs ys : List ℕ) (q r n : ℕ) → Puts w lim to xs q w1 → Puts w1 lim q ys r w2 → to ≤ lim + 1 → n ≤ to → n ≤ r
 behind_two w w1 w2 lim to xs ys q r n a b h k = omega (arith, puts_on w w1 lim to xs q a h, puts_on w1 w2 lim q ys r b (puts_upto w w1 lim to xs q a))
 
-pub ruleset parting = (rules, head_inside, nine_inside, nine_fits, head_fits, times-attributes, conditions-fits, parts_put)
+pub ruleset parting = (rules, head_inside, whole_inside, head_fits, times-attributes, conditions-fits, parts_put)
 
 pub ruleset conditioning = (rules, conditions-fit)
 

@@ -10,7 +10,8 @@ use crate::write::{fall_through, put, put_alternative, put_run};
 use grades::Ids;
 use grades::annotations::{annotations, first_alternative};
 use grades::key::Key;
-use octets::numbers::{Width, atom_at, put_atom, u64_at};
+use octets::numbers::{Width, put_atom, u64_at};
+use parse_tree::node::{whole_alternative, whole_nonterminal};
 
 // What all levels of a nonterminal are written by: the places and the sorted keys of its alternatives, which are two arrays in work, and the end of the room.
 #[derive(Clone, Copy)]
@@ -79,7 +80,7 @@ fn put_key(work: &mut [u8], t: Keyed, k: Key, target: u32, l: Level, to: usize) 
     let at = t.places + 8 * k.index();
     let p = u64_at(work, at) as usize;
     let e = u64_at(work, at + 8) as usize;
-    let n = usize::from(work[p + 9]);
+    let n = usize::from(whole_alternative(work, p, t.width).attributes);
     let f = annotations(work, p + (14 + t.width.bytes), n, t.width, t.ids);
     let names = Renaming {
         target,
@@ -121,7 +122,7 @@ pub fn write_level(work: &mut [u8], p: usize, t: Keyed, l: Level, to: usize) -> 
     ensures { PutsLevel t.width.bytes t.ids p t.places t.keys l t.lim work.old to result work.new }
 {
     let many = count_of(l);
-    let target = atom_at(work, p + 9, t.width);
+    let target = whole_nonterminal(work, p, t.width).name.0;
     let q = put_nonterminal_head(work, p, l.name, many, t.width, t.lim, to);
     let r = put_alternatives(work, t, target, l, q);
     match l.below {

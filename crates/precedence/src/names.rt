@@ -9,9 +9,9 @@ ghost use Rattle.precedence.specs.Names.{spelt, Naming, Based, Spelled, BaseText
 
 use grades::grade::{decimal_size, digit};
 use texts::Map;
-use texts::chain::search;
-use texts::fields::{hash, mark, text_mark, write};
-use texts::hash::{bucket, next};
+use texts::chain::{put_record, search};
+use texts::fields::{hash, mark, text_mark};
+use texts::hash::next;
 use texts::text::text_at;
 
 // The mark that describes the name of a level: the number of the nonterminal's name, times 2^32, and the level.
@@ -120,7 +120,7 @@ fn add_digits(x: u32, v: u32) -> u32
     (0..decimal_size(v)).fold(x, |h, i| next(h, digit_at(v, i)))
 }
 
-// The hash of a level's name goes on from that of the base.
+// The hash of a level's name goes on from that of the base. `tape` for the clauses alone.
 pub fn level_hash(tape: &[u8], work: &[u8], m: Map, base: usize, level: u32) -> u32
     requires { Based tape.now work.now m base }
     ensures { result ≡ hash_of (level_text tape.now work.now m base level) }
@@ -152,22 +152,6 @@ pub fn is_level_name<'a>(
     (c == base && v == level) || same_names(base_text(tape, work, m, c), Some(v), b, Some(level))
 }
 
-// The same, where a hash that differs says no.
-fn matches<'a>(
-    tape: &'a [u8],
-    work: &'a [u8],
-    m: Map,
-    base: usize,
-    level: u32,
-    k: usize,
-    h: u32,
-) -> bool
-    requires { Based tape.now work.now m base × Spelled tape.now work.now m k × (h ≡ hash_of (level_text tape.now work.now m base level)) }
-    ensures { result ≡ same_as (named_text tape.now work.now m k) (level_text tape.now work.now m base level) }
-{
-    hash(work, m.base, k) == h && is_level_name(tape, work, m, base, level, k)
-}
-
 // The number of a level's name, of those of the table and described.
 pub fn find_name<'a>(
     tape: &'a [u8],
@@ -181,9 +165,8 @@ pub fn find_name<'a>(
     requires { Naming tape.now work.now m n × (base < m.count) × (h ≡ hash_of (level_text tape.now work.now m base level)) }
     ensures { Finds (named_texts tape.now work.now m n) (level_text tape.now work.now m base level) result }
 {
-    let y = bucket(h, m.buckets);
-    search(work, m.base, m.buckets, y, n, |i| {
-        matches(tape, work, m, base, level, i, h)
+    search(work, Map { count: n, ..m }, h, |i| {
+        is_level_name(tape, work, m, base, level, i)
     })
 }
 
@@ -193,8 +176,7 @@ fn describe(tape: &[u8], work: &mut [u8], m: Map, n: usize, base: usize, level: 
     ensures { Described tape.now work.old m n base level work.new }
 {
     let x = NameMark::of(base, level);
-    write(work, m.base, n, x.number, h, 0);
-    texts::chain::link(work, m.base, m.buckets, n, h);
+    put_record(work, Map { count: n, ..m }, x.number, h, 0);
 }
 
 // The number of a level's name, which is described if it is new.

@@ -7,7 +7,7 @@ ghost use Rattle.precedence.specs.Substitute.{marked_at, Replaces, MarksIn, repl
 
 use grades::Assoc;
 use octets::numbers::{Width, atom_at, put_atom};
-use resolve::commands::long;
+use parse_tree::size::long;
 
 // How occurrences of the target are named: `here` is the name of the alternative's level, `below` that of the next lower one.
 #[derive(Clone, Copy)]

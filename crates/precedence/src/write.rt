@@ -13,8 +13,9 @@ use crate::substitute::{Renaming, substitute};
 use grades::Indices;
 use grades::annotations::symbols;
 use octets::numbers::{Width, put_atom, store16, store64, u64_at};
+use parse_tree::node::whole_alternative;
 
-// The n bytes from a on, 8 to 16 of them, to another place: two numbers, which may overlap.
+// The n bytes from a on, 8 to 16 of them, to another place: two numbers, which may overlap. By `copy_long` in their place the whole takes up to 7 % more time, though 1 % fewer instructions: so short a run is not worth a call.
 fn copy_short(work: &mut [u8], a: usize, n: usize, to: usize)
     requires { (8 ≤ n) × (n ≤ 16) × (a + n ≤ length work.old) × (to + n ≤ length work.old) }
     ensures { work.new ≡ store work.old to (part a (a + n) work.old) }
@@ -25,14 +26,13 @@ fn copy_short(work: &mut [u8], a: usize, n: usize, to: usize)
     store64(work, to + (n - 8), y);
 }
 
-// The bytes from a up to e, to a place behind them, one by one: the loop becomes moves of many bytes. (A slice's own copy_within would count down here.)
+// The bytes from a up to e, to a place behind them. Not by a slice's own copy_within, which counts down here.
 fn copy_long(work: &mut [u8], a: usize, e: usize, to: usize)
     requires { (a ≤ e) × (e ≤ to) × (to + (e - a) ≤ length work.old) }
     ensures { work.new ≡ store work.old to (part a e work.old) }
 {
-    for i in 0..e - a {
-        work[to + i] = work[a + i];
-    }
+    let (before, behind) = work.split_at_mut(to);
+    behind[..e - a].copy_from_slice(&before[a..e]);
 }
 
 // The bytes from a up to e, to a place behind them. Most commands have 8 to 16.
@@ -115,11 +115,10 @@ pub fn put_attributes(
     ensures { Puts work.old lim to (kept_bytes width.bytes work.old at n 0 f) result work.new }
 {
     let long = 2 + 3 * width.bytes;
-    let mut a = at;
     let mut q = to;
     for k in 0..n {
+        let a = at + k * long;
         q = put_attribute(work, a, a + long, k, f, lim, q);
-        a += long;
     }
     q
 }
@@ -241,7 +240,7 @@ fn put_parts(
     requires { (conditions_from width.bytes work.old p ≤ e) × (e ≤ to) × (to ≤ lim + 1) × (lim + 16 ≤ length work.old) }
     ensures { Puts work.old lim to (stripped_out width.bytes work.old p e f) result work.new }
 {
-    let m = work[p + 9];
+    let m = whole_alternative(work, p, width).attributes;
     let n = usize::from(m);
     let a = p + (14 + width.bytes);
     let count = fewer(fewer(m, f.precedence), f.assoc);

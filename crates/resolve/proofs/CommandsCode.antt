@@ -1,4 +1,4 @@
--- Commands: the ways out of long, asked and validate_commands. Assumes nothing.
+-- Commands: the ways out of asked and validate_commands. Assumes nothing.
 use mathlib.Core.Path.{◌≡◌, refl, sym, ap, ◌∙◌}
 use mathlib.Core.List.{List}
 use Prim.Native.Nat.{ℕ, zero, suc, ◌+◌, ◌-◌, ◌≤◌, ◌<◌}
@@ -19,63 +19,6 @@ use Rattle.resolve.specs.declared.Definition.{Definition}
 use Rattle.resolve.specs.Cells.{Room, known_at, found_by}
 use Rattle.resolve.specs.Names.{condition_says, nonterminal_says, macro_says, ambiguous_says}
 use Rattle.resolve.specs.Commands.{becomes, stays, asked_at, asked_then, RunEnd, ran, stopped, run_then, Runs, run_out}
-
--- ---- long
-module _ (wd c : ℕ) where
-  pub long_18 : c ≡ 18 → 14 + wd ≡ long_of wd c
-  unfolding long_of pick
-  long_18 e = rw e refl
-
-  pub long_19 : c ≡ 19 → 2 + wd + wd + wd ≡ long_of wd c
-  unfolding long_of pick
-  long_19 e = rw e refl
-
-  pub long_20 : c ≡ 20 → 10 + wd + wd ≡ long_of wd c
-  unfolding long_of pick
-  long_20 e = rw e refl
-
-  pub long_32 : c ≡ 32 → 9 + wd ≡ long_of wd c
-  unfolding long_of pick
-  long_32 e = rw e refl
-
-  pub long_33 : c ≡ 33 → 9 + wd ≡ long_of wd c
-  unfolding long_of pick
-  long_33 e = rw e refl
-
-  pub long_34 : c ≡ 34 → 9 + wd ≡ long_of wd c
-  unfolding long_of pick
-  long_34 e = rw e refl
-
-  pub long_35 : c ≡ 35 → 9 + wd ≡ long_of wd c
-  unfolding long_of pick
-  long_35 e = rw e refl
-
-  pub long_36 : c ≡ 36 → 9 + wd ≡ long_of wd c
-  unfolding long_of pick
-  long_36 e = rw e refl
-
-  pub long_37 : c ≡ 37 → 10 + wd ≡ long_of wd c
-  unfolding long_of pick
-  long_37 e = rw e refl
-
-  pub long_38 : c ≡ 38 → 10 ≡ long_of wd c
-  unfolding long_of pick
-  long_38 e = rw e refl
-
-  pub long_40 : c ≡ 40 → 10 + wd ≡ long_of wd c
-  unfolding long_of pick
-  long_40 e = rw e refl
-
-  pub long_41 : c ≡ 41 → 11 ≡ long_of wd c
-  unfolding long_of pick
-  long_41 e = rw e refl
-
-  pub long_other : (c ≡ 18 → ⊥) → (c ≡ 19 → ⊥) → (c ≡ 20 → ⊥) → (c ≡ 32 → ⊥) → (c ≡ 33 → ⊥) → (c ≡ 34 → ⊥) → (c ≡ 35 → ⊥) → (c ≡ 36 → ⊥) → (c ≡ 37 → ⊥) → (c ≡ 38 → ⊥) → (c ≡ 40 → ⊥) → (c ≡ 41 → ⊥) → 9 ≡ long_of wd c
-  unfolding long_of pick
-  long_other n18 n19 n20 n32 n33 n34 n35 n36 n37 n38 n40 n41 =
-      simp (ne_eqb c 18 n18, ne_eqb c 19 n19, ne_eqb c 20 n20, ne_eqb c 32 n32, ne_eqb c 33 n33, ne_eqb c 34 n34, ne_eqb c 35 n35, ne_eqb c 36 n36, ne_eqb c 37 n37, ne_eqb c 38 n38, ne_eqb c 40 n40, ne_eqb c 41 n41)
-
-pub ruleset lengthening = (rules, long_18, long_19, long_20, long_32, long_33, long_34, long_35, long_36, long_37, long_38, long_40, long_41, long_other)
 
 -- ---- what is mapped
 pub stays_by : (P : Unit {0} → Option ℕ → Type 0) → ((x : Unit {0}) (o : Option ℕ) → P x o → o ≡ None) → (r : Result (Unit {0}) Question) (y : Result (Option ℕ) Question) → MatchResult r (λ x. IsOkAnd y (P x)) (λ e. y ≡ Err e) → y ≡ stays r

@@ -24,7 +24,7 @@ use Rattle.parse_tree.proofs.FieldLaws.{le-read_then, span_read}
 use Rattle.parse_tree.proofs.ReadingLaws.{bytes_more}
 use Rattle.texts.proofs.TableStays.{le_at-agree}
 use Rattle.resolve.specs.declared.Grammar.{Grammar}
-use Rattle.resolve.specs.Items.{item_place_in}
+use Rattle.resolve.specs.Items.{item_place, item_place_in}
 use Rattle.resolve.proofs.CellsLaws.{lies_agree}
 
 -- ---- a command with a span and a name
@@ -64,11 +64,11 @@ module _ (t : Grammar) (ts : List Text) where
 
   -- ---- where the places are listed
   place_last : (w : List ℕ) (i : ℕ) → t.count ≤ i → item_place_in t w i ≡ t.end
-  unfolding item_place_in pick
+  unfolding item_place pick
   place_last w i h = rw (le-leb t.count i h) refl
 
   place_listed : (w : List ℕ) (i v : ℕ) → i < t.count → le_at 8 w (t.list + 8 * i) ≡ v → t.at + v ≤ t.end → item_place_in t w i ≡ t.at + v
-  unfolding item_place_in pick
+  unfolding item_place pick
   place_listed w i v h e l = rw (lt-leb t.count i h, e, le-ltb (t.end - t.at) v (omega arith)) refl
 
   module _ (w : List ℕ) (is : List Item) (many : t.count ≡ length is)
@@ -101,7 +101,7 @@ module _ (t : Grammar) (ts : List Text) where
   -- ---- where the bytes from p on and the list are as they were
   module _ (w w' : List ℕ) (long : length w' ≡ length w) (inside : t.end ≤ length w) (list : (i : ℕ) → t.list ≤ i → i < t.list + 8 * t.count → get_or w' i 0 ≡ get_or w i 0) where
     pub place_same : (i : ℕ) → item_place_in t w' i ≡ item_place_in t w i
-    unfolding item_place_in pick
+    unfolding item_place pick
     place_same i = go (leb t.count i) refl
       where
         go : (b : Bool) → leb t.count i ≡ b

@@ -22,23 +22,23 @@ use Rattle.texts.specs.declared.Map.{Map}
 use Rattle.resolve.specs.declared.Grammar.{Grammar}
 use Rattle.resolve.specs.Cells.{Room, known_at, define_at}
 use Rattle.resolve.specs.Commands.{ran, run_then, Runs, run_out}
-use Rattle.resolve.specs.Items.{Standing, item_place_in, Marking, marked, twice, marks_out, Marks, unmarks_out, marked_then, parts_out, item_out, items_out}
+use Rattle.resolve.specs.Items.{Standing, item_place, item_place_in, Marking, marked, twice, marks_out, Marks, unmarks_out, marked_then, parts_out, item_out, items_out}
 use Rattle.resolve.proofs.CellsCode.{length_define}
 use Rattle.resolve.proofs.CommandsCode.{runs_fine, runs_refused, then-refused, then-fine}
 
 -- ---- place
-module _ (t : Grammar) (w : List ℕ) (i : ℕ) where
-  pub place_behind : t.count ≤ i → t.end ≡ item_place_in t w i
-  unfolding item_place_in pick
-  place_behind h = cc (le-leb t.count i h)
+module _ (list n at end : ℕ) (w : List ℕ) (i : ℕ) where
+  pub place_behind : n ≤ i → end ≡ item_place list n at end w i
+  unfolding item_place pick
+  place_behind h = cc (le-leb n i h)
 
-  pub place_is : i < t.count → (v : ℕ) → v ≡ le_at 8 w (t.list + 8 * i) → t.at ≤ t.end → (d : ℕ) → d ≡ min v (t.end - t.at) → t.at + d ≡ item_place_in t w i
-  unfolding item_place_in pick
-  place_is h v e o d z = rw (lt-leb t.count i h, ← e) (go (ltb (t.end - t.at) v) refl)
+  pub place_is : i < n → (v : ℕ) → v ≡ le_at 8 w (list + 8 * i) → at ≤ end → (d : ℕ) → d ≡ min v (end - at) → at + d ≡ item_place list n at end w i
+  unfolding item_place pick
+  place_is h v e o d z = rw (lt-leb n i h, ← e) (go (ltb (end - at) v) refl)
     where
-      go : (x : Bool) → ltb (t.end - t.at) v ≡ x → t.at + d ≡ pick x t.end (t.at + v)
-      go true y = let q = ltb-true (t.end - t.at) v y in omega arith
-      go false y = let q = ltb-false (t.end - t.at) v y in omega arith
+      go : (x : Bool) → ltb (end - at) v ≡ x → at + d ≡ pick x end (at + v)
+      go true y = let q = ltb-true (end - at) v y in omega arith
+      go false y = let q = ltb-false (end - at) v y in omega arith
 
 pub ruleset placing = (rules, place_behind, place_is)
 
@@ -92,8 +92,8 @@ unfolding marks_out
 none_marked m wd zero w p h = refl
 none_marked m wd (suc k) w p h = absurd (omega arith)
 
-pub mark_start : (m : Map) (wd n at : ℕ) (w : List ℕ) → Room m (length w) → 2 ≤ wd → wd ≤ 3 → at + n * (1 + wd) ≤ length w → MarksLeft m wd n at w w at n
-mark_start m wd n at w r a b i = record { listed = record { room = r; narrow = a; wide = b; same = refl; inside = i }; rest = refl }
+pub mark_start : (m : Map) (wd n at : ℕ) (w : List ℕ) → Room m (length w) → 2 ≤ wd → wd ≤ 3 → at + n * (1 + wd) ≤ length w → MarksLeft m wd n at w w (at + 0 * (1 + wd)) n
+mark_start m wd n at w r a b i = let z : at + 0 * (1 + wd) ≡ at = omega arith in rw z record { listed = record { room = r; narrow = a; wide = b; same = refl; inside = i }; rest = refl }
 
 pub mark_done : (m : Map) (wd n at : ℕ) (w₀ w : List ℕ) (p k : ℕ) → MarksLeft m wd n at w₀ w p k → k ≤ 0 → Marks (marks_out m wd n w₀ at) true w
 mark_done m wd n at w₀ w p k g h = marks_all _ w (sym g.rest ∙ none_marked m wd k w p h)
@@ -114,11 +114,12 @@ module _ (m : Map) (wd : ℕ) (w : List ℕ) (p id : ℕ) (i : id ≡ le_at wd w
     pub mark_twice : b ≡ true → (w' : List ℕ) → Marks (marks_out m wd n w₀ at) false w'
     mark_twice o w' = marks_twice _ w' (sym g.rest ∙ marked_before k h o)
 
-    pub mark_next : b ≡ false → (j : ℕ) → k ≡ j + 1 → (x : ℕ) → x ≡ d + 512 → (w' : List ℕ) → w' ≡ define_at m w id x → MarksLeft m wd n at w₀ w' (p + (1 + wd)) j
-    mark_next o j z x f w' g' =
+    pub mark_next : b ≡ false → (a j : ℕ) → p ≡ at + a * (1 + wd) → k ≡ j + 1 → (x : ℕ) → x ≡ d + 512 → (w' : List ℕ) → w' ≡ define_at m w id x → MarksLeft m wd n at w₀ w' (at + (a + 1) * (1 + wd)) j
+    mark_next o a j q z x f w' g' =
+        let r : at + (a + 1) * (1 + wd) ≡ p + (1 + wd) = omega (arith, q) in
         let y : j ≡ k - 1 = omega arith in
         let e : w' ≡ define_at m w id (d + 512) = g' ∙ ap (define_at m w id) f in
-        rw y (record {
+        rw (r, y) (record {
           listed = listed_next m wd w₀ w p k g.listed h w' (ap length e ∙ length_define m w id (d + 512));
           rest = rw e (sym (marked_now k h o) ∙ g.rest);
         })
@@ -135,8 +136,8 @@ unfolding unmarks_out
 none_unmarked m wd zero w p h = refl
 none_unmarked m wd (suc k) w p h = absurd (omega arith)
 
-pub unmark_start : (m : Map) (wd n at : ℕ) (w : List ℕ) → Room m (length w) → 2 ≤ wd → wd ≤ 3 → at + n * (1 + wd) ≤ length w → UnmarksLeft m wd n at w w at n
-unmark_start m wd n at w r a b i = record { listed = record { room = r; narrow = a; wide = b; same = refl; inside = i }; rest = refl }
+pub unmark_start : (m : Map) (wd n at : ℕ) (w : List ℕ) → Room m (length w) → 2 ≤ wd → wd ≤ 3 → at + n * (1 + wd) ≤ length w → UnmarksLeft m wd n at w w (at + 0 * (1 + wd)) n
+unmark_start m wd n at w r a b i = let z : at + 0 * (1 + wd) ≡ at = omega arith in rw z record { listed = record { room = r; narrow = a; wide = b; same = refl; inside = i }; rest = refl }
 
 pub unmark_done : (m : Map) (wd n at : ℕ) (w₀ w : List ℕ) (p k : ℕ) → UnmarksLeft m wd n at w₀ w p k → k ≤ 0 → w ≡ unmarks_out m wd n w₀ at
 unmark_done m wd n at w₀ w p k g h = sym (none_unmarked m wd k w p h) ∙ g.rest
@@ -147,12 +148,13 @@ unfolding unmarks_out
 unmarked_now m wd w p zero h = absurd (omega arith)
 unmarked_now m wd w p (suc k) h = let z : suc k - 1 ≡ k = omega arith in cc
 
-pub unmark_next : (m : Map) (wd n at : ℕ) (w₀ w : List ℕ) (p k : ℕ) → UnmarksLeft m wd n at w₀ w p k → (j : ℕ) → k ≡ j + 1 → (id : ℕ) → id ≡ le_at wd w (p + 1) → (d : ℕ) → d ≡ known_at m w id
-    → (w' : List ℕ) → w' ≡ define_at m w id (d % 512) → UnmarksLeft m wd n at w₀ w' (p + (1 + wd)) j
-unmark_next m wd n at w₀ w p k g j y id i d x w' e =
+pub unmark_next : (m : Map) (wd n at : ℕ) (w₀ w : List ℕ) (p k : ℕ) → UnmarksLeft m wd n at w₀ w p k → (a j : ℕ) → p ≡ at + a * (1 + wd) → k ≡ j + 1 → (id : ℕ) → id ≡ le_at wd w (p + 1) → (d : ℕ) → d ≡ known_at m w id
+    → (w' : List ℕ) → w' ≡ define_at m w id (d % 512) → UnmarksLeft m wd n at w₀ w' (at + (a + 1) * (1 + wd)) j
+unmark_next m wd n at w₀ w p k g a j q y id i d x w' e =
+    let r : at + (a + 1) * (1 + wd) ≡ p + (1 + wd) = omega (arith, q) in
     let h : 0 < k = omega arith in
     let v : j ≡ k - 1 = omega arith in
-    rw v (record {
+    rw (r, v) (record {
       listed = listed_next m wd w₀ w p k g.listed h w' (ap length e ∙ length_define m w id (d % 512));
       rest = (let z = unmarked_now m wd w p k h in cc) ∙ g.rest;
     })

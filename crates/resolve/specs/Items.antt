@@ -17,9 +17,12 @@ pub record Standing (m : Map) (t : Grammar) (n : ℕ) : Type 0 where
   pub narrow : 2 ≤ t.width.bytes
   pub wide : t.width.bytes ≤ 3
 
--- the place of the i-th item, the end for the last and for any place behind it
-unfoldable pub item_place_in : Grammar → List ℕ → ℕ → ℕ
-item_place_in t w i = pick (leb t.count i) t.end (pick (ltb (t.end - t.at) (le_at 8 w (t.list + 8 * i))) t.end (t.at + le_at 8 w (t.list + 8 * i)))
+-- the place of the i-th of n items from `at` up to `end`, the end for the last and for any place behind it
+unfoldable pub item_place : (list n at end : ℕ) → List ℕ → ℕ → ℕ
+item_place list n at end w i = pick (leb n i) end (pick (ltb (end - at) (le_at 8 w (list + 8 * i))) end (at + le_at 8 w (list + 8 * i)))
+
+abbrev pub item_place_in : Grammar → List ℕ → ℕ → ℕ
+item_place_in t w i = item_place t.list t.count t.at t.end w i
 
 -- ---- arguments: work with each marked, or one that was marked before
 pub data Marking : Type 0 where

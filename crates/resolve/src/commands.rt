@@ -2,7 +2,6 @@
 ghost use Rattle.std.specs.Prelude.{◌≡◌, ◌+◌, ◌≤◌, ◌<◌, length};
 ghost use Rattle.octets.specs.Plain.Numbers.{le_at};
 ghost use Rattle.resolve.specs.Cells.{Room, known_at, found_by};
-ghost use Rattle.parse_tree.specs.Working.Nodes.{long_of};
 ghost use Rattle.resolve.specs.Commands.{asked_at, run_out, Runs};
 
 use crate::cells::def;
@@ -11,29 +10,8 @@ use crate::names::{
 };
 use crate::{Definition, Scope};
 use octets::numbers::{Width, atom_at};
-use parse_tree::refusal;
 use parse_tree::refusal::{Question, Refusal};
-
-// How long a command of an alternative is, by its code. Apart from parse_tree's `size_by_code`: by its definition the clauses of seven crates would say of items and arguments too, which no run over an alternative meets.
-// One arm for 32 to 36 was tried: five machine instructions more for each command, since no table is made then.
-pub fn long(c: u8, width: Width) -> usize
-    ensures { (result ≡ long_of width.bytes c) × (0 < result) × (result ≤ 17) }
-{
-    match c {
-        18 => 14 + width.bytes,
-        19 => 2 + width.bytes + width.bytes + width.bytes,
-        20 => 10 + width.bytes + width.bytes,
-        32 => 9 + width.bytes,
-        33 => 9 + width.bytes,
-        34 => 9 + width.bytes,
-        35 => 9 + width.bytes,
-        36 => 9 + width.bytes,
-        37 | 40 => 10 + width.bytes,
-        38 => 10,
-        41 => 11,
-        _ => 9,
-    }
-}
+use parse_tree::size::long;
 
 // The definition of the name of the command at a place.
 fn named(work: &[u8], s: Scope, at: usize) -> Option<Definition>
@@ -69,7 +47,7 @@ pub fn validate_commands(work: &mut [u8], s: Scope, at: usize, e: usize) -> Resu
     while p < e {
         let c = work[p];
         match asked(work, s, p, c) {
-            Err(question) => return Err(refusal::of_command(question, work, p)),
+            Err(question) => return Err(question.of_command(work, p)),
             Ok(None) => p += long(c, s.grammar.width),
             Ok(Some(code)) => {
                 work[p] = code;

@@ -7,9 +7,8 @@ ghost use Rattle.resolve.specs.Globals.{declared_at, declare_out, each_out, glob
 
 use crate::Scope;
 use crate::cells::{Entry, define, known};
-use crate::items::place;
 use octets::numbers::{Width, atom_at};
-use parse_tree::refusal;
+use parse_tree::node::whole_nonterminal;
 use parse_tree::refusal::{Question, Refusal};
 
 // What the item at a place, whose code is c, defines its name to be.
@@ -18,13 +17,13 @@ fn declared(work: &[u8], width: Width, at: usize, c: u8) -> Entry
     ensures { result.0 ≡ declared_at width.bytes work.now at c }
 {
     if c == 16 {
-        Entry::nonterminal(work[at + 10 + width.bytes])
+        Entry::nonterminal(whole_nonterminal(work, at, width).args)
     } else {
         Entry::terminal()
     }
 }
 
-// Enters the global at a place, if its name is new.
+// Enters the global at a place, if its name is new. That is read by its place: a terminal's command is shorter than what `whole_nonterminal` asks for.
 fn declare(work: &mut [u8], s: Scope, at: usize, d: Entry) -> Result<(), Refusal>
     requires { Room s.texts (length work.old) × (at + 16 ≤ length work.old) }
     ensures { Runs (declare_out s.texts s.grammar.width.bytes work.old at d.0) result work.new }
@@ -40,7 +39,7 @@ fn declare(work: &mut [u8], s: Scope, at: usize, d: Entry) -> Result<(), Refusal
     } else {
         Question::TwiceUnlike
     };
-    Err(refusal::of_command(question, work, at))
+    Err(question.of_command(work, at))
 }
 
 // All globals of this code.
@@ -49,7 +48,7 @@ fn declare_each(work: &mut [u8], s: Scope, which: u8) -> Result<(), Refusal>
     ensures { Runs (each_out s.texts s.grammar which s.grammar.count 0 work.old) result work.new }
 {
     for i in 0..s.grammar.count {
-        let p = place(work, s.grammar, i);
+        let p = s.grammar.place(work, i);
         if work[p] == which {
             let d = declared(work, s.grammar.width, p, which);
             declare(work, s, p, d)?;
@@ -62,7 +61,7 @@ pub fn globals(work: &mut [u8], s: Scope) -> Result<(), Refusal>
     requires { Standing s.texts s.grammar (length work.old) }
     ensures { Runs (globals_out s.texts s.grammar work.old) result work.new }
 {
-    declare_each(work, s, 0x10)?;
-    declare_each(work, s, 0x30)?;
-    declare_each(work, s, 0x31)
+    declare_each(work, s, 16)?;
+    declare_each(work, s, 48)?;
+    declare_each(work, s, 49)
 }

@@ -1,4 +1,4 @@
-// Questions 8 to 13 of one name, by its definition: a yes, or the question that it fails. Each is asked of whatever a scope answers, so each says of no definition itself that it is 8.
+// Questions 8 to 13 of one name, by its definition: a yes, or the question that it fails. Each is asked of whatever a scope answers, so each says of no definition itself that it is 8, by the `let .. else` that document 01 names for a scope's answer.
 ghost use Rattle.std.specs.Prelude.{◌≡◌};
 ghost use Rattle.resolve.specs.Names.{condition_says, nonterminal_says, macro_says, ambiguous_says};
 

@@ -9,24 +9,27 @@ use lib.ListN.{length, get_or}
 use Rattle.octets.specs.Working.Choice.{pick}
 use Rattle.octets.specs.Plain.Numbers.{le_at, le}
 use Rattle.octets.specs.Working.Stores.{store}
+use Rattle.parse_tree.specs.Working.Nodes.{nonterminal_here}
+use Rattle.parse_tree.specs.declared.syntax.NonterminalData.{NonterminalData}
 use Rattle.texts.specs.declared.Map.{Map}
 use Rattle.resolve.specs.declared.Grammar.{Grammar}
 use Rattle.resolve.specs.Items.{item_place_in}
 use Rattle.rounds.specs.Define.{HeadAt, Headable, told_at, defined_at}
 
--- ---- define_macro
-module _ (w : List ℕ) (m : Map) (wd p i : ℕ) where
-  pub told_room : HeadAt w m wd p i → (x k : ℕ) → x ≡ le_at wd w (p + 9) → k ≡ x → m.base + 24 * k + 24 ≤ length w
-  told_room h x k y z = omega (arith, h.name)
+-- ---- define_macro: d is the command
+module _ (w : List ℕ) (m : Map) (wd p i : ℕ) (d : NonterminalData) (z : d ≡ nonterminal_here wd w p) where
+  pub told_room : HeadAt w m wd p i → (k : ℕ) → k ≡ d.name.0 → m.base + 24 * k + 24 ≤ length w
+  told_room h k e = rw (e, z) h.name
 
-  pub told_plain : get_or w (p + 10 + wd) 0 ≡ 0 → w ≡ told_at m wd w p i
+  pub told_plain : d.args ≡ 0 → w ≡ told_at m wd w p i
   unfolding told_at pick
-  told_plain d = rw (eq-eqb (get_or w (p + 10 + wd) 0) 0 d) refl
+  told_plain a = rw (eq-eqb (get_or w (p + 10 + wd) 0) 0 (rw z at a)) refl
 
-  pub told_macro : (get_or w (p + 10 + wd) 0 ≡ 0 → ⊥) → (x k : ℕ) → x ≡ le_at wd w (p + 9) → k ≡ x → (c : ℕ) → c ≡ i + 1 → (w' : List ℕ) → w' ≡ store w (m.base + 24 * k + 20) (le 4 c) → w' ≡ told_at m wd w p i
+  pub told_macro : (d.args ≡ 0 → ⊥) → (k : ℕ) → k ≡ d.name.0 → (c : ℕ) → c ≡ i + 1 → (w' : List ℕ) → w' ≡ store w (m.base + 24 * k + 20) (le 4 c) → w' ≡ told_at m wd w p i
   unfolding told_at pick
-  told_macro d x k y z c e w' o =
-      rw (ne_eqb (get_or w (p + 10 + wd) 0) 0 d) (o ∙ ap (λ (n : ℕ). store w (m.base + 24 * k + 20) (le 4 n)) e ∙ ap (λ (n : ℕ). store w (m.base + 24 * n + 20) (le 4 (i + 1))) (z ∙ y))
+  told_macro a k e c f w' o =
+      let y : k ≡ le_at wd w (p + 9) = e ∙ ap (λ (q : NonterminalData). q.name.0) z in
+      rw (ne_eqb (get_or w (p + 10 + wd) 0) 0 (rw z at a)) (o ∙ ap (λ (n : ℕ). store w (m.base + 24 * k + 20) (le 4 n)) f ∙ ap (λ (n : ℕ). store w (m.base + 24 * n + 20) (le 4 (i + 1))) y)
 
 pub ruleset telling = (rules, told_room, told_plain, told_macro)
 

@@ -23,9 +23,7 @@ use Rattle.texts.specs.declared.Map.{Map}
 use Rattle.texts.specs.Fields.{Relinked}
 use Rattle.texts.specs.Table.{Stays}
 use Rattle.texts.proofs.TableStays.{stays, above_stays}
-use Rattle.expander.specs.declared.Ground.{Ground}
 use Rattle.expander.specs.Ground.{size_in, top_of}
-use Rattle.appending.specs.Built.{built_place, built_at}
 use Rattle.rounds.specs.Start.{Cleared}
 use Rattle.rounds.specs.Grounds.{buckets_of, Groundable, Grounds}
 
@@ -137,25 +135,24 @@ unfolding le_at
 zeros_read zero s at h = refl
 zeros_read (suc k) s at h = omega (arith, h at (omega arith) (omega arith), zeros_read k s (at + 1) (λ i a b. h i (omega arith) (omega arith)))
 
-module _ (g : Ground) (w : List ℕ) (low : 72 ≤ g.slots) (top : g.slots ≤ length w) where
-  pub filled : (x : List ℕ) → x ≡ replicate (length (take (g.slots - (g.slots - 72)) (drop (g.slots - 72) w))) 0 → x ≡ zeros 72
+module _ (slots : ℕ) (w : List ℕ) (low : 72 ≤ slots) (top : slots ≤ length w) where
+  pub filled : (x : List ℕ) → x ≡ replicate (length (take (slots - (slots - 72)) (drop (slots - 72) w))) 0 → x ≡ zeros 72
   unfolding part
   filled x e =
-      let z : length (part (g.slots - 72) g.slots w) ≡ 72 = omega (arith, part_length (g.slots - 72) g.slots w top, low) in
+      let z : length (part (slots - 72) slots w) ≡ 72 = omega (arith, part_length (slots - 72) slots w top, low) in
       e ∙ ap zeros z
 
-module _ (g : Ground) (w w' : List ℕ) (low : 72 ≤ g.slots) (top : g.slots ≤ length w) (e : w' ≡ store w (g.slots - 72) (zeros 72)) where
-  zeros_there : Lies w' (g.slots - 72) (zeros 72) (g.slots - 72 + length (zeros 72))
-  zeros_there = subst (λ (x : List ℕ). Lies x (g.slots - 72) (zeros 72) (g.slots - 72 + length (zeros 72))) (sym e) (lies_store w (g.slots - 72) (zeros 72) (omega (arith, zeros-long 72)))
+module _ (slots : ℕ) (w w' : List ℕ) (low : 72 ≤ slots) (top : slots ≤ length w) (e : w' ≡ store w (slots - 72) (zeros 72)) where
+  zeros_there : Lies w' (slots - 72) (zeros 72) (slots - 72 + length (zeros 72))
+  zeros_there = subst (λ (x : List ℕ). Lies x (slots - 72) (zeros 72) (slots - 72 + length (zeros 72))) (sym e) (lies_store w (slots - 72) (zeros 72) (omega (arith, zeros-long 72)))
 
-  pub cleared_lem : Cleared g w w'
-  unfolding built_at built_place
+  pub cleared_lem : Cleared slots w w'
   cleared_lem = record {
-    long = ap length e ∙ length_store w (g.slots - 72) (zeros 72);
-    words = λ i l. zeros_read 8 w' (g.slots - 72 + 8 * i) (λ j a b. zeros_lie 72 w' (g.slots - 72) (g.slots - 72 + length (zeros 72)) zeros_there j (omega arith) (omega arith));
+    long = ap length e ∙ length_store w (slots - 72) (zeros 72);
+    words = λ i l. zeros_read 8 w' (slots - 72 + 8 * i) (λ j a b. zeros_lie 72 w' (slots - 72) (slots - 72 + length (zeros 72)) zeros_there j (omega arith) (omega arith));
     others = beside;
   }
     where
-      beside : (j : ℕ) → (j < g.slots - 72) ⊎ (g.slots ≤ j) → get_or w' j 0 ≡ get_or w j 0
-      beside j (inl x) = ap (λ (z : List ℕ). get_or z j 0) e ∙ get_d_store_before w (g.slots - 72) (zeros 72) j x
-      beside j (inr x) = ap (λ (z : List ℕ). get_or z j 0) e ∙ get_d_store_after w (g.slots - 72) (zeros 72) j (omega (arith, zeros-long 72, low, x))
+      beside : (j : ℕ) → (j < slots - 72) ⊎ (slots ≤ j) → get_or w' j 0 ≡ get_or w j 0
+      beside j (inl x) = ap (λ (z : List ℕ). get_or z j 0) e ∙ get_d_store_before w (slots - 72) (zeros 72) j x
+      beside j (inr x) = ap (λ (z : List ℕ). get_or z j 0) e ∙ get_d_store_after w (slots - 72) (zeros 72) j (omega (arith, zeros-long 72, low, x))

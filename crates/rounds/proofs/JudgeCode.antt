@@ -15,7 +15,6 @@ use lib.ListN.{length}
 use Rattle.parse_tree.specs.Working.Refusals.{refusal_at}
 use Rattle.parse_tree.specs.declared.refusal.Refusal.{Refusal}
 use Rattle.expander.specs.declared.Ground.{Ground}
-use Rattle.expander.specs.Ground.{list_place}
 use Rattle.expander.specs.Names.{listed_texts}
 use Rattle.expander.proofs.GroundLaws.{keys_slots, slots_top}
 use Rattle.settling.specs.Settle.{new_bytes, some_long, SomeNew, Counts}
@@ -63,7 +62,6 @@ module _ (s w : List ℕ) (g : Ground) where
 
   module _ (n c bytes : ℕ) (h : SomeStageSize s w g n c bytes) where
     pub sizes-sum : Fits w64 (g.m.count + c)
-    unfolding list_place
     sizes-sum = record { fits = omega (arith, h.names.room, h.ground.top, keys_slots s w g h.ground, slots_top s w g h.ground, h.ground.short) }
 
     -- what is to be said

@@ -80,7 +80,6 @@ stage_read s w g is G l h = (
 
 -- fewer new texts need less room
 list_fewer : (g : Ground) (n m : ℕ) → n ≤ m → list_place g m ≤ g.keys → list_place g n ≤ g.keys
-unfolding list_place
 list_fewer g n m i h = omega (arith, h)
 
 -- theorem: and they are turns of the run

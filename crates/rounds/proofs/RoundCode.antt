@@ -84,11 +84,11 @@ module _ (s w : List ℕ) (room : Room) (t : Grammar) (z : State) (h : Half) (K 
   pub pile_limit : Bound.Fits w64 (room.y + (room.cap - room.first - (room.end - z.low)))
   pile_limit = record { fits = omega (arith, S.map.end_is, S.map.inside, S.map.short) }
 
-  pub pile_some : (w1 : List ℕ) → Cleared h.g w w1 → (v : Appended) → v ≡ at_start h.r → SomePile s w1 h.g h.r.pile (room.y + (room.cap - room.first - (room.end - z.low))) t v
+  pub pile_some : (w1 : List ℕ) → Cleared h.g.slots w w1 → (v : Appended) → v ≡ at_start h.r → SomePile s w1 h.g h.r.pile (room.y + (room.cap - room.first - (room.end - z.low))) t v
   unfolding limit_of
   pile_some w1 k v e = rw e (piles.some_pile s K.half.work room t z T S h w H K.pushed K.admitted w1 k)
 
-pub pile_done : (s w : List ℕ) (room : Room) (t : Grammar) (z : State) (h : Half) (w1 : List ℕ) → Cleared h.g w w1 → (v : Appended) → v ≡ at_start h.r → (q : Result Appended Refusal) (w2 : List ℕ)
+pub pile_done : (s w : List ℕ) (room : Room) (t : Grammar) (z : State) (h : Half) (w1 : List ℕ) → Cleared h.g.slots w w1 → (v : Appended) → v ≡ at_start h.r → (q : Result Appended Refusal) (w2 : List ℕ)
     → Drains s w1 h.g h.r.pile (room.y + (room.cap - room.first - (room.end - z.low))) t v q w2 → DrainsPile s w room t z h q w2
 unfolding DrainsPile limit_of
 pile_done s w room t z h w1 k v e q w2 d work T S H p f =

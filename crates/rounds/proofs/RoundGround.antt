@@ -63,7 +63,6 @@ module _ (s w : List ℕ) (room : Room) (t : Grammar) (z : State) (T : RoundTree
   top_is = omega (arith, slots_is, size_is)
 
   pub list_is : (i : ℕ) → list_place g i ≡ z.m.base + 24 * z.m.count + 8 * i
-  unfolding list_place
   list_is i = omega (arith, count-is, base_is)
 
   -- ---- what stands as before

@@ -26,7 +26,7 @@ stage_stays s g n lim ps w v h x v' w' a = part-agree w w' g.from g.end a.long h
 
 -- replacing left w', clearing w'', appending w'''
 module _ (s w : List ℕ) (g : Ground) (to : ℕ) (r : Replaced) (w' : List ℕ) (is : List Item) (K : List Text) (ms : List ℕ) (G : Tree) (h : Replacing s w g to r w' is K ms G)
-    (records : r.pile + 3 ≤ size_in g / 9) (heads : g.buckets + 3 ≤ size_in g / 9) (w'' : List ℕ) (k : Cleared g w' w'')
+    (records : r.pile + 3 ≤ size_in g / 9) (heads : g.buckets + 3 ≤ size_in g / 9) (w'' : List ℕ) (k : Cleared g.slots w' w'')
     (lim : ℕ) (ps : List ℕ) (a : Appending s g r.pile lim ps w'' (at_start r)) (x : Piece) (v : Appended) (w''' : List ℕ) (A : Appends s g r.pile lim ps w'' (at_start r) x v w''') where
   around : Around g w' w''
   around = cleared_around s w' w'' g r.pile h.stages.ground records heads k

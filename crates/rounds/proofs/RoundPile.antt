@@ -127,7 +127,7 @@ module _ (s w : List ℕ) (room : Room) (t : Grammar) (z : State) (T : RoundTree
     omega (arith, grounds.slots_is s w room t z T S g w₁ H.grounds, (halves.wrote s w room t z T S h w' H).long, S.map.y_is, S.map.end_is, S.map.inside),
   )
 
-  module _ (w'' : List ℕ) (k : Cleared g w' w'') where
+  module _ (w'' : List ℕ) (k : Cleared g.slots w' w'') where
     around : Around g w' w''
     around = cleared_around s w' w'' g r.pile H.stages.ground few.0 few.1 k
 

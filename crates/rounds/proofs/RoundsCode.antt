@@ -15,6 +15,7 @@ use Rattle.passes.specs.Calls.{sizes}
 use Rattle.resolve.specs.declared.Grammar.{Grammar}
 use Rattle.rounds.specs.declared.Room.{Room}
 use Rattle.rounds.specs.declared.State.{State}
+use Rattle.rounds.specs.declared.Standing.{Standing}
 use Rattle.rounds.specs.Step.{RoundInput, RoundOutput, done, more, one_round}
 use Rattle.rounds.specs.Standing.{RoundTrees, input_of, RoundStands}
 use Rattle.rounds.specs.Round.{SomeRound, Further, RoundTo, OneRound, RoundsTo, LastRound, AllRounds}
@@ -63,15 +64,24 @@ module _ (s : List ℕ) (room : Room) (t : Grammar) where
   abbrev left_of : ℕ → State → ℕ
   left_of limit x = limit - x.expander.round
 
-  pub record Turning (w₀ : List ℕ) (z : State) (limit : ℕ) (w : List ℕ) (x : State) : Type 0 where
-    pub some : SomeRound s w room t x
+  pub record Turning (w₀ : List ℕ) (z : State) (limit : ℕ) (w : List ℕ) (at : Standing) : Type 0 where
+    pub places : at.room ≡ room
+    pub grammar : at.t ≡ t
+    pub some : SomeRound s w room t at.z
     pub long : length w ≡ length w₀
-    pub each : (T : RoundTrees) → RoundStands s w₀ room t z T → Onward T (left_of limit z) w x (left_of limit x)
+    pub each : (T : RoundTrees) → RoundStands s w₀ room t z T → Onward T (left_of limit z) w at.z (left_of limit at.z)
 
-  pub turning_start : (w : List ℕ) (z : State) (limit : ℕ) → SomeRound s w room t z → Turning w z limit w z
-  turning_start w z limit h = record { some = h; long = refl; each = λ T i. record { trees = T; standing = i; first = refl; same = refl } }
+  module _ (w₀ : List ℕ) (z : State) (limit : ℕ) (w : List ℕ) (at : Standing) (D : Turning w₀ z limit w at) where
+    abbrev x : State
+    x = at.z
 
-  module _ (w₀ : List ℕ) (z : State) (limit : ℕ) (w : List ℕ) (x : State) (D : Turning w₀ z limit w x) where
+    -- what is said of the places and the grammar there is said of those
+    own : (P : Room → Grammar → Type 0) → P at.room at.t → P room t
+    own P h = subst (P room) D.grammar (subst (λ (q : Room). P q at.t) D.places h)
+
+    once : (r : Result (ControlFlow State State) Refusal) (w' : List ℕ) → OneRound s w at.room at.t x r w' → OneRound s w room t x r w'
+    once r w' h = own (λ (q : Room) (y : Grammar). OneRound s w q y x r w') h
+
     abbrev all : ℕ
     all = left_of limit z
 
@@ -120,41 +130,48 @@ module _ (s : List ℕ) (room : Room) (t : Grammar) where
         f.standing.numbers.round ∙ f.rounds ∙ ap (λ (n : ℕ). n + 1) (sym S.numbers.round)
 
     -- ---- as the code has it
+    pub turning_some : SomeRound s w at.room at.t x
+    turning_some = subst (λ (q : Room). SomeRound s w q at.t x) (sym D.places) (subst (λ (y : Grammar). SomeRound s w room y x) (sym D.grammar) D.some)
+
     pub turning_same : length w ≡ length w₀
     turning_same = D.long
 
-    pub turning_refused : x.expander.round < limit → (r : Result (ControlFlow State State) Refusal) (w' : List ℕ) → OneRound s w room t x r w' → (why : Refusal) → r ≡ Err why → AllRounds s w₀ room t limit z (Err why) w'
+    pub turning_refused : x.expander.round < limit → (r : Result (ControlFlow State State) Refusal) (w' : List ℕ) → OneRound s w at.room at.t x r w' → (why : Refusal) → r ≡ Err why → AllRounds s w₀ room t limit z (Err why) w'
     unfolding AllRounds
     turning_refused l r w' h why e T i =
         let n = left - 1 in
-        let a : OneRound s w room t x (Err why) w' = subst (λ (q : Result (ControlFlow State State) Refusal). OneRound s w room t x q w') e h in
+        let a : OneRound s w room t x (Err why) w' = subst (λ (q : Result (ControlFlow State State) Refusal). OneRound s w room t x q w') e (once r w' h) in
         let u = one_round admits (T' T i).definitions (input_of (T' T i)) in
         whole T i (after u (go_on admits (T' T i).definitions n)) (another T i n (omega arith)) (Err why) w'
         (refused_is (T' T i) admits (T' T i).definitions n w' u why (told T i (Err why) w' a))
 
-    pub turning_done : x.expander.round < limit → (r : Result (ControlFlow State State) Refusal) (w' : List ℕ) → OneRound s w room t x r w' → (y : State) → r ≡ Ok (Break y) → AllRounds s w₀ room t limit z (Ok y) w'
+    pub turning_done : x.expander.round < limit → (r : Result (ControlFlow State State) Refusal) (w' : List ℕ) → OneRound s w at.room at.t x r w' → (y : State) → r ≡ Ok (Break y) → AllRounds s w₀ room t limit z (Ok y) w'
     unfolding AllRounds
     turning_done l r w' h y e T i =
         let n = left - 1 in
-        let a : OneRound s w room t x (Ok (Break y)) w' = subst (λ (q : Result (ControlFlow State State) Refusal). OneRound s w room t x q w') e h in
+        let a : OneRound s w room t x (Ok (Break y)) w' = subst (λ (q : Result (ControlFlow State State) Refusal). OneRound s w room t x q w') e (once r w' h) in
         let u = one_round admits (T' T i).definitions (input_of (T' T i)) in
         whole T i (after u (go_on admits (T' T i).definitions n)) (another T i n (omega arith)) (Ok y) w'
         (done_is (T' T i) admits (T' T i).definitions n w' u y (told T i (Ok (Break y)) w' a))
 
-    pub turning_next : x.expander.round < limit → (r : Result (ControlFlow State State) Refusal) (w' : List ℕ) → length w' ≡ length w → OneRound s w room t x r w' → (y : State) → r ≡ Ok (Continue y) → Turning w₀ z limit w' y
-    turning_next l r w' b k y e = record { some = another_some w x D.some y w' h; long = b ∙ D.long; each = λ T i. subst (Onward T all w' y) fewer (onward T i (left - 1) (omega arith) y w' h) }
+    pub turning_next : x.expander.round < limit → (r : Result (ControlFlow State State) Refusal) (w' : List ℕ) → length w' ≡ length w → OneRound s w at.room at.t x r w' → (y : State) → r ≡ Ok (Continue y) → Turning w₀ z limit w' (record { room = at.room; t = at.t; z = y })
+    turning_next l r w' b k y e = record { places = D.places; grammar = D.grammar; some = another_some w x D.some y w' h; long = b ∙ D.long; each = λ T i. subst (Onward T all w' y) fewer (onward T i (left - 1) (omega arith) y w' h) }
       where
         h : OneRound s w room t x (Ok (Continue y)) w'
-        h = subst (λ (q : Result (ControlFlow State State) Refusal). OneRound s w room t x q w') e k
+        h = subst (λ (q : Result (ControlFlow State State) Refusal). OneRound s w room t x q w') e (once r w' k)
 
         fewer : left - 1 ≡ left_of limit y
         fewer = omega (arith, next_round D.some.trees D.some.standing y w' h)
 
-    pub turning_less : x.expander.round < limit → (r : Result (ControlFlow State State) Refusal) (w' : List ℕ) → OneRound s w room t x r w' → (y : State) → r ≡ Ok (Continue y) → limit - y.expander.round < limit - x.expander.round
-    turning_less l r w' k y e = omega (arith, next_round D.some.trees D.some.standing y w' (subst (λ (q : Result (ControlFlow State State) Refusal). OneRound s w room t x q w') e k))
+    pub turning_less : x.expander.round < limit → (r : Result (ControlFlow State State) Refusal) (w' : List ℕ) → OneRound s w at.room at.t x r w' → (y : State) → r ≡ Ok (Continue y) → limit - y.expander.round < limit - x.expander.round
+    turning_less l r w' k y e = omega (arith, next_round D.some.trees D.some.standing y w' (subst (λ (q : Result (ControlFlow State State) Refusal). OneRound s w room t x q w') e (once r w' k)))
 
-    pub turning_last : limit ≤ x.expander.round → (r : Result State Refusal) (w' : List ℕ) → LastRound s w room t x r w' → AllRounds s w₀ room t limit z r w'
+    pub turning_last : limit ≤ x.expander.round → (r : Result State Refusal) (w' : List ℕ) → LastRound s w at.room at.t x r w' → AllRounds s w₀ room t limit z r w'
     unfolding AllRounds LastRound
-    turning_last l r w' h T i = whole T i (all_from 0 (T' T i)) (none T i (omega arith)) r w' (h (T' T i) (o T i).standing)
+    turning_last l r w' h T i = whole T i (all_from 0 (T' T i)) (none T i (omega arith)) r w' (own (λ (q : Room) (y : Grammar). LastRound s w q y x r w') h (T' T i) (o T i).standing)
 
-pub ruleset turning = (rules, turning_start, turning_same, turning_refused, turning_done, turning_next, turning_less, turning_last)
+-- ---- the loop begins
+pub turning_start : (s w : List ℕ) (at : Standing) (limit : ℕ) → SomeRound s w at.room at.t at.z → Turning s at.room at.t w at.z limit w at
+turning_start s w at limit h = record { places = refl; grammar = refl; some = h; long = refl; each = λ T i. record { trees = T; standing = i; first = refl; same = refl } }
+
+pub ruleset turning = (rules, turning_start, turning_some, turning_same, turning_refused, turning_done, turning_next, turning_less, turning_last)

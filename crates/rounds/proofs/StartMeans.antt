@@ -103,7 +103,7 @@ module _ (s w : List ℕ) (g : Ground) (to : ℕ) (r : Replaced) (w' : List ℕ)
       ∙ round.atoms
 
   -- ---- the words were cleared
-  module _ (w'' : List ℕ) (k : Cleared g w' w'') (lim : ℕ) (m : Roomy s w'' g r lim) where
+  module _ (w'' : List ℕ) (k : Cleared g.slots w' w'') (lim : ℕ) (m : Roomy s w'' g r lim) where
     around : Around g w' w''
     around = cleared_around s w' w'' g r.pile h.stages.ground m.records m.heads k
 
@@ -177,6 +177,6 @@ module _ (s w : List ℕ) (g : Ground) (to : ℕ) (r : Replaced) (w' : List ℕ)
 
 -- theorem: appending begins with what replacing left
 pub pile_starts : (s w : List ℕ) (g : Ground) (to : ℕ) (r : Replaced) (w' : List ℕ) (is : List Item) (K : List Text) (ms : List ℕ) (G : Tree) → Replacing s w g to r w' is K ms G
-    → (w'' : List ℕ) → Cleared g w' w'' → (lim : ℕ) → Roomy s w'' g r lim → (t : Grammar) (four : Bool) → Declares s w'' g t (at_start r) four G
+    → (w'' : List ℕ) → Cleared g.slots w' w'' → (lim : ℕ) → Roomy s w'' g r lim → (t : Grammar) (four : Bool) → Declares s w'' g t (at_start r) four G
     → StartsAppending s w g r is K lim t four G w''
 pile_starts s w g to r w' is K ms G h w'' k lim m t four d = starts s w g to r w' is K ms G h w'' k lim m t four d

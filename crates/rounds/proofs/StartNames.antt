@@ -27,7 +27,7 @@ down-same f g zero h = refl
 down-same f g (suc n) h = cc (h n (omega arith), down-same f g n (λ i k. h i (omega arith)))
 
 -- n symbols were pushed; the words are bytes of records of none of them, where no bucket has its head
-module _ (s w w' : List ℕ) (g : Ground) (n : ℕ) (e : Grounded s w g) (room : n + 3 ≤ size_in g / 9) (heads : g.buckets + 3 ≤ size_in g / 9) (k : Cleared g w w') where
+module _ (s w w' : List ℕ) (g : Ground) (n : ℕ) (e : Grounded s w g) (room : n + 3 ≤ size_in g / 9) (heads : g.buckets + 3 ≤ size_in g / 9) (k : Cleared g.slots w w') where
   pub cleared_around : Around g w w'
   cleared_around = record { long = k.long; others = λ i d. k.others i (go i d) }
     where
@@ -51,7 +51,6 @@ module _ (s w w' : List ℕ) (g : Ground) (n : ℕ) (e : Grounded s w g) (room :
   key_print j l = ap (printed_at s w' g) (key_same j l) ∙ print-same (key_at w g j)
 
   slot_same : (p : ℕ) → slot_at w' g p ≡ slot_at w g p
-  unfolding slot_at slot_place
   slot_same p = le_at-agree 8 w w' (slot_place g p) (λ a x y. k.others a (inr (omega arith)))
 
   key_slot : (j : ℕ) → j < n → slot_at w' g (key_at w' g j) ≡ slot_at w g (key_at w g j)
@@ -59,7 +58,6 @@ module _ (s w w' : List ℕ) (g : Ground) (n : ℕ) (e : Grounded s w g) (room :
 
   module _ (c : ℕ) (ps : List ℕ) (h : Names s w g n c ps) where
     pub list_same : (i : ℕ) → i < c → list_at w' g i ≡ list_at w g i
-    unfolding list_at list_place
     list_same i l = le_at-agree 8 w w' (list_place g i) (λ a x y. k.others a (inl (omega (arith, h.room, e.fits))))
 
     -- theorem: the texts by number

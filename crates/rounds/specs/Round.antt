@@ -115,7 +115,7 @@ appended_stage T new = stage_of (replaced_stage T).atoms (T.old ++ replaced_of T
 -- from w to w' the words of built-in texts were cleared, and the items `new` of the pile appended; `ground` is work with the ground laid
 pub record Drained (s w : List ℕ) (room : Room) (t : Grammar) (z : State) (T : RoundTrees) (h : Half) (ground : List ℕ) (new : List Item) (v : Appended) (w' : List ℕ) : Type 0 where
   pub middle : List ℕ
-  pub cleared : Cleared h.g w middle
+  pub cleared : Cleared h.g.slots w middle
   pub starts : StartsAppending s ground h.g h.r T.items T.keys (limit_of room z) t false T.definitions middle
   pub appends : Appends s h.g h.r.pile (limit_of room z) starts.places middle (at_start h.r) (items_piece 2 new) v w'
 

@@ -1,6 +1,6 @@
 -- What stands in work between the replacing stage of a round and its appending stage. s is the tape, w is work. Assumes nothing: these are definitions.
-use Rattle.std.specs.Prelude.{◌≡◌, Bool, false, ◌⊎◌, List, [], map, ℕ, ◌+◌, ◌-◌, ◌/◌, ◌≤◌, ◌<◌, length, get_or}
-use Rattle.octets.specs.Plain.Numbers.{Bytes}
+use Rattle.std.specs.Prelude.{◌≡◌, Bool, false, ◌⊎◌, List, [], map, ℕ, ◌+◌, ◌-◌, ◌*◌, ◌/◌, ◌≤◌, ◌<◌, length, get_or}
+use Rattle.octets.specs.Plain.Numbers.{Bytes, le_at}
 use Rattle.parse_tree.specs.Plain.Tree.{Text, Item}
 use Rattle.parse_tree.specs.Plain.Texts.{has}
 use Rattle.parse_tree.specs.Plain.Reading.{got}
@@ -20,7 +20,6 @@ use Rattle.expander.specs.Ground.{size_in, stage_in, top_of, key_at, list_place,
 use Rattle.expander.specs.Held.{down}
 use Rattle.expander.specs.Stage.{MarksAre, Stages}
 use Rattle.expander.specs.Names.{named_in}
-use Rattle.appending.specs.Built.{built_at}
 use Rattle.appending.specs.declared.Appended.{Appended}
 use Rattle.macro_expand.specs.Drain.{Pile}
 use Rattle.rounds.specs.Calls.{ItemCalls}
@@ -40,11 +39,11 @@ pub record Replacing (s w : List ℕ) (g : Ground) (to : ℕ) (r : Replaced) (w'
   pub sound : Each ItemSound (without_macros is)
   pub calls : Each (ItemCalls G) (without_macros is)
 
--- from w' to w'' the nine words of built-in texts were cleared, and nothing else
-pub record Cleared (g : Ground) (w' w'' : List ℕ) : Type 0 where
+-- from w' to w'' the nine words of built-in texts, which stand before the slots, were cleared, and nothing else
+pub record Cleared (slots : ℕ) (w' w'' : List ℕ) : Type 0 where
   pub long : length w'' ≡ length w'
-  pub words : (i : ℕ) → i < 9 → built_at w'' g i ≡ 0
-  pub others : (i : ℕ) → (i < g.slots - 72) ⊎ (g.slots ≤ i) → get_or w'' i 0 ≡ get_or w' i 0
+  pub words : (i : ℕ) → i < 9 → le_at 8 w'' (slots - 72 + 8 * i) ≡ 0
+  pub others : (i : ℕ) → (i < slots - 72) ⊎ (slots ≤ i) → get_or w'' i 0 ≡ get_or w' i 0
 
 -- there is room for appending: three records more, the list of new texts, and items before lim
 pub record Roomy (s w : List ℕ) (g : Ground) (r : Replaced) (lim : ℕ) : Type 0 where

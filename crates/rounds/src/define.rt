@@ -4,13 +4,13 @@ ghost use Rattle.resolve.specs.Items.{item_place_in};
 ghost use Rattle.rounds.specs.Define.{Cells, Forgot, SomeDeclared, Definable, Defined, HeadAt, Headable, told_at, defined_at};
 
 use expander::cells::TextCell;
-use octets::numbers::{Width, atom_at};
+use octets::numbers::Width;
+use parse_tree::node::whole_nonterminal;
 use resolve::Grammar;
-use resolve::items::place;
 use texts::Map;
 use texts::fields::put_cell;
 
-// No text's cell says anything.
+// No text's cell says anything. `tape` for the clauses alone.
 pub fn forget(tape: &[u8], work: &mut [u8], m: Map)
     requires { Cells tape.now work.old m }
     ensures { Forgot tape.now work.old m work.new }
@@ -25,8 +25,9 @@ fn define_macro(work: &mut [u8], m: Map, width: Width, p: usize, i: usize)
     requires { HeadAt work.old m width.bytes p i }
     ensures { work.new ≡ told_at m width.bytes work.old p i }
 {
-    if work[p + 10 + width.bytes] != 0 {
-        let k = atom_at(work, p + 9, width) as usize;
+    let d = whole_nonterminal(work, p, width);
+    if d.args != 0 {
+        let k = d.name.0 as usize;
         put_cell(work, m.base, k, TextCell::of_macro(i).0);
     }
 }
@@ -36,13 +37,13 @@ fn define_item(work: &mut [u8], m: Map, t: Grammar, i: usize)
     requires { Headable work.old m t i }
     ensures { work.new ≡ defined_at m t.width.bytes work.old (item_place_in t work.old i) i }
 {
-    let p = place(work, t, i);
+    let p = t.place(work, i);
     if work[p] == 16 {
         define_macro(work, m, t.width, p, i);
     }
 }
 
-// All items, from the last to the first: of two macros of one name the first is told.
+// All items, from the last to the first: of two macros of one name the first is told. `tape` for the clauses alone.
 fn define_items(tape: &[u8], work: &mut [u8], m: Map, t: Grammar)
     requires { Definable tape.now work.old m t }
     ensures { Defined tape.now work.old m t work.new }

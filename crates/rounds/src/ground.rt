@@ -16,7 +16,7 @@ fn bucket_count(size: usize) -> usize
     (size / 64 + 1).min(4294967295)
 }
 
-// The ground of a round whose unreplaced items stand from `from` up to `end`, in work up to `top`.
+// The ground of a round whose unreplaced items stand from `from` up to `end`, in work up to `top`. `tape` for the clauses alone.
 pub fn ground(
     tape: &[u8],
     work: &mut [u8],
@@ -32,23 +32,23 @@ pub fn ground(
     let k = (end - from) / 9;
     let slots = top - 8 * k;
     let keys = slots - 24 * k;
-    let buckets = bucket_count(end - from);
-    empty(work, keys, buckets);
-    Ground {
+    let g = Ground {
         m,
         width,
         from,
         end,
         keys,
-        buckets,
+        buckets: bucket_count(end - from),
         slots,
-    }
+    };
+    empty(work, g.pushed(0));
+    g
 }
 
 // No built-in text has a number yet.
-pub fn clear_built(work: &mut [u8], g: Ground)
-    requires { (72 ≤ g.slots) × (g.slots ≤ length work.old) }
-    ensures { Cleared g work.old work.new }
+pub fn clear_built(work: &mut [u8], slots: usize)
+    requires { (72 ≤ slots) × (slots ≤ length work.old) }
+    ensures { Cleared slots work.old work.new }
 {
-    work[g.slots - 72..g.slots].fill(0);
+    work[slots - 72..slots].fill(0);
 }

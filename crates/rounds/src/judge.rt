@@ -5,7 +5,6 @@ ghost use Rattle.settling.specs.Settle.{new_bytes, some_long};
 ghost use Rattle.rounds.specs.Judge.{ruled_counts, ruled_length, verdict, SomeStageSize};
 
 use expander::Ground;
-use parse_tree::refusal;
 use parse_tree::refusal::{Question, Refusal};
 use settling::settle::count_texts;
 
@@ -14,7 +13,7 @@ pub fn judge_counts(count: usize, beyond: bool) -> Result<(), Refusal>
     ensures { result ≡ ruled_counts count beyond }
 {
     if 65536 < count || beyond {
-        Err(refusal::at(Question::Counts, 0))
+        Err(Question::Counts.at(0))
     } else {
         Ok(())
     }
@@ -25,7 +24,7 @@ pub fn judge_length(bytes: usize, cap: usize) -> Result<(), Refusal>
     ensures { result ≡ ruled_length bytes cap }
 {
     if cap < bytes {
-        Err(refusal::at(Question::Output, 0))
+        Err(Question::Output.at(0))
     } else {
         Ok(())
     }
@@ -48,6 +47,6 @@ pub fn sizes(
     let k = g.m.count + c;
     // Texts that are too many aren't read.
     judge_counts(k, deep)?;
-    let fresh = count_texts(tape, work, g, n, c).ok_or(refusal::at(Question::Counts, 0))?;
+    let fresh = count_texts(tape, work, g, n, c).ok_or(Question::Counts.at(0))?;
     judge_length(bytes + fresh, cap)
 }

@@ -14,7 +14,6 @@ use appending::{Appended, Round};
 use expander::Ground;
 use expander::stage::{Replaced, replace_items};
 use macro_expand::drain::drain;
-use parse_tree::refusal;
 use parse_tree::refusal::{Question, Refusal};
 use settling::pushed::mark_pushed;
 use settling::put::copy_down;
@@ -60,7 +59,7 @@ fn expand_pile(tape: &[u8], work: &mut [u8], at: Standing, h: Half) -> Result<Ap
     requires { SomePending tape.now work.old at.room at.t at.z h }
     ensures { DrainsPile tape.now work.old at.room at.t at.z h result work.new }
 {
-    clear_built(work, h.g);
+    clear_built(work, h.g.slots);
     let lim = at.room.y + (at.room.cap - at.room.first - (at.room.end - at.z.low));
     let pile = Round {
         g: h.g,
@@ -180,7 +179,7 @@ fn last_pushed(work: &[u8], g: Ground, n: usize) -> Refusal
     ensures { result ≡ refusal_over 18 (span_in work.now (g.from + key_at work.now g (n - 1) + 1)) }
 {
     let p = mark(work, g.keys, n - 1);
-    refusal::of_command(Question::Rounds, work, g.from + p)
+    Question::Rounds.of_command(work, g.from + p)
 }
 
 // The round behind which no other may come: what is pending is refused, before 20 and 21.

@@ -2,29 +2,25 @@
 ghost use Rattle.rounds.specs.Round.{SomeRound, AllRounds};
 
 use crate::round::{last_round, round};
-use crate::{Room, Standing, State};
+use crate::{Standing, State};
 use parse_tree::refusal::Refusal;
-use resolve::Grammar;
 use std::ops::ControlFlow;
 
 pub fn rounds(
     tape: &[u8],
     work: &mut [u8],
-    room: Room,
-    t: Grammar,
+    mut at: Standing,
     limit: usize,
-    z: State,
 ) -> Result<State, Refusal>
-    requires { SomeRound tape.now work.old room t z }
-    ensures { AllRounds tape.now work.old room t limit z result work.new }
+    requires { SomeRound tape.now work.old at.room at.t at.z }
+    ensures { AllRounds tape.now work.old at.room at.t limit at.z result work.new }
 {
-    let mut x = z;
-    // The rounds are counted in x itself: a range would count beside x.expander.round, and the proof would keep the two equal.
-    while x.expander.round < limit {
-        match round(tape, work, Standing { room, t, z: x })? {
+    // The rounds are counted in `at` itself: a range would count beside at.z.expander.round, and the proof would keep the two equal.
+    while at.z.expander.round < limit {
+        match round(tape, work, at)? {
             ControlFlow::Break(y) => return Ok(y),
-            ControlFlow::Continue(y) => x = y,
+            ControlFlow::Continue(y) => at = Standing { z: y, ..at },
         }
     }
-    last_round(tape, work, Standing { room, t, z: x })
+    last_round(tape, work, at)
 }

@@ -27,10 +27,11 @@ use Rattle.expander.proofs.KeysLaws.{own_keys, keys_parts, stands_code}
 use Rattle.octets.specs.Working.Choice.{pick}
 use Rattle.appending.proofs.SymbolsTrees.{each-parts}
 use Rattle.settling.specs.declared.Source.{Source}
-use Rattle.settling.specs.Put.{source_text, in_work, from_of, Fixed, Marked}
+use Rattle.settling.specs.Put.{source_text, in_work, Fixed, Marked}
 use Rattle.settling.specs.declared.copied.Print.{Print}
 use Rattle.settling.specs.Copied.{TextStands, Numbered, Said, Copying, SaidSymbol, KnownText}
 use Rattle.settling.proofs.PutLaws.{puts_as}
+use Rattle.settling.proofs.WordsLaws.{fixed_below}
 use Rattle.settling.proofs.CopiedStays.{slot_top}
 
 -- ---- numbered
@@ -100,14 +101,14 @@ module _ (s w : List ℕ) (x : Print) (k to : ℕ) (C : Copying s w x to) (t : T
     mark_whole = rw e t.whole
 
     module _ (q : Source) (m : Marked s w y q) where
-      pub known_fixed : Fixed (length s) (length w) x.lim q
-      known_fixed = record { ordered = m.ordered; tape = m.tape; work = m.work; behind = λ d. go d (rw (← e) at t.behind) }
+      pub known_fixed : Fixed (length w) x.lim q
+      known_fixed = fixed_below (length w) (y + 4 * length s) x.lim q m.fixed (λ d. go d (rw (← e) at t.behind))
         where
-          go : in_work q ≡ true → Behind s x.lim y → x.lim ≤ from_of q
+          go : in_work q ≡ true → Behind s x.lim y → x.lim ≤ y + 4 * length s
           go d (inl l) = absurd (omega (arith, m.far d))
-          go d (inr l) = omega (arith, m.behind d)
+          go d (inr l) = l
 
-      pub known_put : (r : ℕ) (w1 : List ℕ) → Puts w x.lim to (source_text s w q) r w1 → Puts w x.lim to (marked_text s w (mark_at w x.g.m.base k)) r w1
+      pub known_put : (r : ℕ) (w1 : List ℕ) → Puts w x.lim to (source_text w q) r w1 → Puts w x.lim to (marked_text s w (mark_at w x.g.m.base k)) r w1
       known_put r w1 a = puts_as (m.text ∙ ap (marked_text s w) e) a
 
   pub known_limit : x.lim ≤ length w

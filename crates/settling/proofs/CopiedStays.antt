@@ -33,7 +33,7 @@ each_same (x ∷ xs) f h = (f x h.0, each_same xs f h.1)
 
 -- a slot is inside the slots
 pub slot_top : (g : Ground) (p : ℕ) → p + 9 ≤ size_in g → slot_place g p + 8 ≤ top_of g
-unfolding slot_place top_of
+unfolding top_of
 slot_top g p h = omega arith
 
 module _ (s w : List ℕ) (x : Print) (to : ℕ) (C : Copying s w x to) (bs : List ℕ) (r : ℕ) (w1 : List ℕ) (p : Puts w x.lim to bs r w1) where
@@ -76,7 +76,6 @@ module _ (s w : List ℕ) (x : Print) (to : ℕ) (C : Copying s w x to) (bs : Li
 
   -- ---- references
   slot_same : (q : ℕ) → q + 9 ≤ size_in g → slot_at w1 g q ≡ slot_at w g q
-  unfolding slot_at
   slot_same q h = le_at-agree 8 w w1 (slot_place g q) (before 8 (slot_place g q) (omega (arith, slot_top g q h, C.top)))
 
   pushed-same : (j : ℕ) → j < size_in g / 9 → key_at w1 g j ≡ key_at w g j

@@ -59,7 +59,6 @@ count-start s w g n c h = record { upto = omega arith; short = refl; size = refl
 
 module _ (s w : List ℕ) (g : Ground) (n c : ℕ) (h : SomeNew s w g n c) (i : ℕ) (l : i < c) where
   pub count-place : list_place g i + 8 ≤ length w
-  unfolding list_place
   count-place = omega (arith, h.names.room, keys_slots s w g h.ground, slots_top s w g h.ground, h.ground.top)
 
   pub count-entry : (v : ℕ) → v ≡ list_at w g i → Entry s w g v

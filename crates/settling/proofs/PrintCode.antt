@@ -38,7 +38,7 @@ module _ (s w : List ℕ) (m : Map) (wd lim to : ℕ) (g : Printable s w m wd li
   pub print-stop : to ≤ lim + 1
   print-stop = g.stop
 
-  pub print-fixed : (t : Text) (p : Source) → PlacedText s w m t p → Fixed (length s) (length w) lim p
+  pub print-fixed : (t : Text) (p : Source) → PlacedText s w m t p → Fixed (length w) lim p
   print-fixed t p d = d.fixed lim g.above
 
 -- ---- put_between
@@ -135,18 +135,18 @@ pub ruleset closing = (rules, close_inside, close_room, behind_angle, behind_rep
 
 -- ---- put_named
 pub named_put : (s w : List ℕ) (m : Map) (wd at lim to r : ℕ) (w1 : List ℕ) (p : Source) → PlacedText s w m (word_at wd (texts s w m) w (at + 10)) p
-    → Puts w lim to (name_text (get_or w (at + 9) 0) (source_text s w p)) r w1 → Puts w lim to (name_text (get_or w (at + 9) 0) (word_at wd (texts s w m) w (at + 10))) r w1
+    → Puts w lim to (name_text (get_or w (at + 9) 0) (source_text w p)) r w1 → Puts w lim to (name_text (get_or w (at + 9) 0) (word_at wd (texts s w m) w (at + 10))) r w1
 named_put s w m wd at lim to r w1 p d a = puts_as (ap (name_text (get_or w (at + 9) 0)) d.text) a
 
 pub ruleset naming = (rules, print-worded, print-inside, print-stop, print-fixed, named_put)
 
 -- ---- put_before
 module _ (s w : List ℕ) (m : Map) (wd at c lim to r : ℕ) (w1 : List ℕ) where
-  pub before-named : (p : Source) → c < 37 → PlacedText s w m (word_at wd (texts s w m) w (at + 9)) p → Puts w lim to (leaf_text c (source_text s w p)) r w1 → Puts w lim to (before_by wd (texts s w m) w at c) r w1
+  pub before-named : (p : Source) → c < 37 → PlacedText s w m (word_at wd (texts s w m) w (at + 9)) p → Puts w lim to (leaf_text c (source_text w p)) r w1 → Puts w lim to (before_by wd (texts s w m) w at c) r w1
   unfolding before_by pick
   before-named p h d a = let z = d.text in rw (lt-ltb c 37 h) (puts_as (ap (leaf_text c) z) a)
 
-  pub before-macro : (p : Source) → c ≡ 37 → PlacedText s w m (word_at wd (texts s w m) w (at + 9)) p → Puts w lim to (source_text s w p ++ (60 ∷ [])) r w1 → Puts w lim to (before_by wd (texts s w m) w at c) r w1
+  pub before-macro : (p : Source) → c ≡ 37 → PlacedText s w m (word_at wd (texts s w m) w (at + 9)) p → Puts w lim to (source_text w p ++ (60 ∷ [])) r w1 → Puts w lim to (before_by wd (texts s w m) w at c) r w1
   unfolding before_by pick
   before-macro p e d a = rw e (puts_as (ap (λ (t : Text). t ++ (60 ∷ [])) d.text) a)
 

@@ -88,11 +88,10 @@ module _ (s w : List ℕ) (g : Ground) (n : ℕ) (h : SomePushed s w g n) where
       key_inside = h.names.inside at_j (h.names.pushed j l)
 
       slot_inside : slot_place g at_j + 8 ≤ top_of g
-      unfolding slot_place top_of
+      unfolding top_of
       slot_inside = omega (arith, key_inside)
 
       slot_same : slot_at w1 g (key_at w1 g j) ≡ slot_at w g at_j
-      unfolding slot_at slot_place
       slot_same =
           ap (slot_at w1 g) key_same
           ∙ le_at-agree 8 w w1 (slot_place g at_j) (λ i a b. x.marked.others i (inr (omega (arith, h.ground.records, keys_slots s w g h.ground))))

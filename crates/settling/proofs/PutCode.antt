@@ -27,11 +27,9 @@ pasted w a e to h k l =
     ap (λ (x : ℕ). take to w ++ part a e w ++ drop (to + x) w) (sym n) ∙ sym (store_is w to (part a e w) (omega (arith, n)))
 
 -- ---- put_slice
-pub slice_put : (w w1 t : List ℕ) (lim to r : ℕ) → Puts w lim to (part 0 (length t) t) r w1 → Puts w lim to t r w1
+pub part_all : (t : List ℕ) → part 0 (length t) t ≡ t
 unfolding part
-slice_put w w1 t lim to r p = puts_as (take_all (length t - 0) t (omega arith)) p
-
-pub ruleset slicing = (rules, slice_put)
+part_all t = take_all (length t - 0) t (omega arith)
 
 -- ---- put_inside
 module _ (w : List ℕ) (b lim to r : ℕ) (w2 : List ℕ) where

@@ -17,7 +17,7 @@ use Rattle.texts.proofs.TableStays.{le_at-agree}
 use Rattle.texts.proofs.TextCode.{texts-at}
 use Rattle.replacing.specs.Slots.{among}
 use Rattle.expander.specs.declared.Ground.{Ground}
-use Rattle.expander.specs.Ground.{size_in, top_of, slot_place, slot_at, key_at, list_place, list_at, symbol_in, printed_at, Grounded}
+use Rattle.expander.specs.Ground.{size_in, top_of, slot_place, slot_at, key_at, list_at, symbol_in, printed_at, Grounded}
 use Rattle.expander.specs.Held.{followed}
 use Rattle.expander.specs.Names.{described_by, named_in}
 use Rattle.expander.specs.Replace.{keys_of}
@@ -46,11 +46,9 @@ module _ (s w : List ℕ) (g : Ground) (n c end : ℕ) (h : Settling s w g n c e
   G1 = going_ground s w g n c end h i q w1 r
 
   slot_from : (p : ℕ) → g.slots ≤ slot_place g p
-  unfolding slot_place
   slot_from p = omega arith
 
   slot_old : (p : ℕ) → p + 9 ≤ size_in g → slot_at w1 g p ≡ slot_at w g p
-  unfolding slot_at
   slot_old p l =
       le_at-agree 8 w w1 (slot_place g p) (λ d a b. r.placed.others d (inr (inl (omega (arith, slot_from p, keys_slots s w g h.ground), omega (arith, slot_top g p l, top)))))
 
@@ -169,7 +167,6 @@ module _ (s w : List ℕ) (g : Ground) (n c end : ℕ) (h : Settling s w g n c e
 
   -- theorem: it can be written
   pub going_ready : TextReady s w1 g j q
-  unfolding list_place
   going_ready =
       let t = ap length (text_old s w g n c end h i q w1 r j e) in
       let z = going_size s w g n c end h i q w1 r j e in

@@ -60,7 +60,6 @@ module _ (s w w' : List ℕ) (g : Ground) (k q e : ℕ) (G : Grounded s w g) (be
 
   -- theorem: the entries before them
   pub placed_list : (i : ℕ) → g.m.count + i < k → list_at w' g i ≡ list_at w g i
-  unfolding list_at list_place
   placed_list i h = le_at-agree 8 w w' (list_place g i) (λ j a b. p.others j (inl (omega arith)))
 
   -- ---- pushed symbols

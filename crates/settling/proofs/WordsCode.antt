@@ -10,10 +10,10 @@ use borrow.Author.Tests.{ne_eqb}
 use mir.Val.{Fits}
 use mir.Syntax.{w64}
 use lib.ListN.{length, get_or, get_or-eq_default}
+use Rattle.std.specs.Borrow.{Bor}
 use Rattle.octets.specs.Working.Choice.{pick}
 use Rattle.octets.specs.Plain.Numbers.{le_at}
 use Rattle.octets.specs.Plain.Runs.{part}
-use Rattle.octets.proofs.PartLaws.{part_none}
 use Rattle.parse_tree.specs.Plain.Tree.{Text}
 use Rattle.parse_tree.specs.Plain.Display.{escaped}
 use Rattle.texts.specs.declared.Map.{Map}
@@ -32,7 +32,8 @@ use Rattle.precedence.proofs.WriteLaws.{puts_none}
 use Rattle.settling.specs.declared.Source.{Source}
 use Rattle.settling.specs.Put.{source_text, in_work, Fixed, Marked, PlacedText}
 use Rattle.settling.proofs.PutLaws.{puts_stop, then, puts_as}
-use Rattle.settling.proofs.WordsLaws.{fixed_same, source_next}
+use Rattle.settling.proofs.PutCode.{part_all}
+use Rattle.settling.proofs.WordsLaws.{fixed_same, source_next, fixed_below}
 
 not_here : false ≡ true → ⊥
 not_here q = let n : ◌≡◌ {A = ℕ} 1 0 = ap (λ (b : Bool). cond b 0 1) q in absurd (omega arith)
@@ -44,30 +45,12 @@ module _ (s w : List ℕ) (x : ℕ) (g : Whole s w x) where
 
   module _ (r : Stand) (a : ℕ) (p : r ≡ stand_of (length s) x) where
     module _ (e : r ≡ Stand.Tape a) where
-      pub tape_two : a + 1 + 2 ≤ length s
-      unfolding atom_end
-      tape_two = omega (arith, tape_whole s w x r a p e g)
+      pub tape_end : atom_end s a ≤ length s
+      tape_end = tape_whole s w x r a p e g
 
-      pub tape_near : (k : ℕ) → k ≤ 3 → length s < 2 ^ 64 → Fits w64 (a + k)
-      tape_near k l f = record { fits = omega (arith, tape_two) }
-
-      module _ (m n : ℕ) (f : m ≡ le_at 2 s (a + 1)) (d : n ≡ m) where
-        pub tape_end : length s < 2 ^ 64 → Fits w64 (a + 3 + n)
-        unfolding atom_end
-        tape_end l = record { fits = omega (arith, tape_whole s w x r a p e g, d, f) }
-
-        pub tape_marked : Marked s w x (Source.Tape (a + 3) (a + 3 + n))
-        unfolding source_text pick atom_end atom_text
-        tape_marked =
-            let z : n ≡ le_at 2 s (a + 1) = d ∙ f in
-            record {
-              text = ap (λ (k : ℕ). part (a + 3) (a + 3 + k) s) z ∙ tape_text s w x r a p (atom_text s a) e refl;
-              ordered = omega arith;
-              tape = λ q. omega (arith, tape_whole s w x r a p e g, z);
-              work = λ q. absurd (not_here q);
-              far = λ q. absurd (not_here q);
-              behind = λ q. absurd (not_here q);
-            }
+      pub tape_marked : (b : Bor (List ℕ)) → b.now ≡ atom_text s a → Marked s w x (Source.Tape b)
+      unfolding source_text Fixed
+      tape_marked b q = record { text = tape_text s w x r a p b.now e q; fixed = tt; far = λ h. absurd (not_here h) }
 
     module _ (e : r ≡ Stand.Work a) where
       pub work_two : a + 1 + 2 ≤ length w
@@ -83,7 +66,7 @@ module _ (s w : List ℕ) (x : ℕ) (g : Whole s w x) where
         work_end l = record { fits = omega (arith, work_whole s w x r a p e g, d, f) }
 
         pub work_marked : Marked s w x (Source.Work (a + 3) (a + 3 + n))
-        unfolding source_text pick atom_end atom_text
+        unfolding source_text Fixed pick atom_end atom_text
         work_marked =
             let z : n ≡ le_at 2 w (a + 1) = d ∙ f in
             let y = is_work (length s) x r a p e in
@@ -91,14 +74,11 @@ module _ (s w : List ℕ) (x : ℕ) (g : Whole s w x) where
             let y1 = y.1 in
             record {
               text = ap (λ (k : ℕ). part (a + 3) (a + 3 + k) w) z ∙ work_text s w x r a p (atom_text w a) e refl;
-              ordered = omega arith;
-              tape = λ q. absurd (not_here (sym q));
-              work = λ q. omega (arith, work_whole s w x r a p e g, z);
+              fixed = (omega arith, omega arith, omega (arith, work_whole s w x r a p e g, z));
               far = λ q. omega arith;
-              behind = λ q. omega arith;
             }
 
-pub ruleset marking = (rules, mark_fits, tape_two, tape_near, tape_end, tape_marked, work_two, work_near, work_end, work_marked)
+pub ruleset marking = (rules, mark_fits, tape_end, tape_marked, work_two, work_near, work_end, work_marked)
 
 -- ---- word_source
 module _ (wd : ℕ) (s w : List ℕ) (m : Map) (at x k : ℕ) (j : x ≡ le_at wd w at) (q : k ≡ x) where
@@ -110,18 +90,18 @@ module _ (wd : ℕ) (s w : List ℕ) (m : Map) (at x k : ℕ) (j : x ≡ le_at w
   unfolding texts
   many = length_texts s w m.base m.count
 
-  pub word_beyond : m.count ≤ k → PlacedText s w m (word_at wd (texts s w m) w at) (Source.Tape 0 0)
-  unfolding source_text
-  word_beyond l = record {
-    text = part_none 0 0 s (omega arith) ∙ sym (some ∙ get_or-eq_default (texts s w m) [] {n = k} (omega (arith, many)));
-    fixed = λ z a. record { ordered = omega arith; tape = λ p. omega arith; work = λ p. absurd (not_here p); behind = λ p. absurd (not_here p) };
+  pub word_beyond : (b : Bor (List ℕ)) → b.now ≡ [] → m.count ≤ k → PlacedText s w m (word_at wd (texts s w m) w at) (Source.Tape b)
+  unfolding source_text Fixed
+  word_beyond b e l = record {
+    text = e ∙ sym (some ∙ get_or-eq_default (texts s w m) [] {n = k} (omega (arith, many)));
+    fixed = λ z a. tt;
   }
 
   pub word_placed : (y : ℕ) (p : Source) → k < m.count → y ≡ mark_at w m.base k → Marked s w y p → PlacedText s w m (word_at wd (texts s w m) w at) p
   unfolding texts
   word_placed y p l e d = record {
     text = d.text ∙ ap (marked_text s w) e ∙ sym (texts-at s w m.base m.count k l) ∙ sym some;
-    fixed = λ z a. record { ordered = d.ordered; tape = d.tape; work = d.work; behind = λ h. omega (arith, low z a h, d.behind h) };
+    fixed = λ z a. fixed_below (length w) (y + 4 * length s) z p d.fixed (low z a);
   }
     where
       low : (z : ℕ) → Above s w m z → in_work p ≡ true → z ≤ y + 4 * length s
@@ -137,67 +117,67 @@ word_whole s w m k y g h e = rw e (g.whole k h)
 pub ruleset wording = (rules, word_beyond, word_placed, word_whole)
 
 -- ---- put_text, put_escaped
-module _ (s w : List ℕ) (lim : ℕ) (p : Source) (f : Fixed (length s) (length w) lim p) (a e : ℕ) where
-  module _ (h : p ≡ Source.Work a e) where
-    here : Fixed (length s) (length w) lim (Source.Work a e)
+module _ (w : List ℕ) (lim : ℕ) (p : Source) where
+  module _ (a e : ℕ) (h : p ≡ Source.Work a e) (f : Fixed (length w) lim p) where
+    here : (lim ≤ a) × (a ≤ e) × (e ≤ length w)
+    unfolding Fixed
     here = rw h at f
 
     pub here_behind : lim ≤ a
-    here_behind = here.behind refl
+    here_behind = here.0
+
+    pub here_ordered : a ≤ e
+    here_ordered = here.1
 
     pub here_inside : e ≤ length w
-    here_inside = here.work refl
+    here_inside = here.2
 
-    pub here_text : (to r : ℕ) (w1 : List ℕ) → Puts w lim to (part a e w) r w1 → Puts w lim to (source_text s w p) r w1
+    pub here_text : (to r : ℕ) (w1 : List ℕ) → Puts w lim to (part a e w) r w1 → Puts w lim to (source_text w p) r w1
     unfolding source_text
-    here_text to r w1 g = puts_as (sym (ap (source_text s w) h)) g
+    here_text to r w1 g = puts_as (sym (ap (source_text w) h)) g
 
-    pub here_escaped : (to r : ℕ) (w1 : List ℕ) → Puts w lim to (escaped (part a e w) []) r w1 → Puts w lim to (escaped (source_text s w p) []) r w1
+    pub here_escaped : (to r : ℕ) (w1 : List ℕ) → Puts w lim to (escaped (part a e w) []) r w1 → Puts w lim to (escaped (source_text w p) []) r w1
     unfolding source_text
-    here_escaped to r w1 g = puts_as (sym (ap (λ (q : Source). escaped (source_text s w q) []) h)) g
+    here_escaped to r w1 g = puts_as (sym (ap (λ (q : Source). escaped (source_text w q) []) h)) g
 
-  module _ (h : p ≡ Source.Tape a e) where
-    there : Fixed (length s) (length w) lim (Source.Tape a e)
-    there = rw h at f
-
-    pub tape_inside : e ≤ length s
-    tape_inside = there.tape refl
-
-    pub tape_put : (to r : ℕ) (w1 : List ℕ) → Puts w lim to (part a e s) r w1 → Puts w lim to (source_text s w p) r w1
+  module _ (t : Bor (List ℕ)) (h : p ≡ Source.Tape t) where
+    pub tape_put : (to r : ℕ) (w1 : List ℕ) → Puts w lim to t.now r w1 → Puts w lim to (source_text w p) r w1
     unfolding source_text
-    tape_put to r w1 g = puts_as (sym (ap (source_text s w) h)) g
+    tape_put to r w1 g = puts_as (sym (ap (source_text w) h)) g
 
-    pub tape_escaped : (to r : ℕ) (w1 : List ℕ) → Puts w lim to (escaped (part a e s) []) r w1 → Puts w lim to (escaped (source_text s w p) []) r w1
+    pub tape_escaped : (to r : ℕ) (w1 : List ℕ) → Puts w lim to (escaped (part 0 (length t.now) t.now) []) r w1 → Puts w lim to (escaped (source_text w p) []) r w1
     unfolding source_text
-    tape_escaped to r w1 g = puts_as (sym (ap (λ (q : Source). escaped (source_text s w q) []) h)) g
+    tape_escaped to r w1 g = puts_as (ap (λ (x : Text). escaped x []) (part_all t.now) ∙ sym (ap (λ (q : Source). escaped (source_text w q) []) h)) g
+
+pub ruleset standing = (rules, here_behind, here_ordered, here_inside)
 
 -- ---- put_quoted
-pub quoted_put : (s w w1 w2 w3 : List ℕ) (lim to q z r : ℕ) (p : Source) → Fixed (length s) (length w) lim p → Puts w lim to (34 ∷ []) q w1 → Puts w1 lim q (escaped (source_text s w1 p) []) z w2 → Puts w2 lim z (34 ∷ []) r w3
-    → Puts w lim to (quoted_text (source_text s w p)) r w3
+pub quoted_put : (w w1 w2 w3 : List ℕ) (lim to q z r : ℕ) (p : Source) → Fixed (length w) lim p → Puts w lim to (34 ∷ []) q w1 → Puts w1 lim q (escaped (source_text w1 p) []) z w2 → Puts w2 lim z (34 ∷ []) r w3
+    → Puts w lim to (quoted_text (source_text w p)) r w3
 unfolding quoted_text
-quoted_put s w w1 w2 w3 lim to q z r p f a b c = then a (then (puts_as (ap (λ (t : Text). escaped t []) (source_next s w lim p f to (34 ∷ []) q w1 a)) b) c)
+quoted_put w w1 w2 w3 lim to q z r p f a b c = then a (then (puts_as (ap (λ (t : Text). escaped t []) (source_next w lim p f to (34 ∷ []) q w1 a)) b) c)
 
 -- ---- put_open
-pub open_put : (s w w1 w2 : List ℕ) (lim to q r : ℕ) (p : Source) → Puts w lim to (source_text s w p) q w1 → Puts w1 lim q (60 ∷ []) r w2 → Puts w lim to (source_text s w p ++ (60 ∷ [])) r w2
-open_put s w w1 w2 lim to q r p a b = then a b
+pub open_put : (w w1 w2 : List ℕ) (lim to q r : ℕ) (p : Source) → Puts w lim to (source_text w p) q w1 → Puts w1 lim q (60 ∷ []) r w2 → Puts w lim to (source_text w p ++ (60 ∷ [])) r w2
+open_put w w1 w2 lim to q r p a b = then a b
 
 pub ruleset enclosing = (rules, puts_stop, fixed_same, quoted_put, open_put)
 
 -- ---- put_regex, put_leaf
-pub regex_put : (s w w1 w2 w3 : List ℕ) (lim to q z r : ℕ) (p : Source) → Fixed (length s) (length w) lim p → Puts w lim to (114 ∷ 35 ∷ []) q w1
-    → Puts w1 lim q (quoted_text (source_text s w1 p)) z w2 → Puts w2 lim z (35 ∷ []) r w3 → Puts w lim to (114 ∷ 35 ∷ (quoted_text (source_text s w p) ++ (35 ∷ []))) r w3
-regex_put s w w1 w2 w3 lim to q z r p f a b c = then a (then (puts_as (ap quoted_text (source_next s w lim p f to (114 ∷ 35 ∷ []) q w1 a)) b) c)
+pub regex_put : (w w1 w2 w3 : List ℕ) (lim to q z r : ℕ) (p : Source) → Fixed (length w) lim p → Puts w lim to (114 ∷ 35 ∷ []) q w1
+    → Puts w1 lim q (quoted_text (source_text w1 p)) z w2 → Puts w2 lim z (35 ∷ []) r w3 → Puts w lim to (114 ∷ 35 ∷ (quoted_text (source_text w p) ++ (35 ∷ []))) r w3
+regex_put w w1 w2 w3 lim to q z r p f a b c = then a (then (puts_as (ap quoted_text (source_next w lim p f to (114 ∷ 35 ∷ []) q w1 a)) b) c)
 
-module _ (s w : List ℕ) (lim to r : ℕ) (p : Source) (c : ℕ) (w4 : List ℕ) where
-  pub leaf_quoted : c ≡ 34 → Puts w lim to (quoted_text (source_text s w p)) r w4 → Puts w lim to (leaf_text c (source_text s w p)) r w4
+module _ (w : List ℕ) (lim to r : ℕ) (p : Source) (c : ℕ) (w4 : List ℕ) where
+  pub leaf_quoted : c ≡ 34 → Puts w lim to (quoted_text (source_text w p)) r w4 → Puts w lim to (leaf_text c (source_text w p)) r w4
   unfolding leaf_text pick
   leaf_quoted e a = rw e a
 
-  pub leaf_regex : c ≡ 35 → Puts w lim to (114 ∷ 35 ∷ (quoted_text (source_text s w p) ++ (35 ∷ []))) r w4 → Puts w lim to (leaf_text c (source_text s w p)) r w4
+  pub leaf_regex : c ≡ 35 → Puts w lim to (114 ∷ 35 ∷ (quoted_text (source_text w p) ++ (35 ∷ []))) r w4 → Puts w lim to (leaf_text c (source_text w p)) r w4
   unfolding leaf_text pick
   leaf_regex e a = rw e a
 
-  pub leaf_plain : (c ≡ 34 → ⊥) → (c ≡ 35 → ⊥) → Puts w lim to (source_text s w p) r w4 → Puts w lim to (leaf_text c (source_text s w p)) r w4
+  pub leaf_plain : (c ≡ 34 → ⊥) → (c ≡ 35 → ⊥) → Puts w lim to (source_text w p) r w4 → Puts w lim to (leaf_text c (source_text w p)) r w4
   unfolding leaf_text pick
   leaf_plain n m a = rw (ne_eqb c 34 n, ne_eqb c 35 m) a
 
@@ -229,9 +209,9 @@ module _ (w : List ℕ) (b lim to : ℕ) where
   unfolding label_text pick
   label_none n g = rw (ne_eqb b 1 n) (puts_none w lim to g)
 
-  pub name_put : (s : List ℕ) (p : Source) (y q r : ℕ) (w1 w2 w3 : List ℕ) → Fixed (length s) (length w) lim p → Puts w lim to (label_text b) y w1 → Puts w1 lim y (source_text s w1 p) q w2 → Puts w2 lim q (58 ∷ []) r w3
-      → Puts w lim to (name_text b (source_text s w p)) r w3
+  pub name_put : (p : Source) (y q r : ℕ) (w1 w2 w3 : List ℕ) → Fixed (length w) lim p → Puts w lim to (label_text b) y w1 → Puts w1 lim y (source_text w1 p) q w2 → Puts w2 lim q (58 ∷ []) r w3
+      → Puts w lim to (name_text b (source_text w p)) r w3
   unfolding name_text
-  name_put s p y q r w1 w2 w3 f a c d = then a (then (puts_as (source_next s w lim p f to (label_text b) y w1 a) c) d)
+  name_put p y q r w1 w2 w3 f a c d = then a (then (puts_as (source_next w lim p f to (label_text b) y w1 a) c) d)
 
 pub ruleset labelling = (rules, puts_stop, fixed_same, label_some, label_none, name_put)

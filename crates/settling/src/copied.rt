@@ -14,7 +14,7 @@ use expander::Ground;
 use expander::meet::symbol_end;
 use expander::replace::is_expanded;
 use expander::slots::{Noted, reference};
-use resolve::commands::long;
+use parse_tree::size::long;
 use texts::fields::text_mark;
 
 // What stays while a text is printed: the ground, the number from which on new texts are written, and the place before which to write.
@@ -25,7 +25,7 @@ pub struct Print {
     pub lim: usize,
 }
 
-// The number of the text of the symbol at p, which is expanded, if that stands already.
+// The number of the text of the symbol at p, which is expanded, if that stands already. `tape` for the clauses alone.
 fn numbered(tape: &[u8], work: &[u8], x: Print, p: usize) -> Option<usize>
     requires { Grounded tape.now work.now x.g × Said tape.now work.now x p }
     ensures { KnownText tape.now work.now x p result }
@@ -36,7 +36,7 @@ fn numbered(tape: &[u8], work: &[u8], x: Print, p: usize) -> Option<usize>
     }
 }
 
-// The same of any symbol.
+// The same of any symbol. `left` for the clauses alone.
 fn known(tape: &[u8], work: &[u8], x: Print, left: usize, p: usize) -> Option<usize>
     requires { Grounded tape.now work.now x.g × SaidSymbol tape.now work.now x left p }
     ensures { KnownText tape.now work.now x p result }
@@ -54,7 +54,7 @@ fn put_known(tape: &[u8], work: &mut [u8], x: Print, k: usize, to: usize) -> usi
     ensures { Puts work.old x.lim to (marked_text tape.now work.old (mark_at work.old x.g.m.base k)) result work.new }
 {
     let p = mark_source(tape, work, text_mark(work, x.g.m.base, k));
-    put_text(tape, work, p, x.lim, to)
+    put_text(work, p, x.lim, to)
 }
 
 // The printed form of the symbol at p, walked through; if nothing stands inside, without a call for that.
@@ -129,7 +129,7 @@ fn put_part(tape: &[u8], work: &mut [u8], x: Print, left: usize, p: usize, to: u
     }
 }
 
-// The place behind the symbol at p, if more than one is to come.
+// The place behind the symbol at p, if more than one is to come. `tape` and `left` for the clauses alone.
 fn behind(tape: &[u8], work: &[u8], x: Print, left: usize, p: usize, k: usize) -> usize
     requires { SaidSymbol tape.now work.now x left p }
     ensures { Behinds tape.now work.now x left p k result }

@@ -24,10 +24,10 @@ pub struct Page<'a> {
     pub lim: usize,
 }
 
-// Where a text stands: on the tape or in work, from its first byte up to its end.
+// A text on the tape, or where one stands in work, from its first byte up to its end: no slice of work is held while work is written.
 #[derive(Clone, Copy)]
-pub enum Source {
-    Tape(usize, usize),
+pub enum Source<'a> {
+    Tape(&'a [u8]),
     Work(usize, usize),
 }
 

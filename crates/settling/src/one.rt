@@ -16,7 +16,7 @@ use expander::entries::{NewText, entry};
 use texts::fields::{cell, hash, mark, write};
 use texts::mark::TextMark;
 
-// The length of a new text, stopped at 65,536.
+// The length of a new text, stopped at 65,536. `tape` for the clauses alone.
 pub fn text_length(tape: &[u8], work: &[u8], g: Ground, x: NewText) -> usize
     requires { Grounded tape.now work.now g × Entry tape.now work.now g (entry_code x) }
     ensures { result ≡ stop (length (described_by tape.now work.now g (entry_code x))) }
@@ -65,7 +65,7 @@ pub fn write_text(tape: &[u8], work: &mut [u8], g: Ground, i: usize, end: usize)
     requires { TextReady tape.now work.old g i end }
     ensures { Written tape.now work.old g i (described_by tape.now work.old g (list_at work.old g i)) end result work.new }
 {
-    let y = entry(work, g, i);
+    let y = entry(work, g.m, i);
     let len = text_length(tape, work, g, y);
     let x = Print {
         g,

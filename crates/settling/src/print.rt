@@ -11,7 +11,7 @@ use crate::words::{put_leaf, put_mark, put_name, put_open, word_source};
 use crate::{Page, Printed};
 use display::follow::{inside, op_byte};
 use octets::numbers::Width;
-use resolve::commands::long;
+use parse_tree::size::long;
 
 // What is read of a symbol's command: its code, where the symbols straight inside stand, and how many; and where to write on.
 #[derive(Clone, Copy)]
@@ -44,7 +44,7 @@ fn put_named(page: Page, work: &mut [u8], at: usize, to: usize) -> usize
 {
     let p = word_source(page, work, at + 10);
     let b = work[at + 9];
-    put_name(page.tape, work, p, b, page.lim, to)
+    put_name(work, p, b, page.lim, to)
 }
 
 // What stands before all of them, the symbol being of the code c at a place.
@@ -57,11 +57,11 @@ pub fn put_before(page: Page, work: &mut [u8], at: usize, c: u8, to: usize) -> u
     match c {
         0..=36 => {
             let p = word_source(page, work, at + 9);
-            put_leaf(page.tape, work, p, c, page.lim, to)
+            put_leaf(work, p, c, page.lim, to)
         }
         37 => {
             let p = word_source(page, work, at + 9);
-            put_open(page.tape, work, p, page.lim, to)
+            put_open(work, p, page.lim, to)
         }
         38 => to,
         39 => put_byte(work, b'<', page.lim, to),

@@ -7,25 +7,25 @@ ghost use Rattle.settling.specs.Pushed.{Markable, MarksOne};
 ghost use Rattle.settling.specs.Settle.{SomePushed, MarkedPushed};
 
 use expander::Ground;
-use expander::cells::TextCell;
+use expander::cells::text_cell;
 use expander::slots::{Noted, tells};
-use texts::fields::{cell, mark, put_cell};
+use texts::fields::{mark, put_cell};
 
 // Text k of the records from base on.
 fn mark_text(work: &mut [u8], base: usize, k: usize)
     requires { base + 24 * k + 24 ≤ length work.old }
     ensures { work.new ≡ store work.old (base + 24 * k + 20) (le 4 (cell_at work.old base k % 2147483648 + 2147483648)) }
 {
-    let c = TextCell(cell(work, base, k));
+    let c = text_cell(work, base, k);
     put_cell(work, base, k, c.pushed().0);
 }
 
-// The text of the j-th pushed symbol, if the table has it.
+// The text of the j-th pushed symbol, if the table has it. `tape` for the clauses alone.
 fn mark_one(tape: &[u8], work: &mut [u8], g: Ground, j: usize)
     requires { Markable tape.now work.old g j }
     ensures { MarksOne tape.now work.old g j work.new }
 {
-    match tells(work, g, mark(work, g.keys, j)) {
+    match tells(work, g.slots, mark(work, g.keys, j)) {
         Noted::Text(k) if k < g.m.count => mark_text(work, g.m.base, k),
         _ => {}
     }

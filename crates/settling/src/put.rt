@@ -18,22 +18,14 @@ pub fn copy_down(work: &mut [u8], a: usize, e: usize, to: usize)
     work.copy_within(a..e, to);
 }
 
-// The bytes from a up to e of another slice.
-pub fn put_from(src: &[u8], a: usize, e: usize, work: &mut [u8], lim: usize, to: usize) -> usize
-    requires { (lim ≤ length work.old) × (a ≤ e) × (e ≤ length src.now) }
-    ensures { Puts work.old lim to (part a e src.now) result work.new }
-{
-    put(work, e - a, lim, to, move |w| {
-        copy(src, a, e, w, to);
-    })
-}
-
 // All of another slice, such as a text of the code's own.
 pub fn put_slice(work: &mut [u8], t: &[u8], lim: usize, to: usize) -> usize
     requires { lim ≤ length work.old }
     ensures { Puts work.old lim to t.now result work.new }
 {
-    put_from(t, 0, t.len(), work, lim, to)
+    put(work, t.len(), lim, to, move |w| {
+        copy(t, 0, t.len(), w, to);
+    })
 }
 
 // A byte as it stands between quotes.

@@ -14,14 +14,14 @@ pub struct Settled {
     pub at: usize,
 }
 
-// How many bytes c new texts have with their commands, if none is too long for a text; n symbols were pushed.
+// How many bytes c new texts have with their commands, if none is too long for a text; n symbols were pushed. `n` for the clauses alone.
 pub fn count_texts(tape: &[u8], work: &[u8], g: Ground, n: usize, c: usize) -> Option<usize>
     requires { SomeNew tape.now work.now g n c }
     ensures { Counts tape.now work.now g n c result }
 {
     let mut bytes = 0;
     for i in 0..c {
-        let x = entry(work, g, i);
+        let x = entry(work, g.m, i);
         let l = text_length(tape, work, g, x);
         if 65535 < l {
             return None;
@@ -31,7 +31,7 @@ pub fn count_texts(tape: &[u8], work: &[u8], g: Ground, n: usize, c: usize) -> O
     Some(bytes)
 }
 
-// The c new texts as atoms that end at `end`, by number, and their records; says the table with them.
+// The c new texts as atoms that end at `end`, by number, and their records; says the table with them. `n` for the clauses alone.
 pub fn settle(tape: &[u8], work: &mut [u8], g: Ground, n: usize, c: usize, end: usize) -> Settled
     requires { Settling tape.now work.old g n c end }
     ensures { Settles tape.now work.old g c end result work.new }

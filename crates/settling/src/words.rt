@@ -8,23 +8,21 @@ ghost use Rattle.display.specs.Follow.{quoted_text, word_at, leaf_text, mark_tex
 ghost use Rattle.precedence.specs.Write.{Puts};
 ghost use Rattle.settling.specs.Put.{source_text, Fixed, Marked, PlacedText};
 
-use crate::put::{copy_down, escape, put_byte, put_from, put_slice};
+use crate::put::{copy_down, escape, put_byte, put_slice};
 use crate::{Page, Source};
 use octets::numbers::{atom_at, u16_at};
 use precedence::write::put;
 use texts::fields::text_mark;
 use texts::mark::{Stand, TextMark};
+use texts::text::atom;
 
 // Where the text of a mark stands.
-pub fn mark_source(tape: &[u8], work: &[u8], x: TextMark) -> Source
+pub fn mark_source<'a>(tape: &'a [u8], work: &[u8], x: TextMark) -> Source<'a>
     requires { Whole tape.now work.now x.number }
     ensures { Marked tape.now work.now x.number result }
 {
     match x.stand(tape) {
-        Stand::Tape(at) => {
-            let n = usize::from(u16_at(tape, at + 1));
-            Source::Tape(at + 3, at + 3 + n)
-        }
+        Stand::Tape(at) => Source::Tape(atom(tape, at)),
         Stand::Work(at) => {
             let n = usize::from(u16_at(work, at + 1));
             Source::Work(at + 3, at + 3 + n)
@@ -33,7 +31,7 @@ pub fn mark_source(tape: &[u8], work: &[u8], x: TextMark) -> Source
 }
 
 // Where the text stands whose number stands at a place.
-pub fn word_source(page: Page, work: &[u8], at: usize) -> Source
+pub fn word_source<'a>(page: Page<'a>, work: &[u8], at: usize) -> Source<'a>
     requires { Worded page.tape.now work.now page.m × (at + page.width.bytes ≤ length work.now) }
     ensures { PlacedText page.entry.tape.now work.now page.entry.m (word_at page.entry.width.bytes (texts page.entry.tape.now work.now page.entry.m) work.now at) result }
 {
@@ -41,70 +39,70 @@ pub fn word_source(page: Page, work: &[u8], at: usize) -> Source
     if k < page.m.count {
         mark_source(page.tape, work, text_mark(work, page.m.base, k))
     } else {
-        Source::Tape(0, 0)
+        Source::Tape(&[])
     }
 }
 
 // A text.
-pub fn put_text(tape: &[u8], work: &mut [u8], p: Source, lim: usize, to: usize) -> usize
-    requires { (lim ≤ length work.old) × Fixed (length tape.now) (length work.old) lim p }
-    ensures { Puts work.old lim to (source_text tape.now work.old p) result work.new }
+pub fn put_text(work: &mut [u8], p: Source, lim: usize, to: usize) -> usize
+    requires { (lim ≤ length work.old) × Fixed (length work.old) lim p }
+    ensures { Puts work.old lim to (source_text work.old p.entry) result work.new }
 {
     match p {
-        Source::Tape(a, e) => put_from(tape, a, e, work, lim, to),
+        Source::Tape(t) => put_slice(work, t, lim, to),
         Source::Work(a, e) => put(work, e - a, lim, to, move |w| copy_down(w, a, e, to)),
     }
 }
 
 // As it stands between quotes.
-fn put_escaped(tape: &[u8], work: &mut [u8], p: Source, lim: usize, to: usize) -> usize
-    requires { (lim ≤ length work.old) × (to ≤ lim + 1) × Fixed (length tape.now) (length work.old) lim p }
-    ensures { Puts work.old lim to (escaped (source_text tape.now work.old p) []) result work.new }
+fn put_escaped(work: &mut [u8], p: Source, lim: usize, to: usize) -> usize
+    requires { (lim ≤ length work.old) × (to ≤ lim + 1) × Fixed (length work.old) lim p }
+    ensures { Puts work.old lim to (escaped (source_text work.old p.entry) []) result work.new }
 {
     match p {
-        Source::Tape(a, e) => escape(work, a, e, lim, to, |_, i| tape[i]),
+        Source::Tape(t) => escape(work, 0, t.len(), lim, to, |_, i| t[i]),
         Source::Work(a, e) => escape(work, a, e, lim, to, |w, i| w[i]),
     }
 }
 
 // With the quotes.
-fn put_quoted(tape: &[u8], work: &mut [u8], p: Source, lim: usize, to: usize) -> usize
-    requires { (lim ≤ length work.old) × Fixed (length tape.now) (length work.old) lim p }
-    ensures { Puts work.old lim to (quoted_text (source_text tape.now work.old p)) result work.new }
+fn put_quoted(work: &mut [u8], p: Source, lim: usize, to: usize) -> usize
+    requires { (lim ≤ length work.old) × Fixed (length work.old) lim p }
+    ensures { Puts work.old lim to (quoted_text (source_text work.old p.entry)) result work.new }
 {
     let q = put_byte(work, b'"', lim, to);
-    let z = put_escaped(tape, work, p, lim, q);
+    let z = put_escaped(work, p, lim, q);
     put_byte(work, b'"', lim, z)
 }
 
 // As a regular expression.
-fn put_regex(tape: &[u8], work: &mut [u8], p: Source, lim: usize, to: usize) -> usize
-    requires { (lim ≤ length work.old) × Fixed (length tape.now) (length work.old) lim p }
-    ensures { Puts work.old lim to (114 ∷ 35 ∷ (quoted_text (source_text tape.now work.old p) ++ (35 ∷ []))) result work.new }
+fn put_regex(work: &mut [u8], p: Source, lim: usize, to: usize) -> usize
+    requires { (lim ≤ length work.old) × Fixed (length work.old) lim p }
+    ensures { Puts work.old lim to (114 ∷ 35 ∷ (quoted_text (source_text work.old p.entry) ++ (35 ∷ []))) result work.new }
 {
     let q = put_slice(work, b"r#", lim, to);
-    let z = put_quoted(tape, work, p, lim, q);
+    let z = put_quoted(work, p, lim, q);
     put_byte(work, b'#', lim, z)
 }
 
 // A leaf of the code c.
-pub fn put_leaf(tape: &[u8], work: &mut [u8], p: Source, c: u8, lim: usize, to: usize) -> usize
-    requires { (lim ≤ length work.old) × Fixed (length tape.now) (length work.old) lim p }
-    ensures { Puts work.old lim to (leaf_text c (source_text tape.now work.old p)) result work.new }
+pub fn put_leaf(work: &mut [u8], p: Source, c: u8, lim: usize, to: usize) -> usize
+    requires { (lim ≤ length work.old) × Fixed (length work.old) lim p }
+    ensures { Puts work.old lim to (leaf_text c (source_text work.old p.entry)) result work.new }
 {
     match c {
-        34 => put_quoted(tape, work, p, lim, to),
-        35 => put_regex(tape, work, p, lim, to),
-        _ => put_text(tape, work, p, lim, to),
+        34 => put_quoted(work, p, lim, to),
+        35 => put_regex(work, p, lim, to),
+        _ => put_text(work, p, lim, to),
     }
 }
 
 // `M<`.
-pub fn put_open(tape: &[u8], work: &mut [u8], p: Source, lim: usize, to: usize) -> usize
-    requires { (lim ≤ length work.old) × Fixed (length tape.now) (length work.old) lim p }
-    ensures { Puts work.old lim to (source_text tape.now work.old p ++ (60 ∷ [])) result work.new }
+pub fn put_open(work: &mut [u8], p: Source, lim: usize, to: usize) -> usize
+    requires { (lim ≤ length work.old) × Fixed (length work.old) lim p }
+    ensures { Puts work.old lim to (source_text work.old p.entry ++ (60 ∷ [])) result work.new }
 {
-    let q = put_text(tape, work, p, lim, to);
+    let q = put_text(work, p, lim, to);
     put_byte(work, b'<', lim, q)
 }
 
@@ -133,11 +131,11 @@ fn put_label(work: &mut [u8], b: u8, lim: usize, to: usize) -> usize
 }
 
 // `x:` or `mut x:`.
-pub fn put_name(tape: &[u8], work: &mut [u8], p: Source, b: u8, lim: usize, to: usize) -> usize
-    requires { (lim ≤ length work.old) × (to ≤ lim + 1) × Fixed (length tape.now) (length work.old) lim p }
-    ensures { Puts work.old lim to (name_text b (source_text tape.now work.old p)) result work.new }
+pub fn put_name(work: &mut [u8], p: Source, b: u8, lim: usize, to: usize) -> usize
+    requires { (lim ≤ length work.old) × (to ≤ lim + 1) × Fixed (length work.old) lim p }
+    ensures { Puts work.old lim to (name_text b (source_text work.old p.entry)) result work.new }
 {
     let y = put_label(work, b, lim, to);
-    let q = put_text(tape, work, p, lim, y);
+    let q = put_text(work, p, lim, y);
     put_byte(work, b':', lim, q)
 }

@@ -10,7 +10,7 @@ use parse_tree::refusal::Refusal;
 use rounds::define::define;
 use rounds::steps::start;
 use rounds::whole::rounds;
-use rounds::{Room, State};
+use rounds::{Room, Standing, State};
 
 // Where macros stand in work, for a tape of so many bytes of which `at` are its atoms':
 // behind the tape's share of work a round's tables, its items twice, and what is written.
@@ -52,7 +52,7 @@ fn expand_rounds(
         done: room.y,
         low,
     };
-    rounds(tape, work, room, t, limit, z)
+    rounds(tape, work, Standing { room, t, z }, limit)
 }
 
 // From the first round to the output: the stage's texts are the tape's, n of them, which stand before `r.at`, and the new ones from `low` on.

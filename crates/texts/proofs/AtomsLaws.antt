@@ -13,7 +13,8 @@ use Rattle.octets.proofs.ChoiceLaws.{by_pick}
 use Rattle.parse_tree.specs.Plain.Tree.{Text}
 use Rattle.parse_tree.specs.Plain.Texts.{every, name_bytes, is_name, is_literal}
 use Rattle.texts.specs.Atoms.{atom_text, place_of, atoms_of}
-use Rattle.texts.specs.Classes.{text_class}
+use Rattle.texts.specs.Classes.{text_class, class_number}
+use Rattle.texts.specs.declared.class.TextClass.{TextClass}
 
 pub class_small : (t : Text) → text_class t < 4
 unfolding text_class
@@ -39,6 +40,6 @@ atoms_at_lem s (suc n) k h = go (ltb k n) refl (atoms_at_lem s n k)
         ap (λ (j : ℕ). get_or (atoms_of s n ++ (atom_text s (place_of s n) ∷ [])) j []) y ∙ get_or-append_seam (atoms_of s n) (atom_text s (place_of s n)) [] []
         ∙ ap (λ (j : ℕ). atom_text s (place_of s j)) (sym z)
 
-pub class_beyond : (s : List ℕ) (n k : ℕ) → n ≤ k → 2 ≡ text_class (get_or (atoms_of s n) k [])
-unfolding text_class is_name name_bytes is_literal every pick
+pub class_beyond : (s : List ℕ) (n k : ℕ) → n ≤ k → class_number TextClass.Literal ≡ text_class (get_or (atoms_of s n) k [])
+unfolding text_class class_number is_name name_bytes is_literal every pick
 class_beyond s n k h = rw (get_or-eq_default (atoms_of s n) [] {n = k} (omega (arith, length_atoms s n)))

@@ -66,9 +66,12 @@ pub buckets_same : (w w1 : List ℕ) (b n : ℕ) → ((i : ℕ) → hash_at w1 b
 unfolding bucket_at
 buckets_same w w1 b n e i = ap (λ (h : ℕ). bucket_of h n) (e i)
 
--- ---- `put_before`
+-- ---- `link`
+pub link_bucket : (h n y : ℕ) → h < 4294967296 → 0 < n → y ≡ bucket_of h n → y < n
+link_bucket h n y l m e = rw e (bucket_small h n l m)
+
 module _ (w w1 w2 : List ℕ) (b n k y v : ℕ) where
-  pub put_linked : b + 24 * k + 24 ≤ length w → b + 24 * n ≤ length w → y < n → k < 4294967295 → v < 4294967296 → v ≡ head_at w b y → w1 ≡ store w (b + 24 * k + 12) (le 4 v) → w2 ≡ store w1 (b + 24 * y + 16) (le 4 (k + 1))
+  put_linked : b + 24 * k + 24 ≤ length w → b + 24 * n ≤ length w → y < n → k < 4294967295 → v < 4294967296 → v ≡ head_at w b y → w1 ≡ store w (b + 24 * k + 12) (le 4 v) → w2 ≡ store w1 (b + 24 * y + 16) (le 4 (k + 1))
       → Linked w b n k y w2
   unfolding link_at head_at
   put_linked r m l kf vf e p q =
@@ -92,14 +95,9 @@ module _ (w w1 w2 : List ℕ) (b n k y v : ℕ) where
         heads = λ i x. d2.head i (λ z. absurd (x z)) ∙ d1.head i (λ _. inr (omega arith));
       }
 
-pub ruleset putting = (rules, put_linked)
-
--- ---- `link`
-pub link_bucket : (h n y : ℕ) → h < 4294967296 → 0 < n → y ≡ bucket_of h n → y < n
-link_bucket h n y l m e = rw e (bucket_small h n l m)
-
-pub link_is : (w w1 : List ℕ) (b n k y h : ℕ) → y ≡ bucket_of h n → Linked w b n k y w1 → Linked w b n k (bucket_of h n) w1
-link_is w w1 b n k y h e l = rw e at l
+pub link_is : (w w1 w2 : List ℕ) (b n k y v h : ℕ) → y ≡ bucket_of h n → b + 24 * k + 24 ≤ length w → b + 24 * n ≤ length w → h < 4294967296 → 0 < n → k < 4294967295 → v < 4294967296 → v ≡ head_at w b y → w1 ≡ store w (b + 24 * k + 12) (le 4 v)
+    → w2 ≡ store w1 (b + 24 * y + 16) (le 4 (k + 1)) → Linked w b n k (bucket_of h n) w2
+link_is w w1 w2 b n k y v h d r m l s f g e p q = let z = put_linked w w1 w2 b n k y v r m (link_bucket h n y l s d) f g e p q in rw d at z
 
 pub ruleset linking = (rules, link_bucket, link_is)
 

@@ -1,21 +1,27 @@
 -- What the least class of a text's bytes says of the text: the ways out of `class_by`. Assumes nothing.
 use mathlib.Core.Path.{◌≡◌, refl, sym, ap, ap₂, ◌∙◌}
-use mathlib.Core.Bool.{Bool, true, false, ◌&&◌, not, false≢true, and-true, and_assoc}
+use mathlib.Core.Bool.{Bool, true, false, ◌&&◌, ◌||◌, not, false≢true, and-true, and_assoc}
 use mathlib.Mathlib.Data.Bool.Basic.{and_elim_right}
 use mathlib.Core.List.{List, [], ◌∷◌}
 use Prim.Native.Nat.{ℕ, ◌+◌, ◌-◌, ◌<◌, ◌≤◌, min}
 use native.Mathlib.Omega.{arith}
 use borrow.Author.Rules.{rules}
 use borrow.Author.Tests.{le-leb, lt-leb, ne_eqb, ltb-true, ltb-false, leb-true, leb-false, not-true, not-false}
+use Rattle.std.proofs.Common.{is_lt}
+use Rattle.std.specs.Ordering.{is_some_and}
 use lib.Dec.{eqb, leb, ltb}
 use lib.ListN.{length, get_or, take, drop}
+use Rattle.std.proofs.lemmas.Slice.Eq.{text_from_reads}
 use Rattle.octets.specs.Working.Choice.{pick}
 use Rattle.octets.specs.Plain.Runs.{part, same_as}
-use Rattle.octets.proofs.SameLaws.{said-text}
+use Rattle.octets.proofs.SameLaws.{same_as-eq, eq_same_as}
 use Rattle.octets.proofs.PartLaws.{part_none, part-one}
 use Rattle.parse_tree.specs.Plain.Tree.{Text}
 use Rattle.parse_tree.specs.Plain.Texts.{every, between, starts_name, in_name, name_bytes, is_name, is_literal, is_ascii, mut_text, error_text}
-use Rattle.texts.specs.Classes.{text_class, byte_class, least}
+use Rattle.texts.specs.Classes.{text_class, byte_class, least, class_number}
+use Rattle.texts.specs.contracts.class.TextClassPartialOrd.TheImpl.{partial_cmp-value}
+use Rattle.texts.specs.declared.class.TextClass.{TextClass}
+use Rattle.texts.proofs.TextClassLaws.{less_number}
 
 every-same : (f g : ℕ → Bool) → ((b : ℕ) → f b ≡ g b) → (t : Text) → every f t ≡ every g t
 unfolding every
@@ -105,7 +111,7 @@ name_every (b ∷ bs) e = go (starts_name b) refl (every in_name bs) refl
 
 -- ---- the ways out: m is the least class of t
 module _ (t : Text) (m : ℕ) (p : m ≡ least 3 t) where
-  pub class_least : m < 3 → m ≡ text_class t
+  class_least : m < 3 → m ≡ text_class t
   unfolding text_class pick
   class_least h =
       let n : every in_name t ≡ false = sym (least-name t) ∙ lt-leb 3 (least 3 t) (omega arith) in
@@ -121,56 +127,97 @@ module _ (t : Text) (m : ℕ) (p : m ≡ least 3 t) where
   unfolding text_class pick
   no_name h n = simp (n, ← least-literal t, ← p, le-leb 2 m (omega arith))
 
-is_mut : (t : Text) → same_as t mut_text ≡ true → is_name t ≡ false
-unfolding is_name
-is_mut t e = rw e (go (name_bytes t))
-  where
-    go : (x : Bool) → x && (not true && not (same_as t error_text)) ≡ false
-    go true = refl
-    go false = refl
+-- ---- the two texts that are no names
+module _ (t : Text) where
+  abbrev Reserved : Bool
+  Reserved = same_as t mut_text || same_as t error_text
 
-is_error : (t : Text) → same_as t error_text ≡ true → is_name t ≡ false
-unfolding is_name
-is_error t e = rw e (go (name_bytes t) (same_as t mut_text))
-  where
-    go : (x y : Bool) → x && (not y && not true) ≡ false
-    go true true = refl
-    go true false = refl
-    go false y = refl
+  pub says_mut : 3 ≤ length t → length t < 4 → get_or t 0 0 ≡ 109 → get_or t 1 0 ≡ 117 → get_or t 2 0 ≡ 116 → true ≡ Reserved
+  says_mut l k b c d = let e = eq_same_as t mut_text (text_from_reads t mut_text (omega arith) (b, (c, (d, _)))) in rw e refl
+
+  pub says_error : 5 ≤ length t → length t < 6 → get_or t 0 0 ≡ 101 → get_or t 1 0 ≡ 114 → get_or t 2 0 ≡ 114 → get_or t 3 0 ≡ 111 → get_or t 4 0 ≡ 114 → true ≡ Reserved
+  says_error l k b c d f g =
+      let e = eq_same_as t error_text (text_from_reads t error_text (omega arith) (b, (c, (d, (f, (g, _)))))) in
+      go (same_as t mut_text) (same_as t error_text) e
+    where
+      go : (x y : Bool) → y ≡ true → true ≡ x || y
+      go true y h = refl
+      go false y h = sym h
+
+  neither : (t ≡ mut_text → ⊥) → (t ≡ error_text → ⊥) → false ≡ Reserved
+  neither m e = go (same_as t mut_text) (same_as t error_text) (λ h. m (same_as-eq t mut_text h)) (λ h. e (same_as-eq t error_text h))
+    where
+      go : (x y : Bool) → (x ≡ true → ⊥) → (y ≡ true → ⊥) → false ≡ x || y
+      go true y m e = absurd (m refl)
+      go false true m e = absurd (e refl)
+      go false false m e = refl
+
+  pub other_length : (length t ≡ 3 → ⊥) → (length t ≡ 5 → ⊥) → false ≡ Reserved
+  other_length m e = neither (λ p. m (ap length p)) (λ p. e (ap length p))
+
+  module _ (i v : ℕ) (p : get_or t i 0 ≡ v) where
+    at_byte : (u : Text) → t ≡ u → v ≡ get_or u i 0
+    at_byte u e = sym p ∙ ap (λ (x : Text). get_or x i 0) e
+
+    pub no_mut : length t < 5 → (v ≡ get_or mut_text i 0 → ⊥) → false ≡ Reserved
+    no_mut l n = neither (λ e. n (at_byte mut_text e)) (λ e. absurd (omega (arith, ap length e)))
+
+    pub no_error : 4 ≤ length t → (v ≡ get_or error_text i 0 → ⊥) → false ≡ Reserved
+    no_error l n = neither (λ e. absurd (omega (arith, ap length e))) (λ e. n (at_byte error_text e))
+
+  reserved_no_name : Reserved ≡ true → is_name t ≡ false
+  unfolding is_name
+  reserved_no_name = go (name_bytes t) (same_as t mut_text) (same_as t error_text)
+    where
+      go : (x y z : Bool) → y || z ≡ true → x && (not y && not z) ≡ false
+      go false y z h = refl
+      go true true z h = refl
+      go true false true h = refl
+      go true false false h = absurd (false≢true h)
+
+pub ruleset reserving = (says_mut, says_error, other_length, no_mut, no_error)
 
 -- a text of name bytes that starts as a name and is neither `mut` nor `error`
-is_name_lem : (b : ℕ) (bs : Text) → starts_name b ≡ true → every in_name (b ∷ bs) ≡ true → same_as (b ∷ bs) mut_text ≡ false → same_as (b ∷ bs) error_text ≡ false → 3 ≡ text_class (b ∷ bs)
+is_name_lem : (b : ℕ) (bs : Text) → starts_name b ≡ true → every in_name (b ∷ bs) ≡ true → Reserved (b ∷ bs) ≡ false → 3 ≡ text_class (b ∷ bs)
 unfolding text_class is_name name_bytes every pick
-is_name_lem b bs x y u v = simp (x, and_elim_right (in_name b) (every in_name bs) y, u, v)
+is_name_lem b bs x y = go (same_as (b ∷ bs) mut_text) refl (same_as (b ∷ bs) error_text) refl
+  where
+    go : (u : Bool) → same_as (b ∷ bs) mut_text ≡ u → (v : Bool) → same_as (b ∷ bs) error_text ≡ v → u || v ≡ false → 3 ≡ text_class (b ∷ bs)
+    go true p v q h = absurd (false≢true (sym h))
+    go false p true q h = absurd (false≢true (sym h))
+    go false p false q h = simp (x, and_elim_right (in_name b) (every in_name bs) y, p, q)
 
--- ---- of the part of a tape from a to e
-module _ (s : List ℕ) (a e m : ℕ) (p : m ≡ least 3 (part a e s)) (h : 3 ≤ m) where
-  pub class_empty : e ≤ a → 2 ≡ text_class (part a e s)
-  unfolding is_name name_bytes
-  class_empty k = no_name (part a e s) m p h (rw (part_none a e s k))
+-- ---- of the part of a tape from a to e; m is its least class
+module _ (s : List ℕ) (a e : ℕ) (m : TextClass) (p : class_number m ≡ least 3 (part a e s)) (l : Bool) (lq : l ≡ is_some_and is_lt ((partial_cmp-value).it m TextClass.Name)) where
+  pub class_lesser : l ≡ true → class_number m ≡ text_class (part a e s)
+  unfolding class_number
+  class_lesser lt = class_least (part a e s) (class_number m) p (ltb-true (class_number m) 3 (sym (less_number m TextClass.Name) ∙ sym lq ∙ lt))
 
-  pub class_digit : (x : Bool) → a < e → e ≤ length s → x ≡ starts_name (get_or s a 0) → not x ≡ true → 2 ≡ text_class (part a e s)
-  unfolding is_name name_bytes
-  class_digit x k l q r = no_name (part a e s) m p h (rw (part-one a e s k l) (simp (sym q ∙ not-true x r)))
+  module _ (lf : l ≡ false) where
+    most : 3 ≤ class_number m
+    unfolding class_number
+    most = ltb-false (class_number m) 3 (sym (less_number m TextClass.Name) ∙ sym lq ∙ lf)
 
-  pub class_mut : (r : Bool) → r ≡ same_as (take (e - a) (drop a s)) (109 ∷ 117 ∷ 116 ∷ []) → r ≡ true → 2 ≡ text_class (part a e s)
-  unfolding part
-  class_mut r q u = no_name (part a e s) m p h (is_mut (part a e s) (sym q ∙ u))
+    pub class_empty : e ≤ a → class_number TextClass.Literal ≡ text_class (part a e s)
+    unfolding is_name name_bytes class_number
+    class_empty k = no_name (part a e s) (class_number m) p most (rw (part_none a e s k))
 
-  pub class_error : (r : Bool) → r ≡ same_as (take (e - a) (drop a s)) (101 ∷ 114 ∷ 114 ∷ 111 ∷ 114 ∷ []) → r ≡ true → 2 ≡ text_class (part a e s)
-  unfolding part
-  class_error r q u = no_name (part a e s) m p h (is_error (part a e s) (sym q ∙ u))
+    pub class_digit : (x : Bool) → a < e → e ≤ length s → x ≡ starts_name (get_or s a 0) → not x ≡ true → class_number TextClass.Literal ≡ text_class (part a e s)
+    unfolding is_name name_bytes class_number
+    class_digit x k n q r = no_name (part a e s) (class_number m) p most (rw (part-one a e s k n) (simp (sym q ∙ not-true x r)))
 
-  pub class_name : (x r v : Bool) → a < e → e ≤ length s → x ≡ starts_name (get_or s a 0) → not x ≡ false
-      → r ≡ same_as (take (e - a) (drop a s)) (109 ∷ 117 ∷ 116 ∷ []) → r ≡ false
-      → v ≡ same_as (take (e - a) (drop a s)) (101 ∷ 114 ∷ 114 ∷ 111 ∷ 114 ∷ []) → v ≡ false → 3 ≡ text_class (part a e s)
-  unfolding part
-  class_name x r v k l q u i j y z =
-      let t = part-one a e s k l in
-      let n : every in_name (part a e s) ≡ true = sym (least-name (part a e s)) ∙ le-leb 3 (least 3 (part a e s)) (omega arith) in
-      rw t (is_name_lem (get_or s a 0) (part (a + 1) e s) (sym q ∙ not-false x u) (rw t at n) (rw t at (sym i ∙ j)) (rw t at (sym y ∙ z)))
+    pub class_reserved : (r : Bool) → r ≡ Reserved (take (e - a) (drop a s)) → r ≡ true → class_number TextClass.Literal ≡ text_class (part a e s)
+    unfolding part class_number
+    class_reserved r q u = no_name (part a e s) (class_number m) p most (reserved_no_name (part a e s) (sym q ∙ u))
 
-pub ruleset judging = (rules, said-text, class_least, class_empty, class_digit, class_mut, class_error, class_name)
+    pub class_name : (x r : Bool) → a < e → e ≤ length s → x ≡ starts_name (get_or s a 0) → not x ≡ false → r ≡ Reserved (take (e - a) (drop a s)) → r ≡ false → class_number TextClass.Name ≡ text_class (part a e s)
+    unfolding part class_number
+    class_name x r k n q u i j =
+        let t = part-one a e s k n in
+        let f : every in_name (part a e s) ≡ true = sym (least-name (part a e s)) ∙ le-leb 3 (least 3 (part a e s)) (omega (arith, most)) in
+        rw t (is_name_lem (get_or s a 0) (part (a + 1) e s) (sym q ∙ not-false x u) (rw t at f) (rw t at (sym i ∙ j)))
+
+pub ruleset judging = (rules, class_lesser, class_empty, class_digit, class_reserved, class_name)
 
 -- ---- the classes are nested, so a number tells them
 name_all : (t : Text) → is_name t ≡ true → every in_name t ≡ true

@@ -21,9 +21,9 @@ module _ (w : List ℕ) (b k x : ℕ) where
   unfolding mark_at
   mark_done p = p
 
-  pub class_done : x ≡ mark_at w b k → x % 4 ≡ class_at w b k
+  pub class_done : (n : ℕ) → n ≡ x % 4 → x ≡ mark_at w b k → n ≡ class_at w b k
   unfolding class_at
-  class_done p = rw p
+  class_done n e p = rw p at e
 
   pub head_done : x ≡ le_at 4 w (b + 24 * k + 16) → x ≡ head_at w b k
   unfolding head_at

@@ -8,6 +8,7 @@ mod ScanCode
 pub mod FieldsCode
 pub mod MarkLaws
 pub mod ChainCode
+pub mod TextClassLaws
 pub mod TextCode
 mod AtomPutCode
 pub mod TableStays

@@ -1,48 +1,25 @@
--- `is` and `find`: a text is in the bucket of its hash. Assumes nothing.
+-- `find`: a text is among those of its hash. Assumes nothing.
 use mathlib.Core.Path.{◌≡◌, refl, sym, ap, ◌∙◌}
 use mathlib.Core.Bool.{Bool, true, false}
 use mathlib.Core.List.{List, [], ◌∷◌}
-use Prim.Native.Nat.{ℕ, suc, ◌+◌, ◌*◌, ◌<◌, ◌≤◌}
+use Prim.Native.Nat.{ℕ, suc, ◌<◌, ◌≤◌}
 use native.Mathlib.Omega.{arith}
-use borrow.Author.Rules.{rules}
 use lib.ListN.{length, get_or}
 use Rattle.octets.specs.Working.Choice.{pick}
 use Rattle.octets.specs.Plain.Runs.{same_as}
-use Rattle.octets.proofs.SameLaws.{same_as-eq, said-same}
+use Rattle.octets.proofs.SameLaws.{same_as-eq}
 use Rattle.parse_tree.specs.Plain.Tree.{Text}
 use Rattle.parse_tree.specs.Plain.Texts.{has, number, distinct}
 use Rattle.parse_tree.proofs.TextLaws.{has-text, number-text}
 use Rattle.texts.specs.declared.Map.{Map}
 use Rattle.std.specs.Prelude.{Option, Some, None}
-use Rattle.texts.specs.Hash.{hash_of, bucket_of}
-use Rattle.texts.specs.Fields.{hash_at, bucket_at}
+use Rattle.texts.specs.Hash.{hash_of}
+use Rattle.texts.specs.Fields.{hash_at}
 use Rattle.texts.specs.Texts.{texts_of}
 use Rattle.texts.specs.Table.{Table, texts, linked, Finds, found_in}
-use Rattle.texts.proofs.HashLaws.{hash_small, bucket_small}
 use Rattle.texts.proofs.TextCode.{length_texts, texts-at}
 use Rattle.texts.specs.Search.{Searched}
 use Rattle.texts.proofs.SearchCode.{Picks, picked}
-
--- ---- `is`
-unlike : (x t : Text) → (x ≡ t → ⊥) → false ≡ same_as x t
-unlike x t n = go (same_as x t) refl
-  where
-    go : (b : Bool) → same_as x t ≡ b → false ≡ b
-    go true e = absurd (n (same_as-eq x t e))
-    go false e = refl
-
-module _ (s w : List ℕ) (m : Map) (k : ℕ) (t : Text) (h : ℕ) where
-  pub is_not : (r : ℕ) → Table s w m → k < m.count → h ≡ hash_of t → r ≡ hash_at w m.base k → (r ≡ h → ⊥) → false ≡ same_as (get_or (texts s w m) k []) t
-  unfolding texts
-  is_not r g l p q n = unlike (get_or (texts_of s w m.base m.count) k []) t (λ e. n (q ∙ g.hashes k l ∙ ap hash_of (sym (texts-at s w m.base m.count k l) ∙ e) ∙ sym p))
-
-  pub is_equal : (r : Bool) (y : Text) → y ≡ get_or (texts s w m) k [] → r ≡ same_as y t → r ≡ same_as (get_or (texts s w m) k []) t
-  is_equal r y p q = q ∙ ap (λ (u : Text). same_as u t) p
-
-  pub is_room : Table s w m → k < m.count → m.base + 24 * k + 24 ≤ length w
-  is_room g l = omega (arith, g.room)
-
-pub ruleset judging = (rules, is_room, is_not, is_equal, said-same)
 
 -- ---- `find`: one of the texts is x, or none is
 not_in : (ts : List Text) (x : Text) → ((i : ℕ) → i < length ts → same_as (get_or ts i []) x ≡ false) → has x ts ≡ false
@@ -58,29 +35,16 @@ module _ (ts : List Text) (q : ℕ → Text) (x : Text) (n : ℕ) (e : length ts
   picked_text None g = not_in ts x (λ i l. let b : i < n = omega (arith, e) in ap (λ (t : Text). same_as t x) (of i b) ∙ g i b)
 
 module _ (s w : List ℕ) (m : Map) (x : Text) (h : ℕ) (g : Table s w m) (p : h ≡ hash_of x) where
-  pub find_small : h < 4294967296
-  find_small = rw p (hash_small x)
-
-  pub find_narrow : m.buckets < 4294967296
-  find_narrow = omega (arith, g.narrow)
-
-  pub find_bucket : (y : ℕ) → 0 < m.buckets → y ≡ bucket_of h m.buckets → y < m.buckets
-  find_bucket y l e = omega (arith, bucket_small h m.buckets find_small l)
-
-  -- a text that is x is in its bucket
-  find_of : (y : ℕ) → y ≡ bucket_of h m.buckets → (i : ℕ) → i < m.count → same_as (get_or (texts s w m) i []) x ≡ true → bucket_at w m.base m.buckets i ≡ y
-  unfolding bucket_at texts
-  find_of y e i l d =
-      ap (λ (v : ℕ). bucket_of v m.buckets) (g.hashes i l ∙ ap hash_of (sym (texts-at s w m.base m.count i l) ∙ same_as-eq (get_or (texts_of s w m.base m.count) i []) x d) ∙ sym p) ∙ sym e
-
-  pub find_is : (A : ℕ → Bool → Type 0) (y : ℕ) (r : Option ℕ) → y ≡ bucket_of h m.buckets → Searched A w m.base m.buckets y m.count r
-      → ((i : ℕ) (a : Bool) → A i a → a ≡ same_as (get_or (texts s w m) i []) x) → Finds (texts s w m) x r
+  -- a text that is x has its hash
+  find_of : (i : ℕ) → i < m.count → same_as (get_or (texts s w m) i []) x ≡ true → hash_at w m.base i ≡ h
   unfolding texts
-  find_is A y r e d same =
-      picked_text (texts s w m) (λ i. get_or (texts s w m) i []) x m.count (length_texts s w m.base m.count) (λ i l. refl) r
-      (picked (λ i. same_as (get_or (texts s w m) i []) x) A w m.base m.buckets y m.count r d same (find_of y e))
+  find_of i l d = g.hashes i l ∙ ap hash_of (sym (texts-at s w m.base m.count i l) ∙ same_as-eq (get_or (texts_of s w m.base m.count) i []) x d) ∙ sym p
 
-pub ruleset finding = (rules, find_small, find_narrow, find_bucket)
+  pub find_is : (A : ℕ → Bool → Type 0) (r : Option ℕ) → Searched A w m.base m.count h r → ((i : ℕ) (a : Bool) → A i a → a ≡ same_as (get_or (texts s w m) i []) x) → Finds (texts s w m) x r
+  unfolding texts
+  find_is A r d same =
+      picked_text (texts s w m) (λ i. get_or (texts s w m) i []) x m.count (length_texts s w m.base m.count) (λ i l. refl) r
+      (picked (λ i. same_as (get_or (texts s w m) i []) x) A w m.base m.count h r d same find_of)
 
 pub linked-few : (k : ℕ) → k < 4294967295 → linked k ≡ k
 unfolding linked

@@ -1,9 +1,12 @@
 // The fields of the k-th record, the records standing from base on. That it lies in work is asked at each call: base and k differ from one to the next.
+// One function for each field: of one over a const parameter the clause would say `le_at 4` of a place where these say `link_at`, and each caller `word::<LINK>` for `link`.
 ghost use Rattle.std.specs.Prelude.{◌≡◌, ◌+◌, ◌*◌, ◌≤◌, ◌<◌, length};
 ghost use Rattle.octets.specs.Plain.Numbers.{le};
 ghost use Rattle.octets.specs.Working.Stores.{store};
+ghost use Rattle.texts.specs.Classes.{class_number};
 ghost use Rattle.texts.specs.Fields.{mark_at, class_at, hash_at, link_at, head_at, cell_at, RecordWritten};
 
+use crate::class::TextClass;
 use crate::mark::TextMark;
 use octets::numbers::{store32, store64, u32_at, u64_at};
 
@@ -24,9 +27,9 @@ pub fn text_mark(work: &[u8], base: usize, k: usize) -> TextMark
     }
 }
 
-pub fn class(work: &[u8], base: usize, k: usize) -> usize
+pub fn class(work: &[u8], base: usize, k: usize) -> TextClass
     requires { base + 24 * k + 24 ≤ length work.now }
-    ensures { result ≡ class_at work.now base k }
+    ensures { class_number result ≡ class_at work.now base k }
 {
     text_mark(work, base, k).class()
 }

@@ -1,7 +1,10 @@
 // The mark of a text: below four times the tape's length it is four times the place of the text's command on the tape, and the text's class; from there on
 // a place in work, less four times that length.
 ghost use Rattle.std.specs.Prelude.{◌≡◌, ◌+◌, ◌-◌, ◌*◌, ◌/◌, ◌%◌, ◌^◌, ◌≤◌, ◌<◌, length};
+ghost use Rattle.texts.specs.Classes.{class_number};
 ghost use Rattle.texts.specs.Marks.{stand_of};
+
+use crate::class::TextClass;
 
 #[derive(Clone, Copy)]
 pub struct TextMark {
@@ -17,12 +20,13 @@ pub enum Stand {
 
 impl TextMark {
     // Of a text on the tape, and its class.
-    pub fn on_tape(at: usize, class: usize) -> TextMark
-        requires { 4 * at + class < 2 ^ 64 }
-        ensures { result.number ≡ 4 * at + class }
+    #[tactic(auto, using(crate::proofs::TextClassLaws::tag_number))]
+    pub fn on_tape(at: usize, class: TextClass) -> TextMark
+        requires { 4 * at + class_number class < 2 ^ 64 }
+        ensures { result.number ≡ 4 * at + class_number class }
     {
         TextMark {
-            number: 4 * at + class,
+            number: 4 * at + class as usize,
         }
     }
 
@@ -36,10 +40,16 @@ impl TextMark {
         }
     }
 
-    pub fn class(self) -> usize
-        ensures { result ≡ self.number % 4 }
+    #[tactic(auto, unfolding(crate::specs::Classes::class_number))]
+    pub fn class(self) -> TextClass
+        ensures { class_number result ≡ self.number % 4 }
     {
-        self.number % 4
+        match self.number % 4 {
+            0 => TextClass::Other,
+            1 => TextClass::Ascii,
+            2 => TextClass::Literal,
+            _ => TextClass::Name,
+        }
     }
 
     // Where the command stands, of a text on the tape.

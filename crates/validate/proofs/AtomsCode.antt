@@ -17,7 +17,8 @@ use Rattle.parse_tree.proofs.TextLaws.{distinct_more}
 use Rattle.parse_tree.specs.Working.Refusals.{refusal_at}
 use Rattle.parse_tree.specs.declared.refusal.Refusal.{Refusal}
 use Rattle.texts.specs.Atoms.{atom_end, atom_text, atoms_of, place_of}
-use Rattle.texts.specs.Classes.{text_class, least}
+use Rattle.texts.specs.Classes.{text_class, least, class_number}
+use Rattle.texts.specs.declared.class.TextClass.{TextClass}
 use Rattle.texts.proofs.AtomsLaws.{class_small}
 use Rattle.texts.specs.declared.Map.{Map}
 use Rattle.std.specs.Option.{is_some}
@@ -99,7 +100,10 @@ module _ (s w : List ℕ) (m : Map) (at end n : ℕ) (g : Going s w m at end n) 
       apart = g.apart;
     }
 
-    module _ (c : ℕ) (o : c ≡ text_class (part (at + 3) (at + 3 + length t) s)) where
+    module _ (q : TextClass) (o : class_number q ≡ text_class (part (at + 3) (at + 3 + length t) s)) where
+      abbrev c : ℕ
+      c = class_number q
+
       class_is : c ≡ text_class (atom_text s at)
       unfolding atom_text
       class_is = rw text_end at o

@@ -6,7 +6,8 @@ use Prim.Native.Nat.{ℕ, ◌+◌, ◌*◌, ◌<◌, ◌≤◌}
 use native.Mathlib.Omega.{arith}
 use borrow.Author.Rules.{rules}
 use borrow.Author.Tests.{ne_eqb, eqb-true, eqb-false, le-leb, lt-leb, not-true, not-false}
-use denote.Enum.Declared.{tag_of}
+use Rattle.std.proofs.Common.{is_le}
+use Rattle.std.specs.Ordering.{is_some_and}
 use lib.Dec.{leb, eqb}
 use lib.ListN.{length, get_or}
 use Rattle.octets.specs.Working.Choice.{pick}
@@ -28,14 +29,15 @@ use Rattle.parse_tree.specs.declared.syntax.Attribute.{Attribute}
 use Rattle.parse_tree.specs.declared.syntax.Condition.{Condition}
 use Rattle.parse_tree.specs.declared.syntax.Node.{Node}
 use Rattle.texts.specs.Atoms.{atoms_of}
-use Rattle.texts.specs.Classes.{text_class}
+use Rattle.texts.specs.Classes.{text_class, class_number}
+use Rattle.texts.specs.contracts.class.TextClassPartialOrd.TheImpl.{partial_cmp-value}
+use Rattle.texts.specs.declared.class.TextClass.{TextClass}
 use Rattle.texts.specs.Fields.{class_at}
 use Rattle.texts.proofs.AtomsLaws.{atoms_at_lem, class_beyond, class_small}
+use Rattle.texts.proofs.TextClassLaws.{upto_number}
 use Rattle.texts.proofs.ClassByCode.{class_is_name, class_is_literal, class_is_ascii}
 use Rattle.validate.specs.Steps.{Ready}
 use Rattle.validate.specs.declared.Atoms.{Atoms}
-use Rattle.validate.specs.declared.suits.Use.{Use}
-use Rattle.validate.specs.contracts.suits.Use.{the_type}
 use Rattle.validate.specs.Uses.{fits}
 
 -- ---- the class that a record holds
@@ -43,7 +45,7 @@ module _ (s w : List ℕ) (m : Atoms) (k : ℕ) (g : Ready s w m) (h : k < m.tex
   pub class_room : m.texts.base + 24 * k + 24 ≤ length w
   class_room = omega (arith, g.table.room)
 
-  pub class_held : (r : ℕ) → r ≡ class_at w m.texts.base k → r ≡ text_class (get_or (atoms_of s m.texts.count) k [])
+  pub class_held : (r : TextClass) → class_number r ≡ class_at w m.texts.base k → class_number r ≡ text_class (get_or (atoms_of s m.texts.count) k [])
   class_held r e = e ∙ g.classes k h ∙ ap text_class (sym (atoms_at_lem s m.texts.count k h))
 
 pub ruleset holding = (rules, class_room, class_held, class_beyond)
@@ -56,13 +58,15 @@ at-three n h = go (eqb n 3) refl
     go true e = le-leb 3 n (omega (arith, eqb-true n 3 e)) ∙ sym e
     go false e = let d = eqb-false n 3 e in lt-leb 3 n (omega arith) ∙ sym e
 
-text_fits : (u : Use) (t : Text) → leb (tag_of the_type u + 1) (text_class t) ≡ fits u t
-text_fits Use.Ascii t = class_is_ascii t
-text_fits Use.Literal t = class_is_literal t
-text_fits Use.Name t = at-three (text_class t) (class_small t) ∙ class_is_name t
+text_fits : (u : TextClass) (t : Text) → leb (class_number u) (text_class t) ≡ fits u t
+unfolding class_number
+text_fits TextClass.Other t = le-leb 0 (text_class t) (omega arith)
+text_fits TextClass.Ascii t = class_is_ascii t
+text_fits TextClass.Literal t = class_is_literal t
+text_fits TextClass.Name t = at-three (text_class t) (class_small t) ∙ class_is_name t
 
-pub fit_done : (ts : List Text) (k r : ℕ) (u : Use) → r ≡ text_class (get_or ts k []) → leb (tag_of the_type u + 1) r ≡ fits u (get_or ts k [])
-fit_done ts k r u q = ap (leb (tag_of the_type u + 1)) q ∙ text_fits u (get_or ts k [])
+pub fit_done : (ts : List Text) (k : ℕ) (u c : TextClass) (r : Bool) → class_number c ≡ text_class (get_or ts k []) → r ≡ is_some_and is_le ((partial_cmp-value).it u c) → r ≡ fits u (get_or ts k [])
+fit_done ts k u c r q e = e ∙ upto_number u c ∙ ap (leb (class_number u)) q ∙ text_fits u (get_or ts k [])
 
 pub ruleset texts = (rules, fit_done)
 

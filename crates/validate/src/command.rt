@@ -12,7 +12,6 @@ use crate::reader::Reader;
 use crate::suits::is_apt;
 use parse_tree::node::node;
 use parse_tree::places::{Class, Place, allowed};
-use parse_tree::refusal;
 use parse_tree::refusal::{Question, Refusal};
 use parse_tree::size::size;
 use parse_tree::syntax::Node;
@@ -22,16 +21,16 @@ pub fn command(r: &Reader, place: Place, left: usize, at: usize) -> Result<(Node
     ensures { result ≡ asked_of (ask r.now.atoms.four r.now.atoms.width.bytes r.now.tape.now (atoms_of r.now.tape.now r.now.atoms.texts.count) (row place) left at) }
 {
     let Some(n) = node(r.tape, at, r.atoms.width) else {
-        return Err(refusal::at(Question::Command, at));
+        return Err(Question::Command.at(at));
     };
     if !allowed(place, Class::from(n)) {
-        return Err(refusal::at(Question::Command, at));
+        return Err(Question::Command.at(at));
     }
     if !is_defined(n, r.atoms.texts.count) || left < 1 {
-        return Err(refusal::at(Question::Operand, at));
+        return Err(Question::Operand.at(at));
     }
     if !is_apt(r, n) {
-        return Err(refusal::at(Question::Text, at));
+        return Err(Question::Text.at(at));
     }
     Ok((n, at + size(n, r.atoms.width)))
 }

@@ -5,7 +5,6 @@ ghost use Rattle.validate.specs.Front.{AtomEnds, Counted, Going, Nexts, Starts, 
 use crate::Count;
 use crate::regions::layout;
 use parse_tree::node::text_size;
-use parse_tree::refusal;
 use parse_tree::refusal::{Question, Refusal};
 use texts::Map;
 use texts::class::class_by;
@@ -25,7 +24,7 @@ fn behind(tape: &[u8], at: usize) -> Option<usize>
     Some(at + 3 + usize::from(n))
 }
 
-// The atoms at the front.
+// The atoms at the front. A loop: both the place behind the last one and their number are wanted, and an iterator of places would be asked for its last and its length.
 pub fn front(tape: &[u8]) -> Count
     ensures { Counted tape.now result.at result.count }
 {
@@ -72,7 +71,7 @@ pub fn atoms(tape: &[u8], work: &mut [u8], end: usize, count: usize) -> Result<M
     let mut at = 0;
     while at < end {
         let Some((r, e)) = enter_at(tape, work, m, at, end, count) else {
-            return Err(refusal::at(Question::Operand, at));
+            return Err(Question::Operand.at(at));
         };
         m = r;
         at = e;

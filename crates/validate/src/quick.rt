@@ -11,14 +11,15 @@ ghost use Rattle.validate.specs.Quick.{Kinded, QuickPassed, QuickInside, PassedA
 
 use crate::questions::{alternative_defined, attribute_defined};
 use crate::reader::Reader;
-use crate::suits::{Use, alternative_suits, attribute_suits, is_fit};
+use crate::suits::{alternative_suits, attribute_suits, is_fit};
 use octets::numbers::atom_at;
 use parse_tree::node::{whole_alternative, whole_attribute, whole_nonterminal};
 use parse_tree::places::Place;
 use parse_tree::syntax::{Alternative, Attribute, NonterminalData};
+use texts::class::TextClass;
 
 // Whether there is such an atom and, where question 4 is asked, its text suits its use.
-fn is_used(r: &Reader, k: u32, used: Use) -> bool
+fn is_used(r: &Reader, k: u32, used: TextClass) -> bool
     ensures { result ≡ (ltb k r.now.atoms.texts.count && pick r.now.atoms.four (fits used (get_or (atoms_of r.now.tape.now r.now.atoms.texts.count) k [])) true) }
 {
     (k as usize) < r.atoms.texts.count && (!r.atoms.four || is_fit(r, k, used))
@@ -29,8 +30,8 @@ fn named(r: &Reader, c: u8, k: u32) -> bool
     ensures { result ≡ (leaf_defined r.now.atoms.texts.count (named_leaf c k) && pick r.now.atoms.four (leaf_suits (atoms_of r.now.tape.now r.now.atoms.texts.count) (named_leaf c k)) true) }
 {
     match c {
-        34 | 35 => is_used(r, k, Use::Literal),
-        _ => is_used(r, k, Use::Name),
+        34 | 35 => is_used(r, k, TextClass::Literal),
+        _ => is_used(r, k, TextClass::Name),
     }
 }
 
@@ -50,7 +51,7 @@ fn passes(r: &Reader, at: usize, c: u8) -> Option<usize>
                 return None;
             }
             let k = atom_at(r.tape, at + 9, r.atoms.width);
-            is_used(r, k, Use::Name).then_some(10 + r.atoms.width.bytes)
+            is_used(r, k, TextClass::Name).then_some(10 + r.atoms.width.bytes)
         }
         38 => (r.tape[at + 9] <= 2).then_some(10),
         40 => {
@@ -58,7 +59,7 @@ fn passes(r: &Reader, at: usize, c: u8) -> Option<usize>
                 return None;
             }
             let k = atom_at(r.tape, at + 10, r.atoms.width);
-            is_used(r, k, Use::Name).then_some(10 + r.atoms.width.bytes)
+            is_used(r, k, TextClass::Name).then_some(10 + r.atoms.width.bytes)
         }
         41 => Some(11),
         _ => Some(9),
@@ -127,7 +128,7 @@ pub fn quick_nonterminal(r: &Reader, at: usize) -> Option<NonterminalData>
     if 3 < d.flags {
         return None;
     }
-    is_used(r, d.name.0, Use::Name).then_some(d)
+    is_used(r, d.name.0, TextClass::Name).then_some(d)
 }
 
 // The place behind a terminal that passes 2, 3 and 4; None where that is not found out here.
@@ -139,7 +140,7 @@ pub fn quick_terminal(r: &Reader, at: usize) -> Option<usize>
     if !matches!(c, 48..=49) {
         return None;
     }
-    is_used(r, atom_at(r.tape, at + 9, r.atoms.width), Use::Name).then_some(at + n)
+    is_used(r, atom_at(r.tape, at + 9, r.atoms.width), TextClass::Name).then_some(at + n)
 }
 
 // Whether an attribute passes 3 and 4.
@@ -168,7 +169,7 @@ fn quick_argument(r: &Reader, at: usize) -> Option<usize>
     if r.code_at(at, n)? != 17 {
         return None;
     }
-    is_used(r, atom_at(r.tape, at + 1, r.atoms.width), Use::Name).then_some(at + n)
+    is_used(r, atom_at(r.tape, at + 1, r.atoms.width), TextClass::Name).then_some(at + n)
 }
 
 // The same for a place where nothing stands inside a command.

@@ -14,7 +14,7 @@ use parse_tree::places::Place;
 use parse_tree::refusal::Refusal;
 use parse_tree::syntax::{Node, Over, SymbolKind};
 
-// How many symbols stand inside.
+// How many symbols stand inside; by the node, which is read here already, where `parse_tree::nested` goes by the code.
 pub fn inside(o: Over) -> usize
     ensures { result ≡ inside_of o }
 {

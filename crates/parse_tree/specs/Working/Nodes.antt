@@ -63,27 +63,7 @@ node_bytes w (Node.Symbol s k) = symbol_bytes w s k
 unfoldable pub size_of : ℕ → Node → ℕ
 size_of w n = length (node_bytes w n)
 
--- the same by its code, an atom aside; 9 for a code that no command has
-unfoldable pub code_size : ℕ → ℕ → ℕ
-code_size w c =
-    pick (eqb c 16) (13 + w)
-    (pick (eqb c 17) (1 + w)
-    (pick (eqb c 48) (9 + w)
-    (pick (eqb c 49) (9 + w)
-    (pick (eqb c 18) (14 + w)
-    (pick (eqb c 19) (2 + w + w + w)
-    (pick (eqb c 20) (10 + w + w)
-    (pick (eqb c 32) (9 + w)
-    (pick (eqb c 33) (9 + w)
-    (pick (eqb c 34) (9 + w)
-    (pick (eqb c 35) (9 + w)
-    (pick (eqb c 36) (9 + w)
-    (pick (eqb c 37) (10 + w)
-    (pick (eqb c 38) 10
-    (pick (eqb c 40) (10 + w)
-    (pick (eqb c 41) 11 9)))))))))))))))
-
--- the same for the commands of an alternative; 9 for a code that none of them has
+-- the same by its code, for the commands of an alternative; 9 for a code that none of them has
 unfoldable pub long_of : ℕ → ℕ → ℕ
 long_of w c =
     pick (eqb c 18) (14 + w)
@@ -98,6 +78,15 @@ long_of w c =
     (pick (eqb c 38) 10
     (pick (eqb c 40) (10 + w)
     (pick (eqb c 41) 11 9)))))))))))
+
+-- the same for all commands, an atom aside; 9 for a code that no command has
+unfoldable pub code_size : ℕ → ℕ → ℕ
+code_size w c =
+    pick (eqb c 16) (13 + w)
+    (pick (eqb c 17) (1 + w)
+    (pick (eqb c 48) (9 + w)
+    (pick (eqb c 49) (9 + w)
+    (long_of w c))))
 
 -- ---- from bytes
 

@@ -1,9 +1,5 @@
-use Rattle.expander.proofs.find.is_key.Goals.{then-hash-f, else-hash-f}
 use Rattle.expander.proofs.FindCode.{keying}
 use Rattle.expander.proofs.find.is_key.Goals as goal
-
-pub hash-requires : goal.hash-requires
-hash-requires c = search keying
 
 pub cell-requires : goal.cell-requires
 cell-requires c = search keying
@@ -24,4 +20,4 @@ pub returns-then-cell-f : goal.returns-then-cell-f
 returns-then-cell-f c = let e = c.words.ensures in let z = rw (e.0, e.1, e.2, e.3) at c.same_print.ensures in search (keying, z)
 
 pub returns-else-cell-f : goal.returns-else-cell-f
-returns-else-cell-f c = elim c.if-hash-f.branch [ then-hash-f w ↦ rw w.value-is (search keying) | else-hash-f w ↦ rw w.value-is (search keying) ]
+returns-else-cell-f c = search keying

@@ -2,9 +2,6 @@ use borrow.Author.Rules.{rules}
 use Rattle.expander.proofs.FindCode.{texting, key_told}
 use Rattle.expander.proofs.find.is_text.Goals as goal
 
-pub returns-then-hash-f : goal.returns-then-hash-f
-returns-then-hash-f c = search texting
-
 pub overflow_add-start : goal.overflow_add-start
 overflow_add-start c = search texting
 

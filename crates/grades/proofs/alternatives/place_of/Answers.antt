@@ -1,8 +1,8 @@
-use Rattle.grades.proofs.AlternativesCode.{placing}
+use Rattle.std.proofs.Common.{rules}
+use Rattle.octets.specs.Working.Choice.{pick}
+use Rattle.grades.specs.Alternatives.{place_of_key}
 use Rattle.grades.proofs.alternatives.place_of.Goals as goal
 
-pub returns-then-i-n : goal.returns-then-i-n
-returns-then-i-n c = search placing
-
-pub returns-else-i-n : goal.returns-else-i-n
-returns-else-i-n c = search placing
+pub returns : goal.returns
+unfolding place_of_key pick
+returns c = search rules

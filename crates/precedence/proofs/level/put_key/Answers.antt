@@ -1,14 +1,11 @@
 use Rattle.precedence.proofs.LevelKeyCode.{key_annotated, keyed}
 use Rattle.precedence.proofs.level.put_key.Goals as goal
 
+pub whole_alternative-requires : goal.whole_alternative-requires
+whole_alternative-requires c = search keyed
+
 pub overflow_add-p : goal.overflow_add-p
 overflow_add-p c = search keyed
-
-pub bounds-work-p : goal.bounds-work-p
-bounds-work-p c = search keyed
-
-pub overflow_add-p-2 : goal.overflow_add-p-2
-overflow_add-p-2 c = search keyed
 
 pub annotations-f-requires : goal.annotations-f-requires
 annotations-f-requires c = search key_annotated

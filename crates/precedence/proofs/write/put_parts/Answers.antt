@@ -1,11 +1,8 @@
 use Rattle.precedence.proofs.WriteWholeCode.{attributing, conditioning, parting, rooming, standing_behind, stopping}
 use Rattle.precedence.proofs.write.put_parts.Goals as goal
 
-pub overflow_add-m : goal.overflow_add-m
-overflow_add-m c = search parting
-
-pub bounds-work-p : goal.bounds-work-p
-bounds-work-p c = search parting
+pub whole_alternative-m-requires : goal.whole_alternative-m-requires
+whole_alternative-m-requires c = search parting
 
 pub overflow_add-a-2 : goal.overflow_add-a-2
 overflow_add-a-2 c = search parting

@@ -5,10 +5,10 @@ use Rattle.resolve.proofs.ItemsCode.{marking}
 use Rattle.resolve.proofs.items.validate_macro_args.Goals as goal
 
 pub returns-then-is_argument : goal.returns-then-is_argument
-returns-then-is_argument c = let e : 0 < c.args.n - c.loop.counter = omega arith in search marking
+returns-then-is_argument c = let e : 0 < c.args.n - c.loop-k.k = omega arith in search marking
 
-pub loop-preserved : goal.loop-preserved
-loop-preserved c = let f : 0 < c.args.n - c.loop.counter = omega arith in let e : c.args.n - c.loop.counter ≡ c.args.n - (c.loop.counter + 1) + 1 = omega arith in search marking
+pub loop-k-preserved : goal.loop-k-preserved
+loop-k-preserved c = let f : 0 < c.args.n - c.loop-k.k = omega arith in let e : c.args.n - c.loop-k.k ≡ c.args.n - (c.loop-k.k + 1) + 1 = omega arith in search marking
 
 pub returns : goal.returns
 returns c = search marking

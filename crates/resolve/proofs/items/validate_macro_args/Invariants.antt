@@ -1,6 +1,6 @@
-use Prim.Native.Nat.{◌-◌}
+use Prim.Native.Nat.{◌+◌, ◌-◌, ◌*◌}
 use Rattle.resolve.proofs.ItemsCode.{MarksLeft}
 use Rattle.resolve.proofs.items.validate_macro_args.Given as goal
 
-abbrev pub invariant-loop : goal.invariant-loop
-invariant-loop l = MarksLeft l.s.texts l.s.grammar.width.bytes l.n l.at l.initial.work l.work l.p (l.n - l.counter)
+abbrev pub invariant-loop-k : goal.invariant-loop-k
+invariant-loop-k l = MarksLeft l.s.texts l.s.grammar.width.bytes l.n l.at l.initial.work l.work (l.at + l.k * (1 + l.s.grammar.width.bytes)) (l.n - l.k)

@@ -11,11 +11,11 @@ returns-in_err-y c = let p = err_from_is_err_and c.from_residual.result c.from_r
 pub returns-in-Break : goal.returns-in-Break
 returns-in-Break c = let e : c.round.result ≡ Ok (Break c.in-Break.y) = cc (c.in_ok-y.was, c.in-Break.is) in search turning
 
-pub loop-x-smaller : goal.loop-x-smaller
-loop-x-smaller c = let e : c.round.result ≡ Ok (Continue c.in-Continue.y) = cc (c.in_ok-y.was, c.in-Continue.is) in search turning
+pub loop-at-smaller : goal.loop-at-smaller
+loop-at-smaller c = let e : c.round.result ≡ Ok (Continue c.in-Continue.y) = cc (c.in_ok-y.was, c.in-Continue.is) in search turning
 
-pub loop-x-preserved : goal.loop-x-preserved
-loop-x-preserved c = let e : c.round.result ≡ Ok (Continue c.in-Continue.y) = cc (c.in_ok-y.was, c.in-Continue.is) in search turning
+pub loop-at-preserved : goal.loop-at-preserved
+loop-at-preserved c = let e : c.round.result ≡ Ok (Continue c.in-Continue.y) = cc (c.in_ok-y.was, c.in-Continue.is) in search turning
 
 pub returns : goal.returns
 returns c = search turning

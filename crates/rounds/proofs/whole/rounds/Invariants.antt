@@ -2,8 +2,8 @@ use Prim.Native.Nat.{◌-◌}
 use Rattle.rounds.proofs.RoundsCode.{Turning}
 use Rattle.rounds.proofs.whole.rounds.Given as goal
 
-abbrev pub invariant-loop-x : goal.invariant-loop-x
-invariant-loop-x l = Turning l.tape l.room l.t l.initial.work l.initial.x l.limit l.work l.x
+abbrev pub invariant-loop-at : goal.invariant-loop-at
+invariant-loop-at l = Turning l.tape l.initial.at.room l.initial.at.t l.initial.work l.initial.at.z l.limit l.work l.at
 
-abbrev pub decreases-loop-x : goal.decreases-loop-x
-decreases-loop-x l = l.limit - l.x.expander.round
+abbrev pub decreases-loop-at : goal.decreases-loop-at
+decreases-loop-at l = l.limit - l.at.z.expander.round

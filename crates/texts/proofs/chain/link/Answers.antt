@@ -1,5 +1,11 @@
 use Rattle.texts.proofs.ChainCode.{linking}
 use Rattle.texts.proofs.chain.link.Goals as goal
 
-pub put_before-requires : goal.put_before-requires
-put_before-requires c = search linking
+pub head-before-requires : goal.head-before-requires
+head-before-requires c = search linking
+
+pub put_head-requires : goal.put_head-requires
+put_head-requires c = search linking
+
+pub returns : goal.returns
+returns c = search linking

@@ -4,8 +4,8 @@ use Rattle.texts.proofs.chain.put_record.Goals as goal
 pub link-requires : goal.link-requires
 link-requires c = search recording
 
-pub returns-then-k-lt-LINKED : goal.returns-then-k-lt-LINKED
-returns-then-k-lt-LINKED c = search recording
+pub returns-then-m-lt-LINKED : goal.returns-then-m-lt-LINKED
+returns-then-m-lt-LINKED c = search recording
 
-pub returns-else-k-lt-LINKED : goal.returns-else-k-lt-LINKED
-returns-else-k-lt-LINKED c = search recording
+pub returns-else-m-lt-LINKED : goal.returns-else-m-lt-LINKED
+returns-else-m-lt-LINKED c = search recording

@@ -1,20 +1,26 @@
+use mathlib.Core.Path.{sym, ◌∙◌}
 use Rattle.texts.proofs.ClassByCode.{judging}
+use Rattle.texts.proofs.class.class_by.Goals.{then-e-a, else-e-a, then-not-starts_name, else-not-starts_name}
 use Rattle.texts.proofs.class.class_by.Goals as goal
 
-pub returns-then-m-lt3 : goal.returns-then-m-lt3
-returns-then-m-lt3 c = search judging
+pub returns-then-lt : goal.returns-then-lt
+returns-then-lt c = search judging
 
-pub returns-then-e-a : goal.returns-then-e-a
-returns-then-e-a c = search judging
+pub returns-then-is_reserved : goal.returns-then-is_reserved
+returns-then-is_reserved c =
+    elim c.if-not-starts_name.branch [
+      | then-not-starts_name w ↦
+          elim c.if-e-a.branch [ then-e-a v ↦ search judging | else-e-a v ↦ search (judging, sym v.value-is ∙ w.if-not-starts_name.true) ]
+      | else-not-starts_name w ↦ search (judging, sym w.value-is ∙ c.if-is_reserved.true)
+    ]
 
-pub returns-then-not-starts_name : goal.returns-then-not-starts_name
-returns-then-not-starts_name c = search judging
-
-pub returns-then-eq : goal.returns-then-eq
-returns-then-eq c = search judging
-
-pub returns-then-eq-2 : goal.returns-then-eq-2
-returns-then-eq-2 c = search judging
-
-pub returns-else-eq-2 : goal.returns-else-eq-2
-returns-else-eq-2 c = search judging
+pub returns-else-is_reserved : goal.returns-else-is_reserved
+returns-else-is_reserved c =
+    elim c.if-not-starts_name.branch [
+      | then-not-starts_name w ↦ search judging
+      | else-not-starts_name w ↦
+          elim c.if-e-a.branch [
+            | then-e-a v ↦ search judging
+            | else-e-a v ↦ search (judging, sym v.value-is ∙ w.if-not-starts_name.false, sym w.value-is ∙ c.if-is_reserved.false)
+          ]
+    ]

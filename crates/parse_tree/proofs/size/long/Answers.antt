@@ -1,5 +1,5 @@
-use Rattle.resolve.proofs.CommandsCode.{lengthening}
-use Rattle.resolve.proofs.commands.long.Goals as goal
+use Rattle.parse_tree.proofs.SizeLaws.{lengthening}
+use Rattle.parse_tree.proofs.size.long.Goals as goal
 
 pub returns-in-18 : goal.returns-in-18
 returns-in-18 c = search lengthening

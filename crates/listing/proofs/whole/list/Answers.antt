@@ -1,5 +1,5 @@
 use Rattle.listing.proofs.WholeCode.{listing_tape}
-use Rattle.listing.proofs.whole.listing.Goals as goal
+use Rattle.listing.proofs.whole.list.Goals as goal
 
 pub list_yes-requires : goal.list_yes-requires
 list_yes-requires c = search listing_tape
