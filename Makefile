@@ -1,7 +1,8 @@
-# run, test: README's two commands; run TAPE=file lists that tape. archive: what Rust and C link. compare: all calls set against the Rust on some hundred thousand
-# tapes. bench: the calls' time, beside LALRPOP's. trust: counts what a reader must believe, and holds docs/TRUST.md to the files.
+# run, test: README's two commands; run TAPE=file lists that tape. archive: what Rust and C link. valgrind: the tests that call it, under valgrind. compare: all calls set against the Rust on some hundred thousand
+# tapes. bench: the calls' time, beside LALRPOP's. fuzz: tapes put to all calls for SECONDS in guarded memory (PART=.. as tools/fuzz.sh has them).
+# trust: counts what a reader must believe, and holds docs/TRUST.md to the files.
 # They need the Rattle kit's rt, cargo and make.
-.PHONY: run test archive rust rust-tests compare bench trust clean need-rt
+.PHONY: run test archive rust rust-tests valgrind compare bench fuzz trust clean need-rt
 
 cargo = cargo $(1) --quiet --offline --manifest-path rust/Cargo.toml --target-dir target/rust
 
@@ -26,12 +27,18 @@ rust-tests:
 	$(call cargo,test)
 	sh tools/check_missing.sh
 
+valgrind: archive
+	sh tools/valgrind.sh
+
 compare: archive
 	for part in resolve levels macros; do $(call cargo,run) --release -p compare --bin compare -- $(or $(SEED),1) $(or $(COUNT),200000) $$part || exit 1; done
 	$(call cargo,run) --release -p compare --bin compare -- $(or $(SEED),1) $(or $(COUNT),500000) whole
 
 bench: archive
 	$(call cargo,run) --release -p bench
+
+fuzz: archive
+	@sh tools/fuzz.sh $(or $(SECONDS),60) $(or $(SEED),1) $(or $(PART),guided)
 
 # no part of `test`, which needs no Python; the gate holds the line numbers by itself
 trust:

@@ -1,5 +1,5 @@
 #!/usr/bin/env bash
-# tools/cases.sh: writes crates/cases/stdin and stdout: the cases of questions 1 to 4, whose answers are stated in tools/cases.py, then the
+# tools/cases.sh: writes crates/cases/stdin and stdout: the cases of questions 1 to 4, whose answers are stated in tools/validating, then the
 # stored cases of resolving, of levels, of macros and of the whole, answered by the second reading of document 01 and by LALRPOP's Rust
 # (rust/compare/src/chosen.rs, chosen_rounds.rs, and stated.rs, whose answers are stated there as well). Our own calls are not asked.
 set -euo pipefail

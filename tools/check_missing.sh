@@ -22,6 +22,7 @@ nowhere="LALRPOP_SRC=$scratch/nowhere"
 try "no archive" 101 "libexports.a is not in $scratch/nowhere: run \`make archive\`" RATTLE_STATICLIB="$scratch/nowhere" $check -p normalize
 try "no LALRPOP" 0 "LALRPOP_SRC names their folder): what needs them is skipped" REQUIRE_LALRPOP= "$nowhere" $check -p oracle
 try "LALRPOP required" 101 "LALRPOP_SRC names their folder): REQUIRE_LALRPOP=1 asks for them" REQUIRE_LALRPOP=1 "$nowhere" $check -p oracle
+try "no parser" 101 "LALRPOP_CRATES names $scratch/nowhere, which has no lalrpop-util-0.19.8/src/lib.rs" LALRPOP_CRATES="$scratch/nowhere" $check -p parser
 try "no LALRPOP, calls" 0 "LALRPOP_SRC names their folder): nothing compared" REQUIRE_LALRPOP= "$nowhere" tools/compare_calls.sh 1 1
 try "LALRPOP required, calls" 2 "LALRPOP_SRC names their folder): REQUIRE_LALRPOP=1 asks for them" REQUIRE_LALRPOP=1 "$nowhere" tools/compare_calls.sh 1 1
-echo "tools/check_missing.sh: 5 things that are missing are each said in one sentence"
+echo "tools/check_missing.sh: 6 things that are missing are each said in one sentence"

@@ -4,9 +4,9 @@ import collections
 import glob
 import os
 import re
-import sys
 
-ROOT = os.path.dirname(os.path.dirname(os.path.abspath(__file__)))
+from findings import ROOT, end
+
 DECLARED = re.compile(r"^(\s*)(?:unfoldable |abbrev )?pub (?:(record|data|ruleset) )?([^\s(){}:=]+)")
 
 
@@ -33,11 +33,8 @@ def main():
         for name, number in declared(path):
             places[name].append(f"{os.path.relpath(path, ROOT)}:{number}")
     twice = {name: at for name, at in places.items() if len(at) > 1}
-    for name, at in sorted(twice.items()):
-        print(f"{name}: {', '.join(at)}")
-    print(f"specs: {len(places)} names, {len(twice)} declared twice")
-    return 1 if twice else 0
+    end([f"{name}: {', '.join(at)}" for name, at in sorted(twice.items())], f"specs: {len(places)} names, {len(twice)} declared twice")
 
 
 if __name__ == "__main__":
-    sys.exit(main())
+    main()

@@ -4,8 +4,9 @@ import os
 import re
 import sys
 
-root = os.path.dirname(os.path.dirname(os.path.abspath(__file__)))
-page = f"{root}/docs/TRUST.md"
+from findings import ROOT, end
+
+page = f"{ROOT}/docs/TRUST.md"
 reference = re.compile(r"`([^`]+)` (crates/[^\s:,)]+):(\d+)")
 
 
@@ -14,9 +15,9 @@ def line_of(name, path):
     start = re.compile(
         r"^\s*(?:unfoldable |abbrev |pub |data |record |extern \"C\" |const )*(?:fn )?" + re.escape(name) + r"(?=[\s:({\[<])"
     )
-    if not os.path.exists(f"{root}/{path}"):
+    if not os.path.exists(f"{ROOT}/{path}"):
         return None
-    with open(f"{root}/{path}") as f:
+    with open(f"{ROOT}/{path}") as f:
         for number, line in enumerate(f, 1):
             if start.match(line):
                 return number
@@ -37,11 +38,8 @@ def main():
     if "--write" in sys.argv:
         open(page, "w").write(new)
         wrong = [w for w in wrong if w.endswith("None")]
-    for w in wrong:
-        print(w)
-    print(f"docs/TRUST.md: {len(reference.findall(text))} references, {len(wrong)} wrong")
-    return 1 if wrong else 0
+    end(wrong, f"docs/TRUST.md: {len(reference.findall(text))} references, {len(wrong)} wrong")
 
 
 if __name__ == "__main__":
-    sys.exit(main())
+    main()

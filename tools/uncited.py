@@ -5,9 +5,9 @@ begins with `-- theorem`."""
 import glob
 import os
 import re
-import sys
 
-ROOT = os.path.dirname(os.path.dirname(os.path.abspath(__file__)))
+from findings import ROOT, end
+
 TOKEN = re.compile(r"[^\s(){}.;,@\"«»]+")
 SIGNATURE = re.compile(r"^(\s*)(?:abbrev |unfoldable )?(pub )?([^\s(){}:=]+) : ")
 # what is written of the proof of one function
@@ -52,11 +52,8 @@ def main():
     inside = [path for part in ("src", "specs", "proofs") for path in glob.glob(f"{ROOT}/crates/*/{part}/**", recursive=True)]
     paths = sorted(path for path in inside if path.endswith((".antt", ".rt")))
     left = list(uncited_lemmas(paths, open(f"{ROOT}/docs/TRUST.md").read()))
-    for row in left:
-        print(row)
-    print(f"uncited: {len(left)}")
-    return 1 if left else 0
+    end(left, f"uncited: {len(left)}")
 
 
 if __name__ == "__main__":
-    sys.exit(main())
+    main()

@@ -1,31 +1,15 @@
--- What stays where bytes change in the list of new texts and in the words of built-in texts only: records of pushed symbols and references. Assumes nothing.
+-- What stays where bytes change in the list of new texts and in the words of built-in texts only: records of pushed symbols. Assumes nothing.
 use mathlib.Core.Path.{◌≡◌, ◌∙◌}
 use mathlib.Core.List.{List}
-use Prim.Native.Nat.{ℕ, ◌+◌, ◌-◌, ◌*◌, ◌/◌, ◌%◌, ◌<◌, ◌≤◌}
+use Prim.Native.Nat.{ℕ, ◌+◌, ◌-◌, ◌*◌, ◌/◌, ◌<◌, ◌≤◌}
 use native.Mathlib.Omega.{arith}
-use borrow.Author.Tests.{eq-eqb, ne_eqb}
 use lib.ListN.{get_or}
-use Rattle.octets.specs.Working.Choice.{pick}
 use Rattle.texts.specs.Fields.{mark_at, hash_at, link_at, head_at, cell_at}
 use Rattle.texts.specs.Table.{texts, linked}
 use Rattle.texts.proofs.ChainCode.{chained_same}
 use Rattle.texts.proofs.TableStays.{le_at-agree, linked-le}
 use Rattle.expander.specs.declared.Ground.{Ground}
-use Rattle.expander.specs.Ground.{size_in, stage_in, slot_at, key_at, Records}
-use Rattle.expander.specs.Held.{followed}
-
--- ---- references
-pub odd_one : (v : ℕ) → (v % 2 ≡ 0 → ⊥) → v % 2 ≡ 1
-odd_one v e = omega arith
-
-module _ (w : List ℕ) (g : Ground) (v : ℕ) where
-  pub followed-even : v % 2 ≡ 0 → followed w g v ≡ v
-  unfolding followed pick
-  followed-even e = cc (eq-eqb (v % 2) 0 e)
-
-  pub followed-odd : (v % 2 ≡ 0 → ⊥) → followed w g v ≡ slot_at w g (key_at w g (v / 2))
-  unfolding followed pick
-  followed-odd e = cc (ne_eqb (v % 2) 0 e)
+use Rattle.expander.specs.Ground.{size_in, stage_in, key_at, Records}
 
 -- ---- records: the last three are none of a pushed symbol and hold no head
 module _ (w w' : List ℕ) (g : Ground) (n : ℕ) (fits : g.keys + 24 * (size_in g / 9) ≤ g.slots) (room : n + 3 ≤ size_in g / 9)

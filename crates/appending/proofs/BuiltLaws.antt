@@ -22,7 +22,8 @@ use Rattle.expander.specs.Held.{followed}
 use Rattle.expander.specs.Names.{named_in, Names, NamedBy}
 use Rattle.expander.proofs.GroundLaws.{Around, listed-around, texts-around, printed_around}
 use Rattle.appending.specs.Built.{built_text, built_place, built_at, BuiltIs, BuiltNot, Built, Gives}
-use Rattle.appending.proofs.BuiltGround.{odd_one, key_kept}
+use Rattle.expander.proofs.SlotsCode.{odd_one}
+use Rattle.appending.proofs.BuiltGround.{key_kept}
 use Rattle.appending.proofs.BuiltStays.{is_stays, not_stays}
 
 -- ---- the nine texts

@@ -29,7 +29,7 @@ use Rattle.appending.specs.Built.{built_text, built_place, built_at, BuiltIs, Bu
 use Rattle.appending.proofs.BuiltStays.{is_stays, not_stays}
 use Rattle.appending.proofs.BuiltLaws.{built_has, built_one}
 use Rattle.appending.proofs.BuiltRoom.{described_built, built_absent, built_room}
-use Rattle.appending.proofs.BuiltNames.{Worded, around, key_same, key_print, list_same, named-kept, names_then}
+use Rattle.appending.proofs.BuiltNames.{Worded, around, key_same, key_print, list_same, named-kept, named_then}
 
 pub length_found : (s w : List ℕ) (g : Ground) → length (texts s w g.m) ≡ g.m.count
 unfolding texts
@@ -149,7 +149,7 @@ module _ (s w : List ℕ) (g : Ground) (n c : ℕ) (ps : List ℕ) (e : Grounded
     found_names : Names s w' g n c ps
     unfolding has
     found_names =
-        names_then s w w' g n c ps e h b found_worded c [] (omega arith) h.room (found_kept ∙ sym (append-nil (named_in s w g c))) (ap distinct found_kept ∙ h.apart)
+        named_then s w w' g n c ps e h b found_worded c [] (omega arith) h.room (found_kept ∙ sym (append-nil (named_in s w g c))) (ap distinct found_kept ∙ h.apart)
         (λ j m. rw (list_same s w w' g n c ps e h b found_worded j m) (h.entries j m)) (λ _ _. refl)
 
     -- theorem: that is its number
@@ -231,7 +231,7 @@ module _ (s w : List ℕ) (g : Ground) (n c : ℕ) (ps : List ℕ) (e : Grounded
     next_other j m = has_more (printed_at s w g (key_at w g j)) (built_text i) [] refl (λ y. false≢true (sym (b.other j m) ∙ ap (λ (t : Text). has t built_ins) (sym y) ∙ built_has i l))
 
     next_names : Names s w' g n (c + 1) ps
-    next_names = names_then s w w' g n c ps e h b next_worded (c + 1) (built_text i ∷ []) (omega arith) (list_room g c room) next_named next_apart next_entries next_other
+    next_names = named_then s w w' g n c ps e h b next_worded (c + 1) (built_text i ∷ []) (omega arith) (list_room g c room) next_named next_apart next_entries next_other
 
     -- theorem: then it gets the next number
     pub next_gives : Gives s w g n c ps (built_text i) (record { number = g.m.count + c; count = c + 1 }) w'

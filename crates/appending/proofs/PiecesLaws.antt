@@ -17,7 +17,7 @@ use Rattle.texts.proofs.TableStays.{above_stays}
 use Rattle.resolve.proofs.CellsLaws.{lies_agree}
 use Rattle.precedence.specs.Write.{Puts}
 use Rattle.precedence.proofs.WriteLaws.{fits_or_not, puts_beside, puts_on, puts_upto}
-use Rattle.replacing.proofs.Going.{Extends, new_append, new_extends}
+use Rattle.replacing.proofs.Growing.{Extends, new_append, new_extends}
 use Rattle.replacing.proofs.ThereBytes.{there_parts, new_all, syms_known, there_bytes}
 use Rattle.expander.specs.declared.Ground.{Ground}
 use Rattle.expander.specs.declared.slots.Numbered.{Numbered}

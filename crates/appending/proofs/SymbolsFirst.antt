@@ -21,7 +21,7 @@ use Rattle.grades.proofs.CodesMean.{Codes, first_codes}
 use Rattle.display.proofs.StandsLaws.{first_stands}
 use Rattle.replacing.specs.Slots.{among}
 use Rattle.replacing.specs.Trees.{renamed, renamed_all, is_key}
-use Rattle.replacing.proofs.Going.{Extends}
+use Rattle.replacing.proofs.Growing.{Extends}
 use Rattle.expander.specs.declared.Ground.{Ground}
 use Rattle.expander.specs.Ground.{size_in, Grounded}
 use Rattle.expander.specs.Names.{listed_texts, named_in}

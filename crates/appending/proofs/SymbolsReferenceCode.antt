@@ -26,7 +26,7 @@ use Rattle.expander.specs.declared.Ground.{Ground}
 use Rattle.expander.specs.Ground.{size_in, printed_at, Grounded}
 use Rattle.expander.specs.Names.{named_in}
 use Rattle.expander.proofs.KeysLaws.{stands_print}
-use Rattle.expander.proofs.NodeCodes.{key_bytes_lem}
+use Rattle.expander.proofs.KnownCodes.{key_bytes_lem}
 use Rattle.appending.specs.declared.Appended.{Appended}
 use Rattle.appending.specs.declared.symbols.Copied.{Copied}
 use Rattle.appending.specs.Pieces.{name_piece, symbols_piece, Appends}

@@ -21,7 +21,7 @@ use Rattle.expander.specs.Replace.{keys_of_all}
 use Rattle.expander.proofs.GroundLaws.{list_start}
 use Rattle.appending.specs.declared.Appended.{Appended}
 use Rattle.appending.specs.Pieces.{Piece, Appending, Appends}
-use Rattle.appending.specs.Symbols.{Referring}
+use Rattle.appending.specs.Symbols.{Referring, SomeReferring}
 
 module _ (s : List ℕ) (g : Ground) (n lim : ℕ) (ps : List ℕ) (w : List ℕ) (v : Appended) (h : Appending s g n lim ps w v) (x : Piece) (v' : Appended) (w' : List ℕ) (a : Appends s g n lim ps w v x v' w') where
   pub table_stays : Stays s w g.m w' g.m
@@ -60,3 +60,16 @@ module _ (s : List ℕ) (g : Ground) (n lim : ℕ) (ps : List ℕ) (w : List ℕ
     levels = r.levels;
     referred = subst (λ (ts : List Text). Each (λ (q : ℕ). among q ps ≡ true) (keys_of_all g.width.bytes ts ys p)) (sym texts-stay) r.referred;
   }
+
+-- theorem: and some of which no more is known
+pub some_stays : (s w : List ℕ) (g : Ground) (n lim p k : ℕ) (v : Appended) (K : SomeReferring s w g n lim p k v) (x : Piece) (r : Appended) (w1 : List ℕ) → Appends s g n lim K.places w v x r w1 → SomeReferring s w1 g n lim p k r
+some_stays s w g n lim p k v K x r w1 a = record {
+  places = K.places;
+  four = K.four;
+  left = K.left;
+  end = K.end;
+  symbols = K.symbols;
+  going = a.going;
+  many = K.many;
+  referring = referring_stays s g n lim K.places w v K.going x r w1 a K.four K.left p K.end K.symbols K.referring;
+}

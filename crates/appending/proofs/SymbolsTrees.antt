@@ -22,8 +22,9 @@ use Rattle.laws.specs.Flat.{sym_node, children, joined}
 use Rattle.laws.proofs.Flat.{node_size}
 use Rattle.replacing.specs.Trees.{keyed, renamed, renamed_all, is_key}
 use Rattle.replacing.specs.Runs.{plain_leaf, plain_around, plain_kind, plain, key_bytes}
-use Rattle.replacing.proofs.Going.{Extends, new_append, new_there}
-use Rattle.replacing.proofs.SymbolsGo.{leaf_later, around_later, leaf_there, around_there}
+use Rattle.replacing.proofs.Growing.{Extends, new_append, new_there}
+use Rattle.replacing.proofs.SymbolsGo.{leaf_later, around_later}
+use Rattle.parse_tree.proofs.NothingNew.{leaf_there, around_there}
 use Rattle.expander.specs.Replace.{keys_of, keys_of_all}
 use Rattle.expander.proofs.KeysLaws.{own_keys, sym_length, keys_parts}
 

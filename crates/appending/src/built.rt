@@ -71,26 +71,26 @@ pub fn bytes(text: BuiltIn) -> &'static [u8]
 }
 
 // What its word says: its number among the texts, if it was asked for.
-fn word(work: &[u8], g: Ground, text: BuiltIn) -> Option<usize>
-    requires { (72 ≤ g.slots) × (built_place g (number_of text) + 8 ≤ length work.now) }
-    ensures { built_at work.now g (number_of text) ≡ word_of result }
+fn word(work: &[u8], g: &Ground, text: BuiltIn) -> Option<usize>
+    requires { (72 ≤ g.now.slots) × (built_place g.now (number_of text) + 8 ≤ length work.now) }
+    ensures { built_at work.now g.now (number_of text) ≡ word_of result }
 {
     let v = u64_at(work, g.built_place(number_of(text))) as usize;
     if v == 0 { None } else { Some(v - 1) }
 }
 
 // The text has the number k: its word is the number and one.
-fn put_word(work: &mut [u8], g: Ground, text: BuiltIn, k: usize)
-    requires { (72 ≤ g.slots) × (built_place g (number_of text) + 8 ≤ length work.old) × (k + 1 < 2 ^ 64) }
-    ensures { work.new ≡ store work.old (built_place g (number_of text)) (le 8 (k + 1)) }
+fn put_word(work: &mut [u8], g: &Ground, text: BuiltIn, k: usize)
+    requires { (72 ≤ g.now.slots) × (built_place g.now (number_of text) + 8 ≤ length work.old) × (k + 1 < 2 ^ 64) }
+    ensures { work.new ≡ store work.old (built_place g.now (number_of text)) (le 8 (k + 1)) }
 {
     store64(work, g.built_place(number_of(text)), k as u64 + 1);
 }
 
 // The text is the c-th new one.
-fn put_next(work: &mut [u8], g: Ground, c: usize, text: BuiltIn)
-    requires { (72 ≤ g.slots) × (list_place g c + 8 ≤ length work.old) × (built_place g (number_of text) + 8 ≤ length work.old) }
-    ensures { work.new ≡ store (store work.old (list_place g c) (le 8 (2 * number_of text + 1))) (built_place g (number_of text)) (le 8 (g.m.count + c + 1)) }
+fn put_next(work: &mut [u8], g: &Ground, c: usize, text: BuiltIn)
+    requires { (72 ≤ g.now.slots) × (list_place g.now c + 8 ≤ length work.old) × (built_place g.now (number_of text) + 8 ≤ length work.old) }
+    ensures { work.new ≡ store (store work.old (list_place g.now c) (le 8 (2 * number_of text + 1))) (built_place g.now (number_of text)) (le 8 (g.now.m.count + c + 1)) }
 {
     put_entry(work, g.m, c, NewText::BuiltIn(number_of(text)));
     put_word(work, g, text, g.m.count + c);
@@ -106,9 +106,9 @@ fn find_built(tape: &[u8], work: &[u8], m: Map, text: BuiltIn) -> Option<usize>
 }
 
 // The number of a text that was not asked for yet. `n` for the clauses alone.
-fn first(tape: &[u8], work: &mut [u8], g: Ground, n: usize, c: usize, text: BuiltIn) -> Numbered
-    requires { Grounded tape.now work.old g × SomeBuilt tape.now work.old g n c × (built_at work.old g (number_of text) ≡ 0) }
-    ensures { GivesBuilt tape.now work.old g n c (number_of text) result work.new }
+fn first(tape: &[u8], work: &mut [u8], g: &Ground, n: usize, c: usize, text: BuiltIn) -> Numbered
+    requires { Grounded tape.now work.old g.now × SomeBuilt tape.now work.old g.now n c × (built_at work.old g.now (number_of text) ≡ 0) }
+    ensures { GivesBuilt tape.now work.old g.now n c (number_of text) result work.new }
 {
     match find_built(tape, work, g.m, text) {
         Some(k) => {
@@ -129,9 +129,16 @@ fn first(tape: &[u8], work: &mut [u8], g: Ground, n: usize, c: usize, text: Buil
 }
 
 // The number of a text: the next one, if it is no text yet. n symbols were pushed, c texts are new.
-pub fn built(tape: &[u8], work: &mut [u8], g: Ground, n: usize, c: usize, text: BuiltIn) -> Numbered
-    requires { Grounded tape.now work.old g × SomeBuilt tape.now work.old g n c }
-    ensures { GivesBuilt tape.now work.old g n c (number_of text) result work.new }
+pub fn built(
+    tape: &[u8],
+    work: &mut [u8],
+    g: &Ground,
+    n: usize,
+    c: usize,
+    text: BuiltIn,
+) -> Numbered
+    requires { Grounded tape.now work.old g.now × SomeBuilt tape.now work.old g.now n c }
+    ensures { GivesBuilt tape.now work.old g.now n c (number_of text) result work.new }
 {
     match word(work, g, text) {
         Some(k) => Numbered {

@@ -33,15 +33,15 @@ pub struct Coming {
 pub fn put_named(
     tape: &[u8],
     work: &mut [u8],
-    round: Round,
+    round: &Round,
     p: usize,
     span: u64,
     v: Appended,
 ) -> Appended
-    requires { Nameable tape.now work.old round.g round.n round.lim p v }
-    ensures { PutsNamed tape.now work.old round.g round.n round.lim p span v result work.new }
+    requires { Nameable tape.now work.old round.now.g round.now.n round.now.lim p v }
+    ensures { PutsNamed tape.now work.old round.now.g round.now.n round.now.lim p span v result work.new }
 {
-    let x = number(tape, work, round.g, round.n, v.count, p);
+    let x = number(tape, work, &round.g, round.n, v.count, p);
     let to = put_nonterminal(work, span, x.atom(), round.g.width, round.lim, v.to);
     Appended {
         to,
@@ -51,9 +51,9 @@ pub fn put_named(
 }
 
 // The symbol at q.at, which is expanded, as the name of its print.
-fn put_reference(tape: &[u8], work: &mut [u8], round: Round, q: Copied) -> Copied
-    requires { SomeReference tape.now work.old round.g round.n round.lim q }
-    ensures { PutsReference tape.now work.old round.g round.n round.lim q result work.new }
+fn put_reference(tape: &[u8], work: &mut [u8], round: &Round, q: Copied) -> Copied
+    requires { SomeReference tape.now work.old round.now.g round.now.n round.now.lim q }
+    ensures { PutsReference tape.now work.old round.now.g round.now.n round.now.lim q result work.new }
 {
     let at = round.g.from + q.at;
     let e = skip(work, at, round.g.end, 1, round.g.width);
@@ -88,9 +88,9 @@ pub fn copy_command(
 }
 
 // One symbol that is expanded, or one command.
-fn put_next(tape: &[u8], work: &mut [u8], round: Round, x: Coming) -> Coming
-    requires { SomeReferring tape.now work.old round.g round.n round.lim x.run.at x.many x.run.out × (0 < x.many) }
-    ensures { PutsNext tape.now work.old round.g round.n round.lim x result work.new }
+fn put_next(tape: &[u8], work: &mut [u8], round: &Round, x: Coming) -> Coming
+    requires { SomeReferring tape.now work.old round.now.g round.now.n round.now.lim x.run.at x.many x.run.out × (0 < x.many) }
+    ensures { PutsNext tape.now work.old round.now.g round.now.n round.now.lim x result work.new }
 {
     let q = x.run;
     let at = round.g.from + q.at;
@@ -112,13 +112,13 @@ fn put_next(tape: &[u8], work: &mut [u8], round: Round, x: Coming) -> Coming
 pub fn put_symbols(
     tape: &[u8],
     work: &mut [u8],
-    round: Round,
+    round: &Round,
     p: usize,
     k: usize,
     v: Appended,
 ) -> Copied
-    requires { SomeReferring tape.now work.old round.g round.n round.lim p k v }
-    ensures { PutsSymbols tape.now work.old round.g round.n round.lim p k v result work.new }
+    requires { SomeReferring tape.now work.old round.now.g round.now.n round.now.lim p k v }
+    ensures { PutsSymbols tape.now work.old round.now.g round.now.n round.now.lim p k v result work.new }
 {
     let first = Copied { at: p, out: v };
     let mut x = Coming {

@@ -5,7 +5,6 @@ use mathlib.Core.List.{List, [], ◌∷◌, ◌++◌, map}
 use mathlib.Core.Option.{Option, none, some}
 use Prim.Native.Nat.{ℕ, suc, ◌+◌, ◌*◌, ◌≤◌}
 use native.Mathlib.Omega.{arith}
-use lib.Dec.{eqb, ltb}
 use lib.ListN.{length, length-append, length-map}
 use Rattle.parse_tree.specs.Plain.Tree.{Text, Alternative, Nonterminal, Source, Item, item, conditions}
 use Rattle.parse_tree.specs.Plain.Texts.{number}
@@ -17,32 +16,11 @@ use Rattle.parse_tree.specs.declared.syntax.TerminalData.{TerminalData}
 use Rattle.parse_tree.specs.declared.syntax.Node.{Node}
 use Rattle.parse_tree.proofs.SizeLaws.{nonterminal_size, terminal_size, alternative_size}
 use Rattle.passes.specs.Outcome.{Tree}
-use Rattle.passes.specs.Grades.{Side, all, Levelled, level_of, value_of, precedence, assoc, with_levels, Graded, side_of, with_sides, graded, annotated}
-use Rattle.passes.specs.Levels.{insert, levels_of, level_name, groups_of, substituted, with_fall_through, level_items, levelled}
+use Rattle.passes.specs.Grades.{Graded, graded, annotated}
+use Rattle.laws.proofs.LevelsMany.{graded-length, levels-few}
+use Rattle.passes.specs.Levels.{levels_of, level_name, groups_of, substituted, with_fall_through, level_items, levelled}
 
 -- ---- at most as many levels as alternatives
-levels-length : (l : ℕ) (as' : List Alternative) → length (with_levels l as') ≡ length as'
-levels-length l [] = refl
-levels-length l (a ∷ rest) = ap suc (levels-length (level_of l (value_of precedence a.attributes)) rest)
-
-sides_length : (s : Side) (xs : List Levelled) → length (with_sides s xs) ≡ length xs
-sides_length s [] = refl
-sides_length s (x ∷ rest) = ap suc (sides_length (side_of (cond x.is_new all s) (value_of assoc x.alternative.attributes)) rest)
-
-insert-few : (v : ℕ) (xs : List ℕ) → length (insert v xs) ≤ suc (length xs)
-insert-few v [] = omega arith
-insert-few v (x ∷ xs) = go (ltb v x) (eqb v x) (insert-few v xs)
-  where
-    go : (s t : Bool) → length (insert v xs) ≤ suc (length xs) → length (cond s (v ∷ x ∷ xs) (cond t (x ∷ xs) (x ∷ insert v xs))) ≤ suc (suc (length xs))
-    go true t i = omega arith
-    go false true i = omega arith
-    go false false i = omega arith
-
-levels-few : (gs : List Graded) → length (levels_of gs) ≤ length gs
-unfolding levels_of
-levels-few [] = omega arith
-levels-few (g ∷ gs) = omega (arith, insert-few g.level (levels_of gs), levels-few gs)
-
 groups_length : (E : Text) (gs : List Graded) (lower : Option Text) (vs : List ℕ) → length (groups_of E gs lower vs) ≡ length vs
 unfolding groups_of
 groups_length E gs lower [] = refl
@@ -58,8 +36,7 @@ items_few d =
       length-map xs (substituted d.name),
       groups_length d.name (graded d) none (levels_of (graded d)),
       levels-few (graded d),
-      sides_length all (with_levels 0 d.alternatives),
-      levels-length 0 d.alternatives,
+      graded-length d,
     )
 
 -- ---- an alternative has 16 bytes or more, an item 11

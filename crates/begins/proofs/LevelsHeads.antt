@@ -5,8 +5,7 @@ use mathlib.Core.List.{List, [], ◌∷◌, ◌++◌, map}
 use mathlib.Core.Option.{Option, none, some}
 use Prim.Native.Nat.{ℕ, zero, suc, ◌+◌, ◌-◌, ◌*◌, ◌/◌, ◌%◌, ◌≤◌}
 use native.Mathlib.Omega.{arith}
-use borrow.Author.Tests.{eq-eqb}
-use lib.Dec.{eqb, ltb}
+use lib.Dec.{ltb}
 use lib.ListN.{length, length-append, length-map}
 use Rattle.parse_tree.specs.Plain.Tree.{Text, Alternative, Nonterminal, Item, item}
 use Rattle.parse_tree.specs.Plain.Texts.{name_bytes}
@@ -14,45 +13,15 @@ use Rattle.parse_tree.specs.Working.Within.{Each}
 use Rattle.parse_tree.proofs.ReadingLaws.{each_append}
 use Rattle.passes.specs.Outcome.{Tree}
 use Rattle.passes.specs.Grades.{Graded, graded, annotated}
-use Rattle.passes.specs.Levels.{insert, levels_of, of_level, decimal_from, decimal, level_name, Group, groups_of, substitute, substituted, fall_through, with_fall_through, level_items, levelled}
+use Rattle.passes.specs.Levels.{levels_of, of_level, decimal_from, decimal, level_name, Group, groups_of, substitute, substituted, fall_through, with_fall_through, level_items, levelled}
 use Rattle.passes.specs.Macros.{without_macros}
+use Rattle.laws.proofs.LevelsMany.{levels-full}
 use Rattle.laws.specs.Counts.{heads_in, heads}
 use Rattle.rounds.proofs.LevelsSound.{NamedItem}
 use Rattle.rounds.proofs.PaidKeeps.{heads-both}
 use Rattle.begins.specs.Lowers.{lowers_of, lowers, plain_lowers, macro_lowers}
 
--- ---- no level is empty
-insert-each : (P : ℕ → Type 0) (v : ℕ) (xs : List ℕ) → P v → Each P xs → Each P (insert v xs)
-insert-each P v [] p h = (p, tt)
-insert-each P v (x ∷ xs) p h = go (ltb v x) (eqb v x) (insert-each P v xs p h.1)
-  where
-    go : (s t : Bool) → Each P (insert v xs) → Each P (cond s (v ∷ x ∷ xs) (cond t (x ∷ xs) (x ∷ insert v xs)))
-    go true t i = (p, h)
-    go false true i = h
-    go false false i = (h.0, i)
-
-own-some : (g : Graded) (gs : List Graded) → 1 ≤ length (of_level g.level (g ∷ gs))
-unfolding of_level
-own-some g gs = let z = eq-eqb g.level g.level refl in rw z (omega arith)
-
-more_some : (g : Graded) (gs : List Graded) (v : ℕ) → 1 ≤ length (of_level v gs) → 1 ≤ length (of_level v (g ∷ gs))
-unfolding of_level
-more_some g gs v h = go (eqb g.level v)
-  where
-    go : (b : Bool) → 1 ≤ length (cond b (g ∷ of_level v gs) (of_level v gs))
-    go true = omega arith
-    go false = h
-
-all_more : (g : Graded) (gs : List Graded) (vs : List ℕ) → Each (λ (v : ℕ). 1 ≤ length (of_level v gs)) vs → Each (λ (v : ℕ). 1 ≤ length (of_level v (g ∷ gs))) vs
-all_more g gs [] h = tt
-all_more g gs (v ∷ vs) h = (more_some g gs v h.0, all_more g gs vs h.1)
-
-levels-full : (gs : List Graded) → Each (λ (v : ℕ). 1 ≤ length (of_level v gs)) (levels_of gs)
-unfolding levels_of
-levels-full [] = tt
-levels-full (g ∷ gs) = insert-each (λ (v : ℕ). 1 ≤ length (of_level v (g ∷ gs))) g.level (levels_of gs) (own-some g gs) (all_more g gs (levels_of gs) (levels-full gs))
-
--- ---- so each item has an alternative
+-- ---- each item has an alternative
 pub heads-in : (as' : List Alternative) → heads_in as' ≡ 16 * length as'
 unfolding heads_in
 heads-in [] = refl

@@ -1,7 +1,6 @@
 -- What new texts cost where those of M are owed: the others are names of levels whose items are there. Assumes nothing.
-use mathlib.Core.Path.{◌≡◌, refl, subst}
-use mathlib.Core.Bool.{Bool, true, false, false≢true}
-use mathlib.Core.Logic.{◌⊎◌, inl, inr}
+use mathlib.Core.Path.{◌≡◌, refl}
+use mathlib.Core.Bool.{Bool, true, false}
 use mathlib.Core.List.{List, [], ◌∷◌, ◌++◌}
 use Prim.Native.Nat.{ℕ, ◌+◌, ◌*◌, ◌≤◌}
 use native.Mathlib.Omega.{arith}
@@ -13,10 +12,11 @@ use Rattle.parse_tree.specs.Plain.WriteTape.{bytes_of_each}
 use Rattle.parse_tree.specs.Working.Encode.{atom_bytes}
 use Rattle.parse_tree.specs.Working.Within.{Each}
 use Rattle.parse_tree.proofs.ReadBack.{atom_size}
-use Rattle.parse_tree.proofs.AmongLaws.{has_here, has-later, has-cases}
+use Rattle.parse_tree.proofs.AmongLaws.{has_here, has-later}
 use Rattle.rounds.specs.Paid.{weigh, cost24, cost20, Known}
 use Rattle.rounds.proofs.PaidTexts.{new_weighs, records_24, records_20}
 use Rattle.rounds.proofs.PaidPile.{each_all}
+use Rattle.rounds.proofs.PaidRounds.{each_at}
 use Rattle.begins.specs.Lowers.{owes, unless}
 
 -- ---- weights
@@ -40,15 +40,6 @@ weigh-none f (t ∷ us) h = omega (arith, h.0, weigh-none f us h.1)
 pub themselves : (ts : List Text) → Each (λ (t : Text). has t ts ≡ true) ts
 themselves [] = tt
 themselves (t ∷ ts) = (has_here t ts, each_all (λ (x : Text). has x ts ≡ true) (λ (x : Text). has x (t ∷ ts) ≡ true) (λ x h. has-later x t ts h) ts (themselves ts))
-
-each_at : (P : Text → Type 0) (us : List Text) (t : Text) → Each P us → has t us ≡ true → P t
-unfolding has
-each_at P [] t h k = absurd (false≢true k)
-each_at P (u ∷ us) t h k = go (has-cases t u us k) (each_at P us t h.1)
-  where
-    go : (u ≡ t) ⊎ (has t us ≡ true) → (has t us ≡ true → P t) → P t
-    go (inl e) f = subst P e h.0
-    go (inr j) f = f j
 
 module _ (M : List Text) (long : Each (λ (t : Text). 2 ≤ length t) M) where
   long_at : (t : Text) → has t M ≡ true → 2 ≤ length t

@@ -1,10 +1,11 @@
 -- Laws of printed forms of symbols that stand in work. Assumes nothing.
 pub mod MetLaws
 pub mod StandsLaws
-mod MeetCode
+pub mod MeetCode
 pub mod FollowCode
 pub mod FormLaws
 mod FormCode
+mod SymbolCode
 mod ListCode
 pub mod SinkLaws
 pub mod TakenLaws

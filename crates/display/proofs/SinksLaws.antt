@@ -6,22 +6,18 @@ use lib.ListN.{length-drop}
 use borrow.Author.Rules.{rules}
 use Rattle.std.specs.Borrow.{Bor}
 use Rattle.std.specs.Prelude.{Option, Some, None}
-use Rattle.parse_tree.specs.Plain.Tree.{Text, nil, cons, count}
-use Rattle.parse_tree.specs.Plain.Display.{shown, shown_all, shown_more, print}
+use Rattle.parse_tree.specs.Plain.Tree.{Text}
+use Rattle.parse_tree.specs.Plain.Display.{print}
 use Rattle.texts.specs.declared.Map.{Map}
 use Rattle.display.specs.declared.follow.Held.{Held}
 use Rattle.display.specs.declared.form.Form.{Form}
 use Rattle.display.specs.declared.emit.Spot.{Spot}
 use Rattle.display.specs.declared.emit.Window.{Window}
-use Rattle.display.specs.declared.form.Formed.{Formed}
-use Rattle.display.specs.Sink.{all_of, Taken, PrintsTo}
-use Rattle.display.specs.Follow.{met_by, held_more, between_by}
-use Rattle.display.specs.Form.{text_form, more_of, form_from, From, PrintsAll, Prints}
+use Rattle.display.specs.Sink.{all_of, Taken, PrintsOne}
+use Rattle.display.specs.Follow.{met_by, held_more}
+use Rattle.display.specs.Form.{more_of, form_from, From}
 use Rattle.display.specs.Window.{Emitted, window_more, Fills}
 use Rattle.display.proofs.MetLaws.{met_none}
-use Rattle.display.proofs.FormLaws.{from_form}
-use Rattle.display.proofs.StandsLaws.{one_stands}
-use Rattle.display.proofs.ListCode.{symbol_some}
 use Rattle.display.proofs.WindowLaws.{then, emitted_none}
 
 -- ---- a text that a form is held against
@@ -73,21 +69,6 @@ form_taken {f} {r} {t} a = record { is = a.is ∙ sym (form_all f t) }
 pub taken_from : {f r : Form} {t : Text} → Taken more_of f t r → From f t r
 taken_from {f} {r} {t} a = record { is = a.is ∙ form_all f t }
 
-pub form_prints : {s w : List ℕ} {m : Map} {wd n left at c r : ℕ} {f g : Form} → PrintsTo more_of s w m wd n left at c f r g → PrintsAll s w m wd n left at c f (record { at = r; form = g })
-form_prints {s} {w} {m} {wd} {n} {left} {at} {c} {r} {f} {g} h = record {
-  each = λ four e xs q st. let a = h.each four e xs q st in (a.0, a.1 ∙ form_all f (shown_all xs (between_by c 1) []));
-}
-
-pub symbol_prints : (s w : List ℕ) (m : Map) (wd left at : ℕ) (f : Form) (r : Formed) → f ≡ text_form [] → PrintsAll s w m wd 1 left at 0 f r → Prints s w m wd left at r
-unfolding count shown_all shown_more print
-symbol_prints s w m wd left at f r e p = record {
-  each = λ four d x h.
-      let a = p.each four d (cons x nil) refl (one_stands s w m wd four left at d x h) in
-      (a.0, a.1 ∙ ap (λ (y : Form). form_from y (shown x [])) e ∙ from_form [] (shown x []));
-}
-
-pub ruleset symboling = (rules, symbol_some, form_prints, symbol_prints)
-
 -- ---- a window
 same_spot : {b c j k : ℕ} → b ≡ j → c ≡ k → ◌≡◌ {A = Spot} (record { skip = b; to = c }) (record { skip = j; to = k })
 same_spot d e = cc
@@ -116,13 +97,11 @@ module _ {x : Window} {xs : List ℕ} where
 
 pub ruleset windowing = (rules, window_taken)
 
-pub window_fills : (s w : List ℕ) (m : Map) (wd left a n c r : ℕ) (o : List ℕ) (y : Window) → PrintsTo window_more s w m wd 1 left a c (record { bytes = o; spot = record { skip = n; to = 0 } }) r y → Fills s w m wd left a n o y.spot.to y.bytes
-unfolding count shown_all shown_more print
-window_fills s w m wd left a n c r o y h = record {
+pub window_fills : (s w : List ℕ) (m : Map) (wd left a n r : ℕ) (o : List ℕ) (y : Window) → PrintsOne window_more s w m wd left a (record { bytes = o; spot = record { skip = n; to = 0 } }) r y → Fills s w m wd left a n o y.spot.to y.bytes
+window_fills s w m wd left a n r o y h = record {
   fills = λ four e x st.
-      let p = h.each four e (cons x nil) refl (one_stands s w m wd four left a e x st) in
-      let k = taken_emitted (record { is = p.1 }) in
+      let k = taken_emitted (record { is = (h.each four e x st).1 }) in
       record { bytes = k.bytes; after = rw (length-drop n (print x)) k.after };
 }
 
-pub ruleset filling = (rules, symbol_some, window_fills)
+pub ruleset filling = (rules, window_fills)

@@ -1,9 +1,8 @@
 -- Hash, power and length of printed forms of symbols that stand in work: the form of a text, and forms with a text behind.
 -- s is the tape, w is work, wd the width of an atom's number in bytes. Assumes nothing: these are definitions.
-use Rattle.std.specs.Prelude.{◌≡◌, Bool, List, [], ◌∷◌, ℕ, ◌+◌, ◌*◌, ◌%◌, ◌≤◌, ◌<◌, eqb, length}
+use Rattle.std.specs.Prelude.{◌≡◌, List, [], ◌∷◌, ℕ, ◌+◌, ◌*◌, ◌%◌, ◌≤◌, ◌<◌, eqb, length}
 use Rattle.octets.specs.Working.Choice.{pick}
-use Rattle.parse_tree.specs.Plain.Tree.{Text, Sym, Syms, count}
-use Rattle.parse_tree.specs.Plain.Display.{shown_all, print}
+use Rattle.parse_tree.specs.Plain.Tree.{Text}
 use Rattle.texts.specs.declared.Map.{Map}
 use Rattle.texts.specs.Hash.{hash_step, hash_of, power}
 use Rattle.texts.specs.Forms.{stop}
@@ -11,9 +10,6 @@ use Rattle.texts.proofs.FormLaws.{stop-small}
 use Rattle.texts.specs.Fields.{mark_at, hash_at}
 use Rattle.texts.specs.Texts.{marked_text}
 use Rattle.display.specs.declared.form.Form.{Form}
-use Rattle.display.specs.declared.form.Formed.{Formed}
-use Rattle.display.specs.Standing.{SymStands, SymsStand}
-use Rattle.display.specs.Follow.{between_by}
 
 -- a length that stopped is short: each form says so of its own
 pub stop_short : (n : ℕ) → stop n ≤ 65536
@@ -51,13 +47,3 @@ form_from f (b ∷ bs) = form_from (more_of f b) bs
 -- r is f with t more
 pub record From (f : Form) (t : Text) (r : Form) : Type 0 where
   pub is : r ≡ form_from f t
-
--- ---- symbols that stand in work
-module _ (s w : List ℕ) (m : Map) (wd : ℕ) where
-  -- r is the place behind whatever n symbols stand there, straight inside a command of the code c, and f with their printed forms more
-  pub record PrintsAll (n left at c : ℕ) (f : Form) (r : Formed) : Type 0 where
-    pub each : (four : Bool) (e : ℕ) (xs : Syms) → count xs ≡ n → SymsStand s w m wd four left at e xs → (r.at ≡ e) × (r.form ≡ form_from f (shown_all xs (between_by c 1) []))
-
-  -- r is the place behind whatever symbol stands there, and the form of its printed form
-  pub record Prints (left at : ℕ) (r : Formed) : Type 0 where
-    pub each : (four : Bool) (e : ℕ) (x : Sym) → SymStands s w m wd four left at e x → (r.at ≡ e) × (r.form ≡ text_form (print x))

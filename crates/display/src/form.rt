@@ -10,10 +10,3 @@ pub struct Form {
     pub len: usize,
     pub ghost short: { len ≤ 65536 },
 }
-
-// The place behind symbols, and a form with theirs behind.
-#[derive(Clone, Copy)]
-pub struct Formed {
-    pub at: usize,
-    pub form: Form,
-}

@@ -4,12 +4,11 @@ ghost use Rattle.std.specs.Prelude.{◌≡◌, [], ◌∷◌, ◌+◌, ◌≤◌
 ghost use Rattle.texts.specs.Hash.{power};
 ghost use Rattle.texts.specs.Forms.{stop};
 ghost use Rattle.texts.specs.Table.{texts};
-ghost use Rattle.display.specs.Standing.{SomeSym, SomeSyms};
 ghost use Rattle.display.specs.Follow.{word_at};
-ghost use Rattle.display.specs.Form.{From, text_form, odd_times, whole_of, join_of, Hashed, more_of, Prints, PrintsAll};
+ghost use Rattle.display.specs.Form.{From, text_form, odd_times, whole_of, join_of, Hashed, more_of};
 
-use crate::form::{Form, Formed};
-use crate::sink::{Sink, print_list};
+use crate::form::Form;
+use crate::sink::Sink;
 use grades::words::Words;
 use octets::numbers::atom_at;
 use texts::fields::hash;
@@ -46,13 +45,6 @@ fn snocs(f: Form, t: &[u8]) -> Form
         g = snoc(g, *b);
     }
     g
-}
-
-// The form of one byte.
-pub fn one(b: u8) -> Form
-    ensures { result ≡ text_form (b ∷ []) }
-{
-    snoc(none(), b)
 }
 
 // r by b, if k is odd.
@@ -135,22 +127,4 @@ impl Sink for Form {
     fn text(&mut self, words: Words, at: usize) {
         *self = named(words, at, *self);
     }
-}
-
-// The printed forms of n symbols, with between them what stands between those straight inside a command of the code c, more. `left` levels of nesting are left.
-pub fn form_list(words: Words, left: usize, at: usize, n: usize, c: u8, f: Form) -> Formed
-    requires { Hashed words.tape.now words.work.now words.m × SomeSyms words.tape.now words.work.now words.m words.width.bytes n left at }
-    ensures { PrintsAll words.entry.tape.now words.entry.work.now words.entry.m words.entry.width.bytes n left at c f result }
-{
-    let mut g = f;
-    let p = print_list(&mut g, words, left, at, n, c);
-    Formed { at: p, form: g }
-}
-
-// The form of the printed form of the symbol at a place: a list of one, so that no code matters.
-pub fn form_symbol(words: Words, left: usize, at: usize) -> Formed
-    requires { Hashed words.tape.now words.work.now words.m × SomeSym words.tape.now words.work.now words.m words.width.bytes left at }
-    ensures { Prints words.entry.tape.now words.entry.work.now words.entry.m words.entry.width.bytes left at result }
-{
-    form_list(words, left, at, 1, 0, none())
 }

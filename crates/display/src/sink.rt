@@ -4,8 +4,8 @@ ghost use Rattle.parse_tree.specs.Plain.Display.{escaped};
 ghost use Rattle.parse_tree.specs.Working.Nodes.{long_of};
 ghost use Rattle.texts.specs.declared.Map.{Map};
 ghost use Rattle.texts.specs.Table.{texts};
-ghost use Rattle.display.specs.Standing.{SomeSyms};
-ghost use Rattle.display.specs.Sink.{Taken, PrintsTo};
+ghost use Rattle.display.specs.Standing.{SomeSym, SomeSyms};
+ghost use Rattle.display.specs.Sink.{Taken, PrintsOne, PrintsTo};
 ghost use Rattle.display.specs.Follow.{quoted_text, word_at, leaf_text, mark_text, label_text, name_text, before_by, behind_by, between_by};
 
 use crate::follow::{inside, op_byte, word};
@@ -156,28 +156,31 @@ pub fn between<S: Sink>(s: &mut S, c: u8, k: usize)
     }
 }
 
-// The printed forms of n symbols that stand at a place, with between them what stands between those straight inside a command of the code c: the place behind them. `left` levels of nesting are left.
-pub fn print_list<S: Sink>(
-    s: &mut S,
-    words: Words,
-    left: usize,
-    at: usize,
-    n: usize,
-    c: u8,
-) -> usize
+// The printed form of the symbol at a place: the place behind it. `left` levels of nesting are left.
+#[cycle(print_symbol_print_list)]
+pub fn print_symbol<S: Sink>(s: &mut S, words: Words, left: usize, at: usize) -> usize
+    requires { S.knows words.tape.now words.work.now words.m × SomeSym words.tape.now words.work.now words.m words.width.bytes left at }
+    ensures { PrintsOne S.more words.entry.tape.now words.entry.work.now words.entry.m words.entry.width.bytes left at s.old result s.new }
+{
+    let c = words.work[at];
+    let e = at + long(c, words.width);
+    let n = inside(words.work, words.width, at, c);
+    before(s, words, at, c);
+    let q = print_list(s, words, left - 1, e, n, c);
+    behind(s, words.work, words.width.bytes, at, c);
+    q
+}
+
+// Those of n symbols that stand at a place, with between them what stands between those straight inside a command of the code c.
+#[cycle(print_symbol_print_list)]
+fn print_list<S: Sink>(s: &mut S, words: Words, left: usize, at: usize, n: usize, c: u8) -> usize
     requires { S.knows words.tape.now words.work.now words.m × SomeSyms words.tape.now words.work.now words.m words.width.bytes n left at }
     ensures { PrintsTo S.more words.entry.tape.now words.entry.work.now words.entry.m words.entry.width.bytes n left at c s.old result s.new }
 {
     let mut p = at;
     for k in 0..n {
-        let o = words.work[p];
-        let e = p + long(o, words.width);
-        let i = inside(words.work, words.width, p, o);
         between(s, c, k);
-        before(s, words, p, o);
-        let q = print_list(s, words, left - 1, e, i, o);
-        behind(s, words.work, words.width.bytes, p, o);
-        p = q;
+        p = print_symbol(s, words, left, p);
     }
     p
 }

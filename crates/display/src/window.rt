@@ -5,7 +5,7 @@ ghost use Rattle.display.specs.Window.{Fills, judged, Looks, SamePrints};
 
 use crate::emit::{Spot, Window};
 use crate::shape::same_shape;
-use crate::sink::print_list;
+use crate::sink::print_symbol;
 use grades::words::Words;
 
 // What a window says of two forms: they end in it and are the same, they differ, or both go on and were the same so far.
@@ -16,13 +16,13 @@ pub enum Verdict {
     More,
 }
 
-// The window of the printed form of the symbol at a place, a list of one, that starts `skip` bytes into it.
+// The window of the printed form of the symbol at a place that starts `skip` bytes into it.
 fn fill(words: Words, left: usize, a: usize, skip: u128, x: &mut Window) -> usize
     requires { SomeSym words.tape.now words.work.now words.m words.width.bytes left a }
     ensures { Fills words.entry.tape.now words.entry.work.now words.entry.m words.entry.width.bytes left a skip x.old.bytes result x.new.bytes }
 {
     x.spot = Spot { skip, to: 0 };
-    print_list(x, words, left, a, 1, 0);
+    print_symbol(x, words, left, a);
     x.spot.to
 }
 

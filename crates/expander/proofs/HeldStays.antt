@@ -23,7 +23,7 @@ use Rattle.expander.specs.Stage.{WroteOnly}
 use Rattle.expander.proofs.GroundLaws.{Around, list_start, keys_slots, slots_top, grounded_stays}
 use Rattle.expander.proofs.RecordsLaws.{key_stays, records_stay}
 use Rattle.expander.proofs.HeldLists.{down-same, upto-same, keep_down, any_down}
-use Rattle.expander.proofs.SlotsCode.{followed-even, followed-odd, ref_text, ref_new, ref_like, odd_one, key_has, slot_inside, followed-refers}
+use Rattle.expander.proofs.SlotsCode.{followed-kept, ref_text, ref_new, ref_like, odd_one, key_has, slot_inside, followed-refers}
 
 -- from w to w' nothing changed but from a up to e
 pub record Between (a e : ℕ) (w w' : List ℕ) : Type 0 where
@@ -167,14 +167,7 @@ module _ (s w w' : List ℕ) (g : Ground) (a e lim : ℕ) (G : Grounded s w g) (
           ref_like w' g v z ∙ ap like (key_n (v / 2) (f.odd (odd_one v z))) ∙ sym (ref_like w g v z)
 
   followed_same : (v : ℕ) → Refers n (g.m.count + c) v → followed w' g v ≡ followed w g v
-  followed_same v f = go (eqb (v % 2) 0) refl
-    where
-      go : (b : Bool) → eqb (v % 2) 0 ≡ b → followed w' g v ≡ followed w g v
-      go true p = let z = eqb-true (v % 2) 0 p in followed-even w' g v z ∙ sym (followed-even w g v z)
-      go false p =
-          let z = eqb-false (v % 2) 0 p in
-          let j = f.odd (odd_one v z) in
-          followed-odd w' g v z ∙ ap (slot_at w' g) (key_n (v / 2) j) ∙ slot_same (key_at w g (v / 2)) (key_has s w g n c x h (v / 2) j) ∙ sym (followed-odd w g v z)
+  followed_same v f = followed-kept w w' g v (λ o. ap (slot_at w' g) (key_n (v / 2) (f.odd o)) ∙ slot_same (key_at w g (v / 2)) (key_has s w g n c x h (v / 2) (f.odd o)))
 
   ref_same : (p : ℕ) → HasRef p x → ref_in w' g p ≡ ref_in w g p
   unfolding ref_in

@@ -1,13 +1,9 @@
--- Symbols that are expanded: what is read where one stands, the places of those inside it, and what has references once they are noted. Assumes nothing.
-use mathlib.Core.Path.{◌≡◌, refl, sym, ap, ◌∙◌, subst}
-use mathlib.Core.Bool.{Bool, true, false, cond, not}
-use mathlib.Core.Logic.{◌⊎◌, inl, inr}
-use mathlib.Core.List.{List, [], ◌∷◌, ◌++◌, map, append-nil, append_assoc, append_cancel_right}
-use mathlib.Core.Option.{Option, none, some}
+-- Symbols that are expanded: what is read where one stands, and the places of those inside it. Assumes nothing.
+use mathlib.Core.Path.{◌≡◌, refl, sym, ap, ◌∙◌}
+use mathlib.Core.Bool.{Bool, true, false, not}
+use mathlib.Core.List.{List, [], ◌∷◌, ◌++◌, append-nil, append_assoc, append_cancel_right}
 use Prim.Native.Nat.{ℕ, zero, suc, ◌+◌, ◌≤◌}
 use native.Mathlib.Omega.{arith}
-use borrow.Author.Tests.{eqb-true}
-use lib.Dec.{eqb}
 use lib.ListN.{length, get_or, drop, length-append}
 use lib.Seq.{drop-drop, drop-append-le}
 use Rattle.std.specs.Prelude.{Some}
@@ -33,13 +29,10 @@ use Rattle.texts.specs.Table.{texts}
 use Rattle.replacing.specs.Trees.{is_key}
 use Rattle.replacing.specs.Prints.{sym_of, sym_at, print_at}
 use Rattle.replacing.specs.Runs.{plain_leaf, plain_around, plain_kind, plain}
-use Rattle.replacing.specs.Slots.{Ref, text, like, Slots, among, refer, push_text, push_new, first_like, note_by, note_as, note, note_all}
-use Rattle.replacing.specs.Sound.{HasRef}
 use Rattle.replacing.proofs.Readings.{read_more}
-use Rattle.replacing.proofs.SlotsMean.{each_map, among-here, among_later}
+use Rattle.replacing.proofs.SlotsMean.{each_map}
 use Rattle.expander.specs.declared.Ground.{Ground}
 use Rattle.expander.specs.Ground.{size_in, stage_in, symbol_in, printed_at, KeyAt, Grounded}
-use Rattle.expander.specs.Held.{Off, AllBefore}
 use Rattle.expander.specs.Replace.{expanded_code, leaf_keys, around_keys, around_long, over_long, keys_of, keys_of_all, StandsAt}
 
 -- ---- what is within its limits is so where texts need not suit their use
@@ -272,75 +265,3 @@ module _ (s w : List ℕ) (g : Ground) (G : Grounded s w g) (four : Bool) (left 
       read = stands_whole ∙ ap (λ (x : Sym). got x e) (sym stands_symbol);
       key = ap plain stands_node ∙ node_plain g.width.bytes (texts s w g.m) y ∙ ap not k;
     }
-
--- ---- noting: what has references then
-module _ (same : ℕ → ℕ → Bool) (text_in : ℕ → Option ℕ) where
-  abbrev Adds : ℕ → Slots → Slots → Type 0
-  Adds p x y = (r : Ref) × (y.refs ≡ (p, r) ∷ x.refs)
-
-  by_adds : (p : ℕ) (o : Option ℕ) (x : Slots) → Adds p x (note_by same text_in p o x)
-  unfolding note_by push_new push_text refer
-  by_adds p none x = (like p, refl)
-  by_adds p (some k) x = go (among k x.marks)
-    where
-      go : (b : Bool) → Adds p x (cond b (refer p (text k) x) (push_text p k x))
-      go true = (text k, refl)
-      go false = (text k, refl)
-
-  as_adds : (p : ℕ) (o : Option ℕ) (x : Slots) → Adds p x (note_as same text_in p o x)
-  unfolding note_as refer
-  as_adds p none x = by_adds p (text_in p) x
-  as_adds p (some q) x = (like q, refl)
-
-  note_adds : (p : ℕ) (x : Slots) → Adds p x (note same text_in p x)
-  unfolding note
-  note_adds p x = as_adds p (first_like same text_in p x.firsts) x
-
-  note_from : (p q : ℕ) (x : Slots) → HasRef q (note same text_in p x) → (HasRef q x) ⊎ (q ≡ p)
-  unfolding among
-  note_from p q x h = let (r, e) = note_adds p x in go r (eqb p q) refl (rw e at h)
-    where
-      go : (r : Ref) (b : Bool) → eqb p q ≡ b → cond b true (among q (map (λ (v : ℕ × Ref). v.0) x.refs)) ≡ true → (HasRef q x) ⊎ (q ≡ p)
-      go r true z i = inr (sym (eqb-true p q z))
-      go r false z i = inl i
-
-  -- what holds of all that have references and of all that are noted
-  notes_hold : (P : ℕ → Type 0) (ps : List ℕ) (x : Slots) → Each P ps → ((q : ℕ) → HasRef q x → P q) → (q : ℕ) → HasRef q (note_all same text_in ps x) → P q
-  unfolding note_all
-  notes_hold P [] x a f q h = f q h
-  notes_hold P (p ∷ ps) x a f q h = notes_hold P ps (note same text_in p x) a.1 (λ r i. go r (note_from p r x i)) q h
-    where
-      go : (r : ℕ) → (HasRef r x) ⊎ (r ≡ p) → P r
-      go r (inl i) = f r i
-      go r (inr e) = subst P (sym e) a.0
-
-  -- what has a reference keeps it, and what is noted has one
-  note_stays : (p q : ℕ) (x : Slots) → HasRef q x → HasRef q (note same text_in p x)
-  note_stays p q x h = let (r, e) = note_adds p x in rw e (among_later q p (map (λ (v : ℕ × Ref). v.0) x.refs) h)
-
-  note_here : (p : ℕ) (x : Slots) → HasRef p (note same text_in p x)
-  note_here p x = let (r, e) = note_adds p x in rw e (among-here p (map (λ (v : ℕ × Ref). v.0) x.refs))
-
-  notes_stay : (ps : List ℕ) (q : ℕ) (x : Slots) → HasRef q x → HasRef q (note_all same text_in ps x)
-  unfolding note_all
-  notes_stay [] q x h = h
-  notes_stay (p ∷ ps) q x h = notes_stay ps q (note same text_in p x) (note_stays p q x h)
-
-  -- theorem: all that were noted have references
-  pub notes_have : (ps : List ℕ) (x : Slots) → Each (λ q. HasRef q (note_all same text_in ps x)) ps
-  unfolding note_all
-  notes_have [] x = tt
-  notes_have (p ∷ ps) x = (notes_stay ps p (note same text_in p x) (note_here p x), notes_have ps (note same text_in p x))
-
-  pub notes_append : (ps qs : List ℕ) (x : Slots) → note_all same text_in (ps ++ qs) x ≡ note_all same text_in qs (note_all same text_in ps x)
-  unfolding note_all
-  notes_append [] qs x = refl
-  notes_append (p ∷ ps) qs x = notes_append ps qs (note same text_in p x)
-
-  -- theorem: all stay before the end of what was noted
-  pub notes_before : (p e : ℕ) (ps : List ℕ) (x : Slots) → p ≤ e → Spread p e ps → AllBefore p x → AllBefore e (note_all same text_in ps x)
-  notes_before p e ps x l a b = notes_hold (λ q. q + 9 ≤ e) ps x (each_map (λ q z. z.1) ps a) (λ q h. let i = b q h in omega arith)
-
-  -- theorem: and off a place before which all were, and behind which what was noted is
-  pub notes_off : (p d e : ℕ) (ps : List ℕ) (x : Slots) → p + 9 ≤ d → Spread d e ps → AllBefore p x → Off p (note_all same text_in ps x)
-  notes_off p d e ps x l a b = notes_hold (λ q. (q + 9 ≤ p) ⊎ (p + 9 ≤ q)) ps x (each_map (λ q z. inr (omega (arith, z.0))) ps a) (λ q h. inl (b q h))

@@ -3,14 +3,12 @@ use mathlib.Core.Path.{◌≡◌, refl, sym, ap, ◌∙◌}
 use mathlib.Core.Bool.{Bool, true}
 use mathlib.Core.List.{List, [], ◌∷◌, ◌++◌}
 use Prim.Native.Nat.{ℕ, zero, suc, ◌+◌}
-use Rattle.std.specs.Prelude.{Option as Optional, Some, None}
 use Rattle.octets.specs.Plain.Numbers.{Bytes}
 use Rattle.parse_tree.specs.Plain.Tree.{Text, Sym, syms_of}
 use Rattle.parse_tree.specs.Plain.Texts.{distinct}
-use Rattle.parse_tree.specs.Working.Nodes.{node_at, size_of}
+use Rattle.parse_tree.specs.Working.Nodes.{size_of}
 use Rattle.parse_tree.specs.Working.Places.{symbols_place}
-use Rattle.parse_tree.specs.Plain.Reading.{Reading, got, then, times, refused}
-use Rattle.parse_tree.specs.Working.Expect.{expect_symbol}
+use Rattle.parse_tree.specs.Plain.Reading.{got, then, times}
 use Rattle.parse_tree.specs.Working.Operands.{leaf_of, around_of, over_of, inside_of}
 use Rattle.parse_tree.specs.Working.Decode.{read_sym}
 use Rattle.parse_tree.specs.declared.syntax.Span.{Span}
@@ -26,6 +24,8 @@ use Rattle.parse_tree.proofs.ItemFound.{sym_finds}
 use Rattle.replacing.specs.Slots.{leaf_places, around_places, listed, places}
 use Rattle.replacing.proofs.Readings.{Standing, stands_then}
 use Rattle.expander.specs.Replace.{leaf_keys, around_keys, around_long, over_long, keys_of, keys_of_all}
+use Rattle.replacing.proofs.PlacesMean.{kind_places, places-at}
+use Rattle.replacing.proofs.Readings.{kind_read}
 
 -- ---- one command
 module _ (wd : ℕ) (ts : List Text) where
@@ -77,38 +77,23 @@ module _ (four : Bool) (wd : ℕ) (t : List ℕ) (ts : List Text) (b : Bytes t) 
       (q ∙ ap (λ (m : ℕ). got (keys_of wd ts h.value p ++ keys_of_all wd ts (syms_of i.value) m) i.mid) z)
 
   -- ---- one
-  abbrev kind_places : ℕ → ℕ → SymbolKind → ℕ → Reading (List ℕ)
-  kind_places left p k c = elim k [
-    | SymbolKind.Leaf l ↦ got (leaf_places l p) c
-    | SymbolKind.Around o ↦ then (places wd t left c) (λ ps e'. got (ps ++ around_places o p) e')
-    | SymbolKind.Over o ↦ then (listed (λ q. places wd t left q) (inside_of o) c) (λ ps e'. got (ps ++ (p ∷ [])) e')
-  ]
-
-  places-at : (left p c : ℕ) (sp : Span) (k : SymbolKind) → node_at wd t p ≡ Some (Node.Symbol sp k) → p + size_of wd (Node.Symbol sp k) ≡ c → places wd t (suc left) p ≡ kind_places left p k c
-  unfolding places expect_symbol
-  places-at left p c sp k i q = ap (λ (o : Optional Node). elim o as (λ _. Reading (List ℕ)) [ None ↦ refused 2 p | Some n ↦ expect_symbol p (λ sp' k' e. kind_places left p k' e) n (p + size_of wd n) ]) i ∙ ap (λ z. kind_places left p k z) q
-
-  kind-keys : (left : ℕ) → SymKeys left → (sp : Span) (k : SymbolKind) (p c : ℕ) (y : Sym) (e : ℕ) → p + size_of wd (Node.Symbol sp k) ≡ c → elim k [
-    | SymbolKind.Leaf l ↦ got (Sym.leaf sp (leaf_of ts l)) c
-    | SymbolKind.Around o ↦ then (read_sym four wd t ts left c) (λ x e'. got (Sym.around sp (around_of ts o) x) e')
-    | SymbolKind.Over o ↦ then (times (λ q. read_sym four wd t ts left q) (inside_of o) c) (λ xs e'. got (Sym.over sp (over_of ts o) (syms_of xs)) e')
-  ] ≡ got y e → kind_places left p k c ≡ got (keys_of wd ts y p) e
+  kind-keys : (left : ℕ) → SymKeys left → (sp : Span) (k : SymbolKind) (p c : ℕ) (y : Sym) (e : ℕ) → p + size_of wd (Node.Symbol sp k) ≡ c → kind_read four wd t ts left sp k c ≡ got y e → kind_places wd t left p k c ≡ got (keys_of wd ts y p) e
   unfolding keys_of then
-  kind-keys left f sp (SymbolKind.Leaf l) p c y e i r = got_as (λ z m. kind_places left p (SymbolKind.Leaf l) c ≡ got (keys_of wd ts z p) m) r (ap (λ (ps : List ℕ). got ps c) (leaf_keys_lem wd ts l p))
+  kind-keys left f sp (SymbolKind.Leaf l) p c y e i r = got_as (λ z m. kind_places wd t left p (SymbolKind.Leaf l) c ≡ got (keys_of wd ts z p) m) r (ap (λ (ps : List ℕ). got ps c) (leaf_keys_lem wd ts l p))
   kind-keys left f sp (SymbolKind.Around o) p c y e i r =
       let h = then-got (read_sym four wd t ts left c) _ r in
       let u = f c h.value h.mid h.first in
       let x = h.value in
       let j : c ≡ p + around_long wd (around_of ts o) = sym i ∙ ap (λ (m : ℕ). p + m) (around_long_lem wd ts sp o) in
-      let q : kind_places left p (SymbolKind.Around o) c ≡ got (keys_of wd ts x c ++ around_places o p) h.mid = rw u refl in
-      got_as (λ z m. kind_places left p (SymbolKind.Around o) c ≡ got (keys_of wd ts z p) m) h.second
+      let q : kind_places wd t left p (SymbolKind.Around o) c ≡ got (keys_of wd ts x c ++ around_places o p) h.mid = rw u refl in
+      got_as (λ z m. kind_places wd t left p (SymbolKind.Around o) c ≡ got (keys_of wd ts z p) m) h.second
       (q ∙ ap (λ (m : ℕ). got (keys_of wd ts x m ++ around_places o p) h.mid) j ∙ ap (λ (ps : List ℕ). got (keys_of wd ts x (p + around_long wd (around_of ts o)) ++ ps) h.mid) (around_keys_lem wd ts o p))
   kind-keys left f sp (SymbolKind.Over o) p c y e i r =
       let h = then-got (times (λ q. read_sym four wd t ts left q) (inside_of o) c) _ r in
       let u = all_keys left f (inside_of o) c h.value h.mid h.first in
       let j : c ≡ p + over_long wd (over_of ts o) = sym i ∙ ap (λ (m : ℕ). p + m) (over_long_lem wd ts sp o) in
-      let q : kind_places left p (SymbolKind.Over o) c ≡ got (keys_of_all wd ts (syms_of h.value) c ++ (p ∷ [])) h.mid = rw u refl in
-      got_as (λ z m. kind_places left p (SymbolKind.Over o) c ≡ got (keys_of wd ts z p) m) h.second
+      let q : kind_places wd t left p (SymbolKind.Over o) c ≡ got (keys_of_all wd ts (syms_of h.value) c ++ (p ∷ [])) h.mid = rw u refl in
+      got_as (λ z m. kind_places wd t left p (SymbolKind.Over o) c ≡ got (keys_of wd ts z p) m) h.second
       (q ∙ ap (λ (m : ℕ). got (keys_of_all wd ts (syms_of h.value) m ++ (p ∷ [])) h.mid) j)
 
   pub sym_keys : (left : ℕ) → SymKeys left
@@ -117,7 +102,7 @@ module _ (four : Bool) (wd : ℕ) (t : List ℕ) (ts : List Text) (b : Bytes t) 
   sym_keys (suc left) p y e r =
       stands_then four wd t ts symbols_place (suc left) b _ p r (λ n c h q.
       symbol_wanted (Standing four wd t ts p c) p c y e _ n h q (λ sp k i o.
-      places-at left p c sp k i.here i.behind ∙ kind-keys left (sym_keys left) sp k p c y e i.behind o))
+      places-at wd t left p c sp k i.here i.behind ∙ kind-keys left (sym_keys left) sp k p c y e i.behind o))
 
   pub syms_keys : (left n p : ℕ) (ys : List Sym) (e : ℕ) → times (λ q. read_sym four wd t ts left q) n p ≡ got ys e
       → listed (λ q. places wd t left q) n p ≡ got (keys_of_all wd ts (syms_of ys) p) e

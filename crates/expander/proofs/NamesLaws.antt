@@ -20,15 +20,16 @@ use Rattle.replacing.proofs.Closing.{among-each}
 use Rattle.replacing.proofs.NumbersMean.{has-append, firsts_one, news_out, ref_good}
 use Rattle.expander.specs.declared.Ground.{Ground}
 use Rattle.expander.specs.Ground.{stage_in, top_of, slot_place, slot_at, key_at, list_place, list_at, new_at, symbol_in, printed_at, KeyAt, Grounded}
-use Rattle.expander.specs.Held.{down, keep_if, followed, ref_by, ref_in, Refers, is_like, Held}
+use Rattle.expander.specs.Held.{down, keep_if, followed, ref_by, ref_in, is_like, Held}
 use Rattle.expander.specs.Stage.{WroteOnly}
-use Rattle.expander.specs.Names.{named_in, NameRef, Names, SomeNamed}
+use Rattle.expander.specs.Names.{named_in, Names, SomeNamed}
 use Rattle.expander.proofs.GroundLaws.{list_keys, keys_slots, slots_top}
 use Rattle.expander.proofs.HeldLists.{among_none}
 use Rattle.expander.proofs.RecordsLaws.{key_stays, records_stay}
-use Rattle.expander.proofs.SlotsCode.{followed-even, followed-odd, ref_text, ref_new, ref_like, odd_one, half_below, half_slot, place_inside, key_has, followed-refers}
+use Rattle.expander.proofs.SlotsCode.{followed-odd, ref_text, ref_new, ref_like, half_below, half_slot, place_inside, key_has, followed-refers}
 use Rattle.expander.proofs.HeldStays.{Between, between-wrote, stage_wrote, texts-wrote, grounded_wrote}
-use Rattle.expander.proofs.NamedTexts.{length_named, named-found, named_new, described_even, new_prints, named-same}
+use Rattle.expander.proofs.NamesStay.{named_stay, names_stay}
+use Rattle.expander.proofs.NamedTexts.{length_named, named-found, named_new, described_even, new_prints}
 
 -- those of a list that pass a test are among the kept
 among-kept : (f : ℕ → Bool) (k : ℕ → ℕ) (n j : ℕ) → j < n → f (k j) ≡ true → among (k j) (keep_if f (down k n)) ≡ true
@@ -158,47 +159,11 @@ module _ (s w w' : List ℕ) (g : Ground) (r : Grounded s w g) (k : Agree w w' (
   list_same : (i : ℕ) → i < c → list_at w' g i ≡ list_at w g i
   list_same i l = le_at-agree 8 w w' (list_place g i) (λ a x y. k.agree a (omega arith) (omega (arith, h.room, keys_slots s w g r, slots_top s w g r)))
 
-  key_slot : (j : ℕ) → j < n → slot_at w' g (key_at w' g j) ≡ slot_at w g (key_at w g j)
-  key_slot j l = ap (slot_at w' g) (key_same j l) ∙ slot_same (key_at w g j) (h.pushed j l)
-
-  followed_same : (p : ℕ) → among p ps ≡ true → followed w' g (slot_at w' g p) ≡ followed w g (slot_at w g p)
-  followed_same p i = ap (followed w' g) (slot_same p i) ∙ go (eqb (slot_at w g p % 2) 0) refl
-    where
-      go : (b : Bool) → eqb (slot_at w g p % 2) 0 ≡ b → followed w' g (slot_at w g p) ≡ followed w g (slot_at w g p)
-      go true e = let z = eqb-true (slot_at w g p % 2) 0 e in followed-even w' g (slot_at w g p) z ∙ sym (followed-even w g (slot_at w g p) z)
-      go false e =
-          let z = eqb-false (slot_at w g p % 2) 0 e in
-          followed-odd w' g (slot_at w g p) z ∙ key_slot (slot_at w g p / 2) ((h.refers p i).odd (odd_one (slot_at w g p) z)) ∙ sym (followed-odd w g (slot_at w g p) z)
-
-  key_print : (j : ℕ) → j < n → printed_at s w' g (key_at w' g j) ≡ printed_at s w g (key_at w g j)
-  key_print j l = ap (printed_at s w' g) (key_same j l) ∙ print-same (key_at w g j)
-
   pub named-agree : named_in s w' g c ≡ named_in s w g c
-  named-agree = named-same s w w' g c found list_same (λ i l z. key_print (list_at w g i / 2) ((h.entries i l).0 z))
-
-  ref_agree : (p v : ℕ) → NameRef s w g n c p v → NameRef s w' g n c p v
-  ref_agree p v f = record {
-    even = λ z. let (a, b) = f.even z in (omega (arith, ap length named-agree), ap (λ (ts : List Text). get_or ts (v / 2) []) named-agree ∙ b ∙ sym (print-same p));
-    odd = λ z. let (a, b, d) = f.odd z in (a, key_print (v / 2) a ∙ b ∙ sym (print-same p), rw (print-same p, named-agree) d);
-  }
-
-  entries_agree : (i : ℕ) → i < c → (list_at w' g i % 2 ≡ 0 → list_at w' g i / 2 < n) × (list_at w' g i % 2 ≡ 1 → list_at w' g i / 2 < 9)
-  entries_agree i l = rw (list_same i l) (h.entries i l)
+  named-agree = named_stay s w w' g n c ps h key_same slot_same print-same found list_same
 
   pub names_agree : Names s w' g n c ps
-  names_agree = record {
-    records = records_stay s w w' g n r.few r.fits kept items found h.records;
-    room = h.room;
-    apart = ap distinct named-agree ∙ h.apart;
-    entries = entries_agree;
-    pushed = λ j l. rw (key_same j l) (h.pushed j l);
-    inside = h.inside;
-    off = h.off;
-    refers = λ p i. subst (Refers n (g.m.count + c)) (sym (slot_same p i)) (h.refers p i);
-    refs = λ p i. subst (NameRef s w' g n c p) (sym (followed_same p i)) (ref_agree p (followed w g (slot_at w g p)) (h.refs p i));
-    own = λ j l z. key_slot j l ∙ h.own j l (sym (ap (λ (v : ℕ). v % 2) (key_slot j l)) ∙ z);
-    unlike = λ i j l m y z e. h.unlike i j l m (sym (ap (λ (v : ℕ). v % 2) (key_slot i l)) ∙ y) (sym (ap (λ (v : ℕ). v % 2) (key_slot j m)) ∙ z) (sym (key_print i l) ∙ e ∙ key_print j m);
-  }
+  names_agree = names_stay s w w' g n c ps h key_same slot_same print-same found list_same (records_stay s w w' g n r.few r.fits kept items found h.records)
 
 -- ---- bytes from a up to e changed, behind the slots and the items and before the texts, which stand from lim on
 module _ (s w w' : List ℕ) (g : Ground) (a e lim : ℕ) (r : Grounded s w g) (top : top_of g ≤ a) (items : g.end ≤ a) (low : e ≤ lim) (above : Above s w g.m lim) (k : Between a e w w') where

@@ -21,7 +21,7 @@ use Rattle.expander.specs.declared.Ground.{Ground}
 use Rattle.expander.specs.Ground.{size_in, top_of, slot_place, slot_at, key_at, list_at, new_at, pushed_text, symbol_in, KeyAt, Records}
 use Rattle.expander.specs.Held.{down, keep_if, any_of, followed, ref_by, ref_in, is_like, is_text, Refers, Held, Off}
 use Rattle.expander.proofs.HeldLists.{down-same, upto-same, keep_down, any_down}
-use Rattle.expander.proofs.SlotsCode.{followed-even, followed-odd, ref_like, odd_one, key_has, followed-refers}
+use Rattle.expander.proofs.SlotsCode.{followed-even, followed-odd, followed-kept, ref_like, odd_one, key_has, followed-refers}
 
 even_odd : (P : Type 0) (v : ℕ) → (v % 2 ≡ 0 → P) → ((v % 2 ≡ 0 → ⊥) → P) → P
 even_odd P v f h = go (eqb (v % 2) 0) refl
@@ -81,12 +81,7 @@ module _ (s w w2 : List ℕ) (g : Ground) (n c : ℕ) (x : Slots) (h : Held s w 
       odd e = ref_like w2 g v e ∙ ap like (keys (v / 2) (r.odd (odd_one v e))) ∙ sym (ref_like w g v e)
 
   followed_same : (v : ℕ) → Refers n (g.m.count + c) v → followed w2 g v ≡ followed w g v
-  followed_same v r = even_odd (followed w2 g v ≡ followed w g v) v (λ e. followed-even w2 g v e ∙ sym (followed-even w g v e)) odd
-    where
-      odd : (v % 2 ≡ 0 → ⊥) → followed w2 g v ≡ followed w g v
-      odd e =
-          let l = r.odd (odd_one v e) in
-          followed-odd w2 g v e ∙ ap (slot_at w2 g) (keys (v / 2) l) ∙ slots (key_at w g (v / 2)) (key_has s w g n c x h (v / 2) l) ∙ sym (followed-odd w g v e)
+  followed_same v r = followed-kept w w2 g v (λ o. ap (slot_at w2 g) (keys (v / 2) (r.odd o)) ∙ slots (key_at w g (v / 2)) (key_has s w g n c x h (v / 2) (r.odd o)))
 
   in_same : (q : ℕ) → HasRef q x → ref_in w2 g q ≡ ref_in w g q
   unfolding ref_in

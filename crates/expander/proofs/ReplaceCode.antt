@@ -37,7 +37,8 @@ use Rattle.expander.specs.Ground.{size_in, symbol_in, printed_at, same_at, text_
 use Rattle.expander.specs.Held.{Notes}
 use Rattle.expander.specs.Meet.{inner_keys, Notable}
 use Rattle.expander.specs.Replace.{expanded_code, keys_of, keys_of_all, StandsAt, StandAt, SomeSymbol, SomeSymbols, NotedAll, ReplacesOne, ReplacesAll}
-use Rattle.expander.proofs.KeysLaws.{own_keys, keys_parts, keys_spread_all, Spread, sym_length, stands_code, stands_symbol, stands_print, stands_key, notes_have, notes_off}
+use Rattle.expander.proofs.KeysLaws.{own_keys, keys_parts, keys_spread_all, Spread, sym_length, stands_code, stands_symbol, stands_print, stands_key}
+use Rattle.expander.proofs.NotedKeys.{notes_have, notes_off}
 use Rattle.expander.proofs.ReplaceLaws.{kept-grounded, kept-texts, kept_byte, kept-stands, noted_plain, noted_own, held-inside}
 
 -- ---- is_expanded

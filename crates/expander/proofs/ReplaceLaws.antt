@@ -22,7 +22,8 @@ use Rattle.expander.specs.Ground.{size_in, stage_in, top_of, same_at, text_in, G
 use Rattle.expander.specs.Held.{Held, AllBefore, Off, Notes}
 use Rattle.expander.specs.Replace.{StandsAt, StandAt, HeldBefore, NotedAll}
 use Rattle.expander.proofs.GroundLaws.{Around, kept-around, stage_around, texts-around, grounded_around}
-use Rattle.expander.proofs.KeysLaws.{Spread, notes_append, notes_before, notes_off}
+use Rattle.expander.proofs.KeysLaws.{Spread}
+use Rattle.expander.proofs.NotedKeys.{notes_append, notes_before, notes_off}
 
 kept-none : (g : Ground) (w : List ℕ) → KeptAround g w w
 kept-none g w = record { long = refl; others = λ i h. refl }

@@ -51,6 +51,14 @@ module _ (w : List ℕ) (g : Ground) (v : ℕ) where
   unfolding ref_by pick
   ref_like e = cc (ne_eqb (v % 2) 0 e)
 
+-- from w to w' the slot of the record that v names is as it was
+pub followed-kept : (w w' : List ℕ) (g : Ground) (v : ℕ) → (v % 2 ≡ 1 → slot_at w' g (key_at w' g (v / 2)) ≡ slot_at w g (key_at w g (v / 2))) → followed w' g v ≡ followed w g v
+followed-kept w w' g v h = go (eqb (v % 2) 0) refl
+  where
+    go : (b : Bool) → eqb (v % 2) 0 ≡ b → followed w' g v ≡ followed w g v
+    go true e = let z = eqb-true (v % 2) 0 e in followed-even w' g v z ∙ sym (followed-even w g v z)
+    go false e = let z = eqb-false (v % 2) 0 e in followed-odd w' g v z ∙ h (odd_one v z) ∙ sym (followed-odd w g v z)
+
 -- a followed reference v that is odd is that of a record which refers to itself
 module _ (w : List ℕ) (g : Ground) (n m p : ℕ) (f : Refers n m (slot_at w g p)) (own : (j : ℕ) → j < n → slot_at w g (key_at w g j) % 2 ≡ 1 → slot_at w g (key_at w g j) ≡ 2 * j + 1)
     (v : ℕ) (e : v ≡ followed w g (slot_at w g p)) (o : v % 2 ≡ 0 → ⊥) where

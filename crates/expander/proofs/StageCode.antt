@@ -16,13 +16,13 @@ use Rattle.octets.specs.Working.Choice.{pick}
 use Rattle.octets.specs.Plain.Runs.{part}
 use Rattle.parse_tree.specs.Working.Nodes.{code_size, node_at, size_read, nonterminal_here}
 use Rattle.parse_tree.specs.declared.syntax.NonterminalData.{NonterminalData}
-use Rattle.parse_tree.proofs.SizeLaws.{size_16}
+use Rattle.parse_tree.proofs.CodeSizes.{size_16}
 use Rattle.replacing.specs.Runs.{is_item, hop, hops}
 use Rattle.expander.specs.declared.Ground.{Ground}
 use Rattle.expander.specs.Ground.{size_in, stage_in, Grounded}
 use Rattle.expander.specs.Stage.{item_code, macro_at, WholeAt, Hopping, SomeHops, Skips}
 use Rattle.expander.proofs.StageReads.{stage_length}
-use Rattle.expander.proofs.NodeCodes.{whole_long, whole_item, item_code_lem}
+use Rattle.expander.proofs.KnownCodes.{whole_long, whole_item, item_code_lem}
 
 -- ---- `is_item`
 module _ (c : ℕ) where

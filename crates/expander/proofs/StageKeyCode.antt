@@ -31,7 +31,7 @@ use Rattle.expander.specs.Stage.{WroteOnly, SomeKeyed, PutBy, PutsKeyed}
 use Rattle.expander.proofs.GroundLaws.{Around, list_keys, keys_slots, slots_top, listed-around, stage_around, table-around, grounded_around}
 use Rattle.expander.proofs.HeldStays.{Between, between-wrote, around_wrote, wrote_same, held_stays}
 use Rattle.expander.proofs.NamesLaws.{held-named}
-use Rattle.expander.proofs.NodeCodes.{key_bytes_lem}
+use Rattle.expander.proofs.KnownCodes.{key_bytes_lem}
 use Rattle.expander.proofs.StageReads.{bytes_part}
 use Rattle.expander.proofs.StageCode.{stage_byte}
 

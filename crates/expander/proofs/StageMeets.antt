@@ -13,14 +13,14 @@ use Rattle.octets.specs.Working.Choice.{pick}
 use Rattle.parse_tree.specs.Plain.Tree.{Text}
 use Rattle.parse_tree.specs.Working.Nodes.{code_size, node_at, size_read}
 use Rattle.parse_tree.specs.declared.syntax.Node.{Node}
-use Rattle.parse_tree.proofs.SizeLaws.{size_16}
+use Rattle.parse_tree.proofs.CodeSizes.{size_16}
 use Rattle.replacing.specs.Runs.{plain, is_macro, hops}
 use Rattle.replacing.specs.Sound.{Firm}
 use Rattle.expander.specs.declared.Ground.{Ground}
 use Rattle.expander.specs.Ground.{size_in, stage_in, Grounded}
 use Rattle.expander.specs.Replace.{expanded_code}
 use Rattle.expander.specs.Stage.{macro_at, WholeAt, Hopping, Walks}
-use Rattle.expander.proofs.NodeCodes.{whole_macro, whole_plain, key_code_lem}
+use Rattle.expander.proofs.KnownCodes.{whole_macro, whole_plain, key_code_lem}
 use Rattle.expander.proofs.StageCode.{stage_byte}
 
 -- ---- room: each nine bytes of items may become 9 + wd

@@ -35,7 +35,8 @@ use Rattle.expander.specs.Replace.{expanded_code, keys_of, StandsAt, SomeSymbol,
 use Rattle.expander.specs.Stage.{Walks, Writable, WroteOnly, SomeKeyed, PutBy, PutsKeyed, SomeTurn, turned, TurnedBy, Turns}
 use Rattle.expander.proofs.GroundLaws.{Around, kept-around, stage_around, table-around, grounded_around, key_around}
 use Rattle.expander.proofs.HeldStays.{around_wrote, wrote_same, said_wrote, above_wrote}
-use Rattle.expander.proofs.KeysLaws.{keys_spread, notes_before}
+use Rattle.expander.proofs.KeysLaws.{keys_spread}
+use Rattle.expander.proofs.NotedKeys.{notes_before}
 use Rattle.expander.proofs.KeysPlaces.{sym_keys}
 use Rattle.expander.proofs.StageReads.{bytes_part, stage_length, key_stands, read_room}
 use Rattle.expander.proofs.StageCode.{stage_byte, stage_in_lem}

@@ -23,7 +23,7 @@ use Rattle.expander.specs.declared.Ground.{Ground}
 use Rattle.expander.specs.Ground.{size_in, stage_in, same_at, text_in, Grounded}
 use Rattle.expander.specs.Replace.{expanded_code}
 use Rattle.expander.specs.Stage.{macro_at, name_code, left_at, RoomFor, Walks, SomeWalk, Copies}
-use Rattle.expander.proofs.NodeCodes.{whole_long}
+use Rattle.expander.proofs.KnownCodes.{whole_long}
 use Rattle.expander.proofs.StageReads.{stage_length}
 use Rattle.expander.proofs.StageCode.{stage_room, stage_byte, stage_in_lem}
 use Rattle.expander.proofs.StageMeets.{macro_stage, meets_whole, meets_copy}

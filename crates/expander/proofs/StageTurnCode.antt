@@ -27,7 +27,7 @@ use Rattle.expander.specs.Replace.{expanded_code}
 use Rattle.expander.specs.Stage.{macro_at, WholeAt, Walks, SomeHops, Skips, Writable, WroteOnly, SomeWalk, Copies, SomeTurn, turned, TurnedBy, Turns}
 use Rattle.expander.proofs.GroundLaws.{list_keys, keys_slots, slots_top}
 use Rattle.expander.proofs.HeldStays.{Between, between-wrote, held_stays, said_wrote, above_wrote}
-use Rattle.expander.proofs.NodeCodes.{whole_long}
+use Rattle.expander.proofs.KnownCodes.{whole_long}
 use Rattle.expander.proofs.StageReads.{stage_length, lies_whole}
 use Rattle.expander.proofs.StageCode.{stage_room, stage_byte, stage_in_lem}
 use Rattle.expander.proofs.StageKeyCode.{stored_between, stored_lies}

@@ -36,7 +36,8 @@ use Rattle.replacing.proofs.PlacesMean.{sym_here}
 use Rattle.replacing.proofs.Keys.{sym_key}
 use Rattle.replacing.proofs.Skipping.{data_skips, Settled, settled_end, settled_item, skips_settled}
 use Rattle.expander.specs.Stage.{WholeAt, Hopping, Walks}
-use Rattle.expander.proofs.WalksParts.{append_long, key_some, around_more, items_long, sym_some, walks_more, standing_whole, Copied, copied, parts_hold, kind_read, data_leads}
+use Rattle.expander.proofs.WalksParts.{append_long, key_some, around_more, items_long, sym_some, walks_more, standing_whole, Copied, copied, parts_hold, data_leads}
+use Rattle.replacing.proofs.Readings.{kind_read}
 
 module _ (wd : ℕ) (t : List ℕ) (ts : List Text) (b : Bytes t) (d : distinct ts ≡ true) where
   abbrev stand : ℕ → ℕ → Node → Type 0
@@ -119,7 +120,7 @@ module _ (wd : ℕ) (t : List ℕ) (ts : List Text) (b : Bytes t) (d : distinct 
   SymTurns left = (a : ℕ) (x : Sym) (e : ℕ) → read_sym false wd t ts left a ≡ got x e → Turns a e (length (expanded x))
 
   kind-turns : (left : ℕ) → SymTurns left → (sp : Span) (k : SymbolKind) (a c : ℕ) (x : Sym) (e : ℕ) → suc left ≤ 64 → read_sym false wd t ts (suc left) a ≡ got x e → stand a c (Node.Symbol sp k)
-      → kind_read wd t ts b left sp k c ≡ got x e → (z : Bool) → plain_kind k ≡ z → Turns a e (length (expanded x))
+      → kind_read false wd t ts left sp k c ≡ got x e → (z : Bool) → plain_kind k ≡ z → Turns a e (length (expanded x))
   unfolding plain_kind plain is_macro is_item class_of
   kind-turns left f sp k a c x e l r h p false z = key_turns left a x e l (ap plain h.here ∙ z) r
   kind-turns left f sp (SymbolKind.Leaf n) a c x e l r h p true z =

@@ -12,8 +12,8 @@ use Rattle.octets.proofs.LiesLaws.{lies_inside}
 use Rattle.parse_tree.specs.Plain.Tree.{Text, Around, Sym, Attribute, Condition, Alternative, Item, ambiguous, bare, quoted, regex, nonterminal, lookahead, lookbehind, error, repeat, choose, name, macro, group, leaf, around, over, item, syms_of}
 use Rattle.parse_tree.specs.Working.Nodes.{symbol_bytes, node_bytes, node_at, size_of, size_read}
 use Rattle.parse_tree.specs.Working.Places.{class_of, symbols_place, arguments_place, alternatives_place, attributes_place, conditions_place}
-use Rattle.parse_tree.specs.Plain.Reading.{Reading, got, then, times}
-use Rattle.parse_tree.specs.Working.Operands.{leaf_of, around_of, over_of, inside_of, alternative_of}
+use Rattle.parse_tree.specs.Plain.Reading.{Reading, got, times}
+use Rattle.parse_tree.specs.Working.Operands.{inside_of, alternative_of}
 use Rattle.parse_tree.specs.Working.Decode.{read_sym, read_argument, read_attribute, read_condition, alternative_parts, read_alternative}
 use Rattle.parse_tree.specs.Working.Encode.{around_node, over_node, sym_bytes}
 use Rattle.parse_tree.specs.declared.syntax.Span.{Span}
@@ -28,7 +28,8 @@ use Rattle.replacing.specs.Trees.{is_key, expanded, expanded_all, expanded_alter
 use Rattle.replacing.specs.Runs.{plain, is_item, is_macro}
 use Rattle.replacing.proofs.Readings.{Standing, stands_then}
 use Rattle.expander.specs.Stage.{WholeAt, Hopping, Walks}
-use Rattle.expander.proofs.NodeCodes.{no_atom}
+use Rattle.expander.proofs.KnownCodes.{no_atom}
+use Rattle.replacing.proofs.Readings.{kind_read}
 
 -- ---- how many are expanded
 pub append_long : (xs ys : List Sym) → length (xs ++ ys) ≡ length xs + length ys
@@ -185,13 +186,6 @@ module _ (wd : ℕ) (t : List ℕ) (ts : List Text) (b : Bytes t) where
         both_as c m e 0 (length (expanded_alternatives alts)) (length (expanded_alternatives alts)) (omega arith)
         (each (read_argument false wd t ts) argument-holds k.args c args m p) (alternatives_hold k.alternatives m alts e q)
 
-  abbrev pub kind_read : ℕ → Span → SymbolKind → ℕ → Reading Sym
-  kind_read left sp k c = elim k [
-    | SymbolKind.Leaf l ↦ got (Sym.leaf sp (leaf_of ts l)) c
-    | SymbolKind.Around o ↦ then (read_sym false wd t ts left c) (λ y e'. got (Sym.around sp (around_of ts o) y) e')
-    | SymbolKind.Over o ↦ then (times (λ q. read_sym false wd t ts left q) (inside_of o) c) (λ ys e'. got (Sym.over sp (over_of ts o) (syms_of ys)) e')
-  ]
-
   -- ---- from command to command
   abbrev pub Hop : ℕ → Type 0
   Hop p = (h : ℕ) × Hopping wd t h p
@@ -214,7 +208,7 @@ module _ (wd : ℕ) (t : List ℕ) (ts : List Text) (b : Bytes t) where
       let i = then-got (times f n h.mid) _ h.second in
       got_as (λ zs m. Leads a m 0) i.second (λ v. g a h.value h.mid h.first (times-lead f g n h.mid i.value i.mid i.first v))
 
-  kind-leads : (left : ℕ) → ((a : ℕ) (x : Sym) (e : ℕ) → read_sym false wd t ts left a ≡ got x e → Leads a e 0) → (sp : Span) (k : SymbolKind) (c : ℕ) (x : Sym) (e : ℕ) → kind_read left sp k c ≡ got x e → Leads c e 0
+  kind-leads : (left : ℕ) → ((a : ℕ) (x : Sym) (e : ℕ) → read_sym false wd t ts left a ≡ got x e → Leads a e 0) → (sp : Span) (k : SymbolKind) (c : ℕ) (x : Sym) (e : ℕ) → kind_read false wd t ts left sp k c ≡ got x e → Leads c e 0
   kind-leads left f sp (SymbolKind.Leaf l) c x e p = got_as (λ z m. Leads c m 0) p (λ h. h)
   kind-leads left f sp (SymbolKind.Around o) c x e p =
       let i = then-got (read_sym false wd t ts left c) _ p in

@@ -9,7 +9,7 @@ ghost use Rattle.expander.specs.Meet.{InnerNoted};
 ghost use Rattle.expander.specs.Find.{FindsKey};
 
 use crate::Ground;
-use crate::cells::TextCell;
+use crate::cells::text_cell;
 use crate::meet::meet_symbol;
 use display::Met;
 use display::form::Form;
@@ -21,9 +21,9 @@ use texts::text::text;
 // Whether the i-th pushed symbol prints as the one at p, whose form is f.
 // Not inlined: else the closure in `pending` is too long to be, and what it captures is stored at each search. `n` for the clauses alone.
 #[inline(never)]
-fn is_key(tape: &[u8], work: &[u8], g: Ground, n: usize, i: usize, p: usize, f: Form) -> bool
-    requires { Grounded tape.now work.now g × Records tape.now work.now g n × (i < n) × KeyAt tape.now work.now g p × (f ≡ text_form (printed_at tape.now work.now g p)) }
-    ensures { result ≡ same_as (printed_at tape.now work.now g (key_at work.now g i)) (printed_at tape.now work.now g p) }
+fn is_key(tape: &[u8], work: &[u8], g: &Ground, n: usize, i: usize, p: usize, f: Form) -> bool
+    requires { Grounded tape.now work.now g.now × Records tape.now work.now g.now n × (i < n) × KeyAt tape.now work.now g.now p × (f ≡ text_form (printed_at tape.now work.now g.now p)) }
+    ensures { result ≡ same_as (printed_at tape.now work.now g.now (key_at work.now g.now i)) (printed_at tape.now work.now g.now p) }
 {
     cell(work, g.keys, i) as usize == f.len
         && same_print(
@@ -35,9 +35,9 @@ fn is_key(tape: &[u8], work: &[u8], g: Ground, n: usize, i: usize, p: usize, f: 
 }
 
 // The number of the symbol pushed this round that prints as the one at p.
-pub fn pending(tape: &[u8], work: &[u8], g: Ground, n: usize, p: usize, f: Form) -> Option<usize>
-    requires { Grounded tape.now work.now g × Records tape.now work.now g n × KeyAt tape.now work.now g p × (f ≡ text_form (printed_at tape.now work.now g p)) }
-    ensures { FindsKey tape.now work.now g n p result }
+pub fn pending(tape: &[u8], work: &[u8], g: &Ground, n: usize, p: usize, f: Form) -> Option<usize>
+    requires { Grounded tape.now work.now g.now × Records tape.now work.now g.now n × KeyAt tape.now work.now g.now p × (f ≡ text_form (printed_at tape.now work.now g.now p)) }
+    ensures { FindsKey tape.now work.now g.now n p result }
 {
     search(work, g.pushed(n), f.hash, |i| {
         is_key(tape, work, g, n, i, p, f)
@@ -45,9 +45,9 @@ pub fn pending(tape: &[u8], work: &[u8], g: Ground, n: usize, p: usize, f: Form)
 }
 
 // Whether the k-th text is the printed form of the symbol at p.
-fn is_text(tape: &[u8], work: &[u8], g: Ground, k: usize, p: usize) -> bool
-    requires { Grounded tape.now work.now g × (k < g.m.count) × KeyAt tape.now work.now g p × InnerNoted tape.now work.now g p }
-    ensures { result ≡ same_as (get_or (texts tape.now work.now g.m) k []) (printed_at tape.now work.now g p) }
+fn is_text(tape: &[u8], work: &[u8], g: &Ground, k: usize, p: usize) -> bool
+    requires { Grounded tape.now work.now g.now × (k < g.now.m.count) × KeyAt tape.now work.now g.now p × InnerNoted tape.now work.now g.now p }
+    ensures { result ≡ same_as (get_or (texts tape.now work.now g.now.m) k []) (printed_at tape.now work.now g.now p) }
 {
     let t = text(tape, work, g.m, k);
     let start = Met {
@@ -58,17 +58,17 @@ fn is_text(tape: &[u8], work: &[u8], g: Ground, k: usize, p: usize) -> bool
 }
 
 // The number of the text that is the printed form of the symbol at p.
-pub fn written(tape: &[u8], work: &[u8], g: Ground, p: usize, f: Form) -> Option<usize>
-    requires { Grounded tape.now work.now g × KeyAt tape.now work.now g p × InnerNoted tape.now work.now g p × (f ≡ text_form (printed_at tape.now work.now g p)) }
-    ensures { Finds (texts tape.now work.now g.m) (printed_at tape.now work.now g p) result }
+pub fn written(tape: &[u8], work: &[u8], g: &Ground, p: usize, f: Form) -> Option<usize>
+    requires { Grounded tape.now work.now g.now × KeyAt tape.now work.now g.now p × InnerNoted tape.now work.now g.now p × (f ≡ text_form (printed_at tape.now work.now g.now p)) }
+    ensures { Finds (texts tape.now work.now g.now.m) (printed_at tape.now work.now g.now p) result }
 {
     search(work, g.m, f.hash, |k| is_text(tape, work, g, k, p))
 }
 
 // Whether a symbol that prints as text k was pushed in an earlier round. `tape` for the clauses alone.
-pub fn is_pushed(tape: &[u8], work: &[u8], g: Ground, k: usize) -> bool
-    requires { Grounded tape.now work.now g × (k < g.m.count) }
-    ensures { result ≡ pushed_text work.now g k }
+pub fn is_pushed(tape: &[u8], work: &[u8], g: &Ground, k: usize) -> bool
+    requires { Grounded tape.now work.now g.now × (k < g.now.m.count) }
+    ensures { result ≡ pushed_text work.now g.now k }
 {
-    TextCell(cell(work, g.m.base, k)).is_pushed()
+    text_cell(work, g.m.base, k).is_pushed()
 }

@@ -38,9 +38,9 @@ pub struct Ground {
 impl Ground {
     // The texts that can be read, and the width of their numbers.
     #[tactic(auto, using(crate::proofs::StageReads::grounded_readable))]
-    pub fn words<'a>(self, tape: &'a [u8], work: &'a [u8]) -> Words<'a>
-        requires { Grounded tape.now work.now self }
-        ensures { (result.tape.now ≡ tape.now) × (result.work.now ≡ work.now) × (result.m ≡ self.m) × (result.width ≡ self.width) }
+    pub fn words<'a>(&self, tape: &'a [u8], work: &'a [u8]) -> Words<'a>
+        requires { Grounded tape.now work.now self.now }
+        ensures { (result.tape.now ≡ tape.now) × (result.work.now ≡ work.now) × (result.m ≡ self.now.m) × (result.width ≡ self.now.width) }
     {
         Words {
             tape,
@@ -51,8 +51,8 @@ impl Ground {
     }
 
     // The records of the first n pushed symbols.
-    pub fn pushed(self, n: usize) -> Map
-        ensures { (result.base ≡ self.keys) × (result.count ≡ n) × (result.buckets ≡ self.buckets) }
+    pub fn pushed(&self, n: usize) -> Map
+        ensures { (result.base ≡ self.now.keys) × (result.count ≡ n) × (result.buckets ≡ self.now.buckets) }
     {
         Map {
             base: self.keys,
@@ -62,9 +62,9 @@ impl Ground {
     }
 
     // The place of the word of the i-th built-in text: the nine words stand before the slots.
-    pub fn built_place(self, i: usize) -> usize
-        requires { (72 ≤ self.slots) × (self.slots - 72 + 8 * i < 2 ^ 64) }
-        ensures { result ≡ self.slots - 72 + 8 * i }
+    pub fn built_place(&self, i: usize) -> usize
+        requires { (72 ≤ self.now.slots) × (self.now.slots - 72 + 8 * i < 2 ^ 64) }
+        ensures { result ≡ self.now.slots - 72 + 8 * i }
     {
         self.slots - 72 + 8 * i
     }

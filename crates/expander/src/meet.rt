@@ -30,9 +30,9 @@ pub fn symbol_end(work: &[u8], width: Width, at: usize) -> usize
 }
 
 // The number of the text of the table that the symbol at a place is known to print as.
-fn known(work: &[u8], g: Ground, at: usize) -> Option<usize>
-    requires { SlotAt work.now g at }
-    ensures { result ≡ text_known_at work.now g at }
+fn known(work: &[u8], g: &Ground, at: usize) -> Option<usize>
+    requires { SlotAt work.now g.now at }
+    ensures { result ≡ text_known_at work.now g.now at }
 {
     if !is_expanded(work[at]) {
         return None;
@@ -45,9 +45,9 @@ fn known(work: &[u8], g: Ground, at: usize) -> Option<usize>
 
 // The symbol at a place, which was noted if it is one that is expanded; `left` levels of nesting are left. None after a difference.
 #[cycle(meet_known_meet_symbol)]
-fn meet_known(tape: &[u8], work: &[u8], g: Ground, left: usize, t: &[u8], p: Met) -> Option<Met>
-    requires { Grounded tape.now work.now g × SomeKnown tape.now work.now g left p.at }
-    ensures { Follows tape.now work.now g.m g.width.bytes left t.now p result }
+fn meet_known(tape: &[u8], work: &[u8], g: &Ground, left: usize, t: &[u8], p: Met) -> Option<Met>
+    requires { Grounded tape.now work.now g.now × SomeKnown tape.now work.now g.now left p.at }
+    ensures { Follows tape.now work.now g.now.m g.now.width.bytes left t.now p result }
 {
     match known(work, g, p.at) {
         Some(k) => {
@@ -64,13 +64,13 @@ fn meet_known(tape: &[u8], work: &[u8], g: Ground, left: usize, t: &[u8], p: Met
 pub fn meet_symbol(
     tape: &[u8],
     work: &[u8],
-    g: Ground,
+    g: &Ground,
     left: usize,
     t: &[u8],
     p: Met,
 ) -> Option<Met>
-    requires { Grounded tape.now work.now g × SomeInner tape.now work.now g left p.at }
-    ensures { Follows tape.now work.now g.m g.width.bytes left t.now p result }
+    requires { Grounded tape.now work.now g.now × SomeInner tape.now work.now g.now left p.at }
+    ensures { Follows tape.now work.now g.now.m g.now.width.bytes left t.now p result }
 {
     let at = p.at;
     let c = work[at];

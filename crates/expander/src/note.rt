@@ -14,17 +14,17 @@ use display::form::Form;
 use texts::chain::put_record;
 
 // The symbol at p, whose form is f, as the n-th pushed one. `tape` for the clauses alone.
-fn push(tape: &[u8], work: &mut [u8], g: Ground, n: usize, p: usize, f: Form)
-    requires { Grounded tape.now work.old g × Records tape.now work.old g n × (n < size_in g / 9) × KeyAt tape.now work.old g p × (f ≡ text_form (printed_at tape.now work.old g p)) }
-    ensures { Pushed tape.now work.old g n p work.new }
+fn push(tape: &[u8], work: &mut [u8], g: &Ground, n: usize, p: usize, f: Form)
+    requires { Grounded tape.now work.old g.now × Records tape.now work.old g.now n × (n < size_in g.now / 9) × KeyAt tape.now work.old g.now p × (f ≡ text_form (printed_at tape.now work.old g.now p)) }
+    ensures { Pushed tape.now work.old g.now n p work.new }
 {
     put_record(work, g.pushed(n), p, f.hash, f.len as u32);
 }
 
 // The symbol at p, which no symbol of this round prints as.
-fn push_new(tape: &[u8], work: &mut [u8], g: Ground, n: usize, p: usize, f: Form) -> usize
-    requires { Grounded tape.now work.old g × Notable tape.now work.old g n p × (f ≡ text_form (printed_at tape.now work.old g p)) × NoneBefore tape.now work.old g n p }
-    ensures { Notes tape.now work.old g n p result work.new }
+fn push_new(tape: &[u8], work: &mut [u8], g: &Ground, n: usize, p: usize, f: Form) -> usize
+    requires { Grounded tape.now work.old g.now × Notable tape.now work.old g.now n p × (f ≡ text_form (printed_at tape.now work.old g.now p)) × NoneBefore tape.now work.old g.now n p }
+    ensures { Notes tape.now work.old g.now n p result work.new }
 {
     match written(tape, work, g, p, f) {
         Some(k) => {
@@ -45,9 +45,9 @@ fn push_new(tape: &[u8], work: &mut [u8], g: Ground, n: usize, p: usize, f: Form
 }
 
 // The symbol at p, whose form is f; how many are pushed then.
-pub fn note(tape: &[u8], work: &mut [u8], g: Ground, n: usize, p: usize, f: Form) -> usize
-    requires { Grounded tape.now work.old g × Notable tape.now work.old g n p × (f ≡ text_form (printed_at tape.now work.old g p)) }
-    ensures { Notes tape.now work.old g n p result work.new }
+pub fn note(tape: &[u8], work: &mut [u8], g: &Ground, n: usize, p: usize, f: Form) -> usize
+    requires { Grounded tape.now work.old g.now × Notable tape.now work.old g.now n p × (f ≡ text_form (printed_at tape.now work.old g.now p)) }
+    ensures { Notes tape.now work.old g.now n p result work.new }
 {
     match pending(tape, work, g, n, p, f) {
         Some(j) => {

@@ -31,13 +31,13 @@ pub fn is_expanded(c: u8) -> bool
 pub fn replace_symbol(
     tape: &[u8],
     work: &mut [u8],
-    g: Ground,
+    g: &Ground,
     left: usize,
     p: usize,
     n: usize,
 ) -> Keyed
-    requires { Grounded tape.now work.old g × SomeSymbol tape.now work.old g left p n }
-    ensures { ReplacesOne tape.now work.old g left p n result work.new }
+    requires { Grounded tape.now work.old g.now × SomeSymbol tape.now work.old g.now left p n }
+    ensures { ReplacesOne tape.now work.old g.now left p n result work.new }
 {
     let at = g.from + p;
     let c = work[at];
@@ -68,14 +68,14 @@ pub fn replace_symbol(
 pub fn replace_symbols(
     tape: &[u8],
     work: &mut [u8],
-    g: Ground,
+    g: &Ground,
     left: usize,
     k: usize,
     c: u8,
     q: Keyed,
 ) -> Keyed
-    requires { Grounded tape.now work.old g × SomeSymbols tape.now work.old g k left q.at q.pile }
-    ensures { ReplacesAll tape.now work.old g k left q.at c q.form q.pile result work.new }
+    requires { Grounded tape.now work.old g.now × SomeSymbols tape.now work.old g.now k left q.at q.pile }
+    ensures { ReplacesAll tape.now work.old g.now k left q.at c q.form q.pile result work.new }
 {
     let mut r = q;
     for i in 0..k {

@@ -74,9 +74,9 @@ pub fn put_slot(work: &mut [u8], slots: usize, p: usize, x: Noted)
 }
 
 // What the slot of the symbol at a place tells, or that of the pushed one that it refers to.
-pub fn reference(work: &[u8], g: Ground, p: usize) -> Noted
-    requires { Followable work.now g p }
-    ensures { slot_code result ≡ followed work.now g (slot_at work.now g p) }
+pub fn reference(work: &[u8], g: &Ground, p: usize) -> Noted
+    requires { Followable work.now g.now p }
+    ensures { slot_code result ≡ followed work.now g.now (slot_at work.now g.now p) }
 {
     match tells(work, g.slots, p) {
         Noted::Text(k) => Noted::Text(k),
@@ -85,18 +85,18 @@ pub fn reference(work: &[u8], g: Ground, p: usize) -> Noted
 }
 
 // The text of the j-th pushed symbol, which stands at q, is the c-th new one.
-fn put_new(work: &mut [u8], g: Ground, c: usize, j: usize, q: usize)
-    requires { (list_place g c + 8 ≤ length work.old) × (slot_place g q + 8 ≤ length work.old) × (24 * j ≤ length work.old) }
-    ensures { work.new ≡ store (store work.old (list_place g c) (le 8 (2 * j))) (slot_place g q) (le 8 (2 * (g.m.count + c))) }
+fn put_new(work: &mut [u8], g: &Ground, c: usize, j: usize, q: usize)
+    requires { (list_place g.now c + 8 ≤ length work.old) × (slot_place g.now q + 8 ≤ length work.old) × (24 * j ≤ length work.old) }
+    ensures { work.new ≡ store (store work.old (list_place g.now c) (le 8 (2 * j))) (slot_place g.now q) (le 8 (2 * (g.now.m.count + c))) }
 {
     put_entry(work, g.m, c, NewText::Print(j));
     put_slot(work, g.slots, q, Noted::Text(g.m.count + c));
 }
 
 // The number of the text of the symbol at a place: the next one, if it has none yet. n symbols were pushed, c texts are new. `tape` and `n` for the clauses alone.
-pub fn number(tape: &[u8], work: &mut [u8], g: Ground, n: usize, c: usize, p: usize) -> Numbered
-    requires { Grounded tape.now work.old g × SomeNamed tape.now work.old g n c p × NameRoom work.old g c p }
-    ensures { Numbers tape.now work.old g n c p result work.new × NamesOne tape.now work.old g n c p result work.new }
+pub fn number(tape: &[u8], work: &mut [u8], g: &Ground, n: usize, c: usize, p: usize) -> Numbered
+    requires { Grounded tape.now work.old g.now × SomeNamed tape.now work.old g.now n c p × NameRoom work.old g.now c p }
+    ensures { Numbers tape.now work.old g.now n c p result work.new × NamesOne tape.now work.old g.now n c p result work.new }
 {
     match reference(work, g, p) {
         Noted::Text(k) => Numbered {

@@ -39,9 +39,9 @@ fn is_macro(work: &[u8], width: Width, at: usize, c: u8) -> bool
 
 // The place of the next item from p on, or the end.
 // A loop, here and in `run_end` and `replace_items`: what is read at a place decides where the next turn begins, so an iterator of commands would be this loop with its place in a struct. `tape` for the clauses alone.
-fn next_item(tape: &[u8], work: &[u8], g: Ground, p: usize) -> usize
-    requires { Grounded tape.now work.now g × SomeHops work.now g p }
-    ensures { Skips work.now g p result }
+fn next_item(tape: &[u8], work: &[u8], g: &Ground, p: usize) -> usize
+    requires { Grounded tape.now work.now g.now × SomeHops work.now g.now p }
+    ensures { Skips work.now g.now p result }
 {
     let end = g.end - g.from;
     let mut q = p;
@@ -71,9 +71,9 @@ fn is_left(work: &[u8], width: Width, at: usize, c: u8) -> bool
 }
 
 // The place behind the commands from p on that are copied: of a symbol that is expanded, of the definition of a macro, or the end. `tape` for the clauses alone.
-fn run_end(tape: &[u8], work: &[u8], g: Ground, p: usize) -> usize
-    requires { Grounded tape.now work.now g × SomeWalk tape.now work.now g p }
-    ensures { Copies tape.now work.now g p result }
+fn run_end(tape: &[u8], work: &[u8], g: &Ground, p: usize) -> usize
+    requires { Grounded tape.now work.now g.now × SomeWalk tape.now work.now g.now p }
+    ensures { Copies tape.now work.now g.now p result }
 {
     let end = g.end - g.from;
     let mut q = p;
@@ -92,9 +92,9 @@ fn run_end(tape: &[u8], work: &[u8], g: Ground, p: usize) -> usize
 }
 
 // The nonterminal of the symbol at r.at, behind which k says where to read on.
-fn put_key(tape: &[u8], work: &mut [u8], g: Ground, r: Replaced, k: Keyed) -> Replaced
-    requires { Grounded tape.now work.old g × SomeKeyed tape.now work.old g r k }
-    ensures { PutsKeyed tape.now work.old g r k result work.new }
+fn put_key(tape: &[u8], work: &mut [u8], g: &Ground, r: Replaced, k: Keyed) -> Replaced
+    requires { Grounded tape.now work.old g.now × SomeKeyed tape.now work.old g.now r k }
+    ensures { PutsKeyed tape.now work.old g.now r k result work.new }
 {
     let x = number(tape, work, g, k.pile, r.count, r.at);
     let span = u64_at(work, g.from + r.at + 1);
@@ -108,9 +108,9 @@ fn put_key(tape: &[u8], work: &mut [u8], g: Ground, r: Replaced, k: Keyed) -> Re
 }
 
 // The command at r.at, n bytes long, and those behind it that are copied as well.
-fn copy_run(tape: &[u8], work: &mut [u8], g: Ground, r: Replaced, n: usize) -> Replaced
-    requires { Grounded tape.now work.old g × SomeTurn tape.now work.old g r × Copies tape.now work.old g r.at (r.at + n) × (0 < n) }
-    ensures { Turns tape.now work.old g r result work.new }
+fn copy_run(tape: &[u8], work: &mut [u8], g: &Ground, r: Replaced, n: usize) -> Replaced
+    requires { Grounded tape.now work.old g.now × SomeTurn tape.now work.old g.now r × Copies tape.now work.old g.now r.at (r.at + n) × (0 < n) }
+    ensures { Turns tape.now work.old g.now r result work.new }
 {
     let e = run_end(tape, work, g, r.at + n);
     copy_within(work, g.from + r.at, g.from + e, r.to);
@@ -122,9 +122,9 @@ fn copy_run(tape: &[u8], work: &mut [u8], g: Ground, r: Replaced, n: usize) -> R
 }
 
 // Commands that are copied, or one symbol that is expanded, or one definition of a macro.
-fn replace_next(tape: &[u8], work: &mut [u8], g: Ground, r: Replaced) -> Replaced
-    requires { Grounded tape.now work.old g × SomeTurn tape.now work.old g r × (r.at < size_in g) }
-    ensures { Turns tape.now work.old g r result work.new }
+fn replace_next(tape: &[u8], work: &mut [u8], g: &Ground, r: Replaced) -> Replaced
+    requires { Grounded tape.now work.old g.now × SomeTurn tape.now work.old g.now r × (r.at < size_in g.now) }
+    ensures { Turns tape.now work.old g.now r result work.new }
 {
     let at = g.from + r.at;
     let c = work[at];
@@ -143,9 +143,9 @@ fn replace_next(tape: &[u8], work: &mut [u8], g: Ground, r: Replaced) -> Replace
 }
 
 // The items, written from `to` on.
-pub fn replace_items(tape: &[u8], work: &mut [u8], g: Ground, to: usize) -> Replaced
-    requires { Grounded tape.now work.old g × SomeStage tape.now work.old g to }
-    ensures { Stages tape.now work.old g to result work.new }
+pub fn replace_items(tape: &[u8], work: &mut [u8], g: &Ground, to: usize) -> Replaced
+    requires { Grounded tape.now work.old g.now × SomeStage tape.now work.old g.now to }
+    ensures { Stages tape.now work.old g.now to result work.new }
 {
     let end = g.end - g.from;
     let mut r = Replaced {

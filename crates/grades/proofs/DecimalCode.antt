@@ -1,4 +1,4 @@
--- Numbers in decimal: the loops of number_size and put_digits. Assumes nothing.
+-- Numbers in decimal: the answer of number_size, and the loop of put_digits. Assumes nothing.
 use mathlib.Core.Path.{◌≡◌, refl, sym, ap, ◌∙◌}
 use mathlib.Core.List.{List, [], ◌∷◌}
 use Prim.Native.Nat.{ℕ, zero, suc, ◌+◌, ◌-◌, ◌*◌, ◌/◌, ◌%◌, ◌^◌, ◌≤◌, ◌<◌}

@@ -12,6 +12,7 @@ pub mod AlternativesMean
 mod GradingMean
 pub mod AlternativesLaws
 pub mod AscendsMean
+pub mod AlternativesStored
 pub mod AlternativesWholeMean
 pub mod KeysMean
 pub mod LowestMean

@@ -3,7 +3,7 @@ use mathlib.Core.Path.{◌≡◌, refl}
 use mathlib.Core.Bool.{Bool, true, false, cond, ◌&&◌, not}
 use mathlib.Mathlib.Data.Bool.Basic.{and_elim_left}
 use mathlib.Core.List.{List, [], ◌∷◌, ◌++◌}
-use mathlib.Core.Option.{Option, none, some}
+use mathlib.Core.Option.{some}
 use Prim.Native.Nat.{ℕ, zero, suc}
 use Rattle.octets.specs.Working.Choice.{pick}
 use Rattle.octets.specs.Plain.Runs.{same_as}
@@ -12,10 +12,12 @@ use Rattle.parse_tree.specs.Plain.Texts.{has, is_name, name_bytes, starts_name, 
 use Rattle.parse_tree.specs.Plain.Display.{print}
 use Rattle.parse_tree.specs.Working.Within.{Each, LeafWithin, AroundWithin, OverWithin, SymWithin, SymsWithin}
 use Rattle.parse_tree.specs.declared.syntax.Span.{Span}
-use Rattle.passes.specs.Outcome.{Tree, Outcome, yes, no, after, simple}
-use Rattle.passes.specs.Macros.{Pending, looking, repeating, listing, symbol_of, expand_alternative, expand_lookaround_symbol, Expander, push, replace_around, replace_symbol, replace_symbols, replace_alternatives, replace_items, at, argument_of, or_name, macro_expand_symbol, macro_expand_symbols, evaluate_condition, expand_alternatives, macro_in, expand_macro_symbol, expand_repeat_symbol, expand_expr_symbol, expand_symbol, drain, has_name, group_action, made, one_chosen, v_name, e_name}
+use Rattle.passes.specs.Outcome.{Tree, yes, no, simple}
+use Rattle.passes.specs.Macros.{Pending, looking, repeating, listing, symbol_of, expand_lookaround_symbol, Expander, push, replace_around, replace_symbol, replace_symbols, replace_alternatives, replace_items, at, argument_of, or_name, macro_expand_symbol, macro_expand_symbols, macro_in, expand_repeat_symbol, expand_expr_symbol, expand_symbol, drain, has_name, group_action, made, one_chosen, v_name, e_name}
 use Rattle.passes.specs.Views.{Look, ahead, behind}
 use Rattle.passes.proofs.Outcomes.{no≢yes, after-yes}
+use Rattle.passes.proofs.ResolveKeeps.{yes_as}
+use Rattle.passes.proofs.MacrosKeep.{macro_found, call_keeps}
 use Rattle.laws.specs.Keys.{SoundText, Expands, LeafSound, AroundSound, OverSound, SymSound, SymsSound, AlternativeSound, ItemSound, Piled}
 use Rattle.laws.proofs.Prints.{unlike_start, print-built, print-sound, ident_sound}
 
@@ -123,41 +125,6 @@ module _ (ps : List Text) (args : Syms) (k : SymsSound args) where
     put_all_sound (cons x xs) h = (put_sound x h.0, put_all_sound xs h.1)
 
 -- ---- the items of popped symbols
-yes_as : {A : Type 0} (P : A → Type 0) {a b : A} → ◌≡◌ {A = Outcome A} (yes a) (yes b) → P a → P b
-yes_as P {a} {b} e h = let q : a ≡ b = cc in rw (← q) h
-
-alternatives_sound : (s : Span) (ps : List Text) (xs : Syms) → SymsSound xs → (as' bs : List Alternative) → Each AlternativeSound as' → expand_alternatives s ps xs as' ≡ yes bs → Each AlternativeSound bs
-unfolding expand_alternatives
-alternatives_sound s ps xs k [] bs h e = yes_as (Each AlternativeSound) e tt
-alternatives_sound s ps xs k (a ∷ rest) bs h e =
-    let (b, _, f) = after-yes (evaluate_condition ps xs a.condition) (λ b. after (expand_alternatives s ps xs rest) (λ cs. yes (cond b (expand_alternative s ps xs a ∷ cs) cs))) bs e in
-    let (cs, g, i) = after-yes (expand_alternatives s ps xs rest) (λ cs. yes (cond b (expand_alternative s ps xs a ∷ cs) cs)) bs f in
-    let r = alternatives_sound s ps xs k rest cs h.1 g in
-    yes_as (Each AlternativeSound) i (go b cs r)
-  where
-    go : (b : Bool) (cs : List Alternative) → Each AlternativeSound cs → Each AlternativeSound (cond b (expand_alternative s ps xs a ∷ cs) cs)
-    go true cs r = (put_all_sound ps xs k a.symbols h.0, r)
-    go false cs r = r
-
-abbrev Found : Option Nonterminal → Type 0
-Found none = Unit {0}
-Found (some d) = Each AlternativeSound d.alternatives
-
-macro_found : (G : Tree) (n : Text) → Each ItemSound G → Found (macro_in G n)
-macro_found [] n h = tt
-macro_found (item d ∷ rest) n h = go (same_as d.name n && (elim d.args [ [] ↦ false | p ∷ ps ↦ true ])) (macro_found rest n h.1)
-  where
-    go : (b : Bool) → Found (macro_in rest n) → Found (cond b (some d) (macro_in rest n))
-    go true i = h.0
-    go false i = i
-macro_found (Item.terminal s o t ∷ rest) n h = macro_found rest n h.1
-
-call_sound : (s : Span) (key : Text) (xs : Syms) (o : Option Nonterminal) (d : Nonterminal) → SymsSound xs → Found o → expand_macro_symbol s key xs o ≡ yes d → Each AlternativeSound d.alternatives
-call_sound s key xs none d k h e = absurd (no≢yes 11 s d e)
-call_sound s key xs (some m) d k h e =
-    let (bs, f, g) = after-yes (expand_alternatives s m.args xs m.alternatives) _ d e in
-    yes_as (λ c. Each AlternativeSound c.alternatives) g (alternatives_sound s m.args xs k m.alternatives bs h f)
-
 v_ident : name_bytes v_name ≡ true
 unfolding name_bytes starts_name every
 v_ident = refl
@@ -186,7 +153,7 @@ pub expand_sound : (G : Tree) (x : Pending) (d : Nonterminal) → Each ItemSound
 unfolding expand_symbol
 expand_sound G (looking s k) d g h e = yes_as (λ c. Each AlternativeSound c.alternatives) e (look_sound s _ k)
 expand_sound G (repeating s o x) d g h e = yes_as (λ c. Each AlternativeSound c.alternatives) e (repeat_sound s _ o x h.1 (print-sound (around s (repeat o) x) h))
-expand_sound G (listing s (macro n) xs) d g h e = call_sound s _ xs (macro_in G n) d h.1 (macro_found G n g) e
+expand_sound G (listing s (macro n) xs) d g h e = call_keeps AlternativeSound s xs (λ ps a k. put_all_sound ps xs h.1 a.symbols k) ItemSound (λ m k. k) _ (λ m bs k. k) (macro_in G n) d (macro_found ItemSound G n g) e
 expand_sound G (listing s group xs) d g h e = group_sound s _ xs d h.1 e
 
 pub drain-sound : (G : Tree) (xs : List Pending) (is : List Item) → Each ItemSound G → Each (λ x. SymSound (symbol_of x)) xs → drain G xs ≡ yes is → Each ItemSound is

@@ -25,7 +25,8 @@ use Rattle.grades.specs.Annotations.{first_alternative}
 use Rattle.grades.specs.Ids.{ids_in}
 use Rattle.grades.specs.Alternatives.{ungraded_as, OffTable, Gradable, grade_from, Grades}
 use Rattle.grades.proofs.AlternativesMean.{first_means}
-use Rattle.grades.proofs.AlternativesWholeMean.{Ready, GradeMeans, grade_means}
+use Rattle.grades.proofs.AlternativesWholeMean.{GradeMeans, grade_means}
+use Rattle.grades.proofs.AlternativesStored.{Ready}
 use Rattle.precedence.proofs.NamesMean.{naming-worded}
 use Rattle.levels.specs.declared.Room.{Room}
 use Rattle.levels.specs.declared.Written.{Written}

@@ -24,7 +24,7 @@ use Rattle.grades.specs.Grading.{Worded}
 use Rattle.grades.specs.Ids.{ids_in}
 use Rattle.grades.specs.Sort.{keys_at}
 use Rattle.grades.proofs.AscendsMean.{code_of}
-use Rattle.grades.proofs.AlternativesWholeMean.{places_from}
+use Rattle.grades.proofs.AlternativesStored.{places_from}
 use Rattle.grades.proofs.WordedLaws.{worded_stays}
 use Rattle.precedence.specs.Names.{named_texts}
 use Rattle.precedence.proofs.GroupMean.{levels-some}
@@ -35,7 +35,7 @@ use Rattle.levels.specs.declared.Room.{Room}
 use Rattle.levels.specs.declared.Written.{Written}
 use Rattle.levels.specs.Expand.{LevelsFit, NamesAt, Kept, Wrote, Stood, places_of, alternatives_at, items_left, Left, Finishes, Expandable}
 use Rattle.levels.proofs.WroteLaws.{marks_stay}
-use Rattle.levels.proofs.Few.{graded-length, levels-few}
+use Rattle.laws.proofs.LevelsMany.{graded-length, levels-few}
 use Rattle.levels.proofs.ExpandMean.{keys_place, stands_before}
 use Rattle.levels.proofs.ExpandMeanSorted.{Ordered}
 

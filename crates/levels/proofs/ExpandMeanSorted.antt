@@ -29,14 +29,15 @@ use Rattle.grades.specs.declared.Ids.{Ids}
 use Rattle.grades.specs.Sort.{keys_at, Sorted}
 use Rattle.grades.specs.Alternatives.{lowest_from}
 use Rattle.grades.proofs.AscendsMean.{code_of, ascends_from}
-use Rattle.grades.proofs.AlternativesWholeMean.{places_from, Keyed}
+use Rattle.grades.proofs.AlternativesWholeMean.{Keyed}
+use Rattle.grades.proofs.AlternativesStored.{places_from}
 use Rattle.grades.proofs.KeysMean.{ascending_keys, sorted_keys}
 use Rattle.grades.proofs.LowestMean.{LowestMeans, lowest_means}
 use Rattle.precedence.proofs.LeadMean.{span_noted}
 use Rattle.levels.specs.declared.Room.{Room}
 use Rattle.levels.specs.declared.Written.{Written}
 use Rattle.levels.specs.Expand.{SortsKeys, Expandable, ExpandedBy, alternatives_at}
-use Rattle.levels.proofs.Few.{graded-length}
+use Rattle.laws.proofs.LevelsMany.{graded-length}
 use Rattle.levels.proofs.ExpandMean.{keys_place, stands_headed, stands_before}
 
 -- keys whose bytes are as they were

@@ -11,7 +11,7 @@ use Rattle.parse_tree.specs.Working.Nodes.{node_bytes}
 use Rattle.parse_tree.specs.Working.Encode.{over_node, action_text, alternative_node, attribute_node, condition_node, nonterminal_node, sym_bytes, syms_bytes, argument_bytes, attribute_bytes, condition_bytes, alternative_bytes, item_bytes}
 use Rattle.parse_tree.specs.Working.Within.{Each, Uses, LeafWithin, AroundWithin, OverWithin, SymWithin, SymsWithin, ActionWithin, ArgumentWithin, AttributeWithin, ConditionWithin, AlternativeWithin, NonterminalWithin, ItemWithin}
 use Rattle.replacing.proofs.SlotsMean.{each_map}
-use Rattle.replacing.proofs.Going.{Extends, extends_has, extends_number}
+use Rattle.replacing.proofs.Growing.{Extends, extends_has, extends_number}
 use Rattle.replacing.proofs.SymbolsGo.{leaf_later, around_later}
 
 -- theorem: functions that agree on each element

@@ -1,51 +1,22 @@
--- How many levels, and how many alternatives each has. Assumes nothing.
-use mathlib.Core.Path.{◌≡◌, refl, sym, ap, ◌∙◌}
+-- The names of levels end in the nonterminal's own, and their alternatives are all of them, each once. Assumes nothing.
+use mathlib.Core.Path.{◌≡◌, refl, sym, ap}
 use mathlib.Core.Bool.{Bool, true, false, cond}
 use mathlib.Core.List.{List, [], ◌∷◌, ◌++◌, map}
 use mathlib.Core.Option.{Option, none, some}
-use Prim.Native.Nat.{ℕ, suc, ◌+◌, ◌≤◌}
+use Prim.Native.Nat.{ℕ, ◌+◌, ◌≤◌}
 use native.Mathlib.Omega.{arith}
 use borrow.Author.Tests.{eq-eqb, ne_eqb, eqb-true, eqb-false}
 use lib.Dec.{eqb, ltb}
 use lib.ListN.{length}
 use Rattle.octets.specs.Working.Choice.{pick}
-use Rattle.parse_tree.specs.Plain.Tree.{Text, Alternative, Nonterminal}
+use Rattle.parse_tree.specs.Plain.Tree.{Text, Nonterminal}
 use Rattle.parse_tree.specs.Working.Within.{Each}
-use Rattle.passes.specs.Grades.{Side, all, Levelled, level_of, value_of, precedence, assoc, with_levels, Graded, side_of, with_sides, graded}
+use Rattle.passes.specs.Grades.{Graded, graded}
 use Rattle.passes.specs.Levels.{insert, levels_of, of_level, decimal, Group, level_name, groups_of}
 use Rattle.laws.specs.Sort.{often}
 use Rattle.laws.proofs.Levels.{levels-hold}
-use Rattle.replacing.proofs.SlotsMean.{each_map}
+use Rattle.laws.proofs.LevelsMany.{graded-length}
 use Rattle.levels.specs.Names.{group_names}
-
--- ---- as many graded alternatives as alternatives
-levels-length : (l : ℕ) (as' : List Alternative) → length (with_levels l as') ≡ length as'
-levels-length l [] = refl
-levels-length l (a ∷ rest) = ap suc (levels-length (level_of l (value_of precedence a.attributes)) rest)
-
-sides_length : (s : Side) (xs : List Levelled) → length (with_sides s xs) ≡ length xs
-sides_length s [] = refl
-sides_length s (x ∷ rest) = ap suc (sides_length (side_of (cond x.is_new all s) (value_of assoc x.alternative.attributes)) rest)
-
--- theorem: grading keeps their number
-pub graded-length : (d : Nonterminal) → length (graded d) ≡ length d.alternatives
-graded-length d = sides_length all (with_levels 0 d.alternatives) ∙ levels-length 0 d.alternatives
-
--- ---- at most as many levels
-insert-few : (v : ℕ) (xs : List ℕ) → length (insert v xs) ≤ suc (length xs)
-insert-few v [] = omega arith
-insert-few v (x ∷ xs) = go (ltb v x) (eqb v x) (insert-few v xs)
-  where
-    go : (s t : Bool) → length (insert v xs) ≤ suc (length xs) → length (cond s (v ∷ x ∷ xs) (cond t (x ∷ xs) (x ∷ insert v xs))) ≤ suc (suc (length xs))
-    go true t i = omega arith
-    go false true i = omega arith
-    go false false i = omega arith
-
--- theorem: there are no more levels than alternatives
-pub levels-few : (gs : List Graded) → length (levels_of gs) ≤ length gs
-unfolding levels_of
-levels-few [] = omega arith
-levels-few (g ∷ gs) = omega (arith, insert-few g.level (levels_of gs), levels-few gs)
 
 -- ---- the highest keeps the name
 -- texts of E and a level
@@ -127,25 +98,3 @@ total_all vs (g ∷ gs) h = omega (arith, total_first vs g gs, total_all vs gs h
 -- theorem: the levels have as many alternatives as there are
 pub levels-total : (gs : List Graded) → total (levels_of gs) gs ≡ length gs
 levels-total gs = total_all (levels_of gs) gs (levels-hold gs)
-
--- ---- no level is empty
-insert-each : (P : ℕ → Type 0) (v : ℕ) (xs : List ℕ) → P v → Each P xs → Each P (insert v xs)
-insert-each P v [] p h = (p, tt)
-insert-each P v (x ∷ xs) p h = go (ltb v x) (eqb v x) (insert-each P v xs p h.1)
-  where
-    go : (s t : Bool) → Each P (insert v xs) → Each P (cond s (v ∷ x ∷ xs) (cond t (x ∷ xs) (x ∷ insert v xs)))
-    go true t i = (p, h)
-    go false true i = h
-    go false false i = (h.0, i)
-
-own-some : (g : Graded) (gs : List Graded) → 1 ≤ length (of_level g.level (g ∷ gs))
-unfolding pick
-own-some g gs = let z = eq-eqb g.level g.level refl in let y = level_first g.level g gs in rw y (rw z (omega arith))
-
--- theorem: each level has an alternative
-pub levels-full : (gs : List Graded) → Each (λ (v : ℕ). 1 ≤ length (of_level v gs)) (levels_of gs)
-unfolding levels_of
-levels-full [] = tt
-levels-full (g ∷ gs) =
-    insert-each (λ (v : ℕ). 1 ≤ length (of_level v (g ∷ gs))) g.level (levels_of gs) (own-some g gs)
-    (each_map (λ (v : ℕ) i. omega (arith, i, level_first v g gs)) (levels_of gs) (levels-full gs))

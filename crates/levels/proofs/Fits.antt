@@ -17,7 +17,8 @@ use Rattle.passes.specs.Levels.{levels_of, of_level, Group, level_name, groups_o
 use Rattle.passes.specs.Sizes.{each, over_fits, sym_fits, syms_fit, alternative_fits, item_fits}
 use Rattle.passes.proofs.ResolveKeeps.{item_fits_lem}
 use Rattle.levels.proofs.Graded.{GradedWithin, of_level_each, graded-within}
-use Rattle.levels.proofs.Few.{graded-length, total, levels-total, levels-full}
+use Rattle.laws.proofs.LevelsMany.{graded-length, levels-full}
+use Rattle.levels.proofs.Few.{total, levels-total}
 
 -- ---- tests of each
 fits_append : {A : Type 0} (f : A → Bool) (xs ys : List A) → each f xs ≡ true → each f ys ≡ true → each f (xs ++ ys) ≡ true

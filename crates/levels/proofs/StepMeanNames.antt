@@ -17,7 +17,7 @@ use Rattle.texts.proofs.TextCode.{length_texts}
 use Rattle.passes.specs.Grades.{precedence, assoc}
 use Rattle.passes.specs.Levels.{level_name}
 use Rattle.replacing.proofs.NumbersMean.{new_known, new_unknown}
-use Rattle.replacing.proofs.Going.{Extends, extends_has, extends_number}
+use Rattle.replacing.proofs.Growing.{Extends, extends_has, extends_number}
 use Rattle.grades.specs.declared.Ids.{Ids}
 use Rattle.grades.specs.Ids.{ids_in}
 use Rattle.grades.proofs.IdsMean.{ids_stay}

@@ -10,7 +10,7 @@ use Rattle.parse_tree.specs.Plain.References.{texts_of_each, alternative_texts, 
 use Rattle.parse_tree.specs.Working.Within.{Each, NonterminalWithin, ItemWithin}
 use Rattle.passes.specs.Grades.{Graded, annotated, graded}
 use Rattle.passes.specs.Levels.{levels_of, of_level, Group, level_name, groups_of, substitute, substituted, fall_through, with_fall_through, level_items, levelled}
-use Rattle.replacing.proofs.Going.{Extends, extends_refl, extends_trans, extends_has, new_extends, new_append, new_there}
+use Rattle.replacing.proofs.Growing.{Extends, extends_refl, extends_trans, extends_has, new_extends, new_append, new_there}
 use Rattle.replacing.proofs.ThereBytes.{new_has}
 use Rattle.levels.specs.Names.{group_names, level_names}
 use Rattle.levels.proofs.Graded.{GradedWithin, of_level_each, graded-within}

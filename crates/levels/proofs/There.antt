@@ -16,8 +16,8 @@ use Rattle.passes.specs.Outcome.{with_symbols}
 use Rattle.passes.specs.Grades.{Side, all, non, left, right, Graded, ceiling}
 use Rattle.passes.specs.Levels.{Group, lower_name, occurs, occurs_in, replace_occurrences, replace_occurrences_in, substitute, fall_through}
 use Rattle.replacing.proofs.SlotsMean.{each_map}
-use Rattle.replacing.proofs.Going.{Extends, extends_has, There}
-use Rattle.replacing.proofs.SymbolsGo.{leaf_there, around_there}
+use Rattle.replacing.proofs.Growing.{Extends, extends_has}
+use Rattle.parse_tree.proofs.NothingNew.{There, leaf_there, around_there}
 use Rattle.levels.proofs.Graded.{GradedWithin}
 
 -- ---- lists of texts

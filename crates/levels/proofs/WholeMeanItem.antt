@@ -25,7 +25,7 @@ use Rattle.passes.specs.Levels.{grouped, level_items, levelled, check_attributes
 use Rattle.resolve.specs.declared.Grammar.{Grammar}
 use Rattle.resolve.specs.Items.{item_place_in}
 use Rattle.resolve.proofs.GrammarLaws.{Row, row_place, row_same}
-use Rattle.replacing.proofs.Going.{Extends}
+use Rattle.replacing.proofs.Growing.{Extends}
 use Rattle.grades.specs.declared.Ids.{Ids}
 use Rattle.grades.specs.Ids.{ids_in}
 use Rattle.grades.specs.Annotations.{has_prec_attr}

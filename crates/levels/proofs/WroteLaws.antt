@@ -19,7 +19,8 @@ use Rattle.texts.proofs.TableStays.{le_at-agree}
 use Rattle.grades.specs.declared.Ids.{Ids}
 use Rattle.precedence.proofs.WriteLaws.{fits_or_not}
 use Rattle.resolve.proofs.CellsLaws.{lies_agree}
-use Rattle.replacing.proofs.Going.{Extends, new_append, new_extends, There}
+use Rattle.replacing.proofs.Growing.{Extends, new_append, new_extends}
+use Rattle.parse_tree.proofs.NothingNew.{There}
 use Rattle.precedence.specs.Names.{named_texts}
 use Rattle.levels.specs.declared.Room.{Room}
 use Rattle.levels.specs.declared.Written.{Written}

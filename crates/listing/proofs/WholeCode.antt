@@ -1,4 +1,4 @@
--- The ways out of list_yes, list_no and listing. Assumes nothing.
+-- The ways out of list_yes, list_no and list. Assumes nothing.
 use mathlib.Core.Path.{◌≡◌, refl, sym, ap, ◌∙◌, subst}
 use mathlib.Core.Bool.{true, false}
 use mathlib.Core.List.{List, ◌++◌}
@@ -53,7 +53,7 @@ front_done o n k to w' l = record { from = refl; lists = l }
 
 pub ruleset listing_yes = (rules, front_inside, front_long, front_room, front_done)
 
--- ---- `listing`: y is what the call answered, o₁ and w₁ what it left
+-- ---- `list`: y is what the call answered, o₁ and w₁ what it left
 module _ (s o w : List ℕ) (y : Result ℕ Refusal) (o₁ w₁ : List ℕ) (c : Called (whole true 2 s 64 (length o) (length w)) s o w y o₁ w₁) where
   abbrev x : Outcome Stage
   x = whole true 2 s 64 (length o) (length w)

@@ -2,70 +2,23 @@
 use mathlib.Core.Path.{◌≡◌, refl, sym, ap}
 use mathlib.Core.Bool.{Bool, true, false, cond, ◌&&◌}
 use mathlib.Core.List.{List, [], ◌∷◌, ◌++◌, append-nil}
-use mathlib.Core.Option.{Option, none, some}
 use Prim.Native.Nat.{ℕ}
-use Rattle.parse_tree.specs.Plain.Tree.{Text, Syms, Action, Attribute, Condition, Alternative, no_action, user, fallible, lookahead_action, lookbehind_action, conditions}
+use Rattle.parse_tree.specs.Plain.Tree.{Text, Syms, Alternative}
 use Rattle.parse_tree.specs.Plain.Texts.{with_new}
-use Rattle.parse_tree.specs.Plain.References.{texts_of_each, action_texts, attribute_texts, condition_texts, alternative_texts, syms_texts}
+use Rattle.parse_tree.specs.Plain.References.{texts_of_each, alternative_texts}
 use Rattle.parse_tree.specs.Plain.WriteTape.{bytes_of_each}
-use Rattle.parse_tree.specs.Working.Nodes.{node_bytes}
-use Rattle.parse_tree.specs.Working.Encode.{action_text, alternative_node, attribute_node, condition_node, attribute_bytes, condition_bytes, alternative_bytes}
+use Rattle.parse_tree.specs.Working.Encode.{alternative_bytes}
 use Rattle.parse_tree.specs.declared.syntax.Span.{Span}
 use Rattle.passes.specs.Sizes.{each, alternative_fits}
 use Rattle.passes.specs.Outcome.{Outcome, yes, no}
 use Rattle.passes.specs.Macros.{evaluate_condition, expand_alternative}
-use Rattle.replacing.proofs.Going.{Extends, There, extends_number}
-use Rattle.replacing.proofs.ThereBytes.{there_parts, syms_known}
+use Rattle.replacing.proofs.ThereBytes.{bytes_known, alternative_known}
 use Rattle.expander.specs.declared.Ground.{Ground}
 use Rattle.appending.specs.declared.Appended.{Appended}
 use Rattle.appending.specs.Pieces.{plainly, then_piece, Steady, Appending, Appends}
 use Rattle.appending.proofs.PiecesLaws.{appends-none, appends_then, appends_is}
 use Rattle.expander.specs.Names.{named_in}
 use Rattle.macro_expand.specs.Alternatives.{alternative_piece, alternatives_piece, held}
-
-bytes_known : {A : Type 0} (us : List Text) (t : A → List Text) (f g : A → List ℕ) → ((x : A) → There us (t x) → f x ≡ g x) → (xs : List A) → There us (texts_of_each t xs) → bytes_of_each f xs ≡ bytes_of_each g xs
-unfolding bytes_of_each texts_of_each
-bytes_known us t f g h [] e = refl
-bytes_known us t f g h (x ∷ xs) e =
-    let (a, b) = there_parts us (t x) (texts_of_each t xs) e in
-    rw (h x a, bytes_known us t f g h xs b) refl
-
-module _ (wd : ℕ) (us vs : List Text) (p : Extends us vs) where
-  action_known : (a : Action) → There us (action_texts a) → action_text vs a ≡ action_text us a
-  unfolding action_text action_texts
-  action_known no_action h = refl
-  action_known (user t) h = extends_number us vs t p h.0
-  action_known (fallible t) h = extends_number us vs t p h.0
-  action_known lookahead_action h = refl
-  action_known lookbehind_action h = refl
-
-  attribute_by_lem : (i : Text) (o : Option (Text × Text)) → There us (attribute_texts (record { id = i; argument = o })) → attribute_node vs (record { id = i; argument = o }) ≡ attribute_node us (record { id = i; argument = o })
-  unfolding attribute_node attribute_texts
-  attribute_by_lem i none h = rw (extends_number us vs i p h.0) refl
-  attribute_by_lem i (some kv) h = rw (extends_number us vs i p h.0, extends_number us vs kv.0 p h.1.0, extends_number us vs kv.1 p h.1.1.0) refl
-
-  attribute_known : (a : Attribute) → There us (attribute_texts a) → attribute_bytes wd vs a ≡ attribute_bytes wd us a
-  unfolding attribute_bytes
-  attribute_known a h = ap (node_bytes wd) (attribute_by_lem a.id a.argument h)
-
-  condition_known : (c : Condition) → There us (condition_texts c) → condition_bytes wd vs c ≡ condition_bytes wd us c
-  unfolding condition_bytes condition_node condition_texts
-  condition_known c h = rw (extends_number us vs c.lhs p h.0, extends_number us vs c.rhs p h.1.0) refl
-
-  alternative_known : (a : Alternative) → There us (alternative_texts a) → alternative_bytes wd vs a ≡ alternative_bytes wd us a
-  unfolding alternative_bytes alternative_node alternative_texts
-  alternative_known a h =
-      let as' = texts_of_each attribute_texts a.attributes in
-      let cs = texts_of_each condition_texts (conditions a.condition) in
-      let (i, j) = there_parts us (action_texts a.action) (as' ++ (cs ++ syms_texts a.symbols)) h in
-      let (k, l) = there_parts us as' (cs ++ syms_texts a.symbols) j in
-      let (m, n) = there_parts us cs (syms_texts a.symbols) l in
-      rw (
-        action_known a.action i,
-        bytes_known us attribute_texts (attribute_bytes wd vs) (attribute_bytes wd us) attribute_known a.attributes k,
-        bytes_known us condition_texts (condition_bytes wd vs) (condition_bytes wd us) condition_known (conditions a.condition) m,
-        syms_known wd us vs p a.symbols n,
-      ) refl
 
 pub steady_alternatives : (wd : ℕ) (xs : List Alternative) → Steady (alternatives_piece wd xs)
 steady_alternatives wd xs = record {

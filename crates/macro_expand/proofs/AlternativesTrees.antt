@@ -25,7 +25,8 @@ use Rattle.passes.specs.Sizes.{alternative_fits, syms_fit}
 use Rattle.passes.specs.Macros.{macro_expand_symbols, expand_alternative}
 use Rattle.grades.specs.Annotations.{conditions_from, symbols_from}
 use Rattle.grades.proofs.AlternativesMean.{alternative_read}
-use Rattle.replacing.proofs.Going.{Extends, There, new_append, new_there, extends_number}
+use Rattle.replacing.proofs.Growing.{Extends, new_append, new_there, extends_number}
+use Rattle.parse_tree.proofs.NothingNew.{There}
 use Rattle.macro_expand.proofs.ExpandTrees.{all_count}
 
 -- ---- texts that are there

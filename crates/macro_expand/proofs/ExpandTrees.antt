@@ -20,8 +20,9 @@ use Rattle.parse_tree.specs.declared.syntax.Node.{Node}
 use Rattle.passes.specs.Sizes.{over_fits, sym_fits, syms_fit}
 use Rattle.passes.specs.Macros.{macro_expand_symbol, macro_expand_symbols}
 use Rattle.laws.specs.Flat.{sym_node, children}
-use Rattle.replacing.proofs.Going.{Extends, There, new_append, new_there, extends_number}
-use Rattle.replacing.proofs.SymbolsGo.{leaf_later, around_later, leaf_there, around_there}
+use Rattle.replacing.proofs.Growing.{Extends, new_append, new_there, extends_number}
+use Rattle.parse_tree.proofs.NothingNew.{There, leaf_there, around_there}
+use Rattle.replacing.proofs.SymbolsGo.{leaf_later, around_later}
 
 -- ---- the command of a parameter, or of another nonterminal
 abbrev pub is_names : Sym → Bool

@@ -38,6 +38,7 @@ use Rattle.std.specs.Prelude.{Option, Some, None}
 use Rattle.macro_expand.specs.Expand.{Popped, SomePopped, IsAny, IsGroup, head_bytes, head_piece, Begins, ExpandsTo, ExpandsExpr}
 use Rattle.macro_expand.specs.NormUtil.{SomeDirect, Analyzes}
 use Rattle.macro_expand.specs.Group.{group_text, SomeGroup, PutsGroup}
+use Rattle.macro_expand.proofs.PoppedLaws.{popped_any}
 use Rattle.macro_expand.proofs.ItemPieces.{steady_head}
 use Rattle.macro_expand.proofs.ItemTrees.{one_bytes, one_texts, one_fits}
 use Rattle.macro_expand.proofs.GroupTrees.{renamed_count, renamed_named, group_action_lem, group_many, group_few, group_span, group_stand, group_referring, group_fits, group_room}
@@ -112,7 +113,7 @@ module _ (s w : List ℕ) (g : Ground) (n lim q : ℕ) (v : Appended) (i m : ℕ
   I = inner s w g n lim q v S.popped
 
   pub group_any : SomePopped IsAny s w g n lim q v
-  group_any = let K = S.popped in record { places = K.places; four = K.four; left = K.left; end = K.end; symbol = K.symbol; popped = K.popped; is = tt }
+  group_any = popped_any IsGroup s w g n lim q v S.popped
 
   pub eleven_fits : Fits w64 (q + 11)
   eleven_fits = record { fits = omega (arith, group_room s w g n lim I.places I.four I.left q I.end I.span I.symbols v I.popped, I.popped.going.ground.inside, I.popped.going.ground.short) }

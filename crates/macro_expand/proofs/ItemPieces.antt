@@ -10,7 +10,8 @@ use Rattle.parse_tree.specs.Working.Nodes.{span_bytes, node_bytes}
 use Rattle.parse_tree.specs.declared.syntax.Span.{Span}
 use Rattle.parse_tree.specs.declared.syntax.Node.{Node}
 use Rattle.precedence.specs.Write.{Puts, alternative_head}
-use Rattle.replacing.proofs.Going.{Extends, extends_number, new_extends, There}
+use Rattle.replacing.proofs.Growing.{Extends, extends_number, new_extends}
+use Rattle.parse_tree.proofs.NothingNew.{There}
 use Rattle.replacing.proofs.ThereBytes.{new_all}
 use Rattle.expander.specs.declared.Ground.{Ground}
 use Rattle.expander.specs.Names.{named_in}

@@ -21,6 +21,7 @@ pub mod PutInNamed
 pub mod PutInPlain
 mod PutInArgument
 mod ExpandTrees
+mod ExpandSymbol
 mod ExpandCode
 mod ExpandListCode
 mod AlternativesTrees
@@ -34,5 +35,6 @@ mod MacroCode
 pub mod PileStays
 pub mod KeyCodes
 pub mod DrainLaws
+mod PileStands
 mod PushedCode
 mod DrainCode

@@ -27,7 +27,7 @@ use Rattle.passes.specs.Sizes.{each, alternative_fits}
 use Rattle.passes.specs.Outcome.{Outcome, yes, after}
 use Rattle.precedence.proofs.WriteMean.{span_there}
 use Rattle.replacing.specs.Trees.{renamed_all}
-use Rattle.replacing.proofs.Going.{extends_number}
+use Rattle.replacing.proofs.Growing.{extends_number}
 use Rattle.expander.specs.declared.Ground.{Ground}
 use Rattle.expander.specs.Ground.{size_in}
 use Rattle.expander.specs.Names.{named_in}

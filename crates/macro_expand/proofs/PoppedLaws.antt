@@ -26,7 +26,11 @@ use Rattle.expander.proofs.KeysLaws.{stands_print}
 use Rattle.appending.specs.declared.Appended.{Appended}
 use Rattle.appending.proofs.SymbolsTrees.{own_key}
 use Rattle.appending.proofs.BuiltRoom.{names_room}
-use Rattle.macro_expand.specs.Expand.{sym_span, Popped}
+use Rattle.macro_expand.specs.Expand.{sym_span, Popped, SomePopped, IsAny}
+
+-- ---- one of some kind is one of any
+pub popped_any : (P : Sym → Type 0) (s w : List ℕ) (g : Ground) (n lim q : ℕ) (v : Appended) → SomePopped P s w g n lim q v → SomePopped IsAny s w g n lim q v
+popped_any P s w g n lim q v K = record { places = K.places; four = K.four; left = K.left; end = K.end; symbol = K.symbol; popped = K.popped; is = tt }
 
 -- ---- trees
 expands_key : (y : Sym) → Expands y → is_key y ≡ true

@@ -26,7 +26,7 @@ use Rattle.appending.specs.Commands.{name_head}
 use Rattle.appending.specs.Pieces.{naming, plainly, then_piece, symbols_piece, item_piece, Appending, Appends, SomeAppending}
 use Rattle.appending.specs.Symbols.{SomeReferring, PutsSymbols}
 use Rattle.appending.proofs.PiecesLaws.{steady_naming, steady_then, steady_symbols, appends_then, appends_is, appends_puts, appends_gives}
-use Rattle.appending.proofs.SymbolsStays.{referring_stays}
+use Rattle.appending.proofs.SymbolsStays.{referring_stays, some_stays}
 use Rattle.expander.proofs.GroundLaws.{grounded_around}
 use Rattle.macro_expand.specs.declared.begin.Begun.{Begun}
 use Rattle.macro_expand.specs.declared.plus.Pushing.{Pushing}
@@ -187,18 +187,7 @@ rest_appending s w g n lim p k v K = record { places = K.places; going = K.going
 
 module _ (s w : List ℕ) (g : Ground) (n lim p span name : ℕ) (v r : Appended) (w1 : List ℕ) (S : PutsSecond s w g n lim span name v r w1) where
   pub rest_there : SomeReferring s w g n lim p 1 v → SomeReferring s w1 g n lim p 1 r
-  rest_there K =
-      let (x, a) = S.stays K.places K.going in
-      record {
-        places = K.places;
-        four = K.four;
-        left = K.left;
-        end = K.end;
-        symbols = K.symbols;
-        going = a.going;
-        many = K.many;
-        referring = referring_stays s g n lim K.places w v K.going x r w1 a K.four K.left p K.end K.symbols K.referring;
-      }
+  rest_there K = let (x, a) = S.stays K.places K.going in some_stays s w g n lim p 1 v K x r w1 a
 
   pub rest_done : (c : Copied) (w2 : List ℕ) → PutsSymbols s w1 g n lim p 1 r c w2 → PutsPush s w g n lim p span name v c.out w2
   unfolding PutsPush PutsSymbols count

@@ -16,7 +16,7 @@ use Rattle.parse_tree.specs.declared.syntax.SymbolKind.{SymbolKind}
 use Rattle.parse_tree.specs.declared.syntax.Node.{Node}
 use Rattle.passes.specs.Macros.{expand_repeat_symbol, vec_one, pushed, v_name, e_name}
 use Rattle.passes.specs.Sizes.{sym_fits}
-use Rattle.replacing.proofs.Going.{extends_has, new_append, new_extends}
+use Rattle.replacing.proofs.Growing.{extends_has, new_append, new_extends}
 use Rattle.replacing.specs.Trees.{renamed, renamed_all}
 use Rattle.appending.specs.Built.{built_text}
 use Rattle.precedence.specs.Write.{alternative_head}

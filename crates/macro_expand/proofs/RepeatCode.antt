@@ -33,15 +33,12 @@ use Rattle.appending.specs.Symbols.{Referring, SomeReferring, PutsSymbols}
 use Rattle.appending.proofs.PiecesLaws.{steady_then, steady_symbols, appends_then, appends_is, appends_gives}
 use Rattle.appending.proofs.SymbolsStays.{referring_stays}
 use Rattle.macro_expand.specs.declared.begin.Begun.{Begun}
-use Rattle.macro_expand.specs.Expand.{head_bytes, head_piece, Popped, SomePopped, IsAny, IsRepeat, Begins}
+use Rattle.macro_expand.specs.Expand.{head_bytes, head_piece, Popped, SomePopped, IsRepeat, Begins}
 use Rattle.macro_expand.specs.Repeat.{ExpandsAs, BeganWith, BeginsWith, by_number, bare_head, PutsBy}
-use Rattle.macro_expand.proofs.PoppedLaws.{popped_room}
+use Rattle.macro_expand.proofs.PoppedLaws.{popped_any, popped_room}
 use Rattle.macro_expand.proofs.ItemPieces.{alternative_head_lem, steady_head, appends_told, appends_has, appends_number}
 use Rattle.macro_expand.proofs.ItemTrees.{simple_node, two_bytes, two_texts, two_fits}
 use Rattle.macro_expand.proofs.RepeatTrees.{text_some, text_nothing, repeat_referring, repeat_fits}
-
-pub popped_any : (P : Sym → Type 0) (s w : List ℕ) (g : Ground) (n lim q : ℕ) (v : Appended) → SomePopped P s w g n lim q v → SomePopped IsAny s w g n lim q v
-popped_any P s w g n lim q v K = record { places = K.places; four = K.four; left = K.left; end = K.end; symbol = K.symbol; popped = K.popped; is = tt }
 
 -- ---- a repeat that was taken off the pile
 record Inner (s w : List ℕ) (g : Ground) (n lim q : ℕ) (v : Appended) : Type 0 where
@@ -75,6 +72,9 @@ module _ (s w : List ℕ) (g : Ground) (n lim q : ℕ) (v : Appended) (K : SomeP
 
   pub inside-fits : Bound.Fits w64 (q + 10)
   inside-fits = record { fits = omega (arith, room, K.popped.going.behind, K.popped.going.ground.short) }
+
+  pub place-fits : Bound.Fits w64 (g.from + (q + 10))
+  place-fits = record { fits = omega (arith, room, K.popped.going.behind, K.popped.going.ground.short) }
 
 -- ---- begin_with
 module _ (s w : List ℕ) (g : Ground) (n lim q : ℕ) (v : Appended) (flags i symbols : ℕ) (x : Begun) (w1 : List ℕ) (B : Begins s w g n lim q v flags 2 i symbols x w1) where

@@ -25,13 +25,14 @@ use Rattle.appending.specs.Commands.{name_head, plus_head}
 use Rattle.appending.specs.Pieces.{nested, then_piece, symbols_piece, item_piece, Appending, Appends, SomeAppending}
 use Rattle.appending.specs.Symbols.{SomeReferring, PutsSymbols}
 use Rattle.appending.proofs.PiecesLaws.{steady_then, steady_symbols, appends_then, appends_is, appends_nested}
-use Rattle.appending.proofs.SymbolsStays.{referring_stays}
+use Rattle.appending.proofs.SymbolsStays.{referring_stays, some_stays}
 use Rattle.macro_expand.specs.declared.begin.Begun.{Begun}
 use Rattle.macro_expand.specs.Expand.{head_piece, SomePopped, IsRepeat, Begins}
 use Rattle.macro_expand.specs.Repeat.{ExpandsAs, by_number, PutsBy, star_head, star_piece, PutsStar, BeginsStar}
 use Rattle.macro_expand.proofs.ItemPieces.{steady_head}
 use Rattle.macro_expand.proofs.RepeatTrees.{repeat_inner, repeat_referring}
-use Rattle.macro_expand.proofs.RepeatCode.{inside-fits, popped_any, by_ground, by_built, by_inside, put_by, begun_there}
+use Rattle.macro_expand.proofs.PoppedLaws.{popped_any}
+use Rattle.macro_expand.proofs.RepeatCode.{inside-fits, place-fits, by_ground, by_built, by_inside, put_by, begun_there}
 use Rattle.macro_expand.proofs.PushCode.{rest_appending}
 use Rattle.macro_expand.proofs.StarTrees.{steady_number, star_bytes, star_texts, star_fits}
 use Rattle.macro_expand.proofs.PutInArgument.{fits_means}
@@ -66,19 +67,7 @@ module _ (s w : List ℕ) (g : Ground) (n lim p span : ℕ) (v r : Appended) (w1
   first_put ps h = S ps h
 
   pub star_there : SomeReferring s w g n lim p 1 v → SomeReferring s w1 g n lim p 1 r
-  star_there K =
-      let a = first_put K.places K.going in
-      record {
-        places = K.places;
-        four = K.four;
-        left = K.left;
-        end = K.end;
-        symbols = K.symbols;
-        going = a.going;
-        many = K.many;
-        referring =
-            referring_stays s g n lim K.places w v K.going (by_number (built_text 1) (star_head g.width.bytes span)) r w1 a K.four K.left p K.end K.symbols K.referring;
-      }
+  star_there K = some_stays s w g n lim p 1 v K (by_number (built_text 1) (star_head g.width.bytes span)) r w1 (first_put K.places K.going)
 
   pub star_rest_done : (c : Copied) (w2 : List ℕ) → PutsSymbols s w1 g n lim p 1 r c w2 → (deep : Bool) (u : Appended) → u ≡ record { to = c.out.to; count = c.out.count; deep = c.out.deep || deep }
       → PutsStar s w g n lim p span deep v u w2
@@ -130,4 +119,4 @@ star_done s w g n lim q v x w1 B fit S r w2 P ps four left e sp o y R =
     flip d true h = ap not h
     flip d false h = ap not h
 
-pub ruleset starring = (rules, inside-fits, star_end, star_done)
+pub ruleset starring = (rules, inside-fits, place-fits, star_end, star_done)

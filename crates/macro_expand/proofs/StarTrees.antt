@@ -15,7 +15,7 @@ use Rattle.parse_tree.specs.declared.syntax.SymbolKind.{SymbolKind}
 use Rattle.parse_tree.specs.declared.syntax.Node.{Node}
 use Rattle.passes.specs.Macros.{expand_repeat_symbol, vec_none, v_name}
 use Rattle.passes.specs.Sizes.{sym_fits}
-use Rattle.replacing.proofs.Going.{new_append}
+use Rattle.replacing.proofs.Growing.{new_append}
 use Rattle.replacing.proofs.ThereBytes.{new_all}
 use Rattle.replacing.specs.Trees.{renamed, renamed_all}
 use Rattle.appending.specs.Built.{built_text}

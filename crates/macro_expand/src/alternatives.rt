@@ -24,9 +24,9 @@ fn put_bare(work: &mut [u8], p: usize, e: usize, span: u64, lim: usize, to: usiz
 }
 
 // The command of the alternative at p, and how many symbols it has. `tape` for the clauses alone.
-fn open_alternative(tape: &[u8], work: &mut [u8], c: Expansion, p: usize, v: Appended) -> Coming
-    requires { Frame tape.now work.old c.round.g c.round.n c.round.lim c.call v × SomeAlternative tape.now work.old c.round.g c.call p v }
-    ensures { OpensAlternative tape.now work.old c.round.g c.round.n c.round.lim c.call c.span p v result work.new }
+fn open_alternative(tape: &[u8], work: &mut [u8], c: &Expansion, p: usize, v: Appended) -> Coming
+    requires { Frame tape.now work.old c.now.round.g c.now.round.n c.now.round.lim c.now.call v × SomeAlternative tape.now work.old c.now.round.g c.now.call p v }
+    ensures { OpensAlternative tape.now work.old c.now.round.g c.now.round.n c.now.round.lim c.now.call c.now.span p v result work.new }
 {
     let many = usize::from(whole_alternative(work, p, c.round.g.width).symbols);
     let at = symbols(work, p, c.round.g.width);
@@ -43,12 +43,12 @@ fn open_alternative(tape: &[u8], work: &mut [u8], c: Expansion, p: usize, v: App
 pub fn expand_alternative(
     tape: &[u8],
     work: &mut [u8],
-    c: Expansion,
+    c: &Expansion,
     p: usize,
     v: Appended,
 ) -> Appended
-    requires { Frame tape.now work.old c.round.g c.round.n c.round.lim c.call v × SomeAlternative tape.now work.old c.round.g c.call p v }
-    ensures { PutsAlternative tape.now work.old c.round.g c.round.n c.round.lim c.call c.span p v result work.new }
+    requires { Frame tape.now work.old c.now.round.g c.now.round.n c.now.round.lim c.now.call v × SomeAlternative tape.now work.old c.now.round.g c.now.call p v }
+    ensures { PutsAlternative tape.now work.old c.now.round.g c.now.round.n c.now.round.lim c.now.call c.now.span p v result work.new }
 {
     let h = open_alternative(tape, work, c, p, v);
     let r = macro_expand_symbols(tape, work, c, 64, h.many, h.run);
@@ -56,11 +56,11 @@ pub fn expand_alternative(
 }
 
 // The alternative at p, if it holds.
-fn expand_if(tape: &[u8], work: &mut [u8], c: Expansion, p: usize, v: Appended) -> Appended
-    requires { Frame tape.now work.old c.round.g c.round.n c.round.lim c.call v × SomeAlternative tape.now work.old c.round.g c.call p v }
-    ensures { PutsIf tape.now work.old c.round.g c.round.n c.round.lim c.call c.span p v result work.new }
+fn expand_if(tape: &[u8], work: &mut [u8], c: &Expansion, p: usize, v: Appended) -> Appended
+    requires { Frame tape.now work.old c.now.round.g c.now.round.n c.now.round.lim c.now.call v × SomeAlternative tape.now work.old c.now.round.g c.now.call p v }
+    ensures { PutsIf tape.now work.old c.now.round.g c.now.round.n c.now.round.lim c.now.call c.now.span p v result work.new }
 {
-    match holds(c.call.arguments(work, c.round.g), p) {
+    match holds(c.call.arguments(work, &c.round.g), p) {
         Ok(true) => expand_alternative(tape, work, c, p, v),
         // None is refused here: `holding` asked them all.
         Ok(false) | Err(_) => v,
@@ -71,13 +71,13 @@ fn expand_if(tape: &[u8], work: &mut [u8], c: Expansion, p: usize, v: Appended) 
 pub fn expand_alternatives(
     tape: &[u8],
     work: &mut [u8],
-    c: Expansion,
+    c: &Expansion,
     k: usize,
     at: usize,
     v: Appended,
 ) -> Appended
-    requires { Frame tape.now work.old c.round.g c.round.n c.round.lim c.call v × SomeAlternatives tape.now work.old c.round.g c.call c.span k at v }
-    ensures { PutsHolding tape.now work.old c.round.g c.round.n c.round.lim c.call c.span k at v result work.new }
+    requires { Frame tape.now work.old c.now.round.g c.now.round.n c.now.round.lim c.now.call v × SomeAlternatives tape.now work.old c.now.round.g c.now.call c.now.span k at v }
+    ensures { PutsHolding tape.now work.old c.now.round.g c.now.round.n c.now.round.lim c.now.call c.now.span k at v result work.new }
 {
     let mut p = at;
     let mut r = v;

@@ -29,13 +29,13 @@ pub struct Arguments<'a> {
 
 impl Call {
     // What is read of this call.
-    pub fn arguments<'a>(self, work: &'a [u8], g: Ground) -> Arguments<'a>
-        requires { ReadableCall g self work.now }
-        ensures { (result.work.now ≡ work.now) × (result.g ≡ g) × (result.call ≡ self) }
+    pub fn arguments<'a>(self, work: &'a [u8], g: &Ground) -> Arguments<'a>
+        requires { ReadableCall g.now self work.now }
+        ensures { (result.work.now ≡ work.now) × (result.g ≡ g.now) × (result.call ≡ self) }
     {
         Arguments {
             work,
-            g,
+            g: *g,
             call: self,
         }
     }

@@ -42,13 +42,13 @@ pub struct Head {
     pub symbols: u16,
 }
 
-fn names(tape: &[u8], work: &mut [u8], round: Round, q: usize, text: BuiltIn, v: Appended) -> Named
-    requires { SomePopped IsAny tape.now work.old round.g round.n round.lim q v }
-    ensures { NamesBoth tape.now work.old round.g round.n round.lim q v (number_of text) result work.new }
+fn names(tape: &[u8], work: &mut [u8], round: &Round, q: usize, text: BuiltIn, v: Appended) -> Named
+    requires { SomePopped IsAny tape.now work.old round.now.g round.now.n round.now.lim q v }
+    ensures { NamesBoth tape.now work.old round.now.g round.now.n round.now.lim q v (number_of text) result work.new }
 {
     let span = u64_at(work, round.g.from + q + 1);
-    let x = number(tape, work, round.g, round.n, v.count, q);
-    let t = built(tape, work, round.g, round.n, x.count, text);
+    let x = number(tape, work, &round.g, round.n, v.count, q);
+    let t = built(tape, work, &round.g, round.n, x.count, text);
     Named {
         span,
         name: x,
@@ -57,9 +57,9 @@ fn names(tape: &[u8], work: &mut [u8], round: Round, q: usize, text: BuiltIn, v:
 }
 
 // Both commands.
-pub fn put_head(work: &mut [u8], round: Round, x: Head, to: usize) -> usize
-    requires { round.lim ≤ length work.old }
-    ensures { Puts work.old round.lim to (item_head round.g.width.bytes x.span x.name x.flags x.alternatives ++ alternative_head round.g.width.bytes x.span x.action x.text x.symbols) result work.new }
+pub fn put_head(work: &mut [u8], round: &Round, x: Head, to: usize) -> usize
+    requires { round.now.lim ≤ length work.old }
+    ensures { Puts work.old round.now.lim to (item_head round.now.g.width.bytes x.span x.name x.flags x.alternatives ++ alternative_head round.now.g.width.bytes x.span x.action x.text x.symbols) result work.new }
 {
     let first = put_item(
         work,
@@ -87,7 +87,7 @@ pub fn put_head(work: &mut [u8], round: Round, x: Head, to: usize) -> usize
 pub fn begin(
     tape: &[u8],
     work: &mut [u8],
-    round: Round,
+    round: &Round,
     q: usize,
     flags: u8,
     alternatives: u16,
@@ -95,8 +95,8 @@ pub fn begin(
     symbols: u16,
     v: Appended,
 ) -> Begun
-    requires { SomePopped IsAny tape.now work.old round.g round.n round.lim q v }
-    ensures { Begins tape.now work.old round.g round.n round.lim q v flags alternatives (number_of text) symbols result work.new }
+    requires { SomePopped IsAny tape.now work.old round.now.g round.now.n round.now.lim q v }
+    ensures { Begins tape.now work.old round.now.g round.now.n round.now.lim q v flags alternatives (number_of text) symbols result work.new }
 {
     let x = names(tape, work, round, q, text, v);
     let head = Head {
@@ -124,14 +124,14 @@ pub fn begin(
 pub fn begin_with(
     tape: &[u8],
     work: &mut [u8],
-    round: Round,
+    round: &Round,
     q: usize,
     flags: u8,
     text: BuiltIn,
     v: Appended,
 ) -> Begun
-    requires { SomePopped IsRepeat tape.now work.old round.g round.n round.lim q v }
-    ensures { BeginsWith tape.now work.old round.g round.n round.lim q v flags (number_of text) result work.new }
+    requires { SomePopped IsRepeat tape.now work.old round.now.g round.now.n round.now.lim q v }
+    ensures { BeginsWith tape.now work.old round.now.g round.now.n round.now.lim q v flags (number_of text) result work.new }
 {
     let x = begin(tape, work, round, q, flags, 2, text, 1, v);
     let y = put_symbols(tape, work, round, q + 10, 1, x.out);

@@ -27,9 +27,9 @@ pub struct Macro {
     pub from: usize,
 }
 
-fn read_call(work: &[u8], g: Ground, q: usize, d: usize) -> Macro
-    requires { (d + 16 ≤ length work.now) × (g.from + q + 16 ≤ length work.now) }
-    ensures { ReadsCall work.now g q d result }
+fn read_call(work: &[u8], g: &Ground, q: usize, d: usize) -> Macro
+    requires { (d + 16 ≤ length work.now) × (g.now.from + q + 16 ≤ length work.now) }
+    ensures { ReadsCall work.now g.now q d result }
 {
     let head = whole_nonterminal(work, d, g.width);
     let c = Call {
@@ -53,15 +53,15 @@ fn read_call(work: &[u8], g: Ground, q: usize, d: usize) -> Macro
 fn put_named_item(
     tape: &[u8],
     work: &mut [u8],
-    round: Round,
+    round: &Round,
     x: Macro,
     m: u16,
     v: Appended,
 ) -> Appended
-    requires { SomeCall tape.now work.old round.g round.n round.lim x.at x.definition v }
-    ensures { PutsHead tape.now work.old round.g round.n round.lim x.at x.span x.flags m v result work.new }
+    requires { SomeCall tape.now work.old round.now.g round.now.n round.now.lim x.at x.definition v }
+    ensures { PutsHead tape.now work.old round.now.g round.now.n round.now.lim x.at x.span x.flags m v result work.new }
 {
-    let y = number(tape, work, round.g, round.n, v.count, x.at);
+    let y = number(tape, work, &round.g, round.n, v.count, x.at);
     let to = put_item(
         work,
         x.span,
@@ -83,37 +83,37 @@ fn put_named_item(
 fn put_macro(
     tape: &[u8],
     work: &mut [u8],
-    round: Round,
+    round: &Round,
     x: Macro,
     m: usize,
     v: Appended,
 ) -> Appended
-    requires { SomeCall tape.now work.old round.g round.n round.lim x.at x.definition v × ReadsCall work.old round.g x.at x.definition x × (m < 65536) }
-    ensures { PutsMacro tape.now work.old round.g round.n round.lim x.at x.definition m v result work.new }
+    requires { SomeCall tape.now work.old round.now.g round.now.n round.now.lim x.at x.definition v × ReadsCall work.old round.now.g x.at x.definition x × (m < 65536) }
+    ensures { PutsMacro tape.now work.old round.now.g round.now.n round.now.lim x.at x.definition m v result work.new }
 {
     let first = put_named_item(tape, work, round, x, m as u16, v);
     let c = Expansion {
-        round,
+        round: *round,
         call: x.call,
         span: x.span,
     };
-    expand_alternatives(tape, work, c, x.many, x.from, first)
+    expand_alternatives(tape, work, &c, x.many, x.from, first)
 }
 
 // The call at q, counted from the first item, of the macro that is defined at d.
 pub fn expand_macro_symbol(
     tape: &[u8],
     work: &mut [u8],
-    round: Round,
+    round: &Round,
     q: usize,
     d: usize,
     v: Appended,
 ) -> Result<Appended, Refusal>
-    requires { SomeCall tape.now work.old round.g round.n round.lim q d v }
-    ensures { ExpandsMacro tape.now work.old round.g round.n round.lim q d v result work.new }
+    requires { SomeCall tape.now work.old round.now.g round.now.n round.now.lim q d v }
+    ensures { ExpandsMacro tape.now work.old round.now.g round.now.n round.now.lim q d v result work.new }
 {
-    let x = read_call(work, round.g, q, d);
-    let held = holding(x.call.arguments(work, round.g), x.many, x.from);
+    let x = read_call(work, &round.g, q, d);
+    let held = holding(x.call.arguments(work, &round.g), x.many, x.from);
     let m = held.map_err(|why| Question::Literal.of_command(work, why.at))?;
     Ok(put_macro(tape, work, round, x, m, v))
 }

@@ -15,9 +15,9 @@ use resolve::Grammar;
 use texts::fields::mark;
 
 // The place of the definition of the macro that is called at q. `tape` for the clauses alone.
-fn definition(tape: &[u8], work: &[u8], g: Ground, t: Grammar, q: usize) -> usize
-    requires { SomeDefinition tape.now work.now g t q }
-    ensures { IsDefinition tape.now work.now g t q result }
+fn definition(tape: &[u8], work: &[u8], g: &Ground, t: Grammar, q: usize) -> usize
+    requires { SomeDefinition tape.now work.now g.now t q }
+    ensures { IsDefinition tape.now work.now g.now t q result }
 {
     let k = atom_at(work, g.from + q + 9, g.width) as usize;
     let c = text_cell(work, g.m.base, k);
@@ -28,15 +28,15 @@ fn definition(tape: &[u8], work: &[u8], g: Ground, t: Grammar, q: usize) -> usiz
 fn expand_other(
     tape: &[u8],
     work: &mut [u8],
-    round: Round,
+    round: &Round,
     t: Grammar,
     j: usize,
     q: usize,
     c: u8,
     v: Appended,
 ) -> Result<Appended, Refusal>
-    requires { SomeOther tape.now work.old round.g round.n round.lim t v j q c }
-    ensures { ExpandsPushed tape.now work.old round.g round.n round.lim t j v result work.new }
+    requires { SomeOther tape.now work.old round.now.g round.now.n round.now.lim t v j q c }
+    ensures { ExpandsPushed tape.now work.old round.now.g round.now.n round.now.lim t j v result work.new }
 {
     match c {
         38 => Ok(expand_repeat_symbol(tape, work, round, q, v)),
@@ -49,18 +49,18 @@ fn expand_other(
 fn expand(
     tape: &[u8],
     work: &mut [u8],
-    round: Round,
+    round: &Round,
     t: Grammar,
     j: usize,
     v: Appended,
 ) -> Result<Appended, Refusal>
-    requires { SomePile tape.now work.old round.g round.n round.lim t v × (j < round.n) }
-    ensures { ExpandsPushed tape.now work.old round.g round.n round.lim t j v result work.new }
+    requires { SomePile tape.now work.old round.now.g round.now.n round.now.lim t v × (j < round.now.n) }
+    ensures { ExpandsPushed tape.now work.old round.now.g round.now.n round.now.lim t j v result work.new }
 {
     let q = mark(work, round.g.keys, j);
     let c = work[round.g.from + q];
     if c == 37 {
-        let d = definition(tape, work, round.g, t, q);
+        let d = definition(tape, work, &round.g, t, q);
         expand_macro_symbol(tape, work, round, q, d, v)
     } else {
         expand_other(tape, work, round, t, j, q, c, v)
@@ -71,12 +71,12 @@ fn expand(
 pub fn drain(
     tape: &[u8],
     work: &mut [u8],
-    round: Round,
+    round: &Round,
     t: Grammar,
     v: Appended,
 ) -> Result<Appended, Refusal>
-    requires { SomePile tape.now work.old round.g round.n round.lim t v }
-    ensures { Drains tape.now work.old round.g round.n round.lim t v result work.new }
+    requires { SomePile tape.now work.old round.now.g round.now.n round.now.lim t v }
+    ensures { Drains tape.now work.old round.now.g round.now.n round.now.lim t v result work.new }
 {
     let mut x = v;
     for j in (0..round.n).rev() {

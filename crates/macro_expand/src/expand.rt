@@ -33,24 +33,24 @@ fn parameter(x: Arguments, at: usize) -> Option<usize>
 fn put_parameter(
     tape: &[u8],
     work: &mut [u8],
-    c: Expansion,
+    c: &Expansion,
     left: usize,
     x: Copied,
     p: usize,
 ) -> Copied
-    requires { Frame tape.now work.old c.round.g c.round.n c.round.lim c.call x.out × SomeInside tape.now work.old c.round.g left x × (Some p ≡ parameter_at c.round.g c.call work.old x.at) }
-    ensures { PutsIn tape.now work.old c.round.g c.round.n c.round.lim c.call left x result work.new }
+    requires { Frame tape.now work.old c.now.round.g c.now.round.n c.now.round.lim c.now.call x.out × SomeInside tape.now work.old c.now.round.g left x × (Some p ≡ parameter_at c.now.round.g c.now.call work.old x.at) }
+    ensures { PutsIn tape.now work.old c.now.round.g c.now.round.n c.now.round.lim c.now.call left x result work.new }
 {
     let e = x.at + (9 + c.round.g.width.bytes);
     let span = u64_at(work, x.at + 1);
-    let out = put_argument(tape, work, c.round, p, span, left, x.out);
+    let out = put_argument(tape, work, &c.round, p, span, left, x.out);
     Copied { at: e, out }
 }
 
 // The command at x.at, which is no parameter, and how many symbols stand straight inside. `tape` and `left` for the clauses alone.
-fn open(tape: &[u8], work: &mut [u8], c: Expansion, left: usize, x: Copied) -> Coming
-    requires { Frame tape.now work.old c.round.g c.round.n c.round.lim c.call x.out × SomeInside tape.now work.old c.round.g left x × (None ≡ parameter_at c.round.g c.call work.old x.at) }
-    ensures { Opens tape.now work.old c.round.g c.round.n c.round.lim c.call left x result work.new }
+fn open(tape: &[u8], work: &mut [u8], c: &Expansion, left: usize, x: Copied) -> Coming
+    requires { Frame tape.now work.old c.now.round.g c.now.round.n c.now.round.lim c.now.call x.out × SomeInside tape.now work.old c.now.round.g left x × (None ≡ parameter_at c.now.round.g c.now.call work.old x.at) }
+    ensures { Opens tape.now work.old c.now.round.g c.now.round.n c.now.round.lim c.now.call left x result work.new }
 {
     let width = c.round.g.width;
     let code = work[x.at];
@@ -64,15 +64,15 @@ fn open(tape: &[u8], work: &mut [u8], c: Expansion, left: usize, x: Copied) -> C
 pub fn macro_expand_symbol(
     tape: &[u8],
     work: &mut [u8],
-    c: Expansion,
+    c: &Expansion,
     left: usize,
     x: Copied,
 ) -> Copied
-    requires { Frame tape.now work.old c.round.g c.round.n c.round.lim c.call x.out × SomeInside tape.now work.old c.round.g left x }
-    ensures { PutsIn tape.now work.old c.round.g c.round.n c.round.lim c.call left x result work.new }
+    requires { Frame tape.now work.old c.now.round.g c.now.round.n c.now.round.lim c.now.call x.out × SomeInside tape.now work.old c.now.round.g left x }
+    ensures { PutsIn tape.now work.old c.now.round.g c.now.round.n c.now.round.lim c.now.call left x result work.new }
 {
     let at = x.at;
-    match parameter(c.call.arguments(work, c.round.g), at) {
+    match parameter(c.call.arguments(work, &c.round.g), at) {
         Some(p) => put_parameter(tape, work, c, left, x, p),
         None => {
             let h = open(tape, work, c, left, x);
@@ -86,13 +86,13 @@ pub fn macro_expand_symbol(
 pub fn macro_expand_symbols(
     tape: &[u8],
     work: &mut [u8],
-    c: Expansion,
+    c: &Expansion,
     left: usize,
     k: usize,
     x: Copied,
 ) -> Copied
-    requires { Frame tape.now work.old c.round.g c.round.n c.round.lim c.call x.out × SomeInsides tape.now work.old c.round.g left k x }
-    ensures { PutsInAll tape.now work.old c.round.g c.round.n c.round.lim c.call left k x result work.new }
+    requires { Frame tape.now work.old c.now.round.g c.now.round.n c.now.round.lim c.now.call x.out × SomeInsides tape.now work.old c.now.round.g left k x }
+    ensures { PutsInAll tape.now work.old c.now.round.g c.now.round.n c.now.round.lim c.now.call left k x result work.new }
 {
     let mut r = x;
     for _ in 0..k {

@@ -26,14 +26,14 @@ fn group_action(chosen: usize, k: usize) -> BuiltIn
 fn put_group(
     tape: &[u8],
     work: &mut [u8],
-    round: Round,
+    round: &Round,
     q: usize,
     text: BuiltIn,
     m: u16,
     v: Appended,
 ) -> Appended
-    requires { SomeGroup tape.now work.old round.g round.n round.lim q v m }
-    ensures { PutsGroup tape.now work.old round.g round.n round.lim q v (number_of text) result work.new }
+    requires { SomeGroup tape.now work.old round.now.g round.now.n round.now.lim q v m }
+    ensures { PutsGroup tape.now work.old round.now.g round.now.n round.now.lim q v (number_of text) result work.new }
 {
     let b = begin(tape, work, round, q, 1, 1, text, m, v);
     let x = put_symbols(tape, work, round, q + 11, usize::from(m), b.out);
@@ -44,17 +44,17 @@ fn put_group(
 pub fn expand_expr_symbol(
     tape: &[u8],
     work: &mut [u8],
-    round: Round,
+    round: &Round,
     q: usize,
     v: Appended,
 ) -> Result<Appended, Refusal>
-    requires { SomePopped IsGroup tape.now work.old round.g round.n round.lim q v }
-    ensures { ExpandsExpr tape.now work.old round.g round.n round.lim q v result work.new }
+    requires { SomePopped IsGroup tape.now work.old round.now.g round.now.n round.now.lim q v }
+    ensures { ExpandsExpr tape.now work.old round.now.g round.now.n round.now.lim q v result work.new }
 {
     let at = round.g.from + q;
     let m = u16_at(work, at + 9);
     let k = usize::from(m);
-    let Some(chosen) = analyze_expr(tape, work, round.g, q + 11, k) else {
+    let Some(chosen) = analyze_expr(tape, work, &round.g, q + 11, k) else {
         return Err(Question::Group.of_command(work, at));
     };
     let text = group_action(chosen, k);

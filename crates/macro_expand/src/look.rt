@@ -23,14 +23,14 @@ fn act(work: &[u8], at: usize) -> u8
     if work[at] == 42 { 3 } else { 4 }
 }
 
-fn name_look(tape: &[u8], work: &mut [u8], round: Round, q: usize, v: Appended) -> Called
-    requires { SomePopped IsLook tape.now work.old round.g round.n round.lim q v }
-    ensures { CallsLook tape.now work.old round.g round.n round.lim q v result work.new }
+fn name_look(tape: &[u8], work: &mut [u8], round: &Round, q: usize, v: Appended) -> Called
+    requires { SomePopped IsLook tape.now work.old round.now.g round.now.n round.now.lim q v }
+    ensures { CallsLook tape.now work.old round.now.g round.now.n round.now.lim q v result work.new }
 {
     let at = round.g.from + q;
     let span = u64_at(work, at + 1);
     let a = act(work, at);
-    let x = number(tape, work, round.g, round.n, v.count, q);
+    let x = number(tape, work, &round.g, round.n, v.count, q);
     Called {
         span,
         act: a,
@@ -42,12 +42,12 @@ fn name_look(tape: &[u8], work: &mut [u8], round: Round, q: usize, v: Appended) 
 pub fn expand_lookaround_symbol(
     tape: &[u8],
     work: &mut [u8],
-    round: Round,
+    round: &Round,
     q: usize,
     v: Appended,
 ) -> Appended
-    requires { SomePopped IsLook tape.now work.old round.g round.n round.lim q v }
-    ensures { ExpandsLook tape.now work.old round.g round.n round.lim q v result work.new }
+    requires { SomePopped IsLook tape.now work.old round.now.g round.now.n round.now.lim q v }
+    ensures { ExpandsLook tape.now work.old round.now.g round.now.n round.now.lim q v result work.new }
 {
     let x = name_look(tape, work, round, q, v);
     let head = Head {

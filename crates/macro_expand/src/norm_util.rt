@@ -6,9 +6,9 @@ use expander::Ground;
 use grades::skip::skip;
 
 // How many of k symbols that stand at p are chosen, if none has a name. `tape` for the clauses alone.
-pub fn analyze_expr(tape: &[u8], work: &[u8], g: Ground, p: usize, k: usize) -> Option<usize>
-    requires { SomeDirect tape.now work.now g p k }
-    ensures { Analyzes tape.now work.now g p k result }
+pub fn analyze_expr(tape: &[u8], work: &[u8], g: &Ground, p: usize, k: usize) -> Option<usize>
+    requires { SomeDirect tape.now work.now g.now p k }
+    ensures { Analyzes tape.now work.now g.now p k result }
 {
     let mut at = g.from + p;
     let mut chosen = 0;

@@ -27,16 +27,16 @@ struct Pushing {
 }
 
 // `built` again, saying as well that the next one can be asked (`GoesOn`).
-fn next_text(tape: &[u8], work: &mut [u8], round: Round, c: usize, text: BuiltIn) -> Numbered
-    requires { Grounded tape.now work.old round.g × SomeBuilt tape.now work.old round.g round.n c }
-    ensures { GoesOn tape.now work.old round.g round.n c (number_of text) result work.new }
+fn next_text(tape: &[u8], work: &mut [u8], round: &Round, c: usize, text: BuiltIn) -> Numbered
+    requires { Grounded tape.now work.old round.now.g × SomeBuilt tape.now work.old round.now.g round.now.n c }
+    ensures { GoesOn tape.now work.old round.now.g round.now.n c (number_of text) result work.new }
 {
-    built(tape, work, round.g, round.n, c, text)
+    built(tape, work, &round.g, round.n, c, text)
 }
 
-fn push_texts(tape: &[u8], work: &mut [u8], round: Round, c: usize) -> Pushing
-    requires { Grounded tape.now work.old round.g × SomeBuilt tape.now work.old round.g round.n c }
-    ensures { NamesPush tape.now work.old round.g round.n c result work.new }
+fn push_texts(tape: &[u8], work: &mut [u8], round: &Round, c: usize) -> Pushing
+    requires { Grounded tape.now work.old round.now.g × SomeBuilt tape.now work.old round.now.g round.now.n c }
+    ensures { NamesPush tape.now work.old round.now.g round.now.n c result work.new }
 {
     let push = next_text(tape, work, round, c, BuiltIn::Pushed);
     let v = next_text(tape, work, round, push.count, BuiltIn::Vector);
@@ -72,13 +72,13 @@ fn put_push(
 fn put_second(
     tape: &[u8],
     work: &mut [u8],
-    round: Round,
+    round: &Round,
     span: u64,
     name: Numbered,
     v: Appended,
 ) -> Appended
-    requires { SomeAppending tape.now work.old round.g round.n round.lim v }
-    ensures { PutsSecond tape.now work.old round.g round.n round.lim span name.number v result work.new }
+    requires { SomeAppending tape.now work.old round.now.g round.now.n round.now.lim v }
+    ensures { PutsSecond tape.now work.old round.now.g round.now.n round.now.lim span name.number v result work.new }
 {
     let t = push_texts(tape, work, round, v.count);
     let to = put_push(work, span, name.atom(), t, round.g.width, round.lim, v.to);
@@ -93,14 +93,14 @@ fn put_second(
 fn push_rest(
     tape: &[u8],
     work: &mut [u8],
-    round: Round,
+    round: &Round,
     p: usize,
     span: u64,
     name: Numbered,
     v: Appended,
 ) -> Appended
-    requires { SomeReferring tape.now work.old round.g round.n round.lim p 1 v }
-    ensures { PutsPush tape.now work.old round.g round.n round.lim p span name.number v result work.new }
+    requires { SomeReferring tape.now work.old round.now.g round.now.n round.now.lim p 1 v }
+    ensures { PutsPush tape.now work.old round.now.g round.now.n round.now.lim p span name.number v result work.new }
 {
     let first = put_second(tape, work, round, span, name, v);
     let x = put_symbols(tape, work, round, p, 1, first);
@@ -108,9 +108,9 @@ fn push_rest(
 }
 
 // `X+`: the symbol, or what there is and one more.
-pub fn expand_plus(tape: &[u8], work: &mut [u8], round: Round, q: usize, v: Appended) -> Appended
-    requires { SomePopped IsRepeat tape.now work.old round.g round.n round.lim q v }
-    ensures { ExpandsAs tape.now work.old round.g round.n round.lim q v plus result work.new }
+pub fn expand_plus(tape: &[u8], work: &mut [u8], round: &Round, q: usize, v: Appended) -> Appended
+    requires { SomePopped IsRepeat tape.now work.old round.now.g round.now.n round.now.lim q v }
+    ensures { ExpandsAs tape.now work.old round.now.g round.now.n round.now.lim q v plus result work.new }
 {
     let x = begin_with(tape, work, round, q, 0, BuiltIn::VecOfOne, v);
     push_rest(tape, work, round, q + 10, x.span, x.name, x.out)

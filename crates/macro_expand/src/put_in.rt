@@ -67,13 +67,13 @@ pub fn fits(work: &[u8], p: usize, e: usize, left: usize, width: Width) -> bool
 fn put_plain(
     tape: &[u8],
     work: &mut [u8],
-    round: Round,
+    round: &Round,
     p: usize,
     span: u64,
     v: Appended,
 ) -> Appended
-    requires { SomeArgument false tape.now work.old round.g round.n round.lim p span v }
-    ensures { PutsOne false tape.now work.old round.g round.n round.lim p span v result work.new }
+    requires { SomeArgument false tape.now work.old round.now.g round.now.n round.now.lim p span v }
+    ensures { PutsOne false tape.now work.old round.now.g round.now.n round.now.lim p span v result work.new }
 {
     let c = work[p];
     let k = inside_at(work, p, round.g.width);
@@ -88,14 +88,14 @@ fn put_plain(
 pub fn put_argument(
     tape: &[u8],
     work: &mut [u8],
-    round: Round,
+    round: &Round,
     p: usize,
     span: u64,
     levels: usize,
     v: Appended,
 ) -> Appended
-    requires { AnyArgument tape.now work.old round.g round.n round.lim p span v }
-    ensures { PutsArgument tape.now work.old round.g round.n round.lim p span levels v result work.new }
+    requires { AnyArgument tape.now work.old round.now.g round.now.n round.now.lim p span v }
+    ensures { PutsArgument tape.now work.old round.now.g round.now.n round.now.lim p span levels v result work.new }
 {
     let deep = !fits(work, p, round.g.end, levels, round.g.width);
     let u = v.deepened(deep);

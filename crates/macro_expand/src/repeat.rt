@@ -17,15 +17,15 @@ use appending::{Appended, Round};
 fn put_bare(
     tape: &[u8],
     work: &mut [u8],
-    round: Round,
+    round: &Round,
     span: u64,
     text: BuiltIn,
     v: Appended,
 ) -> Appended
-    requires { SomeAppending tape.now work.old round.g round.n round.lim v }
-    ensures { PutsBy tape.now work.old round.g round.n round.lim v (built_text (number_of text)) (bare_head round.g.width.bytes span) result work.new }
+    requires { SomeAppending tape.now work.old round.now.g round.now.n round.now.lim v }
+    ensures { PutsBy tape.now work.old round.now.g round.now.n round.now.lim v (built_text (number_of text)) (bare_head round.now.g.width.bytes span) result work.new }
 {
-    let t = built(tape, work, round.g, round.n, v.count, text);
+    let t = built(tape, work, &round.g, round.n, v.count, text);
     let to = put_alternative(work, span, 1, t.atom(), 0, round.g.width, round.lim, v.to);
     Appended {
         to,
@@ -35,18 +35,18 @@ fn put_bare(
 }
 
 // `X?`: the symbol, or nothing.
-fn expand_question(tape: &[u8], work: &mut [u8], round: Round, q: usize, v: Appended) -> Appended
-    requires { SomePopped IsRepeat tape.now work.old round.g round.n round.lim q v }
-    ensures { ExpandsAs tape.now work.old round.g round.n round.lim q v question result work.new }
+fn expand_question(tape: &[u8], work: &mut [u8], round: &Round, q: usize, v: Appended) -> Appended
+    requires { SomePopped IsRepeat tape.now work.old round.now.g round.now.n round.now.lim q v }
+    ensures { ExpandsAs tape.now work.old round.now.g round.now.n round.now.lim q v question result work.new }
 {
     let x = begin_with(tape, work, round, q, 1, BuiltIn::SomeOfOne, v);
     put_bare(tape, work, round, x.span, BuiltIn::Nothing, x.out)
 }
 
 // The item that the repeat at q has as one of this operator.
-fn expand_as(tape: &[u8], work: &mut [u8], round: Round, q: usize, op: u8, v: Appended) -> Appended
-    requires { SomePopped IsRepeat tape.now work.old round.g round.n round.lim q v }
-    ensures { ExpandsAs tape.now work.old round.g round.n round.lim q v (repeat_of op) result work.new }
+fn expand_as(tape: &[u8], work: &mut [u8], round: &Round, q: usize, op: u8, v: Appended) -> Appended
+    requires { SomePopped IsRepeat tape.now work.old round.now.g round.now.n round.now.lim q v }
+    ensures { ExpandsAs tape.now work.old round.now.g round.now.n round.now.lim q v (repeat_of op) result work.new }
 {
     match op {
         0 => expand_star(tape, work, round, q, v),
@@ -59,12 +59,12 @@ fn expand_as(tape: &[u8], work: &mut [u8], round: Round, q: usize, op: u8, v: Ap
 pub fn expand_repeat_symbol(
     tape: &[u8],
     work: &mut [u8],
-    round: Round,
+    round: &Round,
     q: usize,
     v: Appended,
 ) -> Appended
-    requires { SomePopped IsRepeat tape.now work.old round.g round.n round.lim q v }
-    ensures { ExpandsRepeat tape.now work.old round.g round.n round.lim q v result work.new }
+    requires { SomePopped IsRepeat tape.now work.old round.now.g round.now.n round.now.lim q v }
+    ensures { ExpandsRepeat tape.now work.old round.now.g round.now.n round.now.lim q v result work.new }
 {
     let op = work[round.g.from + q + 9];
     expand_as(tape, work, round, q, op, v)

@@ -28,11 +28,11 @@ fn put_star(work: &mut [u8], span: u64, k: u32, width: Width, lim: usize, to: us
 
 // The same with the number of `v`; the shape is that of `put_bare` (repeat).
 // One body would take a closure for the writer, and clauses longer than both bodies would say what it writes of any work.
-fn put_v(tape: &[u8], work: &mut [u8], round: Round, span: u64, v: Appended) -> Appended
-    requires { SomeAppending tape.now work.old round.g round.n round.lim v }
-    ensures { PutsBy tape.now work.old round.g round.n round.lim v (built_text 1) (star_head round.g.width.bytes span) result work.new }
+fn put_v(tape: &[u8], work: &mut [u8], round: &Round, span: u64, v: Appended) -> Appended
+    requires { SomeAppending tape.now work.old round.now.g round.now.n round.now.lim v }
+    ensures { PutsBy tape.now work.old round.now.g round.now.n round.now.lim v (built_text 1) (star_head round.now.g.width.bytes span) result work.new }
 {
-    let t = built(tape, work, round.g, round.n, v.count, BuiltIn::Vector);
+    let t = built(tape, work, &round.g, round.n, v.count, BuiltIn::Vector);
     let to = put_star(work, span, t.atom(), round.g.width, round.lim, v.to);
     Appended {
         to,
@@ -45,14 +45,14 @@ fn put_v(tape: &[u8], work: &mut [u8], round: Round, span: u64, v: Appended) -> 
 fn star_rest(
     tape: &[u8],
     work: &mut [u8],
-    round: Round,
+    round: &Round,
     p: usize,
     span: u64,
     deep: bool,
     v: Appended,
 ) -> Appended
-    requires { SomeReferring tape.now work.old round.g round.n round.lim p 1 v }
-    ensures { PutsStar tape.now work.old round.g round.n round.lim p span deep v result work.new }
+    requires { SomeReferring tape.now work.old round.now.g round.now.n round.now.lim p 1 v }
+    ensures { PutsStar tape.now work.old round.now.g round.now.n round.now.lim p span deep v result work.new }
 {
     let first = put_v(tape, work, round, span, v);
     let x = put_symbols(tape, work, round, p, 1, first);
@@ -60,17 +60,17 @@ fn star_rest(
 }
 
 // The item and its first alternative.
-fn begin_star(tape: &[u8], work: &mut [u8], round: Round, q: usize, v: Appended) -> Begun
-    requires { SomePopped IsRepeat tape.now work.old round.g round.n round.lim q v }
-    ensures { BeginsStar tape.now work.old round.g round.n round.lim q v result work.new }
+fn begin_star(tape: &[u8], work: &mut [u8], round: &Round, q: usize, v: Appended) -> Begun
+    requires { SomePopped IsRepeat tape.now work.old round.now.g round.now.n round.now.lim q v }
+    ensures { BeginsStar tape.now work.old round.now.g round.now.n round.now.lim q v result work.new }
 {
     begin(tape, work, round, q, 1, 2, BuiltIn::EmptyVec, 0, v)
 }
 
 // `X*`: nothing, or one or more. What is written for X is nested in two symbols more, so it is too deep where more than 62 are nested.
-pub fn expand_star(tape: &[u8], work: &mut [u8], round: Round, q: usize, v: Appended) -> Appended
-    requires { SomePopped IsRepeat tape.now work.old round.g round.n round.lim q v }
-    ensures { ExpandsAs tape.now work.old round.g round.n round.lim q v star result work.new }
+pub fn expand_star(tape: &[u8], work: &mut [u8], round: &Round, q: usize, v: Appended) -> Appended
+    requires { SomePopped IsRepeat tape.now work.old round.now.g round.now.n round.now.lim q v }
+    ensures { ExpandsAs tape.now work.old round.now.g round.now.n round.now.lim q v star result work.new }
 {
     let p = q + 10;
     let deep = !fits(work, round.g.from + p, round.g.end, 62, round.g.width);

@@ -58,7 +58,7 @@ equal_code zero p = refl
 equal_code (suc zero) p = refl
 equal_code (suc (suc k)) p = absurd (omega (arith, leb-true (suc (suc k)) 1 p))
 
-flags_code : (k : ℕ) → leb k 3 ≡ true → bit (pick (eqb k 1) true (eqb k 3)) + (bit (leb 2 k) + bit (leb 2 k)) ≡ k
+pub flags_code : (k : ℕ) → leb k 3 ≡ true → bit (pick (eqb k 1) true (eqb k 3)) + (bit (leb 2 k) + bit (leb 2 k)) ≡ k
 unfolding pick
 flags_code zero p = refl
 flags_code (suc zero) p = refl

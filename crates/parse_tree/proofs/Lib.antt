@@ -8,6 +8,7 @@ pub mod NodeBack
 mod NodeCode
 mod PlacesCode
 pub mod SizeLaws
+pub mod CodeSizes
 pub mod NestedCode
 -- Trees and their tapes; RoundTrip has the theorems.
 pub mod DisplayLaws

@@ -26,7 +26,7 @@ use Rattle.parse_tree.specs.declared.syntax.Around.{Around}
 use Rattle.parse_tree.specs.declared.syntax.Over.{Over}
 use Rattle.parse_tree.specs.declared.syntax.SymbolKind.{SymbolKind}
 use Rattle.parse_tree.specs.declared.syntax.Node.{Node}
-use Rattle.parse_tree.proofs.SizeLaws.{size_16, size_17, size_18, size_19, size_20, size_37, size_38, size_39, size_40, size_41, size_named, size_terminal, size_between}
+use Rattle.parse_tree.proofs.CodeSizes.{size_16, size_17, size_18, size_19, size_20, size_37, size_38, size_39, size_40, size_41, size_named, size_terminal, size_between}
 
 -- ---- a command that is not whole, and one that is
 pub short_is : (s : List ℕ) (at n : ℕ) (x : Node) → length s - at < n → None ≡ if_whole s at n x

@@ -12,26 +12,25 @@ use Rattle.parse_tree.specs.Working.Within.{Each, Uses, LeafWithin, AroundWithin
 use Rattle.parse_tree.proofs.ReadingLaws.{each_append}
 
 -- each of xs is among ts
-There : List Text → List Text → Type 0
+abbrev pub There : List Text → List Text → Type 0
 There ts xs = Each (λ (x : Text). has x ts ≡ true) xs
 
 with_new_none : (ts xs : List Text) → There ts xs → with_new ts xs ≡ ts
-unfolding There with_new
+unfolding with_new
 with_new_none ts [] h = refl
 with_new_none ts (x ∷ xs) h = cc (h.0, with_new_none ts xs h.1)
 
 module _ (four : Bool) (w : ℕ) (ts : List Text) where
   there_append : (xs ys : List Text) → There ts xs → There ts ys → There ts (xs ++ ys)
-  unfolding There
   there_append xs ys h k = each_append (λ (x : Text). has x ts ≡ true) xs ys h k
 
   there_each : {A : Type 0} (W : A → Type 0) (f : A → List Text) → ((x : A) → W x → There ts (f x)) → (xs : List A) → Each W xs → There ts (texts_of_each f xs)
-  unfolding There texts_of_each
+  unfolding texts_of_each
   there_each W f g [] h = tt
   there_each W f g (x ∷ xs) h = there_append (f x) (texts_of_each f xs) (g x h.0) (there_each W f g xs h.1)
 
-  leaf_there : (l : Leaf) → LeafWithin four w ts l → There ts (leaf_texts l)
-  unfolding There leaf_texts
+  pub leaf_there : (l : Leaf) → LeafWithin four w ts l → There ts (leaf_texts l)
+  unfolding leaf_texts
   leaf_there (ambiguous x) u = (u.0, tt)
   leaf_there (bare x) u = (u.0, tt)
   leaf_there (quoted x) u = (u.0, tt)
@@ -41,19 +40,19 @@ module _ (four : Bool) (w : ℕ) (ts : List Text) where
   leaf_there lookbehind u = tt
   leaf_there error u = tt
 
-  around_there : (o : Around) → AroundWithin four w ts o → There ts (around_texts o)
-  unfolding There around_texts
+  pub around_there : (o : Around) → AroundWithin four w ts o → There ts (around_texts o)
+  unfolding around_texts
   around_there (repeat o) u = tt
   around_there choose u = tt
   around_there (name m x) u = (u.0, tt)
 
   over_there : (o : Over) (n : ℕ) → OverWithin four w ts o n → There ts (over_texts o)
-  unfolding There over_texts
+  unfolding over_texts
   over_there (macro x) n u = (u.0.0, tt)
   over_there group n u = tt
 
   mutual
-    unfolding There sym_texts syms_texts
+    unfolding sym_texts syms_texts
 
     sym_there : (x : Sym) (left : ℕ) → SymWithin four w ts x left → There ts (sym_texts x)
     sym_there (leaf s l) zero h = absurd h
@@ -67,21 +66,21 @@ module _ (four : Bool) (w : ℕ) (ts : List Text) where
     syms_there nil left h = tt
     syms_there (cons x xs) left h = there_append (sym_texts x) (syms_texts xs) (sym_there x left h.0) (syms_there xs left h.1)
 
-  action_there : (x : Action) → ActionWithin four w ts x → There ts (action_texts x)
-  unfolding There action_texts
+  pub action_there : (x : Action) → ActionWithin four w ts x → There ts (action_texts x)
+  unfolding action_texts
   action_there no_action u = tt
   action_there (user t) u = (u.0, tt)
   action_there (fallible t) u = (u.0, tt)
   action_there lookahead_action u = tt
   action_there lookbehind_action u = tt
 
-  attribute_there : (i : Text) (o : Option (Text × Text)) → Uses four w ts is_name i → ArgumentWithin four w ts o → There ts (attribute_texts (record { id = i; argument = o }))
-  unfolding There attribute_texts
+  pub attribute_there : (i : Text) (o : Option (Text × Text)) → Uses four w ts is_name i → ArgumentWithin four w ts o → There ts (attribute_texts (record { id = i; argument = o }))
+  unfolding attribute_texts
   attribute_there i none u v = (u.0, tt)
   attribute_there i (some kv) u v = (u.0, (v.0.0, (v.1.0, tt)))
 
   condition_there : (c : Condition) → ConditionWithin four w ts c → There ts (condition_texts c)
-  unfolding There condition_texts
+  unfolding condition_texts
   condition_there c h = (h.lhs.0, (h.rhs.0, tt))
 
   alternative_there : (a : Alternative) → AlternativeWithin four w ts a → There ts (alternative_texts a)
@@ -93,12 +92,11 @@ module _ (four : Bool) (w : ℕ) (ts : List Text) where
       (syms_there a.symbols 64 h.symbols)))
 
   names_there : (xs : List Text) → Each (Uses four w ts is_name) xs → There ts xs
-  unfolding There
   names_there [] h = tt
   names_there (x ∷ xs) h = (h.0.0, names_there xs h.1)
 
   item_there : (i : Item) → ItemWithin four w ts i → There ts (item_texts i)
-  unfolding There item_texts
+  unfolding item_texts
   item_there (item d) h =
       (h.name.0, there_append d.args _ (names_there d.args h.args) (there_each (AlternativeWithin four w ts) alternative_texts alternative_there d.alternatives h.alternatives))
   item_there (terminal s o x) h = (h.1.0, tt)

@@ -6,7 +6,9 @@ pub mod Range
 -- Computed cases.
 mod Asked
 pub mod Build
+mod StarredTrees
 mod Starred
 mod Chosen
 pub mod ResolveKeeps
 pub mod ResolveWithin
+pub mod MacrosKeep

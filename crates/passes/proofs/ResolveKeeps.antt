@@ -41,6 +41,56 @@ alternatives_kept G ps (c ∷ cs) bs p =
     let i = after-yes (validate_alternatives G ps cs) _ _ h.2 in
     yes_as (λ (zs : List Alternative). length zs ≡ suc (length cs)) i.2 (ap suc (alternatives_kept G ps cs i.0 i.1))
 
+-- ---- what holds of leaves, and goes from what stands inside to the whole, holds of each symbol and what it is resolved to
+module _ (G : Tree) (ps : List Text) (K : Sym → Sym → Type 0) (L : Syms → Syms → Type 0)
+    (same : (s : Span) (l : Leaf) → K (leaf s l) (leaf s l)) (named : (s : Span) (n : Text) → K (leaf s (ambiguous n)) (leaf s (bare n)) × K (leaf s (ambiguous n)) (leaf s (nonterminal n)))
+    (arounds : (s : Span) (a : Around) (x y : Sym) → K x y → K (around s a x) (around s a y)) (overs : (s : Span) (o : Over) (xs ys : Syms) → count ys ≡ count xs → L xs ys → K (over s o xs) (over s o ys))
+    (none_kept : L nil nil) (more_kept : (x y : Sym) (xs ys : Syms) → K x y → L xs ys → L (cons x xs) (cons y ys)) where
+  nonterminal_holds : (s : Span) (n : Text) (o : Option Def) (y : Sym) → validate_nonterminal G ps s n o ≡ yes y → K (leaf s (nonterminal n)) y
+  nonterminal_holds s n none y p = absurd (no_yes p)
+  nonterminal_holds s n (some terminal_def) y p = absurd (no_yes p)
+  nonterminal_holds s n (some (nonterminal_def zero)) y p = yes_as (K (leaf s (nonterminal n))) p (same s (nonterminal n))
+  nonterminal_holds s n (some (nonterminal_def (suc k))) y p = absurd (no_yes p)
+  nonterminal_holds s n (some argument_def) y p = yes_as (K (leaf s (nonterminal n))) p (same s (nonterminal n))
+
+  -- a 20 becomes a 21 or a 24 of the same name
+  ambiguous_holds : (s : Span) (n : Text) (o : Option Def) (y : Sym) → rewrite_ambiguous_id G ps s n o ≡ yes y → K (leaf s (ambiguous n)) y
+  ambiguous_holds s n none y p = absurd (no_yes p)
+  ambiguous_holds s n (some terminal_def) y p = yes_as (K (leaf s (ambiguous n))) p (named s n).0
+  ambiguous_holds s n (some (nonterminal_def zero)) y p = yes_as (K (leaf s (ambiguous n))) p (named s n).1
+  ambiguous_holds s n (some (nonterminal_def (suc k))) y p = absurd (no_yes p)
+  ambiguous_holds s n (some argument_def) y p = yes_as (K (leaf s (ambiguous n))) p (named s n).1
+
+  leaf_holds : (s : Span) (l : Leaf) (y : Sym) → validate_leaf G ps s l ≡ yes y → K (leaf s l) y
+  leaf_holds s (ambiguous n) y p = ambiguous_holds s n (lookup G ps n) y p
+  leaf_holds s (bare n) y p = yes_as (K (leaf s (bare n))) p (same s (bare n))
+  leaf_holds s (quoted n) y p = yes_as (K (leaf s (quoted n))) p (same s (quoted n))
+  leaf_holds s (regex n) y p = yes_as (K (leaf s (regex n))) p (same s (regex n))
+  leaf_holds s (nonterminal n) y p = nonterminal_holds s n (lookup G ps n) y p
+  leaf_holds s lookahead y p = yes_as (K (leaf s lookahead)) p (same s lookahead)
+  leaf_holds s lookbehind y p = yes_as (K (leaf s lookbehind)) p (same s lookbehind)
+  leaf_holds s error y p = yes_as (K (leaf s error)) p (same s error)
+
+  mutual
+    unfolding validate_symbol validate_symbols
+
+    sym_holds : (x y : Sym) → validate_symbol G ps x ≡ yes y → K x y
+    sym_holds (leaf s l) y p = leaf_holds s l y p
+    sym_holds (around s a x) y p =
+        let h = after-yes (validate_symbol G ps x) _ _ p in
+        yes_as (K (around s a x)) h.2 (arounds s a x h.0 (sym_holds x h.0 h.1))
+    sym_holds (over s o xs) y p =
+        let g = after-yes (validate_over G ps s o (count xs)) _ _ p in
+        let h = after-yes (validate_symbols G ps xs) _ _ g.2 in
+        yes_as (K (over s o xs)) h.2 (overs s o xs h.0 (count_kept G ps xs h.0 h.1) (syms_hold xs h.0 h.1))
+
+    pub syms_hold : (xs ys : Syms) → validate_symbols G ps xs ≡ yes ys → L xs ys
+    syms_hold nil ys p = yes_as (L nil) p none_kept
+    syms_hold (cons x xs) ys p =
+        let g = after-yes (validate_symbol G ps x) _ _ p in
+        let h = after-yes (validate_symbols G ps xs) _ _ g.2 in
+        yes_as (L (cons x xs)) h.2 (more_kept x g.0 xs h.0 (sym_holds x g.0 g.1) (syms_hold xs h.0 h.1))
+
 -- ---- symbols
 record KeptSym (x y : Sym) : Type 0 where
   texts : sym_texts y ≡ sym_texts x
@@ -51,13 +101,17 @@ record KeptSyms (xs ys : Syms) : Type 0 where
   fits : (left : ℕ) → syms_fit ys left ≡ syms_fit xs left
 
 -- a leaf with the same text
-leaf_kept : (s : Span) (l k : Leaf) (y : Sym) → leaf_texts k ≡ leaf_texts l → ◌≡◌ {A = Outcome Sym} (yes (leaf s k)) (yes y) → KeptSym (leaf s l) y
+leaf_kept : (s : Span) (l k : Leaf) → leaf_texts k ≡ leaf_texts l → KeptSym (leaf s l) (leaf s k)
 unfolding sym_texts
-leaf_kept s l k y p q = yes_as (λ z. KeptSym (leaf s l) z) q (record { texts = p; fits = go })
+leaf_kept s l k p = record { texts = p; fits = go }
   where
     go : (left : ℕ) → sym_fits (leaf s k) left ≡ sym_fits (leaf s l) left
     go zero = refl
     go (suc left) = refl
+
+named_kept : (s : Span) (n : Text) → KeptSym (leaf s (ambiguous n)) (leaf s (bare n)) × KeptSym (leaf s (ambiguous n)) (leaf s (nonterminal n))
+unfolding leaf_texts
+named_kept s n = (leaf_kept s (ambiguous n) (bare n) refl, leaf_kept s (ambiguous n) (nonterminal n) refl)
 
 around_kept : (s : Span) (a : Around) (x y : Sym) → KeptSym x y → KeptSym (around s a x) (around s a y)
 unfolding sym_texts
@@ -75,55 +129,16 @@ over_kept s o xs ys n h = record { texts = rw h.texts refl; fits = go }
     go zero = refl
     go (suc left) = rw (n, h.fits left) refl
 
+none_kept : KeptSyms nil nil
+none_kept = record { texts = refl; fits = λ left. refl }
+
+more_kept : (x y : Sym) (xs ys : Syms) → KeptSym x y → KeptSyms xs ys → KeptSyms (cons x xs) (cons y ys)
+unfolding syms_texts
+more_kept x y xs ys i j = record { texts = rw (i.texts, j.texts) refl; fits = λ left. rw (i.fits left, j.fits left) refl }
+
 module _ (G : Tree) (ps : List Text) where
-  nonterminal_keeps : (s : Span) (n : Text) (o : Option Def) (y : Sym) → validate_nonterminal G ps s n o ≡ yes y → KeptSym (leaf s (nonterminal n)) y
-  nonterminal_keeps s n none y p = absurd (no_yes p)
-  nonterminal_keeps s n (some terminal_def) y p = absurd (no_yes p)
-  nonterminal_keeps s n (some (nonterminal_def zero)) y p = leaf_kept s (nonterminal n) (nonterminal n) y refl p
-  nonterminal_keeps s n (some (nonterminal_def (suc k))) y p = absurd (no_yes p)
-  nonterminal_keeps s n (some argument_def) y p = leaf_kept s (nonterminal n) (nonterminal n) y refl p
-
-  ambiguous_keeps : (s : Span) (n : Text) (o : Option Def) (y : Sym) → rewrite_ambiguous_id G ps s n o ≡ yes y → KeptSym (leaf s (ambiguous n)) y
-  unfolding leaf_texts
-  ambiguous_keeps s n none y p = absurd (no_yes p)
-  ambiguous_keeps s n (some terminal_def) y p = leaf_kept s (ambiguous n) (bare n) y refl p
-  ambiguous_keeps s n (some (nonterminal_def zero)) y p = leaf_kept s (ambiguous n) (nonterminal n) y refl p
-  ambiguous_keeps s n (some (nonterminal_def (suc k))) y p = absurd (no_yes p)
-  ambiguous_keeps s n (some argument_def) y p = leaf_kept s (ambiguous n) (nonterminal n) y refl p
-
-  leaf_keeps : (s : Span) (l : Leaf) (y : Sym) → validate_leaf G ps s l ≡ yes y → KeptSym (leaf s l) y
-  leaf_keeps s (ambiguous n) y p = ambiguous_keeps s n (lookup G ps n) y p
-  leaf_keeps s (bare n) y p = leaf_kept s (bare n) (bare n) y refl p
-  leaf_keeps s (quoted n) y p = leaf_kept s (quoted n) (quoted n) y refl p
-  leaf_keeps s (regex n) y p = leaf_kept s (regex n) (regex n) y refl p
-  leaf_keeps s (nonterminal n) y p = nonterminal_keeps s n (lookup G ps n) y p
-  leaf_keeps s lookahead y p = leaf_kept s lookahead lookahead y refl p
-  leaf_keeps s lookbehind y p = leaf_kept s lookbehind lookbehind y refl p
-  leaf_keeps s error y p = leaf_kept s error error y refl p
-
-  mutual
-    unfolding validate_symbol validate_symbols sym_texts syms_texts
-
-    sym_keeps : (x y : Sym) → validate_symbol G ps x ≡ yes y → KeptSym x y
-    sym_keeps (leaf s l) y p = leaf_keeps s l y p
-    sym_keeps (around s a x) y p =
-        let h = after-yes (validate_symbol G ps x) _ _ p in
-        let i = sym_keeps x h.0 h.1 in
-        yes_as (λ z. KeptSym (around s a x) z) h.2 (around_kept s a x h.0 i)
-    sym_keeps (over s o xs) y p =
-        let g = after-yes (validate_over G ps s o (count xs)) _ _ p in
-        let h = after-yes (validate_symbols G ps xs) _ _ g.2 in
-        let i = syms_keep xs h.0 h.1 in
-        yes_as (λ z. KeptSym (over s o xs) z) h.2 (over_kept s o xs h.0 (count_kept G ps xs h.0 h.1) i)
-
-    syms_keep : (xs ys : Syms) → validate_symbols G ps xs ≡ yes ys → KeptSyms xs ys
-    syms_keep nil ys p = yes_as (λ z. KeptSyms nil z) p (record { texts = refl; fits = λ left. refl })
-    syms_keep (cons x xs) ys p =
-        let g = after-yes (validate_symbol G ps x) _ _ p in
-        let h = after-yes (validate_symbols G ps xs) _ _ g.2 in
-        let i = sym_keeps x g.0 g.1 in
-        let j = syms_keep xs h.0 h.1 in
-        yes_as (λ z. KeptSyms (cons x xs) z) h.2 (record { texts = rw (i.texts, j.texts) refl; fits = λ left. rw (i.fits left, j.fits left) refl })
+  syms_keep : (xs ys : Syms) → validate_symbols G ps xs ≡ yes ys → KeptSyms xs ys
+  syms_keep = syms_hold G ps KeptSym KeptSyms (λ s l. leaf_kept s l l refl) named_kept around_kept over_kept none_kept more_kept
 
   -- ---- alternatives
   pub alternatives_keep : (as' bs : List Alternative) → validate_alternatives G ps as' ≡ yes bs

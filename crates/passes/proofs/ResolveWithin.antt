@@ -2,11 +2,10 @@
 use mathlib.Core.Path.{◌≡◌, refl, ap}
 use mathlib.Core.Bool.{Bool}
 use mathlib.Core.List.{List, [], ◌∷◌, ◌++◌}
-use mathlib.Core.Option.{Option, none, some}
 use Prim.Native.Nat.{ℕ, zero, suc, ◌+◌}
 use native.Mathlib.Omega.{arith}
 use lib.ListN.{length, take, length-append}
-use Rattle.parse_tree.specs.Plain.Tree.{Text, Leaf, Around, Over, Sym, Syms, leaf, around, over, nil, cons, ambiguous, bare, quoted, regex, nonterminal, lookahead, lookbehind, error, count, conditions, Alternative, Nonterminal, Item, item}
+use Rattle.parse_tree.specs.Plain.Tree.{Text, Leaf, Around, Over, Sym, Syms, leaf, around, over, nil, cons, ambiguous, bare, nonterminal, count, conditions, Alternative, Nonterminal, Item, item}
 use Rattle.parse_tree.specs.Plain.Texts.{number}
 use Rattle.parse_tree.specs.Plain.WriteTape.{bytes_of_each, bit}
 use Rattle.parse_tree.specs.Working.Nodes.{leaf_code, leaf_operand, symbol_bytes, node_bytes}
@@ -15,10 +14,10 @@ use Rattle.parse_tree.specs.Working.Within.{Each, LeafWithin, SymWithin, SymsWit
 use Rattle.parse_tree.specs.declared.syntax.Span.{Span}
 use Rattle.parse_tree.specs.declared.syntax.SymbolKind.{SymbolKind}
 use Rattle.parse_tree.specs.declared.syntax.Node.{Node}
-use Rattle.passes.specs.Outcome.{Tree, Outcome, yes, with_symbols, with_alternatives}
-use Rattle.passes.specs.Resolve.{Def, terminal_def, nonterminal_def, argument_def, globals, lookup, check_globals, check_condition, validate_nonterminal, rewrite_ambiguous_id, validate_leaf, validate_over, validate_symbol, validate_symbols, validate_alternatives, validate_macro_args, validate_items, resolve}
+use Rattle.passes.specs.Outcome.{Tree, yes, with_symbols, with_alternatives}
+use Rattle.passes.specs.Resolve.{globals, check_globals, check_condition, validate_symbols, validate_alternatives, validate_macro_args, validate_items, resolve}
 use Rattle.passes.proofs.Outcomes.{after-yes}
-use Rattle.passes.proofs.ResolveKeeps.{no_yes, yes_as, count_kept, alternatives_kept}
+use Rattle.passes.proofs.ResolveKeeps.{yes_as, count_kept, alternatives_kept, syms_hold}
 
 -- the atoms ts, whose numbers have w bytes; four says whether texts must suit their use
 module _ (four : Bool) (w : ℕ) (ts : List Text) where
@@ -31,17 +30,16 @@ module _ (four : Bool) (w : ℕ) (ts : List Text) where
     within : (left : ℕ) → SymsWithin four w ts xs left → SymsWithin four w ts ys left
     size : length (syms_bytes w ts ys) ≡ length (syms_bytes w ts xs)
 
-  leaf_kept : (s : Span) (l k : Leaf) (y : Sym) → (LeafWithin four w ts l → LeafWithin four w ts k) → length (sym_bytes w ts (leaf s k)) ≡ length (sym_bytes w ts (leaf s l))
-      → ◌≡◌ {A = Outcome Sym} (yes (leaf s k)) (yes y) → KeptSym (leaf s l) y
-  leaf_kept s l k y f n q = yes_as (λ z. KeptSym (leaf s l) z) q (record { within = go; size = n })
+  leaf_kept : (s : Span) (l k : Leaf) → (LeafWithin four w ts l → LeafWithin four w ts k) → length (sym_bytes w ts (leaf s k)) ≡ length (sym_bytes w ts (leaf s l)) → KeptSym (leaf s l) (leaf s k)
+  leaf_kept s l k f n = record { within = go; size = n }
     where
       go : (left : ℕ) → SymWithin four w ts (leaf s l) left → SymWithin four w ts (leaf s k) left
       go zero h = absurd h
       go (suc left) h = (h.0, f h.1)
 
-  -- one that stays as it is
-  same_kept : (s : Span) (l : Leaf) (y : Sym) → ◌≡◌ {A = Outcome Sym} (yes (leaf s l)) (yes y) → KeptSym (leaf s l) y
-  same_kept s l y q = leaf_kept s l l y (λ h. h) refl q
+  named_kept : (s : Span) (n : Text) → KeptSym (leaf s (ambiguous n)) (leaf s (bare n)) × KeptSym (leaf s (ambiguous n)) (leaf s (nonterminal n))
+  unfolding sym_bytes node_bytes symbol_bytes leaf_code leaf_operand leaf_node
+  named_kept s n = (leaf_kept s (ambiguous n) (bare n) (λ h. h) refl, leaf_kept s (ambiguous n) (nonterminal n) (λ h. h) refl)
 
   around_kept : (s : Span) (a : Around) (x y : Sym) → KeptSym x y → KeptSym (around s a x) (around s a y)
   unfolding sym_bytes
@@ -63,59 +61,18 @@ module _ (four : Bool) (w : ℕ) (ts : List Text) where
       go zero k = absurd k
       go (suc left) k = (k.0, rw n k.1, h.within left k.2)
 
-  module _ (G : Tree) (ps : List Text) where
-    nonterminal_keeps : (s : Span) (n : Text) (o : Option Def) (y : Sym) → validate_nonterminal G ps s n o ≡ yes y → KeptSym (leaf s (nonterminal n)) y
-    nonterminal_keeps s n none y p = absurd (no_yes p)
-    nonterminal_keeps s n (some terminal_def) y p = absurd (no_yes p)
-    nonterminal_keeps s n (some (nonterminal_def zero)) y p = same_kept s (nonterminal n) y p
-    nonterminal_keeps s n (some (nonterminal_def (suc k))) y p = absurd (no_yes p)
-    nonterminal_keeps s n (some argument_def) y p = same_kept s (nonterminal n) y p
+  empty_kept : KeptSyms nil nil
+  empty_kept = record { within = λ left h. h; size = refl }
 
-    -- a 20 becomes a 21 or a 24 of the same name
-    ambiguous_keeps : (s : Span) (n : Text) (o : Option Def) (y : Sym) → rewrite_ambiguous_id G ps s n o ≡ yes y → KeptSym (leaf s (ambiguous n)) y
-    unfolding sym_bytes node_bytes symbol_bytes leaf_code leaf_operand leaf_node
-    ambiguous_keeps s n none y p = absurd (no_yes p)
-    ambiguous_keeps s n (some terminal_def) y p = leaf_kept s (ambiguous n) (bare n) y (λ h. h) refl p
-    ambiguous_keeps s n (some (nonterminal_def zero)) y p = leaf_kept s (ambiguous n) (nonterminal n) y (λ h. h) refl p
-    ambiguous_keeps s n (some (nonterminal_def (suc k))) y p = absurd (no_yes p)
-    ambiguous_keeps s n (some argument_def) y p = leaf_kept s (ambiguous n) (nonterminal n) y (λ h. h) refl p
+  more_kept : (x y : Sym) (xs ys : Syms) → KeptSym x y → KeptSyms xs ys → KeptSyms (cons x xs) (cons y ys)
+  unfolding syms_bytes
+  more_kept x y xs ys i j = record {
+    within = λ left k. (i.within left k.0, j.within left k.1);
+    size = omega (arith, i.size, j.size, length-append (sym_bytes w ts x) (syms_bytes w ts xs), length-append (sym_bytes w ts y) (syms_bytes w ts ys));
+  }
 
-    leaf_keeps : (s : Span) (l : Leaf) (y : Sym) → validate_leaf G ps s l ≡ yes y → KeptSym (leaf s l) y
-    leaf_keeps s (ambiguous n) y p = ambiguous_keeps s n (lookup G ps n) y p
-    leaf_keeps s (bare n) y p = same_kept s (bare n) y p
-    leaf_keeps s (quoted n) y p = same_kept s (quoted n) y p
-    leaf_keeps s (regex n) y p = same_kept s (regex n) y p
-    leaf_keeps s (nonterminal n) y p = nonterminal_keeps s n (lookup G ps n) y p
-    leaf_keeps s lookahead y p = same_kept s lookahead y p
-    leaf_keeps s lookbehind y p = same_kept s lookbehind y p
-    leaf_keeps s error y p = same_kept s error y p
-
-    mutual
-      unfolding validate_symbol validate_symbols syms_bytes
-
-      sym_keeps : (x y : Sym) → validate_symbol G ps x ≡ yes y → KeptSym x y
-      sym_keeps (leaf s l) y p = leaf_keeps s l y p
-      sym_keeps (around s a x) y p =
-          let h = after-yes (validate_symbol G ps x) _ _ p in
-          let i = sym_keeps x h.0 h.1 in
-          yes_as (λ z. KeptSym (around s a x) z) h.2 (around_kept s a x h.0 i)
-      sym_keeps (over s o xs) y p =
-          let g = after-yes (validate_over G ps s o (count xs)) _ _ p in
-          let h = after-yes (validate_symbols G ps xs) _ _ g.2 in
-          let i = syms_keep xs h.0 h.1 in
-          yes_as (λ z. KeptSym (over s o xs) z) h.2 (over_kept s o xs h.0 (count_kept G ps xs h.0 h.1) i)
-
-      syms_keep : (xs ys : Syms) → validate_symbols G ps xs ≡ yes ys → KeptSyms xs ys
-      syms_keep nil ys p = yes_as (λ z. KeptSyms nil z) p (record { within = λ left h. h; size = refl })
-      syms_keep (cons x xs) ys p =
-          let g = after-yes (validate_symbol G ps x) _ _ p in
-          let h = after-yes (validate_symbols G ps xs) _ _ g.2 in
-          let i = sym_keeps x g.0 g.1 in
-          let j = syms_keep xs h.0 h.1 in
-          yes_as (λ z. KeptSyms (cons x xs) z) h.2 (record {
-            within = λ left k. (i.within left k.0, j.within left k.1);
-            size = omega (arith, i.size, j.size, length-append (sym_bytes w ts x) (syms_bytes w ts xs), length-append (sym_bytes w ts g.0) (syms_bytes w ts h.0));
-          })
+  syms_keep : (G : Tree) (ps : List Text) (xs ys : Syms) → validate_symbols G ps xs ≡ yes ys → KeptSyms xs ys
+  syms_keep G ps = syms_hold G ps KeptSym KeptSyms (λ s l. leaf_kept s l l (λ h. h) refl) named_kept around_kept over_kept empty_kept more_kept
 
   -- ---- alternatives
   record KeptAlternatives (cs bs : List Alternative) : Type 0 where

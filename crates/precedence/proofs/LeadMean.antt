@@ -30,7 +30,7 @@ use Rattle.grades.specs.Sort.{keys_at}
 use Rattle.grades.specs.Key.{side_number}
 use Rattle.grades.proofs.AscendsMean.{code_of, side_few}
 use Rattle.grades.proofs.AlternativesLaws.{level_of_small}
-use Rattle.grades.proofs.AlternativesWholeMean.{places_from}
+use Rattle.grades.proofs.AlternativesStored.{places_from}
 use Rattle.grades.proofs.LowestMean.{SpanAt}
 use Rattle.grades.specs.Key.{key_side}
 use Rattle.precedence.specs.Level.{key_place, key_end}

@@ -23,6 +23,7 @@ use Rattle.parse_tree.specs.declared.syntax.Node.{Node}
 use Rattle.replacing.specs.Slots.{Ref, text, like, Slots, leaf_places, around_places, listed, places, among, first_like, refer, push_text, push_new, note_by, note_as, note, note_all}
 use Rattle.replacing.specs.Sound.{HasRef, AllNoted}
 use Rattle.replacing.proofs.SlotsMean.{each_map, among-here, among_later}
+use Rattle.replacing.proofs.PlacesMean.{kind_places}
 
 -- ---- lists of places
 pub among-left : (q : ℕ) (xs ys : List ℕ) → among q xs ≡ true → among q (xs ++ ys) ≡ true
@@ -52,13 +53,6 @@ among-each P q (p ∷ qs) h i = go (eqb p q) refl i (among-each P q qs h.1)
     go false e j f = f j
 
 module _ (w : ℕ) (s : List ℕ) where
-  abbrev kind_places : ℕ → ℕ → SymbolKind → ℕ → Reading (List ℕ)
-  kind_places left a k c = elim k [
-    | SymbolKind.Leaf l ↦ got (leaf_places l a) c
-    | SymbolKind.Around o ↦ then (places w s left c) (λ ps e'. got (ps ++ around_places o a) e')
-    | SymbolKind.Over o ↦ then (listed (λ p. places w s left p) (inside_of o) c) (λ ps e'. got (ps ++ (a ∷ [])) e')
-  ]
-
   listed-also : (f g : ℕ → Reading (List ℕ)) → ((a : ℕ) (x : List ℕ) (e : ℕ) → f a ≡ got x e → g a ≡ got x e) → (n a : ℕ) (xs : List ℕ) (e : ℕ) → listed f n a ≡ got xs e → listed g n a ≡ got xs e
   unfolding listed then
   listed-also f g t zero a xs e p = p
@@ -68,7 +62,7 @@ module _ (w : ℕ) (s : List ℕ) where
       cc (t a h.value h.mid h.first, listed-also f g t n h.mid i.value i.mid i.first)
 
   kind-also : (left more : ℕ) → ((a : ℕ) (x : List ℕ) (e : ℕ) → places w s left a ≡ got x e → places w s more a ≡ got x e) → (a : ℕ) (k : SymbolKind) (c : ℕ) (ps : List ℕ) (e : ℕ)
-      → kind_places left a k c ≡ got ps e → kind_places more a k c ≡ got ps e
+      → kind_places w s left a k c ≡ got ps e → kind_places w s more a k c ≡ got ps e
   unfolding then
   kind-also left more f a (SymbolKind.Leaf l) c ps e r = r
   kind-also left more f a (SymbolKind.Around o) c ps e r = let i = then-got (places w s left c) _ r in rw (f c i.value i.mid i.first) i.second
@@ -78,7 +72,7 @@ module _ (w : ℕ) (s : List ℕ) where
 
   -- what is listed of what was read at a place
   abbrev shown : ℕ → ℕ → Optional Node → Reading (List ℕ)
-  shown left a o = elim o [ None ↦ refused 2 a | Some n ↦ expect_symbol a (λ sp k c. kind_places left a k c) n (a + size_of w n) ]
+  shown left a o = elim o [ None ↦ refused 2 a | Some n ↦ expect_symbol a (λ sp k c. kind_places w s left a k c) n (a + size_of w n) ]
 
   -- with more levels left the same are listed
   pub places-more : (left more a : ℕ) (ps : List ℕ) (e : ℕ) → left ≤ more → places w s left a ≡ got ps e → places w s more a ≡ got ps e
@@ -91,8 +85,8 @@ module _ (w : ℕ) (s : List ℕ) where
       go : (o : Optional Node) → node_at w s a ≡ o → shown left a o ≡ got ps e → ((q : ℕ) (x : List ℕ) (d : ℕ) → places w s left q ≡ got x d → places w s more q ≡ got x d) → places w s (suc more) a ≡ got ps e
       go None i q f = absurd (never q)
       go (Some n) i q f =
-          symbol_wanted (λ m. n ≡ m) a (a + size_of w n) ps e (λ sp k c. kind_places left a k c) n refl q (λ sp k j r.
-          ap (shown more a) i ∙ ap (λ m. expect_symbol a (λ sp' k' c. kind_places more a k' c) m (a + size_of w n)) j ∙ kind-also left more f a k (a + size_of w n) ps e r)
+          symbol_wanted (λ m. n ≡ m) a (a + size_of w n) ps e (λ sp k c. kind_places w s left a k c) n refl q (λ sp k j r.
+          ap (shown more a) i ∙ ap (λ m. expect_symbol a (λ sp' k' c. kind_places w s more a k' c) m (a + size_of w n)) j ∙ kind-also left more f a k (a + size_of w n) ps e r)
 
   -- ---- each place is listed with all inside it
   abbrev Sub : List ℕ → ℕ → Type 0
@@ -133,7 +127,7 @@ module _ (w : ℕ) (s : List ℕ) where
   around_closed AroundNode.Choose a xs h f = closed_append xs [] h tt
   around_closed (AroundNode.Name m n) a xs h f = closed_append xs [] h tt
 
-  kind-closed : (left : ℕ) → ((a : ℕ) (x : List ℕ) (e : ℕ) → places w s left a ≡ got x e → Closed x) → (a : ℕ) (k : SymbolKind) (c : ℕ) (ps : List ℕ) (e : ℕ) → Sub ps a → kind_places left a k c ≡ got ps e → Closed ps
+  kind-closed : (left : ℕ) → ((a : ℕ) (x : List ℕ) (e : ℕ) → places w s left a ≡ got x e → Closed x) → (a : ℕ) (k : SymbolKind) (c : ℕ) (ps : List ℕ) (e : ℕ) → Sub ps a → kind_places w s left a k c ≡ got ps e → Closed ps
   kind-closed left f a (SymbolKind.Leaf l) c ps e u r = got_as (λ zs m. Sub zs a → Closed zs) r (λ v. leaf_closed l a v) u
   kind-closed left f a (SymbolKind.Around o) c ps e u r =
       let i = then-got (places w s left c) _ r in
@@ -156,7 +150,7 @@ module _ (w : ℕ) (s : List ℕ) where
       go : (o : Optional Node) → shown left a o ≡ got ps e → ((q : ℕ) (x : List ℕ) (d : ℕ) → places w s left q ≡ got x d → Closed x) → Sub ps a → Closed ps
       go None q f u = absurd (never q)
       go (Some n) q f u =
-          symbol_wanted (λ m. Unit {0}) a (a + size_of w n) ps e (λ sp k c. kind_places left a k c) n tt q (λ sp k i r.
+          symbol_wanted (λ m. Unit {0}) a (a + size_of w n) ps e (λ sp k c. kind_places w s left a k c) n tt q (λ sp k i r.
           kind-closed left f a k (a + size_of w n) ps e u r)
 
   -- ---- references
@@ -186,10 +180,10 @@ module _ (w : ℕ) (s : List ℕ) where
     note_stays : (p q : ℕ) (x : Slots) → HasRef q x → HasRef q (note same text_at p x)
     note_stays p q x h = let (r, e) = note_adds p x in rw e (among_later q p (map (λ (v : ℕ × Ref). v.0) x.refs) h)
 
-    note_here : (p : ℕ) (x : Slots) → HasRef p (note same text_at p x)
+    pub note_here : (p : ℕ) (x : Slots) → HasRef p (note same text_at p x)
     note_here p x = let (r, e) = note_adds p x in rw e (among-here p (map (λ (v : ℕ × Ref). v.0) x.refs))
 
-    notes_stay : (ps : List ℕ) (q : ℕ) (x : Slots) → HasRef q x → HasRef q (note_all same text_at ps x)
+    pub notes_stay : (ps : List ℕ) (q : ℕ) (x : Slots) → HasRef q x → HasRef q (note_all same text_at ps x)
     unfolding note_all
     notes_stay [] q x h = h
     notes_stay (p ∷ ps) q x h = notes_stay ps q (note same text_at p x) (note_stays p q x h)
@@ -204,7 +198,7 @@ module _ (w : ℕ) (s : List ℕ) where
         go false e i f = f i
 
     -- a reference is an old one or one of those noted
-    note_from : (p q : ℕ) (x : Slots) → HasRef q (note same text_at p x) → (HasRef q x) ⊎ (q ≡ p)
+    pub note_from : (p q : ℕ) (x : Slots) → HasRef q (note same text_at p x) → (HasRef q x) ⊎ (q ≡ p)
     unfolding among
     note_from p q x h = let (r, e) = note_adds p x in go r (eqb p q) refl (rw e at h)
       where

@@ -8,7 +8,7 @@ use native.Mathlib.Omega.{arith}
 use borrow.Author.Tests.{lt-leb, le-leb}
 use lib.Dec.{leb}
 use lib.ListN.{length}
-use Rattle.std.specs.Prelude.{Option as Optional, Some, None}
+use Rattle.std.specs.Prelude.{Some}
 use Rattle.octets.specs.Working.Choice.{pick}
 use Rattle.octets.specs.Plain.Numbers.{Bytes}
 use Rattle.octets.specs.Plain.Runs.{same_as}
@@ -17,12 +17,10 @@ use Rattle.parse_tree.specs.Plain.Tree.{Text, Sym}
 use Rattle.parse_tree.specs.Plain.Texts.{has, number, distinct, with_new}
 use Rattle.parse_tree.specs.Plain.Display.{print}
 use Rattle.parse_tree.specs.Working.Nodes.{node_bytes, node_at, size_of}
-use Rattle.parse_tree.specs.Plain.Reading.{Reading, got, refused, then}
-use Rattle.parse_tree.specs.Working.Expect.{expect_symbol}
+use Rattle.parse_tree.specs.Plain.Reading.{got}
 use Rattle.parse_tree.specs.Working.Operands.{inside_of}
 use Rattle.parse_tree.specs.Working.Decode.{read_sym}
 use Rattle.parse_tree.proofs.ReadingLaws.{then-got, got_as}
-use Rattle.parse_tree.specs.Working.Within.{Each}
 use Rattle.parse_tree.specs.declared.syntax.Span.{Span}
 use Rattle.parse_tree.specs.declared.syntax.Leaf.{Leaf as LeafNode}
 use Rattle.parse_tree.specs.declared.syntax.Around.{Around as AroundNode}
@@ -35,60 +33,15 @@ use Rattle.replacing.specs.Prints.{sym_at}
 use Rattle.replacing.specs.Slots.{Ref, Slots, leaf_places, around_places, listed, places, first_like, among, refer, push_text, push_new, note_by, note_as, note, note_all, numbered}
 use Rattle.replacing.specs.Runs.{plain_leaf, plain_around, plain_kind, plain, is_macro, hops, key_bytes, Run, copy_step, key_by, skip_step, step_on, steps}
 use Rattle.replacing.proofs.Readings.{Standing}
-use Rattle.replacing.proofs.PlacesMean.{Firm, Places, sym_here, sym_places}
+use Rattle.replacing.proofs.PlacesMean.{kind_places, places-at, Firm, Places, sym_here, sym_places}
 use Rattle.replacing.proofs.Keys.{firm_key}
 use Rattle.replacing.specs.Sound.{AllNoted}
 use Rattle.replacing.proofs.Closing.{places-closed, notes_closed}
 use Rattle.replacing.proofs.SlotsMean.{among-here, Sound, notes_sound}
 use Rattle.replacing.proofs.TreesMean.{enter-append}
-use Rattle.replacing.proofs.NumbersMean.{has-append, number-before, texts_of, Numbers, numbered-sound}
-
--- ---- lists of texts that grow
-pub record Extends (ts us : List Text) : Type 0 where
-  pub more : List Text
-  pub is : us ≡ ts ++ more
-
-pub extends_refl : (ts : List Text) → Extends ts ts
-extends_refl ts = record { more = []; is = sym (append-nil ts) }
-
-pub extends_trans : {ts us vs : List Text} → Extends ts us → Extends us vs → Extends ts vs
-extends_trans {ts} {us} {vs} p q = record { more = p.more ++ q.more; is = q.is ∙ ap (λ (l : List Text). l ++ q.more) p.is ∙ append_assoc ts p.more q.more }
-
-pub extends_has : (ts us : List Text) (x : Text) → Extends ts us → has x ts ≡ true → has x us ≡ true
-extends_has ts us x p h = rw p.is (has-append x ts p.more ∙ rw h refl)
-
-pub extends_number : (ts us : List Text) (x : Text) → Extends ts us → has x ts ≡ true → number us x ≡ number ts x
-extends_number ts us x p h = rw p.is (number-before x ts p.more h)
-
-pub new_extends : (ts xs : List Text) → Extends ts (with_new ts xs)
-unfolding with_new
-new_extends ts [] = extends_refl ts
-new_extends ts (x ∷ xs) = go (has x ts) (new_extends ts xs) (new_extends (ts ++ (x ∷ [])) xs)
-  where
-    go : (b : Bool) → Extends ts (with_new ts xs) → Extends (ts ++ (x ∷ [])) (with_new (ts ++ (x ∷ [])) xs)
-        → Extends ts (elim b [ true ↦ with_new ts xs | false ↦ with_new (ts ++ (x ∷ [])) xs ])
-    go true p q = p
-    go false p q = extends_trans (record { more = x ∷ []; is = refl }) q
-
-pub new_append : (ts xs ys : List Text) → with_new ts (xs ++ ys) ≡ with_new (with_new ts xs) ys
-unfolding with_new
-new_append ts [] ys = refl
-new_append ts (x ∷ xs) ys = go (has x ts) (new_append ts xs ys) (new_append (ts ++ (x ∷ [])) xs ys)
-  where
-    go : (b : Bool) → with_new ts (xs ++ ys) ≡ with_new (with_new ts xs) ys → with_new (ts ++ (x ∷ [])) (xs ++ ys) ≡ with_new (with_new (ts ++ (x ∷ [])) xs) ys
-        → ◌≡◌ {A = List Text} (elim b [ true ↦ with_new ts (xs ++ ys) | false ↦ with_new (ts ++ (x ∷ [])) (xs ++ ys) ])
-        (with_new (elim b [ true ↦ with_new ts xs | false ↦ with_new (ts ++ (x ∷ [])) xs ]) ys)
-    go true p q = p
-    go false p q = q
-
--- each of xs is among ts
-abbrev pub There : List Text → List Text → Type 0
-There ts xs = Each (λ (x : Text). has x ts ≡ true) xs
-
-pub new_there : (ts us xs : List Text) → Extends ts us → There ts xs → with_new us xs ≡ us
-unfolding with_new
-new_there ts us [] p h = refl
-new_there ts us (x ∷ xs) p h = cc (extends_has ts us x p h.0, new_there ts us xs p h.1)
+use Rattle.replacing.proofs.NumbersMean.{texts_of, Numbers, numbered-sound}
+use Rattle.replacing.proofs.Growing.{Extends, extends_trans, extends_number, new_extends, new_append, new_there}
+use Rattle.parse_tree.proofs.NothingNew.{There}
 
 -- ---- a place that is noted last has a reference
 noted_here : (p : ℕ) (r : Ref) (rs : List (ℕ × Ref)) → among p (map (λ (v : ℕ × Ref). v.0) ((p, r) ∷ rs)) ≡ true
@@ -132,17 +85,10 @@ module _ (same : ℕ → ℕ → Bool) (text_at : ℕ → Option ℕ) where
 
   -- of a symbol that is expanded, its own place is the last
   module _ (w : ℕ) (s : List ℕ) (left a : ℕ) (ps : List ℕ) (e : ℕ) (x : Slots) where
-    abbrev kind_places : SymbolKind → ℕ → Reading (List ℕ)
-    kind_places k c = elim k [
-      | SymbolKind.Leaf l ↦ got (leaf_places l a) c
-      | SymbolKind.Around o ↦ then (places w s left c) (λ qs e'. got (qs ++ around_places o a) e')
-      | SymbolKind.Over o ↦ then (listed (λ r. places w s left r) (inside_of o) c) (λ qs e'. got (qs ++ (a ∷ [])) e')
-    ]
-
     behind : (qs : List ℕ) (c : ℕ) → got (qs ++ (a ∷ [])) c ≡ got ps e → HasRef a (note_all same text_at ps x)
     behind qs c r = got_as (λ zs m. HasRef a (note_all same text_at zs x)) r (notes_last qs a x)
 
-    kind-last : (k : SymbolKind) (c : ℕ) → plain_kind k ≡ false → kind_places k c ≡ got ps e → HasRef a (note_all same text_at ps x)
+    kind-last : (k : SymbolKind) (c : ℕ) → plain_kind k ≡ false → kind_places w s left a k c ≡ got ps e → HasRef a (note_all same text_at ps x)
     unfolding plain_kind plain_leaf plain_around leaf_places around_places
     kind-last (SymbolKind.Leaf (LeafNode.AmbiguousId n)) c z r = absurd (false≢true (sym z))
     kind-last (SymbolKind.Leaf (LeafNode.Bare n)) c z r = absurd (false≢true (sym z))
@@ -158,9 +104,7 @@ module _ (same : ℕ → ℕ → Bool) (text_at : ℕ → Option ℕ) where
     kind-last (SymbolKind.Over o) c z r = let h = then-got (listed (λ q. places w s left q) (inside_of o) c) _ r in behind h.value h.mid h.second
 
     pub own-last : (sp : Span) (k : SymbolKind) → node_at w s a ≡ Some (Node.Symbol sp k) → plain_kind k ≡ false → places w s (suc left) a ≡ got ps e → HasRef a (note_all same text_at ps x)
-    unfolding places expect_symbol
-    own-last sp k p z q =
-        kind-last k (a + size_of w (Node.Symbol sp k)) z (sym (ap (λ (o : Optional Node). elim o as (λ _. Reading (List ℕ)) [ None ↦ refused 2 a | Some n ↦ expect_symbol a (λ sp' k' c. kind_places k' c) n (a + size_of w n) ]) p) ∙ q)
+    own-last sp k p z q = kind-last k (a + size_of w (Node.Symbol sp k)) z (sym (places-at w s left a (a + size_of w (Node.Symbol sp k)) sp k p refl) ∙ q)
 
 -- ---- the steps of the run
 abbrev pub run : ℕ → List ℕ → Slots → Run

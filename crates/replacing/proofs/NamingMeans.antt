@@ -5,7 +5,7 @@ use mathlib.Core.List.{List, [], ◌∷◌, ◌++◌, map, append-nil, append_as
 use Prim.Native.Nat.{ℕ, zero, suc, ◌+◌, ◌≤◌}
 use native.Mathlib.Omega.{arith}
 use lib.ListN.{length}
-use Rattle.std.specs.Prelude.{Option as Optional, Some, None}
+use Rattle.std.specs.Prelude.{Option as Optional, Some}
 use Rattle.octets.specs.Working.Choice.{pick}
 use Rattle.octets.specs.Plain.Numbers.{Bytes}
 use Rattle.octets.proofs.LiesLaws.{lies_part}
@@ -14,9 +14,8 @@ use Rattle.parse_tree.specs.Plain.Texts.{number, distinct, with_new}
 use Rattle.parse_tree.specs.Plain.Display.{print}
 use Rattle.parse_tree.specs.Working.Nodes.{node_bytes, node_at, size_of}
 use Rattle.parse_tree.specs.Working.Places.{symbols_place}
-use Rattle.parse_tree.specs.Plain.Reading.{Reading, got, refused, then, times}
-use Rattle.parse_tree.specs.Working.Expect.{expect_symbol}
-use Rattle.parse_tree.specs.Working.Operands.{leaf_of, around_of, over_of, inside_of}
+use Rattle.parse_tree.specs.Plain.Reading.{Reading, got, then, times}
+use Rattle.parse_tree.specs.Working.Operands.{leaf_of, around_of, inside_of}
 use Rattle.parse_tree.specs.Working.Decode.{read_sym}
 use Rattle.parse_tree.specs.Working.Encode.{leaf_node, around_node, sym_bytes, syms_bytes}
 use Rattle.parse_tree.specs.Plain.References.{leaf_texts, around_texts, sym_texts, syms_texts}
@@ -30,19 +29,21 @@ use Rattle.parse_tree.proofs.ReadingLaws.{never, then-got, got_as}
 use Rattle.parse_tree.proofs.Expecting.{symbol_wanted}
 use Rattle.parse_tree.proofs.FromCommands.{leaf_within, around_within}
 use Rattle.passes.specs.Macros.{Expander}
-use Rattle.replacing.specs.Trees.{keyed, renamed, renamed_all}
+use Rattle.replacing.specs.Trees.{renamed, renamed_all}
 use Rattle.replacing.specs.Prints.{sym_at}
 use Rattle.replacing.specs.Slots.{Ref, Slots, leaf_places, around_places, listed, places, among, numbered}
 use Rattle.replacing.specs.Runs.{Run, plain_leaf, plain_around, plain_kind, plain, key_bytes}
 use Rattle.replacing.specs.Sound.{Firm, HasRef, AllNoted, Sound}
 use Rattle.replacing.specs.Naming.{copy_name, name_by, name_step, names}
-use Rattle.replacing.proofs.Readings.{Standing, stands_then, read_more}
-use Rattle.replacing.proofs.PlacesMean.{sym_here, all_places, sym_places}
+use Rattle.replacing.proofs.Readings.{Standing, kind_read, stands_then, read_more}
+use Rattle.replacing.proofs.PlacesMean.{kind_places, places-at, sym_here, all_places, sym_places}
 use Rattle.replacing.proofs.SlotsMean.{among-here}
 use Rattle.replacing.proofs.Closing.{among-left, among-right}
 use Rattle.replacing.proofs.NumbersMean.{texts_of, Numbers, numbered-sound}
-use Rattle.replacing.proofs.Going.{Extends, extends_trans, extends_number, new_extends, new_append, new_there, There, run}
-use Rattle.replacing.proofs.SymbolsGo.{leaf_later, around_later, leaf_there, around_there, plain-leaf, keyed-leaf, plain-around, keyed-around}
+use Rattle.replacing.proofs.Going.{run}
+use Rattle.replacing.proofs.Growing.{Extends, extends_trans, extends_number, new_extends, new_append, new_there}
+use Rattle.parse_tree.proofs.NothingNew.{There, leaf_there, around_there}
+use Rattle.replacing.proofs.SymbolsGo.{keyed-kind, leaf_later, around_later, plain-leaf, plain-around}
 
 module _ (w base : ℕ) (s : List ℕ) where
   names_append : (m n : ℕ) (r : Run) → names w base s (m + n) r ≡ names w base s n (names w base s m r)
@@ -132,26 +133,8 @@ module _ (four : Bool) (w : ℕ) (s : List ℕ) (ts : List Text) (b : Bytes s) (
   refs_as : (r : Reading (List ℕ)) (x y : Slots) → y.refs ≡ x.refs → RefsIn r x → RefsIn r y
   refs_as r x y e h ps m p q i = subst (λ (rs : List (ℕ × Ref)). among q (map (λ (v : ℕ × Ref). v.0) rs) ≡ true) (sym e) (h ps m p q i)
 
-  abbrev kind_read : ℕ → Span → SymbolKind → ℕ → Reading Sym
-  kind_read left sp k c = elim k [
-    | SymbolKind.Leaf l ↦ got (Sym.leaf sp (leaf_of ts l)) c
-    | SymbolKind.Around o ↦ then (read_sym four w s ts left c) (λ y e'. got (Sym.around sp (around_of ts o) y) e')
-    | SymbolKind.Over o ↦ then (times (λ q. read_sym four w s ts left q) (inside_of o) c) (λ ys e'. got (Sym.over sp (over_of ts o) (syms_of ys)) e')
-  ]
-
-  abbrev kind_places : ℕ → ℕ → SymbolKind → ℕ → Reading (List ℕ)
-  kind_places left a k c = elim k [
-    | SymbolKind.Leaf l ↦ got (leaf_places l a) c
-    | SymbolKind.Around o ↦ then (places w s left c) (λ ps e'. got (ps ++ around_places o a) e')
-    | SymbolKind.Over o ↦ then (listed (λ p. places w s left p) (inside_of o) c) (λ ps e'. got (ps ++ (a ∷ [])) e')
-  ]
-
-  places-at : (left a c : ℕ) (sp : Span) (k : SymbolKind) → node_at w s a ≡ Some (Node.Symbol sp k) → a + size_of w (Node.Symbol sp k) ≡ c → places w s (suc left) a ≡ kind_places left a k c
-  unfolding places expect_symbol
-  places-at left a c sp k p q = ap (λ (o : Optional Node). elim o as (λ _. Reading (List ℕ)) [ None ↦ refused 2 a | Some n ↦ expect_symbol a (λ sp' k' e. kind_places left a k' e) n (a + size_of w n) ]) p ∙ ap (λ z. kind_places left a k z) q
-
   -- its own place is listed
-  own_in : (left a : ℕ) (k : SymbolKind) (c : ℕ) (ps : List ℕ) (e : ℕ) → plain_kind k ≡ false → kind_places left a k c ≡ got ps e → among a ps ≡ true
+  own_in : (left a : ℕ) (k : SymbolKind) (c : ℕ) (ps : List ℕ) (e : ℕ) → plain_kind k ≡ false → kind_places w s left a k c ≡ got ps e → among a ps ≡ true
   unfolding plain_kind plain_leaf plain_around leaf_places around_places
   own_in left a (SymbolKind.Leaf (LeafNode.AmbiguousId n)) c ps e z r = absurd (false≢true (sym z))
   own_in left a (SymbolKind.Leaf (LeafNode.Bare n)) c ps e z r = absurd (false≢true (sym z))
@@ -165,16 +148,6 @@ module _ (four : Bool) (w : ℕ) (s : List ℕ) (ts : List Text) (b : Bytes s) (
   own_in left a (SymbolKind.Around AroundNode.Choose) c ps e z r = absurd (false≢true (sym z))
   own_in left a (SymbolKind.Around (AroundNode.Name m n)) c ps e z r = absurd (false≢true (sym z))
   own_in left a (SymbolKind.Over o) c ps e z r = let h = then-got (listed (λ q. places w s left q) (inside_of o) c) _ r in got_as (λ zs m. among a zs ≡ true) h.second (among-right a h.value (a ∷ []) (among-here a []))
-
-  keyed-kind : (left : ℕ) (sp : Span) (k : SymbolKind) (c : ℕ) (x : Sym) (e : ℕ) → plain_kind k ≡ false → kind_read left sp k c ≡ got x e → renamed x ≡ keyed sp x
-  unfolding plain_kind renamed
-  keyed-kind left sp (SymbolKind.Leaf l) c x e z p = got_as (λ y m. renamed y ≡ keyed sp y) p (keyed-leaf four w ts sp l z)
-  keyed-kind left sp (SymbolKind.Around o) c x e z p =
-      let i = then-got (read_sym four w s ts left c) _ p in
-      got_as (λ y m. renamed y ≡ keyed sp y) i.second (keyed-around four w ts sp o i.value (renamed i.value) z)
-  keyed-kind left sp (SymbolKind.Over o) c x e z p =
-      let i = then-got (times (λ q. read_sym four w s ts left q) (inside_of o) c) _ p in
-      got_as (λ y m. renamed y ≡ keyed sp y) i.second refl
 
   -- ---- one symbol
   abbrev SymNamed : ℕ → Type 0
@@ -203,21 +176,21 @@ module _ (four : Bool) (w : ℕ) (s : List ℕ) (ts : List Text) (b : Bytes s) (
       (g c y e p n.slots σ n.fits (refs_as (places w s left c) x n.slots n.kept k)))
 
   kind-named : (left : ℕ) → SymNamed left → (sp : Span) (k : SymbolKind) (a c : ℕ) (y : Sym) (e : ℕ) (x : Slots) (σ : Expander) → suc left ≤ 64 → read_sym four w s ts (suc left) a ≡ got y e
-      → Standing four w s ts a c (Node.Symbol sp k) → kind_read left sp k c ≡ got y e → Fits x σ → RefsIn (places w s (suc left) a) x → (z : Bool) → plain_kind k ≡ z
+      → Standing four w s ts a c (Node.Symbol sp k) → kind_read four w s ts left sp k c ≡ got y e → Fits x σ → RefsIn (places w s (suc left) a) x → (z : Bool) → plain_kind k ≡ z
       → Named a e (sym_texts (renamed y)) (λ T. sym_bytes w T (renamed y)) x σ
   unfolding plain_kind sym_texts leaf_texts sym_bytes leaf_node then
   kind-named left g sp k a c y e x σ l r h p f m false z =
       let v = sym_places four w s ts b 64 (omega arith) a y e (read_more four w s ts (suc left) 64 a y e l r) in
       let u = sym_places four w s ts b (suc left) l a y e r in
-      let i = own_in left a k c u.at e z (sym (places-at left a c sp k h.here h.behind) ∙ u.is) in
-      subst (λ (t : Sym). Named a e (sym_texts t) (λ T. sym_bytes w T t) x σ) (sym (keyed-kind left sp k c y e z p))
+      let i = own_in left a k c u.at e z (sym (places-at w s left a c sp k h.here h.behind) ∙ u.is) in
+      subst (λ (t : Sym). Named a e (sym_texts t) (λ T. sym_bytes w T t) x σ) (sym (keyed-kind four w s ts left sp k c y e z p))
       (named-key a e y sp k v.at x σ f h.here z (sym_here four w s ts b (suc left) a y e l r) v.is (m u.at e u.is a i))
   kind-named left g sp (SymbolKind.Leaf n) a c y e x σ l r h p f m true z =
       got_as (λ t q. Named a q (sym_texts (renamed t)) (λ T. sym_bytes w T (renamed t)) x σ) p (leaf_case sp n a c x σ f h z)
   kind-named left g sp (SymbolKind.Around o) a c y e x σ l r h p f m true z =
       let i = then-got (read_sym four w s ts left c) _ p in
       let k : RefsIn (places w s left c) x = λ ps q j t v.
-      m (ps ++ around_places o a) q (places-at left a c sp (SymbolKind.Around o) h.here h.behind ∙ rw j refl) t (among-left t ps (around_places o a) v) in
+      m (ps ++ around_places o a) q (places-at w s left a c sp (SymbolKind.Around o) h.here h.behind ∙ rw j refl) t (among-left t ps (around_places o a) v) in
       got_as (λ t q. Named a q (sym_texts (renamed t)) (λ T. sym_bytes w T (renamed t)) x σ) i.second
       (around_case left g sp o i.value a c i.mid x σ f h z i.first k)
   kind-named left g sp (SymbolKind.Over o) a c y e x σ l r h p f m true z = absurd (false≢true z)
@@ -252,10 +225,10 @@ module _ (four : Bool) (w : ℕ) (s : List ℕ) (ts : List Text) (b : Bytes s) (
   pub inside-around : (p c : ℕ) (sp : Span) (o : AroundNode) (x : Slots) → AllNoted w s x → HasRef p x → node_at w s p ≡ Some (Node.Symbol sp (SymbolKind.Around o))
       → p + size_of w (Node.Symbol sp (SymbolKind.Around o)) ≡ c → RefsIn (places w s 63 c) x
   unfolding then
-  inside-around p c sp o x h r q e ps m j t v = h p r (ps ++ around_places o p) m (places-at 63 p c sp (SymbolKind.Around o) q e ∙ rw j refl) t (among-left t ps (around_places o p) v)
+  inside-around p c sp o x h r q e ps m j t v = h p r (ps ++ around_places o p) m (places-at w s 63 p c sp (SymbolKind.Around o) q e ∙ rw j refl) t (among-left t ps (around_places o p) v)
 
   -- theorem
   pub inside-over : (p c : ℕ) (sp : Span) (o : OverNode) (x : Slots) → AllNoted w s x → HasRef p x → node_at w s p ≡ Some (Node.Symbol sp (SymbolKind.Over o))
       → p + size_of w (Node.Symbol sp (SymbolKind.Over o)) ≡ c → RefsIn (listed (λ q. places w s 63 q) (inside_of o) c) x
   unfolding then
-  inside-over p c sp o x h r q e ps m j t v = h p r (ps ++ (p ∷ [])) m (places-at 63 p c sp (SymbolKind.Over o) q e ∙ rw j refl) t (among-left t ps (p ∷ []) v)
+  inside-over p c sp o x h r q e ps m j t v = h p r (ps ++ (p ∷ [])) m (places-at w s 63 p c sp (SymbolKind.Over o) q e ∙ rw j refl) t (among-left t ps (p ∷ []) v)

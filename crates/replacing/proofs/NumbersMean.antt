@@ -20,6 +20,7 @@ use Rattle.parse_tree.proofs.AmongLaws.{has_here, has-behind}
 use Rattle.replacing.specs.Slots.{Ref, text, like, Slots, ref_at, among, first_like, place_in, number_new, number_by, numbered}
 use Rattle.replacing.proofs.PlacesMean.{map-append}
 use Rattle.replacing.proofs.SlotsMean.{has-or, or-true, or_assoc, among-here, among-has, Good, Sound}
+use Rattle.replacing.proofs.Closing.{among-each}
 
 -- ---- texts behind others
 pub has-append : (x : Text) (ts us : List Text) → has x (ts ++ us) ≡ (has x ts || has x us)
@@ -63,15 +64,6 @@ new_unknown ts x h = cc h
 map_length : {A B : Type 0} (f : A → B) (xs : List A) → length (map f xs) ≡ length xs
 map_length f [] = refl
 map_length f (x ∷ xs) = ap suc (map_length f xs)
-
-among-each : (P : ℕ → Type 0) (q : ℕ) (qs : List ℕ) → Each P qs → among q qs ≡ true → P q
-unfolding among
-among-each P q [] h i = absurd (false≢true i)
-among-each P q (p ∷ qs) h i = go (eqb p q) refl i (among-each P q qs h.1)
-  where
-    go : (b : Bool) → eqb p q ≡ b → cond b true (among q qs) ≡ true → (among q qs ≡ true → P q) → P q
-    go true e j f = subst P (eqb-true p q e) h.0
-    go false e j f = f j
 
 module _ (at : ℕ → Sym) (Here : ℕ → Type 0) (ts : List Text) (d : distinct ts ≡ true) where
   abbrev pr : ℕ → Text

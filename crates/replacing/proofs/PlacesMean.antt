@@ -11,7 +11,7 @@ use Rattle.parse_tree.specs.Working.Nodes.{node_at, size_of}
 use Rattle.parse_tree.specs.Working.Places.{symbols_place}
 use Rattle.parse_tree.specs.Plain.Reading.{Reading, got, refused, then, times}
 use Rattle.parse_tree.specs.Working.Expect.{expect_symbol}
-use Rattle.parse_tree.specs.Working.Operands.{leaf_of, around_of, over_of, inside_of}
+use Rattle.parse_tree.specs.Working.Operands.{leaf_of, around_of, inside_of}
 use Rattle.parse_tree.specs.Working.Decode.{read_sym}
 use Rattle.parse_tree.specs.declared.syntax.Span.{Span}
 use Rattle.parse_tree.specs.declared.syntax.Leaf.{Leaf as LeafNode}
@@ -26,11 +26,24 @@ use Rattle.replacing.specs.Prints.{sym_of, sym_at}
 use Rattle.replacing.specs.Slots.{leaf_places, around_places, listed, places}
 use Rattle.replacing.specs.Sound.{Firm as FirmAt}
 use Rattle.replacing.specs.Runs.{plain_leaf, plain_around, plain_kind, plain}
-use Rattle.replacing.proofs.Readings.{Standing, stands_then, read_more}
+use Rattle.replacing.proofs.Readings.{Standing, kind_read, stands_then, read_more}
 
 pub map-append : {A B : Type 0} (f : A → B) (xs ys : List A) → map f (xs ++ ys) ≡ map f xs ++ map f ys
 map-append f [] ys = refl
 map-append f (x ∷ xs) ys = ap (λ l. f x ∷ l) (map-append f xs ys)
+
+module _ (w : ℕ) (s : List ℕ) where
+  -- what is listed of the command at a, which ends at c
+  abbrev pub kind_places : ℕ → ℕ → SymbolKind → ℕ → Reading (List ℕ)
+  kind_places left a k c = elim k [
+    | SymbolKind.Leaf l ↦ got (leaf_places l a) c
+    | SymbolKind.Around o ↦ then (places w s left c) (λ ps e'. got (ps ++ around_places o a) e')
+    | SymbolKind.Over o ↦ then (listed (λ p. places w s left p) (inside_of o) c) (λ ps e'. got (ps ++ (a ∷ [])) e')
+  ]
+
+  pub places-at : (left a c : ℕ) (sp : Span) (k : SymbolKind) → node_at w s a ≡ Some (Node.Symbol sp k) → a + size_of w (Node.Symbol sp k) ≡ c → places w s (suc left) a ≡ kind_places left a k c
+  unfolding places expect_symbol
+  places-at left a c sp k p q = ap (λ (o : Optional Node). elim o as (λ _. Reading (List ℕ)) [ None ↦ refused 2 a | Some n ↦ expect_symbol a (λ sp' k' e. kind_places left a k' e) n (a + size_of w n) ]) p ∙ ap (λ z. kind_places left a k z) q
 
 module _ (four : Bool) (w : ℕ) (s : List ℕ) (ts : List Text) (b : Bytes s) where
   -- the symbol that was read is the one at its place
@@ -98,37 +111,21 @@ module _ (four : Bool) (w : ℕ) (s : List ℕ) (ts : List Text) (b : Bytes s) w
       got_as (λ zs k. Places (listed (λ q. places w s left q) (suc n) a) (expanded_all (syms_of zs)) k) i.second
       (record { at = u.at ++ v.at; is = rw (u.is, v.is) refl; stand = rw (← u.stand, ← v.stand) (map-append (sym_at four w s ts) u.at v.at); firm = each_append Firm u.at v.at u.firm v.firm })
 
-  -- what is listed of the command at a, which ends at c
-  abbrev kind_places : ℕ → ℕ → SymbolKind → ℕ → Reading (List ℕ)
-  kind_places left a k c = elim k [
-    | SymbolKind.Leaf l ↦ got (leaf_places l a) c
-    | SymbolKind.Around o ↦ then (places w s left c) (λ ps e'. got (ps ++ around_places o a) e')
-    | SymbolKind.Over o ↦ then (listed (λ p. places w s left p) (inside_of o) c) (λ ps e'. got (ps ++ (a ∷ [])) e')
-  ]
-
-  places-at : (left a c : ℕ) (sp : Span) (k : SymbolKind) → node_at w s a ≡ Some (Node.Symbol sp k) → a + size_of w (Node.Symbol sp k) ≡ c → places w s (suc left) a ≡ kind_places left a k c
-  unfolding places expect_symbol
-  places-at left a c sp k p q = ap (λ (o : Optional Node). elim o as (λ _. Reading (List ℕ)) [ None ↦ refused 2 a | Some n ↦ expect_symbol a (λ sp' k' e. kind_places left a k' e) n (a + size_of w n) ]) p ∙ ap (λ z. kind_places left a k z) q
-
   kind-places : (left : ℕ) → SymPlaces left → (sp : Span) (k : SymbolKind) (a c : ℕ) (x : Sym) (e : ℕ) → sym_at four w s ts a ≡ x → (plain_kind k ≡ false → Firm a)
-      → elim k [
-        | SymbolKind.Leaf l ↦ got (Sym.leaf sp (leaf_of ts l)) c
-        | SymbolKind.Around o ↦ then (read_sym four w s ts left c) (λ y e'. got (Sym.around sp (around_of ts o) y) e')
-        | SymbolKind.Over o ↦ then (times (λ p. read_sym four w s ts left p) (inside_of o) c) (λ ys e'. got (Sym.over sp (over_of ts o) (syms_of ys)) e')
-      ] ≡ got x e
-      → Places (kind_places left a k c) (expanded x) e
+      → kind_read four w s ts left sp k c ≡ got x e
+      → Places (kind_places w s left a k c) (expanded x) e
   unfolding expanded then plain_kind
   kind-places left f sp (SymbolKind.Leaf l) a c x e z g p =
       got_as (λ y k. sym_at four w s ts a ≡ y → Places (got (leaf_places l a) c) (expanded y) k) p (λ q. record { at = leaf_places l a; is = refl; stand = leaf_own sp l a q; firm = leaf_firm l a g }) z
   kind-places left f sp (SymbolKind.Around o) a c x e z g p =
       let i = then-got (read_sym four w s ts left c) _ p in
       let u = f c i.value i.mid i.first in
-      got_as (λ y k. sym_at four w s ts a ≡ y → Places (kind_places left a (SymbolKind.Around o) c) (expanded y) k) i.second
+      got_as (λ y k. sym_at four w s ts a ≡ y → Places (kind_places w s left a (SymbolKind.Around o) c) (expanded y) k) i.second
       (λ q. record { at = u.at ++ around_places o a; is = rw u.is refl; stand = map-append (sym_at four w s ts) u.at (around_places o a) ∙ rw (u.stand, around_own sp o i.value a q) refl; firm = each_append Firm u.at (around_places o a) u.firm (around_firm o a g) }) z
   kind-places left f sp (SymbolKind.Over o) a c x e z g p =
       let i = then-got (times (λ q. read_sym four w s ts left q) (inside_of o) c) _ p in
       let u = all_places left f (inside_of o) c i.value i.mid i.first in
-      got_as (λ y k. sym_at four w s ts a ≡ y → Places (kind_places left a (SymbolKind.Over o) c) (expanded y) k) i.second
+      got_as (λ y k. sym_at four w s ts a ≡ y → Places (kind_places w s left a (SymbolKind.Over o) c) (expanded y) k) i.second
       (λ q. record { at = u.at ++ (a ∷ []); is = rw u.is refl; stand = map-append (sym_at four w s ts) u.at (a ∷ []) ∙ rw (u.stand, q) refl; firm = each_append Firm u.at (a ∷ []) u.firm (g refl, tt) }) z
 
   pub sym_places : (left : ℕ) → left ≤ 64 → SymPlaces left
@@ -140,4 +137,4 @@ module _ (four : Bool) (w : ℕ) (s : List ℕ) (ts : List Text) (b : Bytes s) w
       let q₁ = sym_here (suc left) a x e l p in
       let f : plain_kind k ≡ false → Firm a = λ z. record { end = e; read = rw q₁ (read_more four w s ts (suc left) 64 a x e l p); key = rw i.here z } in
       let v = kind-places left (sym_places left (omega arith)) sp k a c x e q₁ f r in
-      record { at = v.at; is = places-at left a c sp k i.here i.behind ∙ v.is; stand = v.stand; firm = v.firm }))
+      record { at = v.at; is = places-at w s left a c sp k i.here i.behind ∙ v.is; stand = v.stand; firm = v.firm }))

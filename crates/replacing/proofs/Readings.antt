@@ -90,7 +90,7 @@ module _ (four : Bool) (w : ℕ) (s : List ℕ) (ts : List Text) where
       go (Some n) = rw (le-leb 1 (suc left) (omega arith), le-leb 1 (suc more) (omega arith)) refl
 
   -- what the reader of one level does with a command
-  abbrev kind_read : ℕ → Span → SymbolKind → ℕ → Reading Sym
+  abbrev pub kind_read : ℕ → Span → SymbolKind → ℕ → Reading Sym
   kind_read left sp k c = elim k [
     | SymbolKind.Leaf l ↦ got (Sym.leaf sp (leaf_of ts l)) c
     | SymbolKind.Around o ↦ then (read_sym four w s ts left c) (λ y e'. got (Sym.around sp (around_of ts o) y) e')

@@ -37,7 +37,8 @@ use Rattle.replacing.proofs.TreesMean.{print-inner, replace_items_is, items_keys
 use Rattle.replacing.proofs.Keys.{sym_key}
 use Rattle.replacing.proofs.Readings.{Standing, stands_then}
 use Rattle.replacing.proofs.PlacesMean.{Firm}
-use Rattle.replacing.proofs.Going.{extends_refl, run, steps_append, steps_end, Fits, texts_now, Gone}
+use Rattle.replacing.proofs.Going.{run, steps_append, steps_end, Fits, texts_now, Gone}
+use Rattle.replacing.proofs.Growing.{extends_refl}
 use Rattle.replacing.proofs.PoppedMeans.{drain-is}
 use Rattle.replacing.proofs.ItemsGo.{items_go}
 

@@ -12,8 +12,8 @@ use Rattle.parse_tree.specs.Plain.Texts.{has, number, distinct}
 use Rattle.parse_tree.specs.Plain.Display.{print}
 use Rattle.parse_tree.specs.Working.Nodes.{node_bytes}
 use Rattle.parse_tree.specs.Working.Places.{symbols_place}
-use Rattle.parse_tree.specs.Plain.Reading.{Reading, got, then, times}
-use Rattle.parse_tree.specs.Working.Operands.{leaf_of, around_of, over_of, inside_of}
+use Rattle.parse_tree.specs.Plain.Reading.{Reading, got, times}
+use Rattle.parse_tree.specs.Working.Operands.{leaf_of, around_of, inside_of}
 use Rattle.parse_tree.specs.Working.Decode.{read_sym}
 use Rattle.parse_tree.specs.Working.Encode.{leaf_node, around_node, sym_bytes, syms_bytes}
 use Rattle.parse_tree.specs.Plain.References.{leaf_texts, around_texts, sym_texts, syms_texts}
@@ -29,8 +29,10 @@ use Rattle.parse_tree.proofs.FromCommands.{leaf_within, around_within}
 use Rattle.replacing.specs.Trees.{keyed, renamed_leaf, renamed_around, renamed, renamed_all, own_leaf, own_around, expanded, expanded_all}
 use Rattle.replacing.specs.Prints.{sym_at}
 use Rattle.replacing.specs.Runs.{plain_leaf, plain_around, plain_kind, plain, is_macro}
-use Rattle.replacing.proofs.Readings.{Standing, stands_then, read_more}
-use Rattle.replacing.proofs.Going.{Extends, extends_number, There, Goes, standing_inside, goes_none, goes_then, goes_as, copy_goes, key_goes}
+use Rattle.replacing.proofs.Readings.{Standing, kind_read, stands_then, read_more}
+use Rattle.replacing.proofs.Going.{Goes, standing_inside, goes_none, goes_then, goes_as, copy_goes, key_goes}
+use Rattle.replacing.proofs.Growing.{Extends, extends_number}
+use Rattle.parse_tree.proofs.NothingNew.{leaf_there, around_there}
 
 -- ---- commands by the numbers of later texts
 module _ (four : Bool) (w : ℕ) (ts T : List Text) (p : Extends ts T) where
@@ -52,23 +54,6 @@ module _ (four : Bool) (w : ℕ) (ts T : List Text) (p : Extends ts T) where
   around_later (name m x) u = rw (extends_number ts T x p u.0) refl
 
 module _ (four : Bool) (w : ℕ) (ts : List Text) where
-  pub leaf_there : (l : Leaf) → LeafWithin four w ts l → There ts (leaf_texts l)
-  unfolding leaf_texts
-  leaf_there (ambiguous x) u = (u.0, tt)
-  leaf_there (bare x) u = (u.0, tt)
-  leaf_there (quoted x) u = (u.0, tt)
-  leaf_there (regex x) u = (u.0, tt)
-  leaf_there (nonterminal x) u = (u.0, tt)
-  leaf_there lookahead u = tt
-  leaf_there lookbehind u = tt
-  leaf_there error u = tt
-
-  pub around_there : (a : Around) → AroundWithin four w ts a → There ts (around_texts a)
-  unfolding around_texts
-  around_there (repeat o) u = tt
-  around_there choose u = tt
-  around_there (name m x) u = (u.0, tt)
-
   -- ---- by whether a command is copied
   pub plain-leaf : (sp : Span) (l : LeafNode) → plain_leaf l ≡ true → (renamed_leaf sp (leaf_of ts l) ≡ leaf sp (leaf_of ts l)) × (own_leaf sp (leaf_of ts l) ≡ [])
   unfolding plain_leaf leaf_of
@@ -105,6 +90,18 @@ module _ (four : Bool) (w : ℕ) (ts : List Text) where
   keyed-around sp AroundNode.Choose x y z = absurd (false≢true (sym z))
   keyed-around sp (AroundNode.Name m n) x y z = absurd (false≢true (sym z))
 
+module _ (four : Bool) (w : ℕ) (s : List ℕ) (ts : List Text) where
+  -- a symbol that is expanded is renamed to the name of its key
+  pub keyed-kind : (left : ℕ) (sp : Span) (k : SymbolKind) (c : ℕ) (x : Sym) (e : ℕ) → plain_kind k ≡ false → kind_read four w s ts left sp k c ≡ got x e → renamed x ≡ keyed sp x
+  unfolding plain_kind renamed
+  keyed-kind left sp (SymbolKind.Leaf l) c x e z p = got_as (λ y m. renamed y ≡ keyed sp y) p (keyed-leaf four w ts sp l z)
+  keyed-kind left sp (SymbolKind.Around o) c x e z p =
+      let i = then-got (read_sym four w s ts left c) _ p in
+      got_as (λ y m. renamed y ≡ keyed sp y) i.second (keyed-around four w ts sp o i.value (renamed i.value) z)
+  keyed-kind left sp (SymbolKind.Over o) c x e z p =
+      let i = then-got (times (λ q. read_sym four w s ts left q) (inside_of o) c) _ p in
+      got_as (λ y m. renamed y ≡ keyed sp y) i.second refl
+
 module _ (four : Bool) (w : ℕ) (s : List ℕ) (ts : List Text) (b : Bytes s) (d : distinct ts ≡ true)
     (same : ℕ → ℕ → Bool) (text_at : ℕ → Option ℕ) (same_is : (p q : ℕ) → same p q ≡ same_as (print (sym_at four w s ts p)) (print (sym_at four w s ts q)))
     (text_is_lem : (p : ℕ) → text_at p ≡ cond (has (print (sym_at four w s ts p)) ts) (some (number ts (print (sym_at four w s ts p)))) none) where
@@ -113,13 +110,6 @@ module _ (four : Bool) (w : ℕ) (s : List ℕ) (ts : List Text) (b : Bytes s) (
 
   abbrev stand : ℕ → ℕ → Node → Type 0
   stand a c n = Standing four w s ts a c n
-
-  abbrev kind_read : ℕ → Span → SymbolKind → ℕ → Reading Sym
-  kind_read left sp k c = elim k [
-    | SymbolKind.Leaf l ↦ got (Sym.leaf sp (leaf_of ts l)) c
-    | SymbolKind.Around o ↦ then (read_sym four w s ts left c) (λ y e'. got (Sym.around sp (around_of ts o) y) e')
-    | SymbolKind.Over o ↦ then (times (λ q. read_sym four w s ts left q) (inside_of o) c) (λ ys e'. got (Sym.over sp (over_of ts o) (syms_of ys)) e')
-  ]
 
   -- ---- what is read has a byte
   pub times-ahead : {A : Type 0} (f : ℕ → Reading A) → ((a : ℕ) (x : A) (e : ℕ) → f a ≡ got x e → a < e) → (n a : ℕ) (xs : List A) (e : ℕ) → times f n a ≡ got xs e → a ≤ e
@@ -132,7 +122,7 @@ module _ (four : Bool) (w : ℕ) (s : List ℕ) (ts : List Text) (b : Bytes s) (
       let v = times-ahead f g n h.mid i.value i.mid i.first in
       got_as (λ zs m. a ≤ m) i.second (omega arith)
 
-  kind-ahead : (left : ℕ) → ((a : ℕ) (x : Sym) (e : ℕ) → read_sym four w s ts left a ≡ got x e → a < e) → (sp : Span) (k : SymbolKind) (c : ℕ) (x : Sym) (e : ℕ) → kind_read left sp k c ≡ got x e → c ≤ e
+  kind-ahead : (left : ℕ) → ((a : ℕ) (x : Sym) (e : ℕ) → read_sym four w s ts left a ≡ got x e → a < e) → (sp : Span) (k : SymbolKind) (c : ℕ) (x : Sym) (e : ℕ) → kind_read four w s ts left sp k c ≡ got x e → c ≤ e
   kind-ahead left f sp (SymbolKind.Leaf l) c x e p = got_as (λ z m. c ≤ m) p (omega arith)
   kind-ahead left f sp (SymbolKind.Around o) c x e p =
       let i = then-got (read_sym four w s ts left c) _ p in
@@ -158,22 +148,12 @@ module _ (four : Bool) (w : ℕ) (s : List ℕ) (ts : List Text) (b : Bytes s) (
   SymGoes left = (a : ℕ) (x : Sym) (e : ℕ) → read_sym four w s ts left a ≡ got x e → G a e (expanded x) (sym_texts (renamed x)) (λ T. sym_bytes w T (renamed x))
 
   -- it is expanded
-  keyed-kind : (left : ℕ) (sp : Span) (k : SymbolKind) (c : ℕ) (x : Sym) (e : ℕ) → plain_kind k ≡ false → kind_read left sp k c ≡ got x e → renamed x ≡ keyed sp x
-  unfolding plain_kind renamed
-  keyed-kind left sp (SymbolKind.Leaf l) c x e z p = got_as (λ y m. renamed y ≡ keyed sp y) p (keyed-leaf four w ts sp l z)
-  keyed-kind left sp (SymbolKind.Around o) c x e z p =
-      let i = then-got (read_sym four w s ts left c) _ p in
-      got_as (λ y m. renamed y ≡ keyed sp y) i.second (keyed-around four w ts sp o i.value (renamed i.value) z)
-  keyed-kind left sp (SymbolKind.Over o) c x e z p =
-      let i = then-got (times (λ q. read_sym four w s ts left q) (inside_of o) c) _ p in
-      got_as (λ y m. renamed y ≡ keyed sp y) i.second refl
-
   key_case : (left : ℕ) (sp : Span) (k : SymbolKind) (a c : ℕ) (x : Sym) (e : ℕ) → suc left ≤ 64 → read_sym four w s ts (suc left) a ≡ got x e → stand a c (Node.Symbol sp k) → plain_kind k ≡ false
-      → kind_read left sp k c ≡ got x e → G a e (expanded x) (sym_texts (renamed x)) (λ T. sym_bytes w T (renamed x))
+      → kind_read four w s ts left sp k c ≡ got x e → G a e (expanded x) (sym_texts (renamed x)) (λ T. sym_bytes w T (renamed x))
   unfolding sym_texts leaf_texts sym_bytes leaf_node
   key_case left sp k a c x e l r h z p =
       let u = standing_inside four w s ts b d same text_at same_is text_is_lem a c (Node.Symbol sp k) h in
-      subst (λ (y : Sym). G a e (expanded x) (sym_texts y) (λ T. sym_bytes w T y)) (sym (keyed-kind left sp k c x e z p))
+      subst (λ (y : Sym). G a e (expanded x) (sym_texts y) (λ T. sym_bytes w T y)) (sym (keyed-kind four w s ts left sp k c x e z p))
       (key_goes four w s ts b d same text_at same_is text_is_lem a e x sp k h.here z (omega (arith, u)) (sym_ahead (suc left) a x e r) (read_more four w s ts (suc left) 64 a x e l r))
 
   -- it is copied
@@ -203,7 +183,7 @@ module _ (four : Bool) (w : ℕ) (s : List ℕ) (ts : List Text) (b : Bytes s) (
       (copy_goes four w s ts b d same text_at same_is text_is_lem a c (Node.Symbol sp (SymbolKind.Around o)) (around_texts (around_of ts o)) h z refl (around_there four w ts (around_of ts o) i))) g)
 
   kind-goes : (left : ℕ) → SymGoes left → (sp : Span) (k : SymbolKind) (a c : ℕ) (x : Sym) (e : ℕ) → suc left ≤ 64 → read_sym four w s ts (suc left) a ≡ got x e → stand a c (Node.Symbol sp k)
-      → kind_read left sp k c ≡ got x e → (z : Bool) → plain_kind k ≡ z → G a e (expanded x) (sym_texts (renamed x)) (λ T. sym_bytes w T (renamed x))
+      → kind_read four w s ts left sp k c ≡ got x e → (z : Bool) → plain_kind k ≡ z → G a e (expanded x) (sym_texts (renamed x)) (λ T. sym_bytes w T (renamed x))
   unfolding plain_kind
   kind-goes left f sp k a c x e l r h p false z = key_case left sp k a c x e l r h z p
   kind-goes left f sp (SymbolKind.Leaf n) a c x e l r h p true z =

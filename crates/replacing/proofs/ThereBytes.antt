@@ -12,7 +12,8 @@ use Rattle.parse_tree.specs.Working.Nodes.{node_bytes}
 use Rattle.parse_tree.specs.Working.Encode.{leaf_node, around_node, over_node, action_text, alternative_node, attribute_node, condition_node, nonterminal_node, sym_bytes, syms_bytes, argument_bytes, attribute_bytes, condition_bytes, alternative_bytes, item_bytes}
 use Rattle.parse_tree.specs.Working.Within.{Each}
 use Rattle.parse_tree.proofs.AmongLaws.{has_here, has-behind}
-use Rattle.replacing.proofs.Going.{Extends, extends_has, extends_number, new_append, new_extends, There}
+use Rattle.replacing.proofs.Growing.{Extends, extends_has, extends_number, new_append, new_extends}
+use Rattle.parse_tree.proofs.NothingNew.{There}
 
 -- ---- lists
 each-parts : {A : Type 0} (P : A → Type 0) (xs ys : List A) → Each P (xs ++ ys) → Each P xs × Each P ys
@@ -29,7 +30,7 @@ bytes_both f [] ys = refl
 bytes_both f (x ∷ xs) ys = ap (λ (l : List ℕ). f x ++ l) (bytes_both f xs ys) ∙ sym (append_assoc (f x) (bytes_of_each f xs) (bytes_of_each f ys))
 
 -- functions that agree where the texts are known
-bytes_known : {A : Type 0} (us : List Text) (t : A → List Text) (f g : A → List ℕ) → ((x : A) → There us (t x) → f x ≡ g x) → (xs : List A) → There us (texts_of_each t xs) → bytes_of_each f xs ≡ bytes_of_each g xs
+pub bytes_known : {A : Type 0} (us : List Text) (t : A → List Text) (f g : A → List ℕ) → ((x : A) → There us (t x) → f x ≡ g x) → (xs : List A) → There us (texts_of_each t xs) → bytes_of_each f xs ≡ bytes_of_each g xs
 unfolding bytes_of_each texts_of_each
 bytes_known us t f g h [] e = refl
 bytes_known us t f g h (x ∷ xs) e =
@@ -115,7 +116,7 @@ module _ (wd : ℕ) (us vs : List Text) (p : Extends us vs) where
   unfolding condition_bytes condition_node condition_texts
   condition_known c h = rw (extends_number us vs c.lhs p h.0, extends_number us vs c.rhs p h.1.0) refl
 
-  alternative_known : (a : Alternative) → There us (alternative_texts a) → alternative_bytes wd vs a ≡ alternative_bytes wd us a
+  pub alternative_known : (a : Alternative) → There us (alternative_texts a) → alternative_bytes wd vs a ≡ alternative_bytes wd us a
   unfolding alternative_bytes alternative_node alternative_texts
   alternative_known a h =
       let as' = texts_of_each attribute_texts a.attributes in

@@ -1,20 +1,21 @@
 -- Macro calls stay as resolving left them: in what is pushed, and in the items of what is popped. Assumes nothing.
 use mathlib.Core.Path.{◌≡◌, refl, sym, ap, ◌∙◌}
-use mathlib.Core.Bool.{Bool, true, false, cond, ◌&&◌}
+use mathlib.Core.Bool.{Bool, true, false, cond}
 use mathlib.Core.List.{List, [], ◌∷◌}
-use mathlib.Core.Option.{Option, none, some}
+use mathlib.Core.Option.{some}
 use Prim.Native.Nat.{suc}
 use Rattle.octets.specs.Plain.Runs.{same_as}
-use Rattle.parse_tree.specs.Plain.Tree.{Text, Op, star, plus, question, Leaf, Over, Sym, Syms, ambiguous, bare, quoted, regex, nonterminal, lookahead, lookbehind, error, repeat, choose, name, macro, group, leaf, around, over, nil, cons, count, Alternative, Nonterminal, Item, item}
+use Rattle.parse_tree.specs.Plain.Tree.{Text, Op, star, plus, question, Leaf, Over, Sym, Syms, ambiguous, bare, quoted, regex, nonterminal, lookahead, lookbehind, error, repeat, choose, name, macro, group, leaf, around, over, nil, cons, count, Nonterminal, Item, item}
 use Rattle.parse_tree.specs.Plain.Texts.{has}
 use Rattle.parse_tree.specs.Plain.Display.{print}
 use Rattle.parse_tree.specs.Working.Within.{Each}
 use Rattle.parse_tree.specs.declared.syntax.Span.{Span}
-use Rattle.passes.specs.Outcome.{Tree, yes, no, after, simple}
+use Rattle.passes.specs.Outcome.{Tree, yes, no, simple}
 use Rattle.passes.specs.Views.{Look, ahead, behind}
-use Rattle.passes.specs.Macros.{Pending, looking, repeating, listing, Expander, at, argument_of, or_name, macro_expand_symbol, macro_expand_symbols, evaluate_condition, expand_alternative, expand_alternatives, macro_in, expand_macro_symbol, made, has_name, group_action, expand_expr_symbol, expand_repeat_symbol, expand_lookaround_symbol, expand_symbol, drain}
+use Rattle.passes.specs.Macros.{Pending, looking, repeating, listing, Expander, at, argument_of, or_name, macro_expand_symbol, macro_expand_symbols, macro_in, made, has_name, group_action, expand_expr_symbol, expand_repeat_symbol, expand_lookaround_symbol, expand_symbol, drain}
 use Rattle.passes.proofs.Outcomes.{after-yes, no≢yes}
 use Rattle.passes.proofs.ResolveKeeps.{yes_as}
+use Rattle.passes.proofs.MacrosKeep.{macro_found, call_keeps}
 use Rattle.replacing.specs.Trees.{renamed, renamed_all, inner, enter, enter_all}
 use Rattle.macro_expand.specs.Drain.{OverCalls}
 use Rattle.rounds.specs.Calls.{SymCalls, SymsCall, AlternativeCalls, ItemCalls, PendingCalls}
@@ -112,38 +113,6 @@ module _ (G : Tree) where
       put_all_calls (cons x xs) h = (put_calls x h.0, put_all_calls xs h.1)
 
   -- ---- the items of popped symbols
-  alternatives_call : (s : Span) (ps : List Text) (xs : Syms) → SymsCall G xs → (as' bs : List Alternative) → Each (AlternativeCalls G) as' → expand_alternatives s ps xs as' ≡ yes bs → Each (AlternativeCalls G) bs
-  unfolding expand_alternatives
-  alternatives_call s ps xs k [] bs h e = yes_as (Each (AlternativeCalls G)) e tt
-  alternatives_call s ps xs k (a ∷ rest) bs h e =
-      let (b, _, f) = after-yes (evaluate_condition ps xs a.condition) (λ b. after (expand_alternatives s ps xs rest) (λ cs. yes (cond b (expand_alternative s ps xs a ∷ cs) cs))) bs e in
-      let (cs, g, i) = after-yes (expand_alternatives s ps xs rest) (λ cs. yes (cond b (expand_alternative s ps xs a ∷ cs) cs)) bs f in
-      let r = alternatives_call s ps xs k rest cs h.1 g in
-      yes_as (Each (AlternativeCalls G)) i (go b cs r)
-    where
-      go : (b : Bool) (cs : List Alternative) → Each (AlternativeCalls G) cs → Each (AlternativeCalls G) (cond b (expand_alternative s ps xs a ∷ cs) cs)
-      go true cs r = (put_all_calls ps xs k a.symbols h.0, r)
-      go false cs r = r
-
-  abbrev Found : Option Nonterminal → Type 0
-  Found none = Unit {0}
-  Found (some d) = Each (AlternativeCalls G) d.alternatives
-
-  macro_found : (H : Tree) (n : Text) → Each (ItemCalls G) H → Found (macro_in H n)
-  macro_found [] n h = tt
-  macro_found (item d ∷ rest) n h = go (same_as d.name n && (elim d.args [ [] ↦ false | p ∷ ps ↦ true ])) (macro_found rest n h.1)
-    where
-      go : (b : Bool) → Found (macro_in rest n) → Found (cond b (some d) (macro_in rest n))
-      go true i = h.0
-      go false i = i
-  macro_found (Item.terminal s o t ∷ rest) n h = macro_found rest n h.1
-
-  call_calls : (s : Span) (key : Text) (xs : Syms) (o : Option Nonterminal) (d : Nonterminal) → SymsCall G xs → Found o → expand_macro_symbol s key xs o ≡ yes d → Each (AlternativeCalls G) d.alternatives
-  call_calls s key xs none d k h e = absurd (no≢yes 11 s d e)
-  call_calls s key xs (some m) d k h e =
-      let (bs, f, g) = after-yes (expand_alternatives s m.args xs m.alternatives) _ d e in
-      yes_as (λ c. Each (AlternativeCalls G) c.alternatives) g (alternatives_call s m.args xs k m.alternatives bs h f)
-
   repeat_calls : (s : Span) (key : Text) (o : Op) (x : Sym) → SymCalls G x → Each (AlternativeCalls G) (expand_repeat_symbol s key o x).alternatives
   repeat_calls s key star x h = (tt, ((h, tt), tt))
   repeat_calls s key plus x h = ((h, tt), ((tt, (h, tt)), tt))
@@ -164,7 +133,7 @@ module _ (G : Tree) where
   unfolding expand_symbol
   expand_calls (looking s k) d g h e = yes_as (λ c. Each (AlternativeCalls G) c.alternatives) e (look_calls s _ k)
   expand_calls (repeating s o x) d g h e = yes_as (λ c. Each (AlternativeCalls G) c.alternatives) e (repeat_calls s _ o x h)
-  expand_calls (listing s (macro n) xs) d g h e = call_calls s _ xs (macro_in G n) d h (macro_found G n g) e
+  expand_calls (listing s (macro n) xs) d g h e = call_keeps (AlternativeCalls G) s xs (λ ps a k. put_all_calls ps xs h a.symbols k) (ItemCalls G) (λ m k. k) _ (λ m bs k. k) (macro_in G n) d (macro_found (ItemCalls G) G n g) e
   expand_calls (listing s group xs) d g h e = group_calls s _ xs d h e
 
   -- theorem: the items of the pile

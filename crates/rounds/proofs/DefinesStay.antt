@@ -22,7 +22,7 @@ use Rattle.resolve.specs.Items.{item_place_in}
 use Rattle.resolve.proofs.GrammarLaws.{Row, row_same}
 use Rattle.replacing.proofs.SlotsMean.{each_map}
 use Rattle.replacing.proofs.NumbersMean.{number_behind}
-use Rattle.replacing.proofs.Going.{Extends, extends_has, extends_number}
+use Rattle.replacing.proofs.Growing.{Extends, extends_has, extends_number}
 use Rattle.replacing.proofs.ThereBytes.{there_bytes}
 use Rattle.expander.specs.declared.Ground.{Ground}
 use Rattle.expander.specs.Ground.{top_of, list_place}

@@ -1,6 +1,6 @@
 -- The texts of the items of the pile: their own, those inside the symbols, and those of the definitions. Assumes nothing.
 use mathlib.Core.Path.{◌≡◌}
-use mathlib.Core.Bool.{Bool, true, false, cond, ◌&&◌}
+use mathlib.Core.Bool.{Bool, true, false, cond}
 use mathlib.Core.List.{List, [], ◌∷◌, ◌++◌}
 use mathlib.Core.Option.{Option, none, some}
 use Rattle.octets.specs.Plain.Runs.{same_as}
@@ -14,6 +14,7 @@ use Rattle.passes.specs.Macros.{Pending, looking, repeating, listing, at, argume
 use Rattle.passes.specs.Views.{Look, ahead, behind}
 use Rattle.passes.proofs.Outcomes.{no≢yes, after-yes}
 use Rattle.passes.proofs.ResolveKeeps.{yes_as}
+use Rattle.passes.proofs.MacrosKeep.{Found, macro_found}
 use Rattle.appending.proofs.SymbolsTrees.{each-parts}
 use Rattle.rounds.specs.Paid.{pending_key, inside_texts, own_texts}
 
@@ -88,20 +89,10 @@ module _ (P : Text → Type 0) where
         go l false cs r = r
 
   -- ---- the macro of a call
-  abbrev Found : Option Nonterminal → Type 0
-  Found none = Unit {0}
-  Found (some d) = Each P (item_texts (item d))
+  abbrev TextsHold : Item → Type 0
+  TextsHold i = Each P (item_texts i)
 
-  macro_found : (G : Tree) (n : Text) → Each (λ i. Each P (item_texts i)) G → Found (macro_in G n)
-  macro_found [] n h = tt
-  macro_found (item d ∷ rest) n h = go (same_as d.name n && (elim d.args [ [] ↦ false | p ∷ ps ↦ true ])) (macro_found rest n h.1)
-    where
-      go : (b : Bool) → Found (macro_in rest n) → Found (cond b (some d) (macro_in rest n))
-      go true i = h.0
-      go false i = i
-  macro_found (Item.terminal s o t ∷ rest) n h = macro_found rest n h.1
-
-  call_texts : (s : Span) (key : Text) (xs : Syms) (o : Option Nonterminal) (d : Nonterminal) → P key → Each P (syms_texts xs) → Found o → expand_macro_symbol s key xs o ≡ yes d → Each P (item_texts (item d))
+  call_texts : (s : Span) (key : Text) (xs : Syms) (o : Option Nonterminal) (d : Nonterminal) → P key → Each P (syms_texts xs) → Found TextsHold o → expand_macro_symbol s key xs o ≡ yes d → Each P (item_texts (item d))
   unfolding item_texts
   call_texts s key xs none d p k h e = absurd (no≢yes 11 s d e)
   call_texts s key xs (some m) d p k h e =
@@ -141,7 +132,7 @@ module _ (P : Text → Type 0) where
   unfolding expand_symbol inside_texts own_texts
   expand_texts G (looking s k) d g h o e = yes_as (λ c. Each P (item_texts (item c))) e (look_texts s _ k o.0)
   expand_texts G (repeating s r x) d g h o e = yes_as (λ c. Each P (item_texts (item c))) e (repeat_texts s r x h o)
-  expand_texts G (listing s (macro n) xs) d g h o e = call_texts s _ xs (macro_in G n) d o.0 h (macro_found G n g) e
+  expand_texts G (listing s (macro n) xs) d g h o e = call_texts s _ xs (macro_in G n) d o.0 h (macro_found TextsHold G n g) e
   expand_texts G (listing s group xs) d g h o e = group_texts s _ xs d o.0 o.1 h e
 
   -- theorem: and of all

@@ -13,7 +13,7 @@ use Rattle.parse_tree.specs.Working.Within.{Each}
 use Rattle.passes.specs.Outcome.{Tree, yes}
 use Rattle.passes.specs.Macros.{replace_items, drain, without_macros}
 use Rattle.laws.specs.Counts.{heads, over_items}
-use Rattle.laws.proofs.Counts.{replaced_items}
+use Rattle.laws.proofs.ReplacedSizes.{replaced_items}
 use Rattle.replacing.proofs.ThereBytes.{bytes_both}
 use Rattle.rounds.specs.Paid.{TreeKnown, KeysKnown, Paid}
 use Rattle.rounds.proofs.PaidRounds.{after-round, round_pays}

@@ -21,7 +21,7 @@ use Rattle.passes.specs.Macros.{Pending, looking, repeating, listing, Expander, 
 use Rattle.passes.specs.Views.{ahead, behind}
 use Rattle.passes.proofs.Outcomes.{no≢yes, after-yes}
 use Rattle.laws.specs.Counts.{heads, over_items}
-use Rattle.replacing.proofs.Going.{Extends, extends_has, extends_trans, new_append, new_extends}
+use Rattle.replacing.proofs.Growing.{Extends, extends_has, extends_trans, new_append, new_extends}
 use Rattle.replacing.proofs.ThereBytes.{new_all}
 use Rattle.appending.proofs.SymbolsTrees.{each-parts}
 use Rattle.rounds.specs.Paid.{cost24, cost20, pending_key, own_texts, Known, TreeKnown, KeysKnown}
@@ -41,7 +41,8 @@ unfolding texts_of_each
 apart P [] h = tt
 apart P (i ∷ is) h = let (a, b) = each-parts P (item_texts i) (texts_of_each item_texts is) h in (a, apart P is b)
 
-each_at : (P : Text → Type 0) (us : List Text) (t : Text) → Each P us → has t us ≡ true → P t
+-- theorem: what holds of each holds of one of them
+pub each_at : (P : Text → Type 0) (us : List Text) (t : Text) → Each P us → has t us ≡ true → P t
 unfolding has
 each_at P [] t h k = absurd (false≢true k)
 each_at P (u ∷ us) t h k = go (has-cases t u us k) (each_at P us t h.1)

@@ -23,7 +23,7 @@ use Rattle.passes.specs.Macros.{drain, without_macros}
 use Rattle.passes.specs.Calls.{sizes}
 use Rattle.passes.proofs.Outcomes.{no≢yes}
 use Rattle.resolve.specs.declared.Grammar.{Grammar}
-use Rattle.replacing.proofs.Going.{Extends, new_extends}
+use Rattle.replacing.proofs.Growing.{Extends, new_extends}
 use Rattle.replacing.proofs.ThereBytes.{there_bytes_each, new_all}
 use Rattle.expander.specs.declared.Ground.{Ground}
 use Rattle.expander.specs.declared.stage.Replaced.{Replaced}

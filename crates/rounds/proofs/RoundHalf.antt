@@ -21,7 +21,7 @@ use Rattle.passes.specs.Macros.{Expander}
 use Rattle.resolve.specs.declared.Grammar.{Grammar}
 use Rattle.resolve.proofs.CellsLaws.{lies_agree}
 use Rattle.replacing.specs.Sound.{Key}
-use Rattle.replacing.proofs.Going.{Extends, new_extends}
+use Rattle.replacing.proofs.Growing.{Extends, new_extends}
 use Rattle.replacing.proofs.ThereBytes.{bytes_both, there_bytes_each}
 use Rattle.expander.specs.declared.Ground.{Ground}
 use Rattle.expander.specs.declared.stage.Replaced.{Replaced}

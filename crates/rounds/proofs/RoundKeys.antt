@@ -18,7 +18,8 @@ use Rattle.appending.specs.Pieces.{Piece, Appending, Appends}
 use Rattle.appending.proofs.SymbolsStays.{texts-stay, item_stays}
 use Rattle.rounds.specs.Start.{Replacing, Cleared, at_start, replaced_by}
 use Rattle.rounds.proofs.StartMeans as starts
-use Rattle.rounds.proofs.StartNames.{down-same, cleared_around, pile_same}
+use Rattle.expander.proofs.HeldLists.{down-same}
+use Rattle.rounds.proofs.StartNames.{cleared_around, pile_same}
 
 stage_stays : (s : List ℕ) (g : Ground) (n lim : ℕ) (ps : List ℕ) (w : List ℕ) (v : Appended) → Appending s g n lim ps w v → (x : Piece) (v' : Appended) (w' : List ℕ) → Appends s g n lim ps w v x v' w' → stage_in w' g ≡ stage_in w g
 unfolding stage_in

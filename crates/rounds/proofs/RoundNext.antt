@@ -23,7 +23,7 @@ use Rattle.passes.specs.Macros as macros
 use Rattle.passes.specs.Macros.{Pending, expand_symbol, drain, without_macros}
 use Rattle.passes.specs.Sizes.{stage_fits}
 use Rattle.passes.proofs.Outcomes.{after-yes}
-use Rattle.meaning.proofs.Calls.Spans.{yes_as}
+use Rattle.passes.proofs.ResolveKeeps.{yes_as}
 use Rattle.laws.specs.Counts.{heads}
 use Rattle.laws.specs.Keys.{built_ins}
 use Rattle.laws.proofs.Counts.{expanded_fit}

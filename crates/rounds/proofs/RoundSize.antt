@@ -9,7 +9,8 @@ use Rattle.parse_tree.specs.Working.Encode.{item_bytes}
 use Rattle.passes.specs.Macros.{Expander, replace_items, without_macros}
 use Rattle.laws.specs.Flat.{nodes_all}
 use Rattle.laws.specs.Counts.{looks_all}
-use Rattle.laws.proofs.Counts.{looks_all_few, items_few, over_items_less, items_size_lem}
+use Rattle.laws.proofs.Counts.{looks_all_few, items_few, over_items_less}
+use Rattle.laws.proofs.ReplacedSizes.{items_size_lem}
 
 -- without definitions of macros there are fewer bytes
 without_fewer : (ts : List Text) (is : List Item) → length (bytes_of_each (item_bytes 2 ts) (without_macros is)) ≤ length (bytes_of_each (item_bytes 2 ts) is)

@@ -29,7 +29,7 @@ use Rattle.passes.specs.Calls.{sizes}
 use Rattle.passes.proofs.Outcomes.{no≢yes, after-yes}
 use Rattle.passes.proofs.ResolveKeeps.{yes_as}
 use Rattle.meaning.proofs.Calls.Staged.{admitted as passed}
-use Rattle.replacing.proofs.Going.{extends_refl, new_append, new_there}
+use Rattle.replacing.proofs.Growing.{extends_refl, new_append, new_there}
 use Rattle.replacing.proofs.ThereBytes.{new_all}
 use Rattle.settling.specs.Settle.{some_long}
 use Rattle.rounds.specs.Judge.{Verdict, verdict, admitted}

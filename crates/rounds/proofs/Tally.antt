@@ -13,7 +13,7 @@ use Rattle.passes.specs.Outcome.{Tree, yes}
 use Rattle.passes.specs.Macros.{Pending, expand_symbol, replace_alternatives, replace_items, drain, without_macros}
 use Rattle.passes.specs.Macros as macros
 use Rattle.passes.proofs.Outcomes.{after-yes}
-use Rattle.meaning.proofs.Calls.Spans.{yes_as}
+use Rattle.passes.proofs.ResolveKeeps.{yes_as}
 use Rattle.resolve.specs.declared.Grammar.{Grammar}
 use Rattle.expander.specs.Ground.{top_of}
 use Rattle.rounds.specs.declared.Expander.{Expander}

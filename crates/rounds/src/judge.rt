@@ -34,15 +34,15 @@ pub fn judge_length(bytes: usize, cap: usize) -> Result<(), Refusal>
 pub fn sizes(
     tape: &[u8],
     work: &[u8],
-    g: Ground,
+    g: &Ground,
     n: usize,
     c: usize,
     deep: bool,
     bytes: usize,
     cap: usize,
 ) -> Result<(), Refusal>
-    requires { SomeStageSize tape.now work.now g n c bytes }
-    ensures { result ≡ verdict (g.m.count + c) (some_long (listed_texts tape.now work.now g c)) deep (bytes + length (new_bytes tape.now work.now g c)) cap }
+    requires { SomeStageSize tape.now work.now g.now n c bytes }
+    ensures { result ≡ verdict (g.now.m.count + c) (some_long (listed_texts tape.now work.now g.now c)) deep (bytes + length (new_bytes tape.now work.now g.now c)) cap }
 {
     let k = g.m.count + c;
     // Texts that are too many aren't read.

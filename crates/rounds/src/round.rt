@@ -49,9 +49,10 @@ fn replace(tape: &[u8], work: &mut [u8], at: Standing) -> Half
 {
     let z = at.z;
     let g = ground(tape, work, z.m, at.t.width, z.from, z.end, at.room.x);
-    let r = replace_items(tape, work, g, z.done);
-    let e = push(z.expander, r.pile);
-    Half { g, r, expander: e }
+    let r = replace_items(tape, work, &g, z.done);
+    let mut expander = z.expander;
+    push(&mut expander, r.pile);
+    Half { g, r, expander }
 }
 
 // The items of the pile, behind the replaced ones, as far as the output's length allows.
@@ -66,7 +67,7 @@ fn expand_pile(tape: &[u8], work: &mut [u8], at: Standing, h: Half) -> Result<Ap
         n: h.r.pile,
         lim,
     };
-    drain(tape, work, pile, at.t, h.at_start())
+    drain(tape, work, &pile, at.t, h.at_start())
 }
 
 // The new texts settled, those of pushed symbols marked.
@@ -74,8 +75,8 @@ fn settle_texts(tape: &[u8], work: &mut [u8], at: Standing, h: Half, v: Appended
     requires { SomeDrained tape.now work.old at.room at.t at.z h v }
     ensures { SettlesTexts tape.now work.old at.z h v result work.new }
 {
-    mark_pushed(tape, work, h.g, h.r.pile);
-    settle(tape, work, h.g, h.r.pile, v.count, at.z.low)
+    mark_pushed(tape, work, &h.g, h.r.pile);
+    settle(tape, work, &h.g, h.r.pile, v.count, at.z.low)
 }
 
 // And the appended items moved to where the next round finds them.
@@ -87,8 +88,10 @@ fn settle_round(tape: &[u8], work: &mut [u8], at: Standing, h: Half, v: Appended
     let end = x + (v.to - h.r.to);
     let q = settle_texts(tape, work, at, h, v);
     copy_down(work, h.r.to, v.to, x);
+    let mut expander = h.expander;
+    drained(&mut expander);
     State {
-        expander: drained(h.expander),
+        expander,
         m: q.m,
         from: x,
         end,
@@ -104,7 +107,7 @@ fn stage_size(tape: &[u8], work: &[u8], at: Standing, h: Half, v: Appended) -> R
 {
     let room = at.room;
     let bytes = room.first + (room.end - at.z.low) + (v.to - room.y);
-    sizes(tape, work, h.g, h.r.pile, v.count, v.deep, bytes, room.cap)
+    sizes(tape, work, &h.g, h.r.pile, v.count, v.deep, bytes, room.cap)
 }
 
 // With 20 and 21 asked: what the next round begins with.
@@ -174,9 +177,9 @@ pub fn round(
 }
 
 // "18, span of the last pushed", of n.
-fn last_pushed(work: &[u8], g: Ground, n: usize) -> Refusal
-    requires { SomeLast work.now g n }
-    ensures { result ≡ refusal_over 18 (span_in work.now (g.from + key_at work.now g (n - 1) + 1)) }
+fn last_pushed(work: &[u8], g: &Ground, n: usize) -> Refusal
+    requires { SomeLast work.now g.now n }
+    ensures { result ≡ refusal_over 18 (span_in work.now (g.now.from + key_at work.now g.now (n - 1) + 1)) }
 {
     let p = mark(work, g.keys, n - 1);
     Question::Rounds.of_command(work, g.from + p)
@@ -189,7 +192,7 @@ pub fn last_round(tape: &[u8], work: &mut [u8], at: Standing) -> Result<State, R
 {
     let h = replace(tape, work, at);
     if h.expander.height != 0 {
-        return Err(last_pushed(work, h.g, h.expander.height));
+        return Err(last_pushed(work, &h.g, h.expander.height));
     }
     stage_size(tape, work, at, h, h.at_start())?;
     Ok(finished(at, h))

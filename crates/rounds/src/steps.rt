@@ -16,20 +16,18 @@ pub fn start(items: usize) -> Expander
 }
 
 // The replacing stage left n symbols pending.
-pub fn push(e: Expander, n: usize) -> Expander
-    ensures { result ≡ numbers_pending e n }
+pub fn push(e: &mut Expander, n: usize)
+    ensures { e.new ≡ numbers_pending e.old n }
 {
-    Expander { height: n, ..e }
+    e.height = n;
 }
 
 // The appending stage made an item of each of them.
-pub fn drained(e: Expander) -> Expander
-    requires { (e.round ≤ e.items) × (e.items + e.height < 18446744073709551615) }
-    ensures { result ≡ numbers_appended e }
+pub fn drained(e: &mut Expander)
+    requires { (e.old.round ≤ e.old.items) × (e.old.items + e.old.height < 18446744073709551615) }
+    ensures { e.new ≡ numbers_appended e.old }
 {
-    Expander {
-        height: 0,
-        round: e.round + 1,
-        items: e.items + e.height,
-    }
+    e.items += e.height;
+    e.height = 0;
+    e.round += 1;
 }

@@ -7,6 +7,8 @@ use Prim.Native.Nat.{ℕ, ◌+◌, ◌*◌, ◌/◌, ◌%◌, ◌<◌, ◌≤◌
 use native.Mathlib.Omega.{arith}
 use borrow.Author.Rules.{rules}
 use lib.ListN.{length, get_or}
+use mir.Syntax.{w64}
+use mir.Val.{Fits}
 use Rattle.std.specs.Prelude.{Some, None}
 use Rattle.parse_tree.specs.Working.Within.{Each}
 use Rattle.texts.specs.Fields.{mark_at}
@@ -77,6 +79,9 @@ module _ (s w : List ℕ) (x : Print) (left p : ℕ) (G : Grounded s w x.g) (h :
   pub symbol_within : x.g.from + p < length w
   symbol_within = (standing s w x.g.m x.g.width.bytes h.four left (x.g.from + p) (x.g.from + h.end) h.symbol h.stands).within
 
+  pub place_fits : Fits w64 (x.g.from + p)
+  place_fits = record { fits = omega (arith, symbol_within, G.short) }
+
   -- its own place is one of those that are known
   pub own-said : (c : ℕ) (b : Bool) → c ≡ get_or w (x.g.from + p) 0 → b ≡ expanded_code c → b ≡ true → Said s w x p
   unfolding own_keys pick
@@ -89,7 +94,7 @@ module _ (s w : List ℕ) (x : Print) (left p : ℕ) (G : Grounded s w x.g) (h :
   pub known_not : KnownText s w x p None
   known_not = record { stands = λ k e. cc; is = λ k e. cc }
 
-pub ruleset knowing = (rules, symbol_within, own-said, known_not)
+pub ruleset knowing = (rules, symbol_within, place_fits, own-said, known_not)
 
 -- ---- put_known
 module _ (s w : List ℕ) (x : Print) (k to : ℕ) (C : Copying s w x to) (t : TextStands s w x k) where

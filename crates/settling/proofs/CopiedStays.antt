@@ -1,12 +1,10 @@
 -- What is known of the symbols of the stage stays while bytes are put behind it and before the texts. Assumes nothing.
-use mathlib.Core.Path.{◌≡◌, refl, sym, ap, ◌∙◌, subst}
-use mathlib.Core.Bool.{Bool, true, false}
+use mathlib.Core.Path.{◌≡◌, sym, ap, ◌∙◌, subst}
+use mathlib.Core.Bool.{Bool}
 use mathlib.Core.Logic.{◌⊎◌, inl, inr}
 use mathlib.Core.List.{List, [], ◌∷◌}
 use Prim.Native.Nat.{ℕ, ◌+◌, ◌*◌, ◌/◌, ◌%◌, ◌<◌, ◌≤◌}
 use native.Mathlib.Omega.{arith}
-use borrow.Author.Tests.{eqb-true, eqb-false}
-use lib.Dec.{eqb}
 use lib.ListN.{length, get_or}
 use Rattle.parse_tree.specs.Plain.Tree.{Text, Sym, Syms}
 use Rattle.parse_tree.specs.Working.Within.{Each}
@@ -21,7 +19,7 @@ use Rattle.expander.specs.Ground.{size_in, top_of, slot_place, slot_at, key_at, 
 use Rattle.expander.specs.Held.{followed}
 use Rattle.expander.specs.Replace.{keys_of, keys_of_all, StandsAt, StandAt}
 use Rattle.expander.proofs.GroundLaws.{keys_slots, slots_top}
-use Rattle.appending.proofs.BuiltGround.{odd_one, followed-even, followed-odd}
+use Rattle.expander.proofs.SlotsCode.{followed-kept}
 use Rattle.settling.specs.declared.copied.Print.{Print}
 use Rattle.settling.specs.Copied.{TextStands, Numbered, Said, Copying, SaidSymbol, SaidSymbols}
 use Rattle.settling.proofs.PrintLaws.{next_on, printable_next, symbol_next, symbols_next}
@@ -86,14 +84,7 @@ module _ (s w : List ℕ) (x : Print) (to : ℕ) (C : Copying s w x to) (bs : Li
     v = slot_at w g q
 
     follow_same : followed w1 g (slot_at w1 g q) ≡ followed w g (slot_at w g q)
-    follow_same = ap (followed w1 g) (slot_same q h.room) ∙ go (eqb (v % 2) 0) refl
-      where
-        go : (b : Bool) → eqb (v % 2) 0 ≡ b → followed w1 g v ≡ followed w g v
-        go true e = let z = eqb-true (v % 2) 0 e in followed-even w1 g v z ∙ sym (followed-even w g v z)
-        go false e =
-            let z = eqb-false (v % 2) 0 e in
-            let o = odd_one v z in
-            followed-odd w1 g v z ∙ ap (slot_at w1 g) (pushed-same (v / 2) (h.pushed o)) ∙ slot_same (key_at w g (v / 2)) (h.place o) ∙ sym (followed-odd w g v z)
+    follow_same = ap (followed w1 g) (slot_same q h.room) ∙ followed-kept w w1 g v (λ o. ap (slot_at w1 g) (pushed-same (v / 2) (h.pushed o)) ∙ slot_same (key_at w g (v / 2)) (h.place o))
 
   -- ---- texts
   module _ (k : ℕ) (t : TextStands s w x k) where

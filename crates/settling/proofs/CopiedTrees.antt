@@ -25,11 +25,11 @@ use Rattle.expander.specs.Replace.{keys_of_all, StandsAt, StandAt}
 use Rattle.expander.proofs.KeysLaws.{own_keys, keys_parts, stands_print}
 use Rattle.appending.proofs.SymbolsTrees.{each-parts}
 use Rattle.settling.specs.declared.copied.Print.{Print}
-use Rattle.settling.specs.Print.{Closing, SomeBelow, PrintsSymbol}
+use Rattle.settling.specs.declared.Printed.{Printed}
+use Rattle.settling.specs.Print.{Closing, OneBelow, PrintsSymbol}
 use Rattle.settling.specs.Copied.{Said, Copying, SaidSymbol, SaidSymbols}
 use Rattle.settling.proofs.PutLaws.{then, puts_as}
 use Rattle.settling.proofs.PrintTexts.{print-whole}
-use Rattle.settling.proofs.PrintMean.{symbol_below}
 use Rattle.settling.proofs.CopiedStays.{copied_on, copying_next, stands_next, stand_next, symbols_said}
 
 -- ---- a symbol that stands at p of the stage
@@ -109,11 +109,11 @@ module _ (s w : List ℕ) (x : Print) (left p : ℕ) where
           long_some : 0 < long_of g.width.bytes (get_or w at 0)
           long_some = omega (arith, here.reads.long, node_size g.width.bytes (texts s w g.m) y)
 
-      pub said_below : SomeBelow s w g.m g.width.bytes 1 left at to
-      said_below = symbol_below s w g.m g.width.bytes h.four left at (g.from + h.end) to y h.stands said_end
+      pub said_below : OneBelow s w g.m g.width.bytes left at to
+      said_below = record { four = h.four; end = g.from + h.end; symbol = y; stands = h.stands; below = said_end }
 
-      pub said_walked : (r : ℕ) (w1 : List ℕ) → PrintsSymbol s w g.m g.width.bytes left at x.lim to r w1 → Puts w x.lim to (printed_at s w g p) r w1
-      said_walked r w1 a = puts_as (sym said_print) (a.each h.four (g.from + h.end) y h.stands said_end)
+      pub said_walked : (r : Printed) (w1 : List ℕ) → PrintsSymbol s w g.m g.width.bytes left at x.lim to r w1 → Puts w x.lim to (printed_at s w g p) r.to w1
+      said_walked r w1 a = puts_as ((a.each h.four (g.from + h.end) y h.stands said_end).1 ∙ sym said_print) a.puts
 
       -- ---- what stands before is put
       module _ (c : ℕ) (d : c ≡ get_or w at 0) (q : ℕ) (w1 : List ℕ) (A : Puts w x.lim to (before_by g.width.bytes (texts s w g.m) w at c) q w1) where

@@ -7,6 +7,7 @@ pub mod PrintLaws
 mod PrintCode
 mod PrintTexts
 mod PrintListCode
+mod PrintSymbolCode
 pub mod PrintMean
 mod CopiedStays
 mod CopiedCode
@@ -26,6 +27,7 @@ mod SettleLaws
 mod SettleSaid
 mod SettleNext
 mod SettleGrow
+mod WidenCode
 mod SettleCode
 mod PushedCode
 pub mod PushedMean

@@ -1,15 +1,13 @@
 -- The ways out of put_between, put_before, put_behind and open. Assumes nothing.
-use mathlib.Core.Path.{◌≡◌, refl, ap}
-use mathlib.Core.Bool.{Bool, true, false}
+use mathlib.Core.Path.{◌≡◌, ap}
 use mathlib.Core.Logic.{◌⊎◌, inl, inr}
 use mathlib.Core.List.{List, [], ◌∷◌, ◌++◌}
 use Prim.Native.Nat.{ℕ, ◌+◌, ◌*◌, ◌^◌, ◌<◌, ◌≤◌}
 use native.Mathlib.Omega.{arith}
 use borrow.Author.Rules.{rules}
-use borrow.Author.Tests.{lt-ltb, le-ltb, eqb-true, eqb-false, ne_eqb}
+use borrow.Author.Tests.{lt-ltb, le-ltb, ne_eqb}
 use mir.Val.{Fits}
 use mir.Syntax.{w64}
-use lib.Dec.{eqb}
 use lib.ListN.{length, get_or}
 use Rattle.octets.specs.Working.Choice.{pick}
 use Rattle.parse_tree.specs.Plain.Tree.{Text}
@@ -19,6 +17,7 @@ use Rattle.texts.specs.declared.Map.{Map}
 use Rattle.texts.specs.Table.{texts}
 use Rattle.grades.specs.Grading.{Worded}
 use Rattle.display.specs.Follow.{word_at, leaf_text, mark_text, name_text, before_by, op_byte, behind_by, between_by}
+use Rattle.display.proofs.MeetCode.{named-room, macro_room, name_room, repeat_room}
 use Rattle.precedence.specs.Write.{Puts}
 use Rattle.precedence.proofs.WriteLaws.{puts_none}
 use Rattle.settling.specs.declared.Source.{Source}
@@ -58,55 +57,6 @@ module _ (w : List ℕ) (c k lim to r : ℕ) (w1 : List ℕ) where
 pub ruleset spacing = (rules, between_none, between-comma, between-space)
 
 -- ---- put_behind
-module _ (wd c n at : ℕ) (room : at + long_of wd c ≤ n) where
-  pub repeat_room : c ≡ 38 → at + 9 < n
-  unfolding long_of pick
-  repeat_room h = let z : long_of wd c ≡ 10 = cc in omega (arith, z)
-
-  macro_long : c ≡ 37 → long_of wd c ≡ 10 + wd
-  unfolding long_of pick
-  macro_long h = cc
-
-  name_long : c ≡ 40 → long_of wd c ≡ 10 + wd
-  unfolding long_of pick
-  name_long h = cc
-
-  pub macro_room : c ≡ 37 → at + 9 + wd ≤ n
-  macro_room h = omega (arith, macro_long h)
-
-  pub name_room : c ≡ 40 → at + 10 + wd ≤ n
-  name_room h = omega (arith, name_long h)
-
-  split : (k : ℕ) → k ≤ c → (c ≡ k) ⊎ (k + 1 ≤ c)
-  split k h = go (eqb c k) refl
-    where
-      go : (b : Bool) → eqb c k ≡ b → (c ≡ k) ⊎ (k + 1 ≤ c)
-      go true e = inl (eqb-true c k e)
-      go false e = let z = eqb-false c k e in inr (omega arith)
-
-  long_named : 32 ≤ c → c < 37 → long_of wd c ≡ 9 + wd
-  unfolding long_of pick
-  long_named h k = go (split 32 h)
-    where
-      last : (c ≡ 35) ⊎ (36 ≤ c) → long_of wd c ≡ 9 + wd
-      last (inl e) = cc
-      last (inr l) = let e : c ≡ 36 = omega arith in cc
-
-      third : (c ≡ 34) ⊎ (35 ≤ c) → long_of wd c ≡ 9 + wd
-      third (inl e) = cc
-      third (inr l) = last (split 35 l)
-
-      second : (c ≡ 33) ⊎ (34 ≤ c) → long_of wd c ≡ 9 + wd
-      second (inl e) = cc
-      second (inr l) = third (split 34 l)
-
-      go : (c ≡ 32) ⊎ (33 ≤ c) → long_of wd c ≡ 9 + wd
-      go (inl e) = cc
-      go (inr l) = second (split 33 l)
-
-  pub named-room : 32 ≤ c → c < 37 → at + 9 + wd ≤ n
-  named-room h k = omega (arith, long_named h k)
-
 module _ (w : List ℕ) (at c lim to r : ℕ) (w1 : List ℕ) where
   pub behind_angle : (c ≡ 37) ⊎ (c ≡ 39) → Puts w lim to (62 ∷ []) r w1 → Puts w lim to (behind_by w at c) r w1
   unfolding behind_by pick
@@ -177,9 +127,9 @@ module _ (s w : List ℕ) (m : Map) (wd at lim to : ℕ) (g : Printable s w m wd
   pub open_fits : (l : ℕ) → l ≤ 17 → length w * 1 < 2 ^ 63 → Fits w64 (at + l)
   open_fits l k f = let z = h.within in omega arith
 
-  pub open_put : (c k o l n q r : ℕ) (w1 w2 : List ℕ) → o ≡ get_or w at 0 → l ≡ long_of wd o → 0 < l → n ≡ inside_by wd w at o → Puts w lim to (between_by c k) q w1
-      → Puts w1 lim q (before_by wd (texts s w1 m) w1 at o) r w2 → OpensPrint s w m wd at c k lim to (record { code = o; end = at + l; inside = n; to = r }) w2
-  open_put c k o l n q r w1 w2 e d p i a b = record { code = e; end = ap (λ (v : ℕ). at + v) d; long = omega arith; room = omega (arith, h.room, ap (long_of wd) e); inside = i; work = w1; place = q; between = a; before = b }
+  pub open_put : (o l n r : ℕ) (w1 : List ℕ) → o ≡ get_or w at 0 → l ≡ long_of wd o → 0 < l → n ≡ inside_by wd w at o → Puts w lim to (before_by wd (texts s w m) w at o) r w1
+      → OpensPrint s w m wd at lim to (record { code = o; end = at + l; inside = n; to = r }) w1
+  open_put o l n r w1 e d p i b = record { code = e; end = ap (λ (v : ℕ). at + v) d; long = omega arith; room = omega (arith, h.room, ap (long_of wd) e); inside = i; before = b }
 
 pub open_room : (w w1 : List ℕ) (wd at o : ℕ) → Opening w wd at → o ≡ get_or w at 0 → length w1 ≡ length w → at + long_of wd o ≤ length w1
 open_room w w1 wd at o h e l = omega (arith, h.room, ap (long_of wd) e)

@@ -8,16 +8,17 @@ use mir.Val.{Fits}
 use borrow.Author.Rules.{rules}
 use lib.ListN.{length}
 use Rattle.texts.specs.declared.Map.{Map}
-use Rattle.texts.specs.Table.{Growing, Grown}
+use Rattle.texts.specs.Table.{Growing, Grown, Spreading}
 use Rattle.expander.specs.declared.Ground.{Ground}
-use Rattle.expander.specs.Ground.{list_at}
+use Rattle.expander.specs.Ground.{list_at, top_of}
 use Rattle.expander.specs.Names.{described_by}
 use Rattle.settling.specs.One.{TextReady, Written}
-use Rattle.settling.specs.Settle.{Settling, Settles}
-use Rattle.settling.proofs.SettleLaws.{Going, going_start}
+use Rattle.settling.specs.Settle.{Settling, Widens, Settles}
+use Rattle.settling.proofs.SettleLaws.{Going, going_start, going_top}
 use Rattle.settling.proofs.SettleSaid.{going_ready}
 use Rattle.settling.proofs.SettleNext.{going_next}
 use Rattle.settling.proofs.SettleGrow.{going_grow, going_done}
+use Rattle.settling.proofs.WidenCode.{settled_spreading, settled_widened}
 
 module _ (s w : List ℕ) (g : Ground) (n c end : ℕ) (h : Settling s w g n c end) where
   pub total_fits : Fits w64 (g.m.count + c)
@@ -40,7 +41,16 @@ module _ (s w : List ℕ) (g : Ground) (n c end : ℕ) (h : Settling s w g n c e
       pub settle_grow : Growing s w1 g.m (g.m.count + c)
       settle_grow = going_grow s w g n c end h q w1 last
 
-      pub settle-done : (m : Map) (w2 : List ℕ) → length w2 ≡ length w1 → Grown s w1 g.m (g.m.count + c) m w2 → Settles s w g c end (record { m = m; at = q }) w2
-      settle-done m w2 k r = going_done s w g n c end h q w1 last m w2 k r
+      grown : (m : Map) (w2 : List ℕ) → length w2 ≡ length w1 → Grown s w1 g.m (g.m.count + c) m w2 → Settles s w g c end (record { m = m; at = q }) w2
+      grown m w2 k r = going_done s w g n c end h q w1 last m w2 k r
 
-pub ruleset settling = (rules, total_fits, going_start, settle_same, settle_ready, settle_next, settle_grow, settle-done)
+      upto : top_of g ≤ q
+      upto = omega (arith, going_top s w g n c end h 0 q w1 last)
+
+      pub settle_spreading : (m : Map) (w2 : List ℕ) → length w2 ≡ length w1 → Grown s w1 g.m (g.m.count + c) m w2 → Spreading s w2 m
+      settle_spreading m w2 k r = settled_spreading s w g n c end h m q w2 (grown m w2 k r) upto
+
+      pub settle_widened : (m : Map) (w2 : List ℕ) → length w2 ≡ length w1 → Grown s w1 g.m (g.m.count + c) m w2 → (m' : Map) (w3 : List ℕ) → Widens s w2 m m' w3 → Settles s w g c end (record { m = m'; at = q }) w3
+      settle_widened m w2 k r m' w3 d = settled_widened s w g n c end h m q w2 (grown m w2 k r) upto m' w3 d
+
+pub ruleset settling = (rules, total_fits, going_start, settle_same, settle_ready, settle_next, settle_grow, settle_spreading, settle_widened)

@@ -1,12 +1,10 @@
 -- A turn of settle begins: the texts that are written already are known by the references of symbols. Assumes nothing.
-use mathlib.Core.Path.{◌≡◌, refl, sym, ap, ◌∙◌, subst}
-use mathlib.Core.Bool.{Bool, true, false}
+use mathlib.Core.Path.{◌≡◌, sym, ap, ◌∙◌, subst}
+use mathlib.Core.Bool.{true}
 use mathlib.Core.Logic.{inl, inr}
 use mathlib.Core.List.{List, []}
 use Prim.Native.Nat.{ℕ, ◌+◌, ◌-◌, ◌/◌, ◌%◌, ◌<◌, ◌≤◌}
 use native.Mathlib.Omega.{arith}
-use borrow.Author.Tests.{eqb-true, eqb-false}
-use lib.Dec.{eqb}
 use lib.ListN.{length, get_or}
 use Rattle.parse_tree.specs.Plain.Tree.{Text, Sym}
 use Rattle.parse_tree.specs.Working.Within.{Each}
@@ -23,7 +21,7 @@ use Rattle.expander.specs.Names.{described_by, named_in}
 use Rattle.expander.specs.Replace.{keys_of}
 use Rattle.expander.proofs.GroundLaws.{keys_slots}
 use Rattle.expander.proofs.NamedTexts.{length_named, named-found, named_new}
-use Rattle.appending.proofs.BuiltGround.{odd_one, followed-even, followed-odd}
+use Rattle.expander.proofs.SlotsCode.{followed-kept}
 use Rattle.settling.specs.declared.copied.Print.{Print}
 use Rattle.settling.specs.Copied.{TextStands, Numbered, Said, SaidIn}
 use Rattle.settling.specs.One.{new_cell, TextReady}
@@ -118,14 +116,7 @@ module _ (s w : List ℕ) (g : Ground) (n c end : ℕ) (h : Settling s w g n c e
     place o = h.names.inside (key_at w g (v / 2)) (h.names.pushed (v / 2) (below o))
 
     follow_old : followed w1 g (slot_at w1 g p) ≡ followed w g (slot_at w g p)
-    follow_old = ap (followed w1 g) (slot_old p own) ∙ go (eqb (v % 2) 0) refl
-      where
-        go : (b : Bool) → eqb (v % 2) 0 ≡ b → followed w1 g v ≡ followed w g v
-        go true d = let z = eqb-true (v % 2) 0 d in followed-even w1 g v z ∙ sym (followed-even w g v z)
-        go false d =
-            let z = eqb-false (v % 2) 0 d in
-            let o = odd_one v z in
-            followed-odd w1 g v z ∙ ap (slot_at w1 g) (key_old (v / 2) (few o)) ∙ slot_old (key_at w g (v / 2)) (place o) ∙ sym (followed-odd w g v z)
+    follow_old = ap (followed w1 g) (slot_old p own) ∙ followed-kept w w1 g v (λ o. ap (slot_at w1 g) (key_old (v / 2) (few o)) ∙ slot_old (key_at w g (v / 2)) (place o))
 
     number : u % 2 ≡ 0 → u / 2 < g.m.count + c
     number z = omega (arith, ((h.names.refs p a).even z).0, length_named s w g c)

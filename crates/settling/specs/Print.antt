@@ -34,7 +34,15 @@ pub record Closing (w : List ℕ) (wd at c lim to : ℕ) : Type 0 where
   pub stop : to ≤ lim + 1
 
 module _ (s w : List ℕ) (m : Map) (wd : ℕ) where
-  -- n symbols stand there, and end at z or before
+  -- a symbol stands there, and ends at z or before
+  pub record OneBelow (left at z : ℕ) : Type 0 where
+    pub four : Bool
+    pub end : ℕ
+    pub symbol : Sym
+    pub stands : SymStands s w m wd four left at end symbol
+    pub below : end ≤ z
+
+  -- n symbols do
   pub record SomeBelow (n left at z : ℕ) : Type 0 where
     pub four : Bool
     pub end : ℕ
@@ -43,17 +51,14 @@ module _ (s w : List ℕ) (m : Map) (wd : ℕ) where
     pub stand : SymsStand s w m wd four left at end symbols
     pub below : end ≤ z
 
-  -- what stands before the k-th symbol inside one of the code c is put, and then what that at a place begins with
-  pub record OpensPrint (at c k lim to : ℕ) (r : Opened) (w' : List ℕ) : Type 0 where
+  -- what the symbol at a place begins with is put
+  pub record OpensPrint (at lim to : ℕ) (r : Opened) (w' : List ℕ) : Type 0 where
     pub code : r.code ≡ get_or w at 0
     pub end : r.end ≡ at + long_of wd r.code
     pub long : at < r.end
     pub room : r.end ≤ length w
     pub inside : r.inside ≡ inside_by wd w at r.code
-    pub work : List ℕ
-    pub place : ℕ
-    pub between : Puts w lim to (between_by c k) place work
-    pub before : Puts work lim place (before_by wd (texts s work m) work at r.code) r.to w'
+    pub before : Puts w lim to (before_by wd (texts s w m) w at r.code) r.to w'
 
   -- r is the place behind whatever n symbols stand there, straight inside a command of the code c, and behind what was put: their printed forms
   pub record PrintsList (n left at c lim to : ℕ) (r : Printed) (w' : List ℕ) : Type 0 where
@@ -62,6 +67,9 @@ module _ (s w : List ℕ) (m : Map) (wd : ℕ) where
     pub printable : Printable s w' m wd lim r.to
     pub each : (four : Bool) (e : ℕ) (xs : Syms) → count xs ≡ n → SymsStand s w m wd four left at e xs → e ≤ to → (r.at ≡ e) × (bytes ≡ shown_all xs (between_by c 1) [])
 
-  -- whatever symbol stands there, its printed form was put
-  pub record PrintsSymbol (left at lim to r : ℕ) (w' : List ℕ) : Type 0 where
-    pub each : (four : Bool) (e : ℕ) (x : Sym) → SymStands s w m wd four left at e x → e ≤ to → Puts w lim to (print x) r w'
+  -- the same of whatever symbol stands there
+  pub record PrintsSymbol (left at lim to : ℕ) (r : Printed) (w' : List ℕ) : Type 0 where
+    pub bytes : List ℕ
+    pub puts : Puts w lim to bytes r.to w'
+    pub printable : Printable s w' m wd lim r.to
+    pub each : (four : Bool) (e : ℕ) (x : Sym) → SymStands s w m wd four left at e x → e ≤ to → (r.at ≡ e) × (bytes ≡ print x)

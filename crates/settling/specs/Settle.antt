@@ -7,7 +7,8 @@ use Rattle.parse_tree.specs.Plain.WriteTape.{bytes_of_each}
 use Rattle.parse_tree.specs.Working.Encode.{atom_bytes}
 use Rattle.parse_tree.specs.Working.Within.{Each}
 use Rattle.texts.specs.Fields.{mark_at, cell_at}
-use Rattle.texts.specs.Table.{Table, Above, texts}
+use Rattle.texts.specs.declared.Map.{Map}
+use Rattle.texts.specs.Table.{Table, Above, Stays, texts}
 use Rattle.replacing.specs.Slots.{among}
 use Rattle.expander.specs.declared.Ground.{Ground}
 use Rattle.expander.specs.Ground.{top_of, list_at, key_at, symbol_in, pushed_text, Grounded}
@@ -55,6 +56,15 @@ pub record Settling (s w : List ℕ) (g : Ground) (n c end : ℕ) : Type 0 where
   pub behind : g.end + 16 ≤ length w
   -- the symbols in those that were pushed have references
   pub referred : (j : ℕ) → j < n → Each (λ q. among q places ≡ true) (keys_of g.width.bytes (texts s w g.m) (symbol_in s w g (key_at w g j)) (key_at w g j))
+
+-- m' has the same texts, perhaps in other buckets
+pub record Widens (s w : List ℕ) (m m' : Map) (w' : List ℕ) : Type 0 where
+  pub long : length w' ≡ length w
+  pub some : 0 < m.buckets → 0 < m'.buckets
+  pub narrower : m.buckets ≤ m.count → m'.buckets ≤ m'.count
+  pub stays : Stays s w m w' m'
+  pub before : (i : ℕ) → i < m.base → get_or w' i 0 ≡ get_or w i 0
+  pub after : (i : ℕ) → m.base + 24 * m.count ≤ i → get_or w' i 0 ≡ get_or w i 0
 
 -- r has the table with them, and the place of the first
 pub record Settles (s w : List ℕ) (g : Ground) (c end : ℕ) (r : Settled) (w' : List ℕ) : Type 0 where

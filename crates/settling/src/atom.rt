@@ -21,9 +21,9 @@ fn put_head(work: &mut [u8], len: u16, lim: usize, to: usize) -> usize
 }
 
 // The printed form of the pushed symbol at p, which has len bytes, as an atom that ends at x.lim.
-pub fn put_atom_text(tape: &[u8], work: &mut [u8], x: Print, p: usize, len: usize)
-    requires { AtomReady tape.now work.old x p len }
-    ensures { work.new ≡ store work.old (x.lim - (len + 3)) (atom_bytes 2 (printed_at tape.now work.old x.g p)) }
+pub fn put_atom_text(tape: &[u8], work: &mut [u8], x: &Print, p: usize, len: usize)
+    requires { AtomReady tape.now work.old x.now p len }
+    ensures { work.new ≡ store work.old (x.now.lim - (len + 3)) (atom_bytes 2 (printed_at tape.now work.old x.now.g p)) }
 {
     let to = x.lim - (len + 3);
     let q = put_head(work, len as u16, x.lim, to);

@@ -26,20 +26,20 @@ pub struct Print {
 }
 
 // The number of the text of the symbol at p, which is expanded, if that stands already. `tape` for the clauses alone.
-fn numbered(tape: &[u8], work: &[u8], x: Print, p: usize) -> Option<usize>
-    requires { Grounded tape.now work.now x.g × Said tape.now work.now x p }
-    ensures { KnownText tape.now work.now x p result }
+fn numbered(tape: &[u8], work: &[u8], x: &Print, p: usize) -> Option<usize>
+    requires { Grounded tape.now work.now x.now.g × Said tape.now work.now x.now p }
+    ensures { KnownText tape.now work.now x.now p result }
 {
-    match reference(work, x.g, p) {
+    match reference(work, &x.g, p) {
         Noted::Text(k) if k < x.g.m.count || x.first <= k => Some(k),
         _ => None,
     }
 }
 
 // The same of any symbol. `left` for the clauses alone.
-fn known(tape: &[u8], work: &[u8], x: Print, left: usize, p: usize) -> Option<usize>
-    requires { Grounded tape.now work.now x.g × SaidSymbol tape.now work.now x left p }
-    ensures { KnownText tape.now work.now x p result }
+fn known(tape: &[u8], work: &[u8], x: &Print, left: usize, p: usize) -> Option<usize>
+    requires { Grounded tape.now work.now x.now.g × SaidSymbol tape.now work.now x.now left p }
+    ensures { KnownText tape.now work.now x.now p result }
 {
     if is_expanded(work[x.g.from + p]) {
         numbered(tape, work, x, p)
@@ -49,18 +49,18 @@ fn known(tape: &[u8], work: &[u8], x: Print, left: usize, p: usize) -> Option<us
 }
 
 // Text k of the records.
-fn put_known(tape: &[u8], work: &mut [u8], x: Print, k: usize, to: usize) -> usize
-    requires { Copying tape.now work.old x to × TextStands tape.now work.old x k }
-    ensures { Puts work.old x.lim to (marked_text tape.now work.old (mark_at work.old x.g.m.base k)) result work.new }
+fn put_known(tape: &[u8], work: &mut [u8], x: &Print, k: usize, to: usize) -> usize
+    requires { Copying tape.now work.old x.now to × TextStands tape.now work.old x.now k }
+    ensures { Puts work.old x.now.lim to (marked_text tape.now work.old (mark_at work.old x.now.g.m.base k)) result work.new }
 {
     let p = mark_source(tape, work, text_mark(work, x.g.m.base, k));
     put_text(work, p, x.lim, to)
 }
 
 // The printed form of the symbol at p, walked through; if nothing stands inside, without a call for that.
-fn put_walked(tape: &[u8], work: &mut [u8], x: Print, left: usize, p: usize, to: usize) -> usize
-    requires { Copying tape.now work.old x to × SaidSymbol tape.now work.old x left p }
-    ensures { Puts work.old x.lim to (printed_at tape.now work.old x.g p) result work.new }
+fn put_walked(tape: &[u8], work: &mut [u8], x: &Print, left: usize, p: usize, to: usize) -> usize
+    requires { Copying tape.now work.old x.now to × SaidSymbol tape.now work.old x.now left p }
+    ensures { Puts work.old x.now.lim to (printed_at tape.now work.old x.now.g p) result work.new }
 {
     let at = x.g.from + p;
     // A method of Print would be cited with its four equations, here and twice below.
@@ -75,14 +75,14 @@ fn put_walked(tape: &[u8], work: &mut [u8], x: Print, left: usize, p: usize, to:
         let q = put_before(page, work, at, c, to);
         put_behind(work, x.g.width.bytes, at, c, x.lim, q)
     } else {
-        print_symbol(page, work, left, at, to)
+        print_symbol(page, work, left, at, to).to
     }
 }
 
 // Copied if it stands already.
-fn put_one(tape: &[u8], work: &mut [u8], x: Print, left: usize, p: usize, to: usize) -> usize
-    requires { Copying tape.now work.old x to × SaidSymbol tape.now work.old x left p }
-    ensures { Puts work.old x.lim to (printed_at tape.now work.old x.g p) result work.new }
+fn put_one(tape: &[u8], work: &mut [u8], x: &Print, left: usize, p: usize, to: usize) -> usize
+    requires { Copying tape.now work.old x.now to × SaidSymbol tape.now work.old x.now left p }
+    ensures { Puts work.old x.now.lim to (printed_at tape.now work.old x.now.g p) result work.new }
 {
     match known(tape, work, x, left, p) {
         Some(k) => put_known(tape, work, x, k, to),
@@ -94,14 +94,14 @@ fn put_one(tape: &[u8], work: &mut [u8], x: Print, left: usize, p: usize, to: us
 fn put_around(
     tape: &[u8],
     work: &mut [u8],
-    x: Print,
+    x: &Print,
     left: usize,
     p: usize,
     c: u8,
     to: usize,
 ) -> usize
-    requires { Copying tape.now work.old x to × SaidAround tape.now work.old x left p c }
-    ensures { Puts work.old x.lim to (printed_at tape.now work.old x.g p) result work.new }
+    requires { Copying tape.now work.old x.now to × SaidAround tape.now work.old x.now left p c }
+    ensures { Puts work.old x.now.lim to (printed_at tape.now work.old x.now.g p) result work.new }
 {
     let at = x.g.from + p;
     let page = Page {
@@ -117,9 +117,9 @@ fn put_around(
 }
 
 // The printed form of any symbol at p: its own text is copied if that stands, or else the inner one's, if it is around one other.
-fn put_part(tape: &[u8], work: &mut [u8], x: Print, left: usize, p: usize, to: usize) -> usize
-    requires { Copying tape.now work.old x to × SaidSymbol tape.now work.old x left p }
-    ensures { Puts work.old x.lim to (printed_at tape.now work.old x.g p) result work.new }
+fn put_part(tape: &[u8], work: &mut [u8], x: &Print, left: usize, p: usize, to: usize) -> usize
+    requires { Copying tape.now work.old x.now to × SaidSymbol tape.now work.old x.now left p }
+    ensures { Puts work.old x.now.lim to (printed_at tape.now work.old x.now.g p) result work.new }
 {
     let c = work[x.g.from + p];
     if matches!(c, 39..=40) {
@@ -130,9 +130,9 @@ fn put_part(tape: &[u8], work: &mut [u8], x: Print, left: usize, p: usize, to: u
 }
 
 // The place behind the symbol at p, if more than one is to come. `tape` and `left` for the clauses alone.
-fn behind(tape: &[u8], work: &[u8], x: Print, left: usize, p: usize, k: usize) -> usize
-    requires { SaidSymbol tape.now work.now x left p }
-    ensures { Behinds tape.now work.now x left p k result }
+fn behind(tape: &[u8], work: &[u8], x: &Print, left: usize, p: usize, k: usize) -> usize
+    requires { SaidSymbol tape.now work.now x.now left p }
+    ensures { Behinds tape.now work.now x.now left p k result }
 {
     if k < 2 {
         return p;
@@ -144,15 +144,15 @@ fn behind(tape: &[u8], work: &[u8], x: Print, left: usize, p: usize, k: usize) -
 fn put_parts(
     tape: &[u8],
     work: &mut [u8],
-    x: Print,
+    x: &Print,
     left: usize,
     p: usize,
     n: usize,
     c: u8,
     to: usize,
 ) -> usize
-    requires { Copying tape.now work.old x to × SaidSymbols tape.now work.old x n left p }
-    ensures { PutsAll tape.now work.old x n left p c to result work.new }
+    requires { Copying tape.now work.old x.now to × SaidSymbols tape.now work.old x.now n left p }
+    ensures { PutsAll tape.now work.old x.now n left p c to result work.new }
 {
     let mut a = p;
     let mut q = to;
@@ -165,9 +165,16 @@ fn put_parts(
 }
 
 // Of the pushed symbol at p, whose own text doesn't stand yet.
-pub fn put_symbol(tape: &[u8], work: &mut [u8], x: Print, left: usize, p: usize, to: usize) -> usize
-    requires { Copying tape.now work.old x to × SaidSymbol tape.now work.old x left p }
-    ensures { Puts work.old x.lim to (printed_at tape.now work.old x.g p) result work.new }
+pub fn put_symbol(
+    tape: &[u8],
+    work: &mut [u8],
+    x: &Print,
+    left: usize,
+    p: usize,
+    to: usize,
+) -> usize
+    requires { Copying tape.now work.old x.now to × SaidSymbol tape.now work.old x.now left p }
+    ensures { Puts work.old x.now.lim to (printed_at tape.now work.old x.now.g p) result work.new }
 {
     let at = x.g.from + p;
     let page = Page {

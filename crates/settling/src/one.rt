@@ -17,9 +17,9 @@ use texts::fields::{cell, hash, mark, write};
 use texts::mark::TextMark;
 
 // The length of a new text, stopped at 65,536. `tape` for the clauses alone.
-pub fn text_length(tape: &[u8], work: &[u8], g: Ground, x: NewText) -> usize
-    requires { Grounded tape.now work.now g × Entry tape.now work.now g (entry_code x) }
-    ensures { result ≡ stop (length (described_by tape.now work.now g (entry_code x))) }
+pub fn text_length(tape: &[u8], work: &[u8], g: &Ground, x: NewText) -> usize
+    requires { Grounded tape.now work.now g.now × Entry tape.now work.now g.now (entry_code x) }
+    ensures { result ≡ stop (length (described_by tape.now work.now g.now (entry_code x))) }
 {
     match x {
         NewText::Print(j) => cell(work, g.keys, j) as usize,
@@ -28,9 +28,9 @@ pub fn text_length(tape: &[u8], work: &[u8], g: Ground, x: NewText) -> usize
 }
 
 // The print of the symbol of record j, which has len bytes, as an atom that ends at x.lim; says its hash.
-fn put_print(tape: &[u8], work: &mut [u8], x: Print, j: usize, len: usize) -> u32
-    requires { Puttable tape.now work.old x.g x.first (entry_code (NewText.Print j)) len x.lim }
-    ensures { TextPut work.old (described_by tape.now work.old x.g (entry_code (NewText.Print j))) x.lim result work.new }
+fn put_print(tape: &[u8], work: &mut [u8], x: &Print, j: usize, len: usize) -> u32
+    requires { Puttable tape.now work.old x.now.g x.now.first (entry_code (NewText.Print j)) len x.now.lim }
+    ensures { TextPut work.old (described_by tape.now work.old x.now.g (entry_code (NewText.Print j))) x.now.lim result work.new }
 {
     let p = mark(work, x.g.keys, j);
     let h = hash(work, x.g.keys, j);
@@ -39,9 +39,9 @@ fn put_print(tape: &[u8], work: &mut [u8], x: Print, j: usize, len: usize) -> u3
 }
 
 // A new text, which has len bytes, as such an atom.
-fn put_new(tape: &[u8], work: &mut [u8], x: Print, y: NewText, len: usize) -> u32
-    requires { Puttable tape.now work.old x.g x.first (entry_code y) len x.lim }
-    ensures { TextPut work.old (described_by tape.now work.old x.g (entry_code y)) x.lim result work.new }
+fn put_new(tape: &[u8], work: &mut [u8], x: &Print, y: NewText, len: usize) -> u32
+    requires { Puttable tape.now work.old x.now.g x.now.first (entry_code y) len x.now.lim }
+    ensures { TextPut work.old (described_by tape.now work.old x.now.g (entry_code y)) x.now.lim result work.new }
 {
     match y {
         NewText::Print(j) => put_print(tape, work, x, j, len),
@@ -61,18 +61,18 @@ fn new_cell(x: NewText) -> u32
 }
 
 // The i-th new text as an atom that ends at `end`, and its record; says where it begins.
-pub fn write_text(tape: &[u8], work: &mut [u8], g: Ground, i: usize, end: usize) -> usize
-    requires { TextReady tape.now work.old g i end }
-    ensures { Written tape.now work.old g i (described_by tape.now work.old g (list_at work.old g i)) end result work.new }
+pub fn write_text(tape: &[u8], work: &mut [u8], g: &Ground, i: usize, end: usize) -> usize
+    requires { TextReady tape.now work.old g.now i end }
+    ensures { Written tape.now work.old g.now i (described_by tape.now work.old g.now (list_at work.old g.now i)) end result work.new }
 {
     let y = entry(work, g.m, i);
     let len = text_length(tape, work, g, y);
     let x = Print {
-        g,
+        g: *g,
         first: g.m.count + i + 1,
         lim: end,
     };
-    let h = put_new(tape, work, x, y, len);
+    let h = put_new(tape, work, &x, y, len);
     let to = end - (len + 3);
     let z = TextMark::in_work(tape, to);
     write(work, g.m.base, g.m.count + i, z.number, h, new_cell(y));

@@ -4,7 +4,7 @@ ghost use Rattle.texts.specs.Table.{texts};
 ghost use Rattle.parse_tree.specs.Working.Nodes.{long_of};
 ghost use Rattle.display.specs.Follow.{word_at, name_text, before_by, behind_by, between_by};
 ghost use Rattle.precedence.specs.Write.{Puts};
-ghost use Rattle.settling.specs.Print.{Printable, Closing, Opening, OpensPrint, SomeBelow, PrintsList, PrintsSymbol};
+ghost use Rattle.settling.specs.Print.{Printable, Closing, Opening, OpensPrint, OneBelow, SomeBelow, PrintsList, PrintsSymbol};
 
 use crate::put::{put_byte, put_slice};
 use crate::words::{put_leaf, put_mark, put_name, put_open, word_source};
@@ -87,25 +87,37 @@ pub fn put_behind(work: &mut [u8], width: usize, at: usize, c: u8, lim: usize, t
     }
 }
 
-// What stands before the symbol at a place, the k-th inside one of the code c, and what it begins with.
-fn open(page: Page, work: &mut [u8], at: usize, c: u8, k: usize, to: usize) -> Opened
+// What stands before the symbols straight inside the symbol at a place, and what it begins with.
+fn open(page: Page, work: &mut [u8], at: usize, to: usize) -> Opened
     requires { Printable page.tape.now work.old page.m page.width.bytes page.lim to × Opening work.old page.width.bytes at }
-    ensures { OpensPrint page.entry.tape.now work.old page.entry.m page.entry.width.bytes at c k page.entry.lim to result work.new }
+    ensures { OpensPrint page.entry.tape.now work.old page.entry.m page.entry.width.bytes at page.entry.lim to result work.new }
 {
     let o = work[at];
     let end = at + long(o, page.width);
     let n = inside(work, page.width, at, o);
-    let q = put_between(work, c, k, page.lim, to);
-    let z = put_before(page, work, at, o, q);
+    let q = put_before(page, work, at, o, to);
     Opened {
         code: o,
         end,
         inside: n,
-        to: z,
+        to: q,
     }
 }
 
-// The printed forms of n symbols that stand at a place, with between them what stands between those straight inside a command of the code c, behind what is written so far. `left` levels of nesting are left.
+// The printed form of the symbol at a place, behind what is written so far. `left` levels of nesting are left.
+#[cycle(print_symbol_print_list)]
+pub fn print_symbol(page: Page, work: &mut [u8], left: usize, at: usize, to: usize) -> Printed
+    requires { Printable page.tape.now work.old page.m page.width.bytes page.lim to × OneBelow page.tape.now work.old page.m page.width.bytes left at to }
+    ensures { PrintsSymbol page.entry.tape.now work.old page.entry.m page.entry.width.bytes left at page.entry.lim to result work.new }
+{
+    let f = open(page, work, at, to);
+    let z = print_list(page, work, left - 1, f.end, f.inside, f.code, f.to);
+    let q = put_behind(work, page.width.bytes, at, f.code, page.lim, z.to);
+    Printed { at: z.at, to: q }
+}
+
+// Those of n symbols that stand at a place, with between them what stands between those straight inside a command of the code c.
+#[cycle(print_symbol_print_list)]
 pub fn print_list(
     page: Page,
     work: &mut [u8],
@@ -118,22 +130,10 @@ pub fn print_list(
     requires { Printable page.tape.now work.old page.m page.width.bytes page.lim to × SomeBelow page.tape.now work.old page.m page.width.bytes n left at to }
     ensures { PrintsList page.entry.tape.now work.old page.entry.m page.entry.width.bytes n left at c page.entry.lim to result work.new }
 {
-    let mut p = at;
-    let mut q = to;
+    let mut r = Printed { at, to };
     for k in 0..n {
-        let f = open(page, work, p, c, k, q);
-        let z = print_list(page, work, left - 1, f.end, f.inside, f.code, f.to);
-        q = put_behind(work, page.width.bytes, p, f.code, page.lim, z.to);
-        p = z.at;
+        let q = put_between(work, c, k, page.lim, r.to);
+        r = print_symbol(page, work, left, r.at, q);
     }
-    Printed { at: p, to: q }
-}
-
-// The printed form of the symbol at a place: a list of one, so that no code matters.
-pub fn print_symbol(page: Page, work: &mut [u8], left: usize, at: usize, to: usize) -> usize
-    requires { Printable page.tape.now work.old page.m page.width.bytes page.lim to × SomeBelow page.tape.now work.old page.m page.width.bytes 1 left at to }
-    ensures { PrintsSymbol page.entry.tape.now work.old page.entry.m page.entry.width.bytes left at page.entry.lim to result work.new }
-{
-    let z = print_list(page, work, left, at, 1, 0, to);
-    z.to
+    r
 }

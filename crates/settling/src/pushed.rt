@@ -21,9 +21,9 @@ fn mark_text(work: &mut [u8], base: usize, k: usize)
 }
 
 // The text of the j-th pushed symbol, if the table has it. `tape` for the clauses alone.
-fn mark_one(tape: &[u8], work: &mut [u8], g: Ground, j: usize)
-    requires { Markable tape.now work.old g j }
-    ensures { MarksOne tape.now work.old g j work.new }
+fn mark_one(tape: &[u8], work: &mut [u8], g: &Ground, j: usize)
+    requires { Markable tape.now work.old g.now j }
+    ensures { MarksOne tape.now work.old g.now j work.new }
 {
     match tells(work, g.slots, mark(work, g.keys, j)) {
         Noted::Text(k) if k < g.m.count => mark_text(work, g.m.base, k),
@@ -32,9 +32,9 @@ fn mark_one(tape: &[u8], work: &mut [u8], g: Ground, j: usize)
 }
 
 // Of all n.
-pub fn mark_pushed(tape: &[u8], work: &mut [u8], g: Ground, n: usize)
-    requires { SomePushed tape.now work.old g n }
-    ensures { MarkedPushed tape.now work.old g n work.new }
+pub fn mark_pushed(tape: &[u8], work: &mut [u8], g: &Ground, n: usize)
+    requires { SomePushed tape.now work.old g.now n }
+    ensures { MarkedPushed tape.now work.old g.now n work.new }
 {
     for j in 0..n {
         mark_one(tape, work, g, j);

@@ -1,11 +1,12 @@
 // The new texts of a round, once their stage is admitted: counted, then written and entered in the table, the last first.
-ghost use Rattle.settling.specs.Settle.{SomeNew, Counts, Settling, Settles};
+ghost use Rattle.texts.specs.Table.{Spreading};
+ghost use Rattle.settling.specs.Settle.{SomeNew, Counts, Settling, Widens, Settles};
 
 use crate::one::{text_length, write_text};
 use expander::Ground;
 use expander::entries::entry;
 use texts::Map;
-use texts::table::grow;
+use texts::table::{grow, spread};
 
 // The table with the new texts, and the place of the first.
 #[derive(Clone, Copy)]
@@ -15,9 +16,9 @@ pub struct Settled {
 }
 
 // How many bytes c new texts have with their commands, if none is too long for a text; n symbols were pushed. `n` for the clauses alone.
-pub fn count_texts(tape: &[u8], work: &[u8], g: Ground, n: usize, c: usize) -> Option<usize>
-    requires { SomeNew tape.now work.now g n c }
-    ensures { Counts tape.now work.now g n c result }
+pub fn count_texts(tape: &[u8], work: &[u8], g: &Ground, n: usize, c: usize) -> Option<usize>
+    requires { SomeNew tape.now work.now g.now n c }
+    ensures { Counts tape.now work.now g.now n c result }
 {
     let mut bytes = 0;
     for i in 0..c {
@@ -31,15 +32,28 @@ pub fn count_texts(tape: &[u8], work: &[u8], g: Ground, n: usize, c: usize) -> O
     Some(bytes)
 }
 
+// The same texts, with a bucket for each where two or more would share one: so chains stay short, however few texts the tape has.
+fn widen(tape: &[u8], work: &mut [u8], m: Map) -> Map
+    requires { Spreading tape.now work.old m }
+    ensures { Widens tape.now work.old m result work.new }
+{
+    if m.buckets < m.count / 2 {
+        spread(tape, work, m)
+    } else {
+        m
+    }
+}
+
 // The c new texts as atoms that end at `end`, by number, and their records; says the table with them. `n` for the clauses alone.
-pub fn settle(tape: &[u8], work: &mut [u8], g: Ground, n: usize, c: usize, end: usize) -> Settled
-    requires { Settling tape.now work.old g n c end }
-    ensures { Settles tape.now work.old g c end result work.new }
+pub fn settle(tape: &[u8], work: &mut [u8], g: &Ground, n: usize, c: usize, end: usize) -> Settled
+    requires { Settling tape.now work.old g.now n c end }
+    ensures { Settles tape.now work.old g.now c end result work.new }
 {
     let mut q = end;
     for i in (0..c).rev() {
         q = write_text(tape, work, g, i, q);
     }
     let m = grow(tape, work, g.m, g.m.count + c);
+    let m = widen(tape, work, m);
     Settled { m, at: q }
 }

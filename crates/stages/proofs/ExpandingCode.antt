@@ -155,19 +155,19 @@ module _ (s o : List ℕ) (r : Resolved) (w : List ℕ) (a : SomeAdmitted s (len
   own = macros_room (length s) r.at (length o)
 
   abbrev stage_of_tape : Stage
-  stage_of_tape = record { atoms = a.tape.atoms; items = a.tree }
+  stage_of_tape = record { atoms = a.stood.tape.atoms; items = a.stood.tree }
 
   start : Start s r.texts r.grammar own w
   unfolding macros_room
   start = record { some = some; admitted = a; room_is = refl; short = omega arith }
 
-  stands : RunStands s w (length o) r r.texts.count own own.end true a.tree a.tape.atoms [] 0
+  stands : RunStands s w (length o) r r.texts.count own own.end true a.stood.tree a.stood.tape.atoms [] 0
   unfolding macros_room start
-  stands = record { stands = start_stands s r.texts r.grammar own w start; many = a.many; inside = a.inside; atoms = a.atoms; cap_is = refl }
+  stands = record { stands = start_stands s r.texts r.grammar own w start; many = a.stood.many; inside = a.stood.inside; atoms = a.stood.atoms; cap_is = refl }
 
   pub items_run : (room : Room) → room ≡ macros_room (length s) r.at (length o) → SomeRun s w (length o) r r.texts.count room room.end
   items_run room e =
-      subst (λ (u : Room). SomeRun s w (length o) r r.texts.count u u.end) (sym e) (record { four = true; tree = a.tree; first = a.tape.atoms; past = []; owed = 0; stands = stands })
+      subst (λ (u : Room). SomeRun s w (length o) r r.texts.count u u.end) (sym e) (record { four = true; tree = a.stood.tree; first = a.stood.tape.atoms; past = []; owed = 0; stands = stands })
 
   expanded_is : (limit : ℕ) → expanded_of s limit (length o) ≡ macro_stages (sizes 2 (length o)) limit stage_of_tape
   unfolding expanded_of
@@ -178,7 +178,7 @@ module _ (s o : List ℕ) (r : Resolved) (w : List ℕ) (a : SomeAdmitted s (len
   unfolding RunsTo
   items_done room e limit x o' d =
       rw (expanded_is limit)
-      (subst (λ (us : List Text). Staged (macro_stages (sizes 2 (length o)) limit (record { atoms = us; items = a.tree })) o x o') (append-nil a.tape.atoms)
-      (subst (λ (u : Room). RunsTo s w r r.texts.count u u.end limit o x o') e d true a.tree a.tape.atoms [] 0 stands))
+      (subst (λ (us : List Text). Staged (macro_stages (sizes 2 (length o)) limit (record { atoms = us; items = a.stood.tree })) o x o') (append-nil a.stood.tape.atoms)
+      (subst (λ (u : Room). RunsTo s w r r.texts.count u u.end limit o x o') e d true a.stood.tree a.stood.tape.atoms [] 0 stands))
 
 pub ruleset macros-itemizing = (rules, items_sum, items_run, items_done)

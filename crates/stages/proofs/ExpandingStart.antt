@@ -36,7 +36,7 @@ use Rattle.rounds.proofs.ResolvedFew.{resolved-few}
 use Rattle.stages.specs.Levelling.{SomeAdmitted}
 use Rattle.stages.specs.Expanding.{macros_room, first_trees, FirstStands}
 use Rattle.stages.proofs.StoodMean.{said}
-use Rattle.stages.proofs.LevellingMeanStage.{admitted-is, admitted-stood}
+use Rattle.stages.proofs.LevellingMeanStage.{admitted-is}
 
 -- ---- a name is among the texts
 name_long : (x : Text) → is_name x ≡ true → 1 ≤ length x
@@ -59,26 +59,26 @@ pub record Start (s : List ℕ) (m : Map) (t : Grammar) (room : Room) (w : List 
 
 module _ (s : List ℕ) (m : Map) (t : Grammar) (room : Room) (w : List ℕ) (A : Start s m t room w) where
   abbrev R : Tree
-  R = A.admitted.tree
+  R = A.admitted.stood.tree
 
   abbrev ts : List Text
-  ts = A.admitted.tape.atoms
+  ts = A.admitted.stood.tape.atoms
 
   some_items : 0 < length R
-  some_items = omega (arith, A.some, A.admitted.levels.many)
+  some_items = omega (arith, A.some, A.admitted.stood.levels.many)
 
   -- ---- macros can be told
   declared : Items s w m t true R
   declared =
-      let l = A.admitted.levels in
+      let l = A.admitted.stood.levels in
       let b = l.before A.some in
-      let f = resolved-few true A.admitted.tape R A.admitted.within A.admitted.is in
+      let f = resolved-few true A.admitted.stood.tape R A.admitted.stood.within A.admitted.stood.is in
       record {
         cells = record { table = l.table; above = l.on_tape (m.base + 24 * m.count) };
         row = subst (λ (us : List Text). Row t us w 0 t.at R) (sym l.texts-are) l.row;
         within = subst (λ (us : List Text). Each (ItemWithin true t.width.bytes us) R) (sym l.texts-are) (subst (λ (n : ℕ). Each (ItemWithin true n ts) R) (sym l.width) l.within);
         many = l.many;
-        few = omega (arith, f, l.many, A.admitted.few, A.admitted.many);
+        few = omega (arith, f, l.many, A.admitted.few, A.admitted.stood.many);
         narrow = omega (arith, l.width);
         wide = omega (arith, l.width);
         off = inl b.items;
@@ -103,13 +103,13 @@ module _ (s : List ℕ) (m : Map) (t : Grammar) (room : Room) (w : List ℕ) (A 
   end_is = ap (λ (u : Room). u.end) A.room_is ∙ sym (ap (λ (u : Room). u.y + (room.cap + 2 * (room.cap / 9))) A.room_is)
 
   first-is : at ≡ length (bytes_of_each (atom_bytes 2) ts)
-  first-is = omega (arith, part_length 0 at s A.admitted.inside, ap length A.admitted.atoms)
+  first-is = omega (arith, part_length 0 at s A.admitted.stood.inside, ap length A.admitted.stood.atoms)
 
   mapped : Mapped s (length w) room m.base
   mapped = record {
     items = length s - at;
-    tape = omega (arith, A.admitted.inside);
-    base_is = A.admitted.levels.base;
+    tape = omega (arith, A.admitted.stood.inside);
+    base_is = A.admitted.stood.levels.base;
     x_is = x_is;
     y_is = y_is;
     end_is = end_is;
@@ -126,8 +126,8 @@ module _ (s : List ℕ) (m : Map) (t : Grammar) (room : Room) (w : List ℕ) (A 
 
   alike_within : StageWithin true 2 (record { atoms = ts; items = R })
   alike_within =
-      let h = A.admitted.within in
-      record { apart = h.apart; short = h.short; items = A.admitted.levels.within }
+      let h = A.admitted.stood.within in
+      record { apart = h.apart; short = h.short; items = A.admitted.stood.levels.within }
 
   stage_same : stage_of ts R ≡ record { atoms = ts; items = R }
   unfolding stage_of
@@ -135,18 +135,18 @@ module _ (s : List ℕ) (m : Map) (t : Grammar) (room : Room) (w : List ℕ) (A 
 
   fine : sizes 2 room.cap (stage_of ts R) ≡ yes (stage_of ts R)
   fine =
-      sym (said s w m t at (admitted-stood s room.cap m t at w A.admitted) room.cap) ∙ admitted-is s room.cap m t at w A.admitted ∙ ap yes (sym stage_same)
+      sym (said s w m t at A.admitted.stood room.cap) ∙ admitted-is s room.cap m t at w A.admitted ∙ ap yes (sym stage_same)
 
   begins : BeginsRound 2 R [] (without_macros R) [] (round_atoms trees_of) [] 0
   begins =
       subst (λ (us : List Text). BeginsRound 2 R [] (without_macros R) [] us [] 0) (ap (λ (g : Stage). g.atoms) stage_same ∙ sym all_atoms)
-      (macros-begin 2 room.cap A.admitted.tape R A.admitted.within A.admitted.is fine)
+      (macros-begin 2 room.cap A.admitted.stood.tape R A.admitted.stood.within A.admitted.stood.is fine)
 
   stage_items : Each (ItemWithin false 2 (stage_of ts R).atoms) R
   unfolding stage_of
   stage_items =
-      (stage_within 2 (stage_of ts R) (stage_stocked 2 room.cap ts R (stage_of ts R) A.admitted.within.apart fine)
-      (each_all (ItemWithin true 2 ts) (ItemSpans SpanWithin) (item_spans true 2 ts) R A.admitted.levels.within)).items
+      (stage_within 2 (stage_of ts R) (stage_stocked 2 room.cap ts R (stage_of ts R) A.admitted.stood.within.apart fine)
+      (each_all (ItemWithin true 2 ts) (ItemSpans SpanWithin) (item_spans true 2 ts) R A.admitted.stood.levels.within)).items
 
   within_plain : Each (ItemWithin false 2 ts) R
   within_plain = subst (λ (g : Stage). Each (ItemWithin false 2 g.atoms) R) stage_same stage_items
@@ -155,7 +155,7 @@ module _ (s : List ℕ) (m : Map) (t : Grammar) (room : Room) (w : List ℕ) (A 
   grown =
       let x = fine_parts room.cap (stage_of ts R) fine in
       let e : stage_of ts R ≡ record { atoms = round_atoms trees_of; items = R } = stage_same ∙ ap (λ (us : List Text). record { atoms = us; items = R }) (sym all_atoms) in
-      let n = some_name ts R A.admitted.levels.within some_items in
+      let n = some_name ts R A.admitted.stood.levels.within some_items in
       record {
         begins = begins;
         within = subst (λ (us : List Text). Each (ItemWithin false 2 us) R) (sym all_atoms) within_plain;
@@ -171,7 +171,7 @@ module _ (s : List ℕ) (m : Map) (t : Grammar) (room : Room) (w : List ℕ) (A 
   pub start_stands : FirstStands s w m t room room.end true R ts [] 0
   unfolding bytes_of_each
   start_stands =
-      let l = A.admitted.levels in
+      let l = A.admitted.stood.levels in
       record {
         map = mapped;
         atoms = first-is;

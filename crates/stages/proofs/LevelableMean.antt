@@ -7,13 +7,10 @@ use Prim.Native.Nat.{ℕ, ◌+◌, ◌*◌, ◌<◌, ◌≤◌}
 use native.Mathlib.Omega.{arith}
 use borrow.Author.Tests.{ltb-true, ltb-false}
 use lib.Dec.{ltb}
-use lib.ListN.{length, get_or, length-append}
-use Rattle.parse_tree.specs.Plain.Tree.{Text}
-use Rattle.parse_tree.specs.Plain.WriteTape.{bytes_of_each}
-use Rattle.parse_tree.specs.Working.Encode.{atom_bytes}
-use Rattle.parse_tree.specs.Working.Nodes.{node_bytes, size_of}
-use Rattle.parse_tree.specs.declared.syntax.Node.{Node}
-use Rattle.parse_tree.proofs.SizeLaws.{text_size}
+use lib.ListN.{length, get_or}
+use Rattle.parse_tree.specs.Plain.Tree.{Text, Item, item, terminal}
+use Rattle.parse_tree.specs.Working.Within.{Each, ItemWithin}
+use Rattle.parse_tree.proofs.TextLaws.{number-below}
 use Rattle.texts.specs.declared.Map.{Map}
 use Rattle.texts.specs.Atoms.{atom_end}
 use Rattle.texts.specs.Fields.{mark_at, hash_at, link_at, head_at}
@@ -25,13 +22,11 @@ use Rattle.texts.proofs.TableStays.{le_at-agree, whole_stays, hash_stays, texts-
 use Rattle.resolve.specs.Whole.{Free}
 use Rattle.resolve.specs.declared.Grammar.{Grammar}
 
--- ---- an atom has three bytes or more
-pub atoms_long : (ts : List Text) → 3 * length ts ≤ length (bytes_of_each (atom_bytes 2) ts)
-unfolding bytes_of_each atom_bytes size_of
-atoms_long [] = omega arith
-atoms_long (t ∷ ts) =
-    let n = Node.Text (length t) in
-    omega (arith, atoms_long ts, length-append (atom_bytes 2 t) (bytes_of_each (atom_bytes 2) ts), length-append (node_bytes 2 n) t, text_size 2 n (length t) refl)
+-- ---- an item has a name, which is an atom
+pub items_named : (ts : List Text) (is : List Item) → Each (ItemWithin true 2 ts) is → 0 < length is → 0 < length ts
+items_named ts [] w h = absurd (omega arith)
+items_named ts (item d ∷ is) w h = omega (arith, number-below ts d.name w.0.name.0)
+items_named ts (terminal s o x ∷ is) w h = omega (arith, number-below ts x w.0.1.0)
 
 pub some_linked : (n : ℕ) → 0 < n → 0 < linked n
 unfolding linked

@@ -34,7 +34,7 @@ module _ (s : List ℕ) (cap : ℕ) (m : Map) (t : Grammar) (at : ℕ) (w : List
   room_sum h = omega (arith, a.enough)
 
   pub level_inside : at ≤ length s
-  level_inside = a.inside
+  level_inside = a.stood.inside
 
   -- x is what `expand_precedence` answered
   pub level_refused : 0 < t.count → (room : Room) → room ≡ room_of (length s) (length s - at) cap → length w * 1 < 2 ^ 63 → (x : Result Written Refusal) (w' : List ℕ) → Levels s m t room w x w' → (why : Refusal) → x ≡ Err why

@@ -1,23 +1,18 @@
 -- The levelled stage of an admitted tape: where it is the resolved one, and where it is refused. Assumes nothing.
 use mathlib.Core.Path.{◌≡◌, refl, sym, ap, ◌∙◌}
 use mathlib.Core.Bool.{true}
-use mathlib.Core.List.{List, [], ◌∷◌, ◌++◌}
+use mathlib.Core.List.{List, [], ◌∷◌}
 use Prim.Native.Nat.{ℕ, ◌+◌, ◌-◌, ◌*◌, ◌/◌, ◌^◌, ◌≤◌, ◌<◌}
 use native.Mathlib.Omega.{arith}
-use lib.ListN.{length, length-append}
+use lib.ListN.{length}
 use Rattle.octets.proofs.PartLaws.{part_length}
-use Rattle.parse_tree.specs.Plain.Tree.{Text, Item, item, terminal, Stage}
+use Rattle.parse_tree.specs.Plain.Tree.{Stage}
 use Rattle.parse_tree.specs.Plain.Texts.{distinct}
 use Rattle.parse_tree.specs.Plain.References.{stage_of}
 use Rattle.parse_tree.specs.Plain.WriteTape.{bytes_of_each}
-use Rattle.parse_tree.specs.Working.Nodes.{node_bytes, size_of}
 use Rattle.parse_tree.specs.Working.Encode.{atom_bytes, item_bytes}
-use Rattle.parse_tree.specs.Working.Within.{Each, ItemWithin}
 use Rattle.parse_tree.specs.Working.Refusals.{refusal_over}
 use Rattle.parse_tree.specs.declared.refusal.Refusal.{Refusal}
-use Rattle.parse_tree.specs.declared.syntax.Node.{Node}
-use Rattle.parse_tree.proofs.SizeLaws.{text_size}
-use Rattle.parse_tree.proofs.TextLaws.{number-below}
 use Rattle.texts.specs.declared.Map.{Map}
 use Rattle.passes.specs.Outcome.{Tree, Outcome, yes, no, after}
 use Rattle.passes.specs.Levels.{levelled, check_levels, levels}
@@ -35,7 +30,9 @@ use Rattle.output.specs.Working.Judging.{room_of}
 use Rattle.output.specs.Working.Handing.{Staged}
 use Rattle.stages.specs.Stages.{resolved}
 use Rattle.stages.specs.Levelling.{levelled_of, SomeAdmitted, SomeLevels}
-use Rattle.stages.proofs.StoodMean.{Stood, said_yes}
+use Rattle.stages.proofs.StoodMean.{said_yes}
+use Rattle.validate.proofs.TapeLaws.{atoms_long}
+use Rattle.stages.proofs.LevelableMean.{items_named}
 use Rattle.stages.proofs.LevellingMeanFew.{alternatives_few, names_most}
 
 -- ---- a refusal of the resolved stage is the answer
@@ -44,64 +41,35 @@ unfolding answer_of
 staged_no (yes g) f o why h = absurd (let e = h.answered in let z : ◌≡◌ {A = ℕ} 0 1 = cc in omega arith)
 staged_no (no q p) f o why h = h
 
--- ---- an atom has 3 bytes or more
-atoms_long : (ts : List Text) → 3 * length ts ≤ length (bytes_of_each (atom_bytes 2) ts)
-unfolding bytes_of_each atom_bytes size_of
-atoms_long [] = omega arith
-atoms_long (t ∷ ts) =
-    let z : 3 ≡ length (node_bytes 2 (Node.Text (length t))) = text_size 2 (Node.Text (length t)) (length t) refl in
-    omega (arith, atoms_long ts, length-append (node_bytes 2 (Node.Text (length t)) ++ t) (bytes_of_each (atom_bytes 2) ts), length-append (node_bytes 2 (Node.Text (length t))) t)
-
-atoms_some : (ts : List Text) (is : List Item) → Each (ItemWithin true 2 ts) is → 0 < length is → 0 < length ts
-atoms_some ts [] w h = absurd (omega arith)
-atoms_some ts (item d ∷ is) w h = omega (arith, number-below ts d.name w.0.name.0)
-atoms_some ts (terminal s o x ∷ is) w h = omega (arith, number-below ts x w.0.1.0)
-
 pub none_of : (R : Tree) → 0 ≡ length R → R ≡ []
 none_of [] e = refl
 none_of (x ∷ xs) e = absurd (omega arith)
 
 -- ---- where the resolved stage is admitted
 module _ (s : List ℕ) (cap : ℕ) (m : Map) (t : Grammar) (at : ℕ) (w : List ℕ) (a : SomeAdmitted s cap m t at w) where
-  abbrev pub admitted-stood : Stood s w m t at
-  admitted-stood = record {
-    tape = a.tape;
-    end = a.end;
-    tree = a.tree;
-    decoded = a.decoded;
-    is = a.is;
-    within = a.within;
-    many = a.many;
-    inside = a.inside;
-    atoms = a.atoms;
-    room = a.room;
-    items = a.items;
-    levels = a.levels;
-  }
+  pub admitted-is : resolved s cap ≡ yes (record { atoms = a.stood.tape.atoms; items = a.stood.tree })
+  admitted-is = said_yes s w m t at a.stood a.few cap a.fits
 
-  pub admitted-is : resolved s cap ≡ yes (record { atoms = a.tape.atoms; items = a.tree })
-  admitted-is = said_yes s w m t at admitted-stood a.few cap a.fits
-
-  pub levelled-is : levelled_of s cap ≡ level_stage (sizes 2 cap) (record { atoms = a.tape.atoms; items = a.tree })
+  pub levelled-is : levelled_of s cap ≡ level_stage (sizes 2 cap) (record { atoms = a.stood.tape.atoms; items = a.stood.tree })
   unfolding levelled_of
   levelled-is = rw admitted-is refl
 
   -- ---- the room: at least 11 bytes of items and 3 of an atom
   module _ (some : 0 < t.count) (room : Room) (r : room ≡ room_of (length s) (length s - at) cap) (narrow : length w * 1 < 2 ^ 63) where
     abbrev A : ℕ
-    A = alternatives_in a.tree
+    A = alternatives_in a.stood.tree
 
-    items_size_lem : length s - at ≡ length (bytes_of_each (item_bytes 2 a.tape.atoms) a.tree)
-    items_size_lem = omega (arith, a.room, part_length t.at (t.at + (length s - at)) w a.room, ap length a.items)
+    items_size_lem : length s - at ≡ length (bytes_of_each (item_bytes 2 a.stood.tape.atoms) a.stood.tree)
+    items_size_lem = omega (arith, a.stood.room, part_length t.at (t.at + (length s - at)) w a.stood.room, ap length a.stood.items)
 
-    atoms_size : at ≡ length (bytes_of_each (atom_bytes 2) a.tape.atoms)
-    atoms_size = omega (arith, part_length 0 at s a.inside, ap length a.atoms)
+    atoms_size : at ≡ length (bytes_of_each (atom_bytes 2) a.stood.tape.atoms)
+    atoms_size = omega (arith, part_length 0 at s a.stood.inside, ap length a.stood.atoms)
 
     few_bytes : 16 * A + 11 ≤ length s - at
-    few_bytes = omega (arith, items_size_lem, alternatives_few a.tape.atoms a.tree, a.levels.many)
+    few_bytes = omega (arith, items_size_lem, alternatives_few a.stood.tape.atoms a.stood.tree, a.stood.levels.many)
 
     some_atoms : 3 ≤ at
-    some_atoms = omega (arith, atoms_size, atoms_long a.tape.atoms, atoms_some a.tape.atoms a.tree a.levels.within (omega (arith, a.levels.many)))
+    some_atoms = omega (arith, atoms_size, atoms_long a.stood.tape.atoms, items_named a.stood.tape.atoms a.stood.tree a.stood.levels.within (omega (arith, a.stood.levels.many)))
 
     arrays_is : room.arrays ≡ 8 * length s + 2 * (length s - at)
     unfolding room_of
@@ -124,40 +92,40 @@ module _ (s : List ℕ) (cap : ℕ) (m : Map) (t : Grammar) (at : ℕ) (w : List
         let f = at-is in
         let g = lim_is in
         record {
-          heads = omega (arith, a.levels.heads);
-          names = omega (arith, a.levels.records);
-          few = omega (arith, a.many, names_most a.tape a.tree a.is a.within (omega (arith, a.many, a.few)));
-          arrays = omega (arith, a.inside, a.fits);
+          heads = omega (arith, a.stood.levels.heads);
+          names = omega (arith, a.stood.levels.records);
+          few = omega (arith, a.stood.many, names_most a.stood.tape a.stood.tree a.stood.is a.stood.within (omega (arith, a.stood.many, a.few)));
+          arrays = omega (arith, a.stood.inside, a.fits);
           ordered = omega arith;
-          inside = omega (arith, a.inside, a.fits, a.enough);
+          inside = omega (arith, a.stood.inside, a.fits, a.enough);
           narrow = omega arith;
         }
 
     -- theorem: the resolved grammar stands there
-    pub grammar_stands : GrammarStands s m t room w true a.tree
+    pub grammar_stands : GrammarStands s m t room w true a.stood.tree
     grammar_stands =
-        let e = a.levels.texts-are in
+        let e = a.stood.levels.texts-are in
         record {
           laid = laid;
-          before = a.levels.before some;
-          table = a.levels.table;
-          above = a.levels.on_tape (room.lim + 16);
-          some = a.levels.some (omega (arith, a.levels.many));
+          before = a.stood.levels.before some;
+          table = a.stood.levels.table;
+          above = a.stood.levels.on_tape (room.lim + 16);
+          some = a.stood.levels.some (omega (arith, a.stood.levels.many));
           few = omega (arith, a.few);
-          apart = ap distinct e ∙ a.within.apart;
-          row = rw e a.levels.row;
-          within = rw (e, a.levels.width) a.levels.within;
-          many = a.levels.many;
+          apart = ap distinct e ∙ a.stood.within.apart;
+          row = rw e a.stood.levels.row;
+          within = rw (e, a.stood.levels.width) a.stood.levels.within;
+          many = a.stood.levels.many;
         }
 
     pub some_grammar : SomeGrammar s m t room w
-    some_grammar = record { four = true; items = a.tree; stands = grammar_stands }
+    some_grammar = record { four = true; items = a.stood.tree; stands = grammar_stands }
 
     -- ---- what the pass answered, and left
     module _ (x : Result Written Refusal) (w' : List ℕ) (p : Levels s m t room w x w') where
-      by_levels_lem : LevelledBy s m t room (check_levels a.tree) w a.tree x w'
+      by_levels_lem : LevelledBy s m t room (check_levels a.stood.tree) w a.stood.tree x w'
       unfolding Levels
-      by_levels_lem = p true a.tree grammar_stands
+      by_levels_lem = p true a.stood.tree grammar_stands
 
       is_refused : (v : Written) (why : Refusal) → Ok v ≡ Err why → ⊥
       is_refused v why e = let z : ◌≡◌ {A = ℕ} 0 1 = cc in omega arith
@@ -165,44 +133,44 @@ module _ (s : List ℕ) (cap : ℕ) (m : Map) (t : Grammar) (at : ℕ) (w : List
       -- theorem: a refusal is the stage's
       pub levels-refused : (o : List ℕ) (why : Refusal) → x ≡ Err why → Staged (levelled_of s cap) o (Err why) o
       unfolding LevelledBy level_stage levels answer_of written refusal_over
-      levels-refused o why e = rw levelled-is (go (check_levels a.tree) by_levels_lem)
+      levels-refused o why e = rw levelled-is (go (check_levels a.stood.tree) by_levels_lem)
         where
-          go : (z : Outcome (Unit {0})) → LevelledBy s m t room z w a.tree x w'
-              → Staged (after (after z (λ u. yes (levelled a.tree))) (λ L. sizes 2 cap (stage_of a.tape.atoms L))) o (Err why) o
+          go : (z : Outcome (Unit {0})) → LevelledBy s m t room z w a.stood.tree x w'
+              → Staged (after (after z (λ u. yes (levelled a.stood.tree))) (λ L. sizes 2 cap (stage_of a.stood.tape.atoms L))) o (Err why) o
           go (yes u) k = absurd (is_refused k.0 why (sym k.1 ∙ e))
           go (no q sp) k = let z : why ≡ refusal_over q sp = cc in record { answered = rw z refl; tree = refl }
 
       -- theorem: and a yes leaves the levels
       pub levels-written : (v : Written) → x ≡ Ok v → SomeLevels s cap m at room v w'
       unfolding LevelledBy
-      levels-written v e = go (check_levels a.tree) refl by_levels_lem
+      levels-written v e = go (check_levels a.stood.tree) refl by_levels_lem
         where
-          go : (z : Outcome (Unit {0})) → check_levels a.tree ≡ z → LevelledBy s m t room z w a.tree x w' → SomeLevels s cap m at room v w'
+          go : (z : Outcome (Unit {0})) → check_levels a.stood.tree ≡ z → LevelledBy s m t room z w a.stood.tree x w' → SomeLevels s cap m at room v w'
           go (no q sp) h k = absurd (is_refused v (refusal_over q sp) (sym e ∙ k))
           go (yes u) h k =
               let c : k.0 ≡ v = let d : Ok k.0 ≡ Ok v = sym k.1 ∙ e in cc in
-              let b : Wrote s m room 2 (ids_in a.tape.atoms) w (record { to = room.at; count = m.count }) A (levelled a.tree) v w' = rw (← c, ← a.levels.width, ← a.levels.texts-are) k.2 in
+              let b : Wrote s m room 2 (ids_in a.stood.tape.atoms) w (record { to = room.at; count = m.count }) A (levelled a.stood.tree) v w' = rw (← c, ← a.stood.levels.width, ← a.stood.levels.texts-are) k.2 in
               record {
-                tape = a.tape;
-                tree = a.tree;
+                tape = a.stood.tape;
+                tree = a.stood.tree;
                 admitted = admitted-is;
                 fine = h;
-                is = a.is;
-                within = a.within;
-                many = a.many;
-                inside = a.inside;
-                atoms = a.atoms;
-                tree_within = a.levels.within;
-                some = omega (arith, a.levels.many);
+                is = a.stood.is;
+                within = a.stood.within;
+                many = a.stood.many;
+                inside = a.stood.inside;
+                atoms = a.stood.atoms;
+                tree_within = a.stood.levels.within;
+                some = omega (arith, a.stood.levels.many);
                 room_is = r;
                 fits = a.fits;
                 enough = omega (arith, b.long, a.enough);
                 before = w;
-                texts-are = a.levels.texts-are;
-                on_tape = a.levels.on_tape;
-                narrower = a.levels.narrower;
-                base = a.levels.base;
-                records = a.levels.records;
+                texts-are = a.stood.levels.texts-are;
+                on_tape = a.stood.levels.on_tape;
+                narrower = a.stood.levels.narrower;
+                base = a.stood.levels.base;
+                records = a.stood.levels.records;
                 size = sym items_size_lem;
                 wrote = b;
               }

@@ -15,4 +15,5 @@ mod ExpandingFirst
 mod ExpandingStart
 mod ExpandingCode
 mod WholeMean
+mod WholeRun
 mod WholeCode

@@ -18,22 +18,22 @@ use Rattle.stages.specs.declared.Resolved.{Resolved}
 use Rattle.stages.specs.Stages.{TapeResolves, resolved}
 use Rattle.stages.specs.Follows.{Follows}
 use Rattle.stages.specs.Levelling.{SomeAdmitted}
-use Rattle.stages.proofs.StoodMean.{Stood, stood, stage_refused, stage_stands, stage_no, judged, stood_yes}
-use Rattle.stages.proofs.LevellingMeanStage.{none_of, admitted-stood, admitted-is}
+use Rattle.stages.proofs.StoodMean.{stood, stage_refused, stage_stands, stage_no, judged, stood_yes}
+use Rattle.stages.proofs.LevellingMeanStage.{none_of, admitted-is}
 
 -- ---- the resolved stage is handed over where it is admitted
 module _ (s o : List ℕ) (m : Map) (t : Grammar) (at : ℕ) (w : List ℕ) (a : SomeAdmitted s (length o) m t at w) where
   pub admitted-inside : at ≤ length s
-  admitted-inside = a.inside
+  admitted-inside = a.stood.inside
 
   pub admitted-room : t.at + (length s - at) ≤ length w
-  admitted-room = a.room
+  admitted-room = a.stood.room
 
   pub admitted-fits : length s ≤ length o
   admitted-fits = a.fits
 
   pub admitted-handed : (o' : List ℕ) → o' ≡ handed at s t.at w o → Staged (resolved s (length o)) o (Ok (length s)) o'
-  admitted-handed o' h = stood_yes s w m t at (admitted-stood s (length o) m t at w a) a.few o o' a.fits h
+  admitted-handed o' h = stood_yes s w m t at a.stood a.few o o' a.fits h
 
 pub ruleset resolving_pass = (rules, admitted-inside, admitted-room, admitted-fits, admitted-handed)
 
@@ -61,9 +61,9 @@ module _ (f : List ℕ → ℕ → Outcome Stage) (F : Follows f) where
   pub run_none : (s o : List ℕ) (m : Map) (t : Grammar) (at : ℕ) (w : List ℕ) → SomeAdmitted s (length o) m t at w → t.count ≡ 0 → (o' : List ℕ) → o' ≡ handed at s t.at w o
       → Staged (f s (length o)) o (Ok (length s)) o'
   run_none s o m t at w a e o' h =
-      let z : a.tree ≡ [] = none_of a.tree (sym e ∙ a.levels.many) in
-      let y : resolved s (length o) ≡ yes (record { atoms = a.tape.atoms; items = [] }) = admitted-is s (length o) m t at w a ∙ ap (λ (R : Tree). yes (record { atoms = a.tape.atoms; items = R })) z in
-      let l : f s (length o) ≡ resolved s (length o) = F.keeps s (length o) a.tape.atoms y ∙ sym y in
+      let z : a.stood.tree ≡ [] = none_of a.stood.tree (sym e ∙ a.stood.levels.many) in
+      let y : resolved s (length o) ≡ yes (record { atoms = a.stood.tape.atoms; items = [] }) = admitted-is s (length o) m t at w a ∙ ap (λ (R : Tree). yes (record { atoms = a.stood.tape.atoms; items = R })) z in
+      let l : f s (length o) ≡ resolved s (length o) = F.keeps s (length o) a.stood.tape.atoms y ∙ sym y in
       rw l (admitted-handed s o m t at w a o' h)
 
 -- ---- what the steps ask
@@ -73,25 +73,8 @@ tape_room s o w h = omega arith
 pub run_admitted : (s w w₁ : List ℕ) (r : Resolved) → TapeResolves s (Ok r) w₁ → length w₁ ≡ length w → (o : List ℕ) (y : Result (Unit {0}) Refusal) → y ≡ sized r.texts.count (length s) (length o) → 8 * (length s + length o) ≤ length w
     → (u : Unit {0}) → y ≡ Ok u → SomeAdmitted s (length o) r.texts r.grammar r.at w₁
 run_admitted s w w₁ r i l o y j h u e =
-    let d : Stood s w₁ r.texts r.grammar r.at = stood s (Ok r) w₁ i r refl in
     let k = judged s w₁ r i o y j u e in
-    record {
-      tape = d.tape;
-      end = d.end;
-      tree = d.tree;
-      decoded = d.decoded;
-      is = d.is;
-      within = d.within;
-      many = d.many;
-      inside = d.inside;
-      atoms = d.atoms;
-      room = d.room;
-      items = d.items;
-      few = k.0;
-      fits = k.1;
-      enough = omega arith;
-      levels = d.levels;
-    }
+    record { stood = stood s (Ok r) w₁ i r refl; few = k.0; fits = k.1; enough = omega arith }
 
 pub some_items : (n : ℕ) → (n ≡ 0 → ⊥) → 0 < n
 some_items n h = omega arith

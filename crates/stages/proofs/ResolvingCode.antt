@@ -1,34 +1,25 @@
 -- The ways out of `resolve_valid` and `resolve_tape`: the items of a validated tape, copied to work, are a grammar that `resolve` takes. Assumes nothing.
 use mathlib.Core.Path.{◌≡◌, refl, sym, ap, ◌∙◌}
-use mathlib.Core.Bool.{Bool, true, false}
+use mathlib.Core.Bool.{true}
 use mathlib.Core.Logic.{inl, inr}
-use mathlib.Core.List.{List, [], ◌∷◌, ◌++◌}
-use Prim.Native.Nat.{ℕ, zero, suc, ◌+◌, ◌-◌, ◌*◌, ◌^◌, ◌<◌, ◌≤◌}
+use mathlib.Core.List.{List, [], ◌∷◌}
+use Prim.Native.Nat.{ℕ, ◌+◌, ◌-◌, ◌*◌, ◌^◌, ◌<◌, ◌≤◌}
 use native.Mathlib.Omega.{arith}
 use borrow.Author.Rules.{rules}
-use lib.ListN.{length, take, drop, get_or, length-append}
-use lib.Dec.{leb}
-use lib.Seq.{take-append_seam, drop-append_seam, take_all}
+use lib.ListN.{length, take, get_or, length-append}
 use mir.Syntax.{w8, w64}
 use mir.Val as Bound
 use Rattle.octets.specs.Plain.Numbers.{le_at}
-use Rattle.octets.specs.Plain.Runs.{Lies, part}
+use Rattle.octets.specs.Plain.Runs.{part}
 use Rattle.octets.specs.Working.Stores.{store}
-use Rattle.octets.proofs.PartLaws.{part_length}
-use Rattle.octets.proofs.LiesLaws.{lies_part, lies_to}
-use Rattle.octets.proofs.StoreLaws.{length_store, lies_store, le_at-other, get_d_store_after}
-use Rattle.parse_tree.specs.Plain.Tree.{Text, Item, Stage, item, terminal}
-use Rattle.parse_tree.specs.Plain.Reading.{got, then}
+use Rattle.octets.proofs.LiesLaws.{lies_part}
+use Rattle.octets.proofs.StoreLaws.{le_at-other, get_d_store_after}
+use Rattle.parse_tree.specs.Plain.Tree.{Text, Item, Stage}
 use Rattle.parse_tree.specs.Plain.WriteTape.{bytes_of_each}
-use Rattle.parse_tree.specs.Working.Decode.{decode_by, decode, read_item, read_items}
-use Rattle.parse_tree.specs.Working.Encode.{stage_bytes, atom_bytes, item_bytes}
-use Rattle.parse_tree.specs.Working.Within.{Each, ItemWithin, StageWithin}
+use Rattle.parse_tree.specs.Working.Decode.{decode_by, decode}
+use Rattle.parse_tree.specs.Working.Encode.{item_bytes}
 use Rattle.parse_tree.specs.Working.Refusals.{refusal_at, refusal_over}
 use Rattle.parse_tree.specs.declared.refusal.Refusal.{Refusal}
-use Rattle.parse_tree.proofs.TextLaws.{number-below}
-use Rattle.parse_tree.proofs.Written.{written}
-use Rattle.parse_tree.proofs.ReadingLaws.{then-got, got_as}
-use Rattle.parse_tree.proofs.ItemFound.{item_finds}
 use Rattle.texts.specs.Atoms.{atoms_of}
 use Rattle.texts.specs.Fields.{cell_at}
 use Rattle.texts.proofs.AtomsLaws.{length_atoms}
@@ -40,6 +31,7 @@ use Rattle.validate.specs.declared.Atoms.{Atoms}
 use Rattle.validate.specs.declared.regions.Regions.{Regions}
 use Rattle.validate.specs.declared.Validated.{Validated}
 use Rattle.validate.proofs.NotesCode.{item_long}
+use Rattle.validate.proofs.TapeLaws.{atoms_long, TapeOf, tape_of, copied_long, copied_kept, copied_lies}
 use Rattle.passes.specs.Outcome.{Tree, Outcome, yes, no}
 use Rattle.passes.specs.Resolve.{resolve}
 use Rattle.passes.proofs.ResolveWithin.{KeptItems, resolve-alike}
@@ -51,18 +43,13 @@ use Rattle.resolve.proofs.GrammarLaws.{row_start}
 use Rattle.std.specs.Prelude.{Result, Ok, Err}
 use Rattle.stages.specs.declared.Resolved.{Resolved}
 use Rattle.stages.specs.Stages.{Levelable, StandsBy, TapeReads, TapeResolves}
-use Rattle.stages.proofs.LevelableMean.{atoms_long, some_linked, record_free, before-free, table-but_cells, texts-but_cells, above_but_cells}
+use Rattle.stages.proofs.LevelableMean.{items_named, some_linked, record_free, before-free, table-but_cells, texts-but_cells, above_but_cells}
 
--- ---- an item has eleven bytes or more, and a name
+-- ---- an item has eleven bytes or more
 items_long : (ts : List Text) (is : List Item) → 11 * length is ≤ length (bytes_of_each (item_bytes 2 ts) is)
 unfolding bytes_of_each
 items_long ts [] = omega arith
 items_long ts (x ∷ xs) = omega (arith, item_long 2 ts x (omega arith), items_long ts xs, length-append (item_bytes 2 ts x) (bytes_of_each (item_bytes 2 ts) xs))
-
-items_named : (ts : List Text) (is : List Item) → Each (ItemWithin true 2 ts) is → 0 < length is → 0 < length ts
-items_named ts [] w h = absurd (omega arith)
-items_named ts (item d ∷ is) w h = omega (arith, number-below ts d.name w.0.name.0)
-items_named ts (terminal s o x ∷ is) w h = omega (arith, number-below ts x w.0.1.0)
 
 -- ---- a tape that was validated
 module _ (s w : List ℕ) (a : Atoms) (at n : ℕ) (v : Valid true 2 s w a at n) (b : (j : ℕ) → Bound.Fits w8 (get_or s j 0)) where
@@ -72,55 +59,11 @@ module _ (s w : List ℕ) (a : Atoms) (at n : ℕ) (v : Valid true 2 s w a at n)
   abbrev tape : Stage
   tape = record { atoms = atoms_of s a.texts.count; items = v.items }
 
-  abbrev atoms : List ℕ
-  atoms = bytes_of_each (atom_bytes 2) ts
-
-  abbrev each : List Item → List ℕ
-  each is = bytes_of_each (item_bytes 2 ts) is
-
   abbrev size : ℕ
   size = length s - at
 
-  stage : stage_bytes 2 tape ≡ s
-  stage = (written true 2 s tape (length s) (λ j. (b j).fits) v.decoded).bytes
-
-  within : StageWithin true 2 tape
-  within = (written true 2 s tape (length s) (λ j. (b j).fits) v.decoded).within
-
-  -- ---- where the tape's atoms end, its items begin
-  items_end : (k p : ℕ) (is : List Item) (e : ℕ) → read_items true 2 s ts k p ≡ got is e → e ≡ p + length (each is)
-  unfolding read_items bytes_of_each
-  items_end zero p is e q = got_as (λ js d. d ≡ p + length (each js)) q (omega arith)
-  items_end (suc k) p is e q = go (leb (length s) p) q (λ m js f. items_end k m js f)
-    where
-      go : (t : Bool) → elim t [ true ↦ got [] p | false ↦ then (read_item true 2 s ts p) (λ i m. then (read_items true 2 s ts k m) (λ js f. got (i ∷ js) f)) ] ≡ got is e
-          → ((m : ℕ) (js : List Item) (f : ℕ) → read_items true 2 s ts k m ≡ got js f → f ≡ m + length (each js)) → e ≡ p + length (each is)
-      go true q f = got_as (λ js d. d ≡ p + length (each js)) q (omega arith)
-      go false q f =
-          let r₁ = then-got (read_item true 2 s ts p) _ q in
-          let r₂ = then-got (read_items true 2 s ts k r₁.mid) _ r₁.second in
-          let l = (item_finds true 2 s ts (λ j. (b j).fits) v.ready.apart p r₁.value r₁.mid r₁.first).lies in
-          got_as (λ js d. d ≡ p + length (each js)) r₂.second
-          (omega (arith, l.end, f r₁.mid r₂.value r₂.mid r₂.first, length-append (item_bytes 2 ts r₁.value) (each r₂.value)))
-
-  ends : length s ≡ at + length (each v.items)
-  ends = items_end (length s) at v.items (length s) v.read
-
-  begins : at ≡ length atoms
-  unfolding stage_bytes
-  begins = omega (arith, ends, length-append atoms (each v.items), ap length stage)
-
-  atoms_part : part 0 at s ≡ atoms
-  unfolding part stage_bytes
-  atoms_part =
-      let z : at - 0 ≡ at = omega arith in
-      ap (λ (i : ℕ). take i (drop 0 s)) z ∙ ap (λ (x : List ℕ). take at (drop 0 x)) (sym stage) ∙ ap (λ (i : ℕ). take i (atoms ++ each v.items)) begins ∙ take-append_seam atoms (each v.items)
-
-  items_part : part at (length s) s ≡ each v.items
-  unfolding part stage_bytes
-  items_part =
-      ap (λ (x : List ℕ). take (length s - at) (drop at x)) (sym stage) ∙ ap (λ (i : ℕ). take (length s - at) (drop i (atoms ++ each v.items))) begins
-      ∙ ap (take (length s - at)) (drop-append_seam atoms (each v.items)) ∙ take_all (length s - at) (each v.items) (omega (arith, ends))
+  stands : TapeOf true s at ts v.items
+  stands = tape_of true s w a at n v b
 
   -- ---- the grammar in work: w₁ is work with the items
   abbrev grammar : Grammar
@@ -128,19 +71,19 @@ module _ (s w : List ℕ) (a : Atoms) (at n : ℕ) (v : Valid true 2 s w a at n)
 
   module _ (room : 8 * length s ≤ length w) (w₁ : List ℕ) (copied : w₁ ≡ store w (7 * size) (part at (length s) s)) where
     long : length w₁ ≡ length w
-    long = ap length copied ∙ length_store w (7 * size) (part at (length s) s)
+    long = copied_kept s w at v.ready.inside w₁ copied
 
-    copied_long : length (part at (length s) s) ≡ size
-    copied_long = part_length at (length s) s (omega arith)
+    copied_size : length (part at (length s) s) ≡ size
+    copied_size = copied_long s w at v.ready.inside w₁ copied
 
     records : a.texts.base + 24 * a.texts.count ≤ length w₁
     records = let z = v.ready.ready.table.room in omega (arith, long)
 
     many_fit : 0 < n → 48 + 8 * n ≤ 7 * size
-    many_fit h = omega (arith, items_long ts v.items, v.many, ends)
+    many_fit h = omega (arith, items_long ts v.items, v.many, stands.ends)
 
     named : 0 < n → 0 < a.texts.count
-    named h = omega (arith, items_named ts v.items within.items (omega (arith, v.many)), length_atoms s a.texts.count)
+    named h = omega (arith, items_named ts v.items stands.within.items (omega (arith, v.many)), length_atoms s a.texts.count)
 
     valid_standing : Standing a.texts grammar (length w₁)
     valid_standing = record {
@@ -157,19 +100,17 @@ module _ (s w : List ℕ) (a : Atoms) (at n : ℕ) (v : Valid true 2 s w a at n)
     before_same k x h = ap (λ (u : List ℕ). le_at k u x) copied ∙ le_at-other k w (7 * size) (part at (length s) s) x (inl h)
 
     behind_same : (k x : ℕ) → 7 * size + size ≤ x → le_at k w₁ x ≡ le_at k w x
-    behind_same k x h = ap (λ (u : List ℕ). le_at k u x) copied ∙ le_at-other k w (7 * size) (part at (length s) s) x (inr (omega (arith, copied_long)))
+    behind_same k x h = ap (λ (u : List ℕ). le_at k u x) copied ∙ le_at-other k w (7 * size) (part at (length s) s) x (inr (omega (arith, copied_size)))
 
     holds : ((j : ℕ) → Bound.Fits w8 (get_or w₁ j 0)) → Holds w₁ a.texts grammar ts v.items
     unfolding cell_at
     holds f =
-        let y : 7 * size + length (part at (length s) s) ≡ 7 * size + size = omega (arith, copied_long) in
-        let l : Lies (store w (7 * size) (part at (length s) s)) (7 * size) (part at (length s) s) (7 * size + size) = lies_to y (lies_store w (7 * size) (part at (length s) s) (omega (arith, copied_long))) in
         record {
           four = true;
           bytes = λ j. (f j).fits;
-          lies = rw (v.wide, copied, ← items_part) l;
+          lies = rw (v.wide, ← stands.items_part) (copied_lies s w at v.ready.inside w₁ copied room);
           inside = omega (arith, long);
-          within = rw v.wide within.items;
+          within = rw v.wide stands.within.items;
           many = v.many;
           places = λ i h. rw v.wide (before_same 8 (48 + 8 * i) (omega (arith, many_fit (omega arith))) ∙ v.noted i h);
           distinct = v.ready.apart;
@@ -209,7 +150,7 @@ module _ (s w : List ℕ) (a : Atoms) (at n : ℕ) (v : Valid true 2 s w a at n)
         record_kept : (j x : ℕ) → j < a.texts.count → a.texts.base + 24 * j ≤ x → x < a.texts.base + 24 * j + 20 → get_or w₂ x 0 ≡ get_or w x 0
         record_kept j x h l u =
             k.others x (record_free a.texts grammar j x (omega (arith, v.base)) l u) ∙ ap (λ (y : List ℕ). get_or y x 0) copied
-            ∙ get_d_store_after w (7 * size) (part at (length s) s) x (omega (arith, copied_long, v.base))
+            ∙ get_d_store_after w (7 * size) (part at (length s) s) x (omega (arith, copied_size, v.base))
 
         listed : (j : ℕ) → j < n → le_at 8 w₂ (48 + 8 * j) ≡ length (bytes_of_each (item_bytes 2 ts) (take j R))
         listed j h =
@@ -232,12 +173,12 @@ module _ (s w : List ℕ) (a : Atoms) (at n : ℕ) (v : Valid true 2 s w a at n)
               narrower = few;
               width = v.wide;
               row = row_start grammar ts w₂ R m (λ j h. rw v.wide (listed j h)) k.lies;
-              within = alike.within within.items;
+              within = alike.within stands.within.items;
               many = m;
               before = λ h. record { ordered = omega arith; items = omega (arith, v.base); list = omega (arith, many_fit h, v.base) };
               base = v.base;
-              records = omega (arith, v.base, begins, v.ready.inside);
-              heads = omega (arith, v.base, begins, v.ready.inside, few);
+              records = omega (arith, v.base, stands.begins, v.ready.inside);
+              heads = omega (arith, v.base, stands.begins, v.ready.inside, few);
             }
 
       valid_fine : r ≡ Ok tt → TapeResolves s (Ok (record { texts = a.texts; grammar = grammar; at = at })) w₂
@@ -248,10 +189,10 @@ module _ (s w : List ℕ) (a : Atoms) (at n : ℕ) (v : Valid true 2 s w a at n)
           go (yes R) q k = record {
             found = record { texts = a.texts; grammar = grammar; at = at };
             is = refl;
-            within = within;
+            within = stands.within;
             many = sym (length_atoms s a.texts.count);
             inside = v.ready.inside;
-            atoms = atoms_part;
+            atoms = stands.atoms_part;
             room = omega (arith, long, k.1.long);
             items = rw v.wide at (lies_part w₂ (7 * size) (7 * size + size) (bytes_of_each (item_bytes a.width.bytes ts) R) k.1.lies);
             levels = levelable R q k.1;

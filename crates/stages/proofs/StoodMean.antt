@@ -12,11 +12,10 @@ use Rattle.octets.specs.Plain.Runs.{part}
 use Rattle.octets.proofs.PartLaws.{part_length}
 use Rattle.parse_tree.specs.Plain.Tree.{Stage}
 use Rattle.parse_tree.specs.Plain.Reading.{Reading, got, refused}
-use Rattle.parse_tree.specs.Plain.WriteTape.{bytes_of_each, tape_of}
+use Rattle.parse_tree.specs.Plain.WriteTape.{tape_of}
 use Rattle.parse_tree.specs.Plain.References.{stage_of}
 use Rattle.parse_tree.specs.Working.Decode.{decode}
-use Rattle.parse_tree.specs.Working.Encode.{stage_bytes, atom_bytes, item_bytes}
-use Rattle.parse_tree.specs.Working.Within.{StageWithin}
+use Rattle.parse_tree.specs.Working.Encode.{stage_bytes}
 use Rattle.parse_tree.specs.Working.Refusals.{refusal_at, refusal_over}
 use Rattle.parse_tree.specs.declared.refusal.Refusal.{Refusal}
 use Rattle.parse_tree.proofs.WriteTapeIs.{tape_is}
@@ -31,23 +30,9 @@ use Rattle.std.specs.Prelude.{Result, Ok, Err}
 use Rattle.output.specs.Working.Judging.{sized}
 use Rattle.output.specs.Working.Handing.{Staged, handed}
 use Rattle.stages.specs.declared.Resolved.{Resolved}
-use Rattle.stages.specs.Stages.{Levelable, StandsBy, TapeReads, TapeResolves, resolved}
+use Rattle.stages.specs.Levelling.{SomeResolved}
+use Rattle.stages.specs.Stages.{StandsBy, TapeReads, TapeResolves, resolved}
 use Rattle.stages.proofs.ResolvingMean.{admit_many, admit_long, admit_done}
-
--- ---- a tape that was resolved, its grammar t standing in w
-pub record Stood (s w : List ℕ) (m : Map) (t : Grammar) (at : ℕ) : Type 0 where
-  pub tape : Stage
-  pub end : ℕ
-  pub tree : Tree
-  pub decoded : decode s ≡ got tape end
-  pub is : resolve tape.items ≡ yes tree
-  pub within : StageWithin true 2 tape
-  pub many : m.count ≡ length tape.atoms
-  pub inside : at ≤ length s
-  pub atoms : part 0 at s ≡ bytes_of_each (atom_bytes 2) tape.atoms
-  pub room : t.at + (length s - at) ≤ length w
-  pub items : part t.at (t.at + (length s - at)) w ≡ bytes_of_each (item_bytes 2 tape.atoms) tree
-  pub levels : Levelable s w m t at tape.atoms tree
 
 is_no : (r : Resolved) (why : Refusal) → Ok r ≡ Err why → ⊥
 is_no r why e = let z : ◌≡◌ {A = ℕ} 0 1 = cc in omega arith
@@ -66,15 +51,15 @@ module _ (s : List ℕ) (x : Result Resolved Refusal) (w : List ℕ) (i : TapeRe
       go (got g k) p h = by g (resolve g.items) h
       go (refused q k) p h = let z : why ≡ refusal_at q k = cc in record { answered = rw z refl; tree = refl }
 
-  pub stood : (r : Resolved) → x ≡ Ok r → Stood s w r.texts r.grammar r.at
+  pub stood : (r : Resolved) → x ≡ Ok r → SomeResolved s w r.texts r.grammar r.at
   unfolding TapeResolves TapeReads StandsBy
   stood r e = go (decode s) refl i
     where
-      by : (g : Stage) (k : ℕ) → decode s ≡ got g k → (z : Outcome Tree) → resolve g.items ≡ z → StandsBy s g z x w → Stood s w r.texts r.grammar r.at
+      by : (g : Stage) (k : ℕ) → decode s ≡ got g k → (z : Outcome Tree) → resolve g.items ≡ z → StandsBy s g z x w → SomeResolved s w r.texts r.grammar r.at
       by g k p (no q sp) y h = absurd (is_no r (refusal_over q sp) (sym e ∙ h))
       by g k p (yes R) y h =
           let c : h.found ≡ r = cc h.is in
-          let d : Stood s w h.found.texts h.found.grammar h.found.at = record {
+          let d : SomeResolved s w h.found.texts h.found.grammar h.found.at = record {
             tape = g;
             end = k;
             tree = R;
@@ -88,9 +73,9 @@ module _ (s : List ℕ) (x : Result Resolved Refusal) (w : List ℕ) (i : TapeRe
             items = h.items;
             levels = h.levels;
           } in
-          subst (λ (u : Resolved). Stood s w u.texts u.grammar u.at) c d
+          subst (λ (u : Resolved). SomeResolved s w u.texts u.grammar u.at) c d
 
-      go : (z : Reading Stage) → decode s ≡ z → TapeReads s z x w → Stood s w r.texts r.grammar r.at
+      go : (z : Reading Stage) → decode s ≡ z → TapeReads s z x w → SomeResolved s w r.texts r.grammar r.at
       go (got g k) p h = by g k p (resolve g.items) refl h
       go (refused q k) p h = absurd (is_no r (refusal_at q k) (sym e ∙ h))
 
@@ -98,7 +83,7 @@ module _ (s : List ℕ) (x : Result Resolved Refusal) (w : List ℕ) (i : TapeRe
   stage_stands r e = rw (← e) i
 
 -- ---- the stage of a resolved tape
-module _ (s w : List ℕ) (m : Map) (t : Grammar) (at : ℕ) (d : Stood s w m t at) where
+module _ (s w : List ℕ) (m : Map) (t : Grammar) (at : ℕ) (d : SomeResolved s w m t at) where
   abbrev pub tree_of : Stage
   tree_of = record { atoms = d.tape.atoms; items = d.tree }
 
@@ -133,7 +118,7 @@ module _ (s w : List ℕ) (m : Map) (t : Grammar) (at : ℕ) (d : Stood s w m t 
 
 -- ---- handed over where `judge` admits it
 module _ (s w : List ℕ) (r : Resolved) (i : TapeResolves s (Ok r) w) where
-  abbrev d : Stood s w r.texts r.grammar r.at
+  abbrev d : SomeResolved s w r.texts r.grammar r.at
   d = stood s (Ok r) w i r refl
 
   -- y is what `judge` answered

@@ -21,7 +21,8 @@ use Rattle.stages.specs.Expanding.{macros_room, SomeRun, RunsTo}
 use Rattle.stages.specs.Whole.{again_stages, whole_of, SomeSettled}
 use Rattle.stages.proofs.LevellingMeanStage.{staged_no}
 use Rattle.stages.proofs.LevellingCode.{levelled_no, levelled_fitting}
-use Rattle.stages.proofs.WholeMean.{whole_settling, whole_again, whole_refused, whole_run, whole_done}
+use Rattle.stages.proofs.WholeMean.{whole_settling, whole_again}
+use Rattle.stages.proofs.WholeRun.{whole_refused, whole_run, whole_done}
 
 -- ---- `expand_settled`: y is what `resolve_again` answered
 module _ (s o : List ℕ) (m : Map) (at : ℕ) (room : Room) (v : Written) (x : rounds-room.Room) (low : ℕ) (w₁ : List ℕ) (S : SomeSettled s (length o) m at room v x low w₁) where

@@ -32,8 +32,8 @@ use Rattle.stages.specs.Stages.{Levelable, resolved}
 unfoldable pub levelled_of : List ℕ → ℕ → Outcome Stage
 levelled_of s cap = after (resolved s cap) (level_stage (sizes 2 cap))
 
--- ---- a tape whose resolved stage is admitted
-pub record SomeAdmitted (s : List ℕ) (cap : ℕ) (m : Map) (t : Grammar) (at : ℕ) (w : List ℕ) : Type 0 where
+-- ---- a tape that was resolved, its grammar t standing in w
+pub record SomeResolved (s w : List ℕ) (m : Map) (t : Grammar) (at : ℕ) : Type 0 where
   pub tape : Stage
   pub end : ℕ
   pub tree : Tree
@@ -45,10 +45,14 @@ pub record SomeAdmitted (s : List ℕ) (cap : ℕ) (m : Map) (t : Grammar) (at :
   pub atoms : part 0 at s ≡ bytes_of_each (atom_bytes 2) tape.atoms
   pub room : t.at + (length s - at) ≤ length w
   pub items : part t.at (t.at + (length s - at)) w ≡ bytes_of_each (item_bytes 2 tape.atoms) tree
+  pub levels : Levelable s w m t at tape.atoms tree
+
+-- ---- and whose resolved stage is admitted
+pub record SomeAdmitted (s : List ℕ) (cap : ℕ) (m : Map) (t : Grammar) (at : ℕ) (w : List ℕ) : Type 0 where
+  pub stood : SomeResolved s w m t at
   pub few : m.count ≤ 65536
   pub fits : length s ≤ cap
   pub enough : 8 * (length s + cap) ≤ length w
-  pub levels : Levelable s w m t at tape.atoms tree
 
 -- ---- its levels written: `before` is work as the pass found it
 pub record SomeLevels (s : List ℕ) (cap : ℕ) (m : Map) (at : ℕ) (room : Room) (v : Written) (w : List ℕ) : Type 0 where

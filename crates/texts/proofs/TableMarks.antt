@@ -100,9 +100,8 @@ above_none s w m z e = record { above = λ i l. absurd (omega arith) }
 -- ---- what `enter` asks, of an 01 on the tape and of one in work; z is a bound from which on the texts in work stand
 module _ (s w : List ℕ) (m : Map) (z h : ℕ) (g : Table s w m) (a : Above s w m z) (some : 0 < m.buckets) (room : m.base + 24 * m.count + 24 ≤ length w) (roof : m.base + 24 * m.count + 24 ≤ z)
     (wide : m.base + 24 * m.buckets ≤ z) where
-  -- theorem: what `enter` asks for a text of the tape
-  pub entering_tape : (at c : ℕ) → c < 4 → atom_end s at ≤ length s → h ≡ hash_of (atom_text s at) → Entering s w m (4 * at + c) h
-  entering_tape at c l k e = record {
+  entering : (x : ℕ) (u : Text) → Whole s w x → Behind s z x → marked_text s w x ≡ u → h ≡ hash_of u → Entering s w m x h
+  entering x u k b q e = record {
     low = z;
     table = g;
     above = a;
@@ -110,25 +109,18 @@ module _ (s w : List ℕ) (m : Map) (z h : ℕ) (g : Table s w m) (a : Above s w
     room = room;
     roof = roof;
     wide = wide;
-    whole = tape_mark_whole s w at c l k;
-    behind = tape_mark_behind s w at c l k z;
-    hash = e ∙ ap hash_of (sym (tape_mark_text s w at c l k));
+    whole = k;
+    behind = b;
+    hash = e ∙ ap hash_of (sym q);
   }
+
+  -- theorem: what `enter` asks for a text of the tape
+  pub entering_tape : (at c : ℕ) → c < 4 → atom_end s at ≤ length s → h ≡ hash_of (atom_text s at) → Entering s w m (4 * at + c) h
+  entering_tape at c l k = entering (4 * at + c) (atom_text s at) (tape_mark_whole s w at c l k) (tape_mark_behind s w at c l k z) (tape_mark_text s w at c l k)
 
   -- theorem: and for one of work
   pub entering_work : (p : ℕ) → 8 * length s ≤ p → z ≤ p → atom_end w p ≤ length w → h ≡ hash_of (atom_text w p) → Entering s w m (p - 4 * length s) h
-  entering_work p l b k e = record {
-    low = z;
-    table = g;
-    above = a;
-    some = some;
-    room = room;
-    roof = roof;
-    wide = wide;
-    whole = work_mark_whole s w p l k;
-    behind = work_mark_behind s w p l z b;
-    hash = e ∙ ap hash_of (sym (work_mark_text s w p l));
-  }
+  entering_work p l b k = entering (p - 4 * length s) (atom_text w p) (work_mark_whole s w p l k) (work_mark_behind s w p l z b) (work_mark_text s w p l)
 
 -- theorem: the text that was entered, of work
 pub entered_work : (s w : List ℕ) (m : Map) (p h c : ℕ) (m1 : Map) (w1 : List ℕ) → 8 * length s ≤ p → Entered s w m (p - 4 * length s) h c m1 w1 → texts s w1 m1 ≡ texts s w m ++ (atom_text w p ∷ [])

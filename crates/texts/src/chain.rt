@@ -69,7 +69,7 @@ fn rest<F: Fn(usize) -> bool>(work: &[u8], m: Map, h: u32, is: &F) -> Option<usi
     )
 }
 
-// The same, among all: they are in one bucket, or in no chain.
+// The same, among all: they are in one bucket, or in no chain. The test stands here and in `rest`: a closure of its own for both is called and not inlined.
 pub fn search<F: Fn(usize) -> bool>(work: &[u8], m: Map, h: u32, is: F) -> Option<usize>
     requires chained { Chained work.now m.base m.buckets (linked m.count) }
     requires room { (0 < m.buckets) × (m.buckets ≤ 4294967295) × (m.base + 24 * m.count ≤ length work.now) × (m.base + 24 * m.buckets ≤ length work.now) }

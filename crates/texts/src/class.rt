@@ -6,7 +6,7 @@ ghost use Rattle.texts.specs.Classes.{text_class, byte_class, least, class_numbe
 
 use TextClass::{Ascii, Literal, Name, Other};
 
-// The class of a text, which is the least of its bytes': a name, another text of bytes 20 to 7e, another of bytes 00 to 7f, any other.
+// The class of a text: a name, another text of bytes 20 to 7e, another of bytes 00 to 7f, any other. The least of its bytes' says which, but for a name (`class_by`).
 // Its number, from 0 on, stands in two bits of the text's mark. No `= 0` here: the derived order would look each number up in a table.
 #[derive(Clone, Copy, PartialEq, Eq, PartialOrd, Ord)]
 pub enum TextClass {

@@ -3,6 +3,7 @@ mod QuestionsCode
 mod SuitsCode
 pub mod CommandCode
 mod SymbolsCode
+mod PassesCode
 mod QuickCode
 mod QuickInsideCode
 mod QuickItemsCode
@@ -15,3 +16,4 @@ mod CommandMean
 mod AlternativesCode
 mod ItemsCode
 pub mod NotesCode
+pub mod TapeLaws

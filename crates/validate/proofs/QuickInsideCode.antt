@@ -19,7 +19,8 @@ use Rattle.validate.specs.Quick.{QuickPassed, QuickInside}
 use Rattle.validate.specs.declared.Atoms.{Atoms}
 use Rattle.std.specs.Prelude.{Option, Some, IfSome, Ok}
 use Rattle.std.specs.Bool.{then_some}
-use Rattle.validate.proofs.QuickCode.{passes-named, quick_yes, quick_next}
+use Rattle.validate.proofs.QuickCode.{quick_yes, quick_next}
+use Rattle.validate.proofs.PassesCode.{passes-named}
 
 pub inside-none : (s : List ℕ) (m : Atoms) (left n at : ℕ) → n ≡ 0 → QuickInside s m left n at at
 unfolding times step_of

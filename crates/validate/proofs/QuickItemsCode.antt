@@ -30,7 +30,7 @@ use Rattle.parse_tree.specs.Working.Nodes.{alternative_here, nonterminal_here, a
 use Rattle.validate.specs.Quick.{PassedAlternative, PassedNonterminal, PassedTerminal, PassedCommand, terminal_here}
 use Rattle.validate.specs.declared.Atoms.{Atoms}
 use Rattle.validate.proofs.CommandCode.{asked_got, asked_is}
-use Rattle.validate.proofs.QuickCode.{wholly, some_if}
+use Rattle.validate.proofs.PassesCode.{wholly, some_if}
 
 -- the command at a place that is n, may stand there and passes 3 and 4
 module _ (s : List ℕ) (m : Atoms) (place at : ℕ) (n : Node) (i : node_at m.width.bytes s at ≡ Some n) (a : allowed_at place (class_of n) ≡ true) where

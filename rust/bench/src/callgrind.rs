@@ -11,11 +11,12 @@ use std::process::{Command, Stdio};
 pub enum Call {
     Validate,
     Resolve,
-    Lalrpop,
+    /// LALRPOP's `resolve` of the tree as it is read.
+    LalrpopResolve,
     Levels,
-    /// LALRPOP's `resolve` of a tree that is resolved.
+    /// Its `resolve` of a tree that is resolved.
     LalrpopAgain,
-    /// Its `expand_precedence` of the same.
+    /// Its `expand_precedence` of a tree that is resolved.
     LalrpopLevels,
     Macros,
     /// Its `expand_macros` of the tree as it is read.
@@ -30,7 +31,7 @@ impl Call {
         match self {
             Call::Validate => "validate",
             Call::Resolve => "resolve",
-            Call::Lalrpop => "lalrpop",
+            Call::LalrpopResolve => "lalrpop",
             Call::Levels => "levels",
             Call::LalrpopAgain => "lalrpop-again",
             Call::LalrpopLevels => "lalrpop-levels",
@@ -45,7 +46,7 @@ impl Call {
         match self {
             Call::Validate => "normalize_validate",
             Call::Resolve => "normalize_resolve",
-            Call::Lalrpop | Call::LalrpopAgain => "*lalrpop_resolves*",
+            Call::LalrpopResolve | Call::LalrpopAgain => "*lalrpop_resolves*",
             Call::Levels => "normalize_levels",
             Call::LalrpopLevels => "*lalrpop_levels*",
             Call::Macros => "normalize_macros",
@@ -81,7 +82,8 @@ pub fn once(arguments: &[String]) {
     }
 }
 
-/// Not inlined, so that callgrind finds it by its name.
+// none is inlined, so that callgrind finds each by its name
+
 #[inline(never)]
 fn lalrpop_resolves(ready: Ready) -> Option<Ready> {
     ready.resolved()
@@ -122,10 +124,14 @@ pub fn instructions(call: Call, word: &str) -> Vec<(u64, String)> {
     all
 }
 
+/// Their sum.
+pub fn sum(call: Call, word: &str) -> f64 {
+    instructions(call, word).iter().map(|(count, _)| *count as f64).sum()
+}
+
 /// The sum, for each byte of the tape.
 pub fn per_byte(call: Call, word: &str) -> f64 {
-    let sum: u64 = instructions(call, word).iter().map(|(count, _)| count).sum();
-    sum as f64 / Subject::of_word(word).tape.len() as f64
+    sum(call, word) / Subject::of_word(word).tape.len() as f64
 }
 
 /// What callgrind's file says of each function without those that it calls: a line `fn=(7) name`, or `fn=(7)` where the name was said before,

@@ -3,6 +3,7 @@ use std::sync::OnceLock;
 use std::time::Duration;
 
 #[cfg(all(target_os = "linux", target_pointer_width = "64"))]
+#[allow(unsafe_code)]
 mod thread {
     use std::time::Duration;
 

@@ -1,5 +1,5 @@
 //! Grammars of any number of nonterminals, made like grammar files: a macro or two, expressions with levels, items, lists and terminals.
-use reading::notation::parse;
+use reading::parse;
 use reading::tree::Stage;
 
 /// The numbers of nonterminals that are measured.
@@ -53,11 +53,12 @@ pub fn grammar(nonterminals: usize) -> Stage {
     parse(&text(nonterminals))
 }
 
-/// The grammar in `reading`'s notation: extern terminals, then the nonterminals.
+/// The grammar's items: extern terminals, then the nonterminals.
 pub fn text(nonterminals: usize) -> String {
     let grammar = Grammar { nonterminals };
-    let externs = WORDS[..grammar.words()].iter().map(|word| format!("extern {word};\n"));
-    externs.chain((0..nonterminals).map(|k| grammar.nonterminal(k))).collect()
+    let externs: String = WORDS[..grammar.words()].iter().map(|word| format!("{word} => Token::{word}, ")).collect();
+    let items = (0..nonterminals).map(|k| grammar.nonterminal(k));
+    std::iter::once(format!("extern {{ enum Token {{ {externs}}} }}\n")).chain(items).collect()
 }
 
 struct Grammar {
@@ -111,13 +112,13 @@ impl Grammar {
     fn levels(&self, k: usize) -> String {
         let (name, word) = (self.name(k), self.word(k));
         let binary =
-            |sign: &str, make: &str| format!("left:{name} \"{sign}\" right:{name} => {{ Expr::{make}(Box::new(left), Box::new(right)) }}");
+            |sign: &str, make: &str| format!("<left:{name}> \"{sign}\" <right:{name}> => Expr::{make}(Box::new(left), Box::new(right))");
         let (times, plus, equal) = (binary("*", "Times"), binary("+", "Plus"), binary("==", "Equal"));
         format!(
-            "pub {name} = #precedence(level=\"0\") {word} => {{ Expr::Name(<>) }} | \"(\" <{name}> \")\" \
-             | #precedence(level=\"1\") #assoc(side=\"left\") {times} \
-             | #precedence(level=\"2\") #assoc(side=\"left\") {plus} \
-             | #precedence(level=\"3\") #assoc(side=\"none\") {equal};\n"
+            "pub {name} = {{ #[precedence(level=\"0\")] {word} => Expr::Name(<>), \"(\" <{name}> \")\", \
+             #[precedence(level=\"1\")] #[assoc(side=\"left\")] {times}, \
+             #[precedence(level=\"2\")] #[assoc(side=\"left\")] {plus}, \
+             #[precedence(level=\"3\")] #[assoc(side=\"none\")] {equal} }};\n"
         )
     }
 
@@ -126,8 +127,8 @@ impl Grammar {
         let (name, word, sign) = (self.name(k), self.word(k + 4), SIGNS[k / 8 % 12]);
         let (left, right) = (self.other(k, 1), self.other(k, 2));
         format!(
-            "{name} = {word} target:{left} \"{sign}\" value:{right} \";\" =>? {{ Statement::checked_{sure}(state, target, value) }} \
-             | {word} fault:! \";\" => {{ Statement::Recovered(fault) }};\n",
+            "{name} = {{ {word} <target:{left}> \"{sign}\" <value:{right}> \";\" =>? Statement::checked_{sure}(state, target, value), \
+             {word} <fault:!> \";\" => Statement::Recovered(fault) }};\n",
             sure = name.to_lowercase()
         )
     }
@@ -135,28 +136,28 @@ impl Grammar {
     /// A nonterminal between its two places, inline.
     fn located(&self, k: usize) -> String {
         let (name, inner) = (self.name(k), self.other(k, 3));
-        format!("inline {name} = start:@L node:{inner} end:@R => {{ Spanned::new(start as u32, end as u32, node) }};\n")
+        format!("#[inline] {name} = <start:@L> <node:{inner}> <end:@R> => Spanned::new(start as u32, end as u32, node);\n")
     }
 
     /// An item of named parts, whose action uses them all.
     fn item(&self, k: usize) -> String {
         let (name, word, body, kind) = (self.name(k), self.word(k + 7), self.other(k, 2), self.other(k, 4));
         format!(
-            "pub {name} = attributes:{kind}* {word} name:ident mut body:{body} \";\" \
-             => {{ ast::{name}::new(arena, attributes, name, body.finish()) }};\n"
+            "pub {name} = <attributes:{kind}*> {word} <name:ident> <mut body:{body}> \";\" \
+             => ast::{name}::new(arena, attributes, name, body.finish());\n"
         )
     }
 
     /// Lists by the macros.
     fn list(&self, k: usize) -> String {
         let (name, first, second) = (self.name(k), self.other(k, 1), self.other(k, 3));
-        format!("{name} = \"(\" <Comma<{first}>> \")\" => {{ List::of(<>) }} | \"[\" <Sep<{second}, \";\">> \"]\";\n")
+        format!("{name} = {{ \"(\" <Comma<{first}>> \")\" => List::of(<>), \"[\" <Sep<{second}, \";\">> \"]\" }};\n")
     }
 
     /// One of several nonterminals.
     fn choice(&self, k: usize) -> String {
         let (name, first, second, third) = (self.name(k), self.other(k, 1), self.other(k, 2), self.other(k, 5));
-        format!("{name} = <{first}> | {second} => {{ {name}::{second}(<>) }} | {third} => {{ {name}::{third}(<>) }};\n")
+        format!("{name} = {{ <{first}>, {second} => {name}::{second}(<>), {third} => {name}::{third}(<>) }};\n")
     }
 
     /// Groups under repeats, and what may be missing.
@@ -164,8 +165,8 @@ impl Grammar {
         let (name, word, first, second) = (self.name(k), self.word(k), self.other(k, 2), self.other(k, 3));
         let sign = SIGNS[k / 8 % 12];
         format!(
-            "{name} = first:{first} rest:(\"{sign}\" <{second}>)+ last:({word} <{first}>)? \
-             => {{ rest.into_iter().fold(first, |tree, next| tree.join(next, last)) }};\n"
+            "{name} = <first:{first}> <rest:(\"{sign}\" <{second}>)+> <last:({word} <{first}>)?> \
+             => rest.into_iter().fold(first, |tree, next| tree.join(next, last));\n"
         )
     }
 
@@ -174,21 +175,21 @@ impl Grammar {
         let (name, word) = (self.name(k), self.word(k + 1));
         let regex = ["[0-9]+", "0x[0-9a-fA-F_]+", "[a-zA-Z_][a-zA-Z0-9_]*", "//[^\\n]*"][k / 8 % 4];
         format!(
-            "{name} = r\"{regex}\" =>? {{ Literal::parse(<>).map_err(|error| error.at(\"{name}\")) }} \
-             | \"true\" => {{ Literal::True }} | {word};\n"
+            "{name} = {{ r\"{regex}\" =>? Literal::parse(<>).map_err(|error| error.at(\"{name}\")), \
+             \"true\" => Literal::True, {word} }};\n"
         )
     }
 }
 
 /// Any number of T, commas between them.
 fn list_macro() -> String {
-    "Comma<T> = mut all:(<T> \",\")* last:T? => { all.extend(last); all };\n".into()
+    "Comma<T> = <mut all:(<T> \",\")*> <last:T?> => all.joined_with(last);\n".into()
 }
 
 /// At least one T, so separated; where that is a semicolon, one may stand behind the last.
 fn separated_macro() -> String {
-    "Sep<T, S> = first:T rest:(S <T>)* => { vec(first, rest) } \
-     | first:T rest:(S <T>)* S if S == \";\" => { vec(first, rest) };\n"
+    "Sep<T, S> = { <first:T> <rest:(S <T>)*> => vec(first, rest), \
+     <first:T> <rest:(S <T>)*> S if S == \";\" => vec(first, rest) };\n"
         .into()
 }
 
@@ -212,7 +213,8 @@ mod tests {
     #[test]
     fn they_use_what_grammar_files_use() {
         let text = text(128);
-        let used = ["#precedence", "#assoc", "Comma<", "Sep<", "extern ", "inline ", "pub ", "mut ", " if ", "@L", "@R", "!", "r\"", "=>?"];
+        let used =
+            ["#[precedence", "#[assoc", "Comma<", "Sep<", "extern ", "#[inline] ", "pub ", "mut ", " if ", "@L", "@R", "!", "r\"", "=>?"];
         assert_eq!(used.into_iter().find(|part| !text.contains(part)), None);
     }
 }

@@ -1,5 +1,5 @@
 //! Grammars that are hard on the whole call: many rounds, many uses, deep groups, many repeats, long names. Each at two sizes.
-use reading::notation::parse;
+use reading::parse;
 use reading::tree::Stage;
 
 /// Tape and tree together have some 64 KiB with the small count, some 1 MiB with the large one.
@@ -11,11 +11,18 @@ pub struct Hostile {
     text: fn(usize) -> String,
 }
 
-pub const ALL: [Hostile; 6] = [
+pub const ALL: [Hostile; 7] = [
     Hostile { word: "rounds", about: "macros, each calling the next: as many rounds", small: 500, large: 8_000, text: rounds },
     Hostile { word: "uses", about: "uses of one macro, with different arguments", small: 600, large: 10_000, text: uses },
     Hostile { word: "groups", about: "groups nested 60 deep", small: 9, large: 140, text: groups },
     Hostile { word: "repeats", about: "different repeats", small: 280, large: 4_500, text: repeats },
+    Hostile {
+        word: "fresh",
+        about: "repeats of different groups of two names: few texts, many new ones",
+        small: 100,
+        large: 1_600,
+        text: fresh,
+    },
     Hostile { word: "again", about: "rounds, each with the same group, 50 deep", small: 90, large: 1_400, text: again },
     Hostile { word: "names", about: "names of 2,000 bytes, alike but for the end, with levels", small: 8, large: 130, text: names },
 ];
@@ -45,7 +52,7 @@ fn joined(count: usize, each: impl Fn(usize) -> String) -> String {
 /// The macro of each link calls the next one, with this before the call.
 fn chain(count: usize, before: &str) -> String {
     let link = |k: usize| format!("M{k}<P> = {before} {}; ", if k + 1 < count { format!("M{}<P>", k + 1) } else { "P".into() });
-    format!("S = M0<n>; {}extern n;", joined(count, link))
+    format!("S = M0<n>; {}extern {{ enum T {{ n => N }} }}", joined(count, link))
 }
 
 fn rounds(count: usize) -> String {
@@ -69,10 +76,17 @@ fn repeats(count: usize) -> String {
     format!("S = {};", joined(count, |k| format!("\"a{k}\"* ")))
 }
 
+fn fresh(count: usize) -> String {
+    let group = |k: usize| (0..14).map(|bit| if k >> bit & 1 == 1 { "a " } else { "b " }).collect::<String>();
+    format!("S = {}; extern {{ enum T {{ a => A, b => B }} }}", joined(count, |k| format!("({})* ", group(k))))
+}
+
 fn names(count: usize) -> String {
     let item = |k: usize| {
         let name = format!("{}{k:04}_", "N".repeat(1_995));
-        format!("{name} = #precedence(level=\"1\") \"n\" | #precedence(level=\"2\") #assoc(side=\"left\") {name} \"+\" {name}?; ")
+        format!(
+            "{name} = {{ #[precedence(level=\"1\")] \"n\", #[precedence(level=\"2\")] #[assoc(side=\"left\")] {name} \"+\" {name}? }}; "
+        )
     };
     joined(count, item)
 }

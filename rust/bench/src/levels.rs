@@ -6,7 +6,7 @@ use crate::grammars::SIZES;
 use crate::measure::{least_of, levelling, median, resolving, theirs, turns};
 use crate::subject::Subject;
 use oracle::Ready;
-use reading::notation::parse;
+use reading::parse;
 use reading::tree::Stage;
 
 /// What is aimed at: LALRPOP's time, so many times ours.
@@ -104,10 +104,10 @@ fn count() {
 /// One nonterminal of many alternatives, at these levels: `n` at the lowest, sums to the left at the others.
 fn ladder(levels: impl Iterator<Item = usize>) -> Stage {
     let alternative = |level| match level {
-        0 => "#precedence(level=\"0\") \"n\"".to_string(),
-        _ => format!("#precedence(level=\"{level}\") #assoc(side=\"left\") E \"+\" E"),
+        0 => "#[precedence(level=\"0\")] \"n\"".to_string(),
+        _ => format!("#[precedence(level=\"{level}\")] #[assoc(side=\"left\")] E \"+\" E"),
     };
-    parse(&format!("E = {};", levels.map(alternative).collect::<Vec<_>>().join(" | ")))
+    parse(&format!("E = {{ {} }};", levels.map(alternative).collect::<Vec<_>>().join(", ")))
 }
 
 /// Whether many levels take longer than few: LALRPOP looks through all alternatives that are left for each level.

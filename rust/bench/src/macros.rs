@@ -1,5 +1,5 @@
 //! Macros beside LALRPOP's `expand_macros`, which has its parse tree ready and resolves it first, as our call does. The bytes are those of the tape and the tree.
-use crate::callgrind::{self, instructions, Call};
+use crate::callgrind::{self, sum, Call};
 use crate::functions;
 use crate::grammars::SIZES;
 use crate::measure::{expanding, median, theirs, turns};
@@ -39,9 +39,8 @@ fn count() {
     for size in SIZES {
         let (word, subject) = (size.to_string(), Subject::of_grammar(size));
         let bytes = (subject.tape.len() + subject.once(normalize::macros)) as f64;
-        let sum = |call| instructions(call, &word).iter().map(|(count, _)| count).sum::<u64>() as f64 / bytes;
-        let theirs = subject.ready.is_some().then(|| format!(", {:.1}", sum(Call::LalrpopMacros))).unwrap_or_default();
-        println!("{size} nonterminals: {:.1}{theirs}", sum(Call::Macros));
+        let theirs = subject.ready.is_some().then(|| format!(", {:.1}", sum(Call::LalrpopMacros, &word) / bytes)).unwrap_or_default();
+        println!("{size} nonterminals: {:.1}{theirs}", sum(Call::Macros, &word) / bytes);
     }
     functions(Call::Macros, "macros", "128");
 }

@@ -1,6 +1,8 @@
 //! What the calls cost: beside LALRPOP's own passes on grammars like grammar files and on hostile ones, in instructions, and at sizes up to 4 MiB.
 //! `--macros`, `--whole` and `--sizes` print those tables alone.
-//! Ends with status 1 where a byte takes more than half as long again at 4 MiB as at 64 KiB.
+//! Ends with status 1 where a byte takes more than half as long again at 4 MiB as at 64 KiB, the clearing of work aside.
+#![deny(unsafe_code)]
+
 mod callgrind;
 mod clock;
 mod grammars;
@@ -14,7 +16,7 @@ mod whole;
 
 use callgrind::Call;
 use grammars::SIZES;
-use measure::Least as Figures;
+use measure::Least;
 use std::process::ExitCode;
 use subject::{Subject, SYMBOLS};
 
@@ -22,22 +24,17 @@ const MOST_GROWTH: f64 = 1.5;
 
 fn main() -> ExitCode {
     let arguments: Vec<String> = std::env::args().skip(1).collect();
-    if arguments.first().is_some_and(|word| word == "--once") {
-        callgrind::once(&arguments[1..]);
-        return ExitCode::SUCCESS;
+    match arguments.first().map(String::as_str) {
+        Some("--once") => callgrind::once(&arguments[1..]),
+        Some("--macros") => macros::tell(),
+        Some("--whole") => whole::tell(),
+        Some("--sizes") => drop(sizes()),
+        _ => return all(),
     }
-    if arguments.first().is_some_and(|word| word == "--macros") {
-        macros::tell();
-        return ExitCode::SUCCESS;
-    }
-    if arguments.first().is_some_and(|word| word == "--whole") {
-        whole::tell();
-        return ExitCode::SUCCESS;
-    }
-    if arguments.first().is_some_and(|word| word == "--sizes") {
-        sizes();
-        return ExitCode::SUCCESS;
-    }
+    ExitCode::SUCCESS
+}
+
+fn all() -> ExitCode {
     compare();
     count();
     levels::tell();
@@ -90,7 +87,7 @@ fn count() {
 /// One line, with LALRPOP or without.
 fn instructions_of(word: &str, with_theirs: bool) {
     let [validating, resolving] = [Call::Validate, Call::Resolve].map(|call| callgrind::per_byte(call, word));
-    let theirs = with_theirs.then(|| callgrind::per_byte(Call::Lalrpop, word));
+    let theirs = with_theirs.then(|| callgrind::per_byte(Call::LalrpopResolve, word));
     let theirs = theirs.map_or("– | –".into(), |theirs| format!("{theirs:.1} | {:.2}", theirs / resolving));
     println!("| {word} | {validating:.1} | {resolving:.1} | {theirs} |");
 }
@@ -115,14 +112,14 @@ fn sizes() -> bool {
     line("65,536 atoms", &tapes::atoms(65_536));
     line("60,000 items", &tapes::items(60_000, 0));
     line("2,000 macros of 100 arguments", &tapes::items(2_000, 100));
-    let growth = |of: fn(&Figures) -> f64| of(&all[3]) / of(&all[1]);
-    let [validating, resolving, clearing] = [growth(|it| it.validating), growth(|it| it.resolving), growth(|it| it.clearing_of_resolving)];
-    let is_linear = validating <= MOST_GROWTH && resolving <= MOST_GROWTH;
-    let end = if is_linear { "no more than" } else { "and that is more than" };
-    println!("\nA byte at 4 MiB, against 64 KiB: validating {validating:.2}, resolving {resolving:.2}: {end} {MOST_GROWTH}.");
+    let growth = |of: fn(&Least) -> f64| of(&all[3]) / of(&all[1]);
     let [validating, resolving] =
         [growth(|it| it.validating - it.clearing_of_validating), growth(|it| it.resolving - it.clearing_of_resolving)];
-    println!("Without the clearing: validating {validating:.2}, resolving {resolving:.2}; the clearing alone {clearing:.2}.");
+    let is_linear = validating <= MOST_GROWTH && resolving <= MOST_GROWTH;
+    let end = if is_linear { "no more than" } else { "and that is more than" };
+    println!("\nA byte at 4 MiB, against 64 KiB, all but the clearing: validating {validating:.2}, resolving {resolving:.2}: {end} {MOST_GROWTH}.");
+    let [validating, resolving, clearing] = [growth(|it| it.validating), growth(|it| it.resolving), growth(|it| it.clearing_of_resolving)];
+    println!("With the clearing: validating {validating:.2}, resolving {resolving:.2}; the clearing alone {clearing:.2}.");
     let copying = all[3].copying - all[1].copying;
     let bound = (all[1].resolving + copying) / all[1].resolving;
     println!("Copying and clearing take {copying:.2} ns more for each byte at 4 MiB; a call that is else as fast there as at 64 KiB has {bound:.2}.");
@@ -140,7 +137,7 @@ fn sizes_on_huge_pages() {
 }
 
 /// One line: nanoseconds for each byte.
-fn line(name: &str, tape: &[u8]) -> Figures {
+fn line(name: &str, tape: &[u8]) -> Least {
     let it = measure::least(tape).over(tape.len());
     let all = [it.validating, it.clearing_of_validating, it.resolving, it.clearing_of_resolving, it.copying]
         .map(|figure| format!("{figure:.2}"))

@@ -5,7 +5,7 @@ use oracle::Ready;
 use std::hint::black_box;
 use std::time::Duration;
 
-const TURNS: usize = 15;
+pub const TURNS: usize = 15;
 const TURN: Duration = Duration::from_millis(5);
 
 /// Something that can be done so many times over, and tells how long that took.
@@ -36,6 +36,7 @@ pub fn turns(runs: Vec<Run>, bytes: usize) -> Vec<Vec<f64>> {
     so_many_turns(TURNS, runs, bytes)
 }
 
+/// The same in so many turns.
 pub fn so_many_turns(count: usize, mut runs: Vec<Run>, bytes: usize) -> Vec<Vec<f64>> {
     let counts: Vec<u32> = runs.iter_mut().map(times_for_a_turn).collect();
     let mut turns: Vec<Vec<f64>> = vec![vec![]; runs.len()];

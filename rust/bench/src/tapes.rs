@@ -1,112 +1,69 @@
-//! Tapes made byte by byte: of symbols, atoms, items and arguments, up to any size, and of names that are hard on the table of atoms.
+//! Tapes of symbols, atoms, items and arguments, up to any size, and of names that are hard on the table of atoms.
 use std::collections::HashMap;
+use tape::tree::{Alternative, Item, Nonterminal, Repeat, Stage, Symbol};
+use tape::write;
 
-fn atom(tape: &mut Vec<u8>, text: &[u8]) {
-    tape.push(0x01);
-    tape.extend((text.len() as u16).to_le_bytes());
-    tape.extend(text);
+/// How many names a tape of symbols has.
+const USED: usize = 64;
+
+fn used(k: usize) -> String {
+    format!("name{}", k % USED)
 }
 
-fn span(tape: &mut Vec<u8>) {
-    tape.extend([0; 8]);
-}
-
-/// One alternative of as many symbols as fit: repeats, groups and names over 64 atoms.
-fn alternative(room: usize) -> Vec<u8> {
-    let (mut symbols, mut count) = (Vec::new(), 0u16);
-    while symbols.len() + 60 < room && count < 60_000 {
-        let k = (count % 64).to_le_bytes();
-        match count % 3 {
-            0 => {
-                symbols.push(0x26);
-                span(&mut symbols);
-                symbols.push(1);
-            }
-            1 => {
-                symbols.push(0x29);
-                span(&mut symbols);
-                symbols.extend(1u16.to_le_bytes());
-            }
-            _ => {
-                symbols.push(0x28);
-                span(&mut symbols);
-                symbols.push(0);
-                symbols.extend(k);
-            }
-        }
-        symbols.push(0x20);
-        span(&mut symbols);
-        symbols.extend(k);
-        count += 1;
+/// One alternative of as many symbols as fit, repeats, groups and names in turns, and its length on a tape.
+fn alternative(room: usize) -> (Alternative, usize) {
+    let (mut symbols, mut bytes) = (vec![], 0);
+    while bytes + 60 < room && symbols.len() < 60_000 {
+        let name = used(symbols.len());
+        let inner = Symbol::name(&name);
+        let (symbol, length) = match symbols.len() % 3 {
+            0 => (inner.repeated(Repeat::Plus), 10),
+            1 => (Symbol::group([inner]), 11),
+            _ => (inner.named(name), 12),
+        };
+        symbols.push(symbol);
+        bytes += length + 11;
     }
-    let mut tape = vec![0x12];
-    span(&mut tape);
-    tape.extend([0, 0, 0, 0, 0]);
-    tape.extend(count.to_le_bytes());
-    tape.extend(symbols);
-    tape
+    (Alternative::new(symbols), bytes + 16)
 }
 
 /// A tape of about `size` bytes of symbols.
 pub fn symbols(size: usize) -> Vec<u8> {
-    let mut tape = Vec::new();
-    for k in 0..64 {
-        atom(&mut tape, format!("name{k}").as_bytes());
+    let atoms: Vec<Vec<u8>> = (0..USED).map(|k| used(k).into_bytes()).collect();
+    let room = size.saturating_sub(of_atoms(atoms.clone()).len());
+    let (mut alternatives, mut bytes) = (vec![], 0);
+    while bytes + 1_000 < room {
+        let (alternative, length) = alternative((room - bytes).min(16_384));
+        alternatives.push(alternative);
+        bytes += length;
     }
-    let (mut alternatives, mut count) = (Vec::new(), 0u16);
-    while alternatives.len() + 1_000 < size.saturating_sub(tape.len()) {
-        let room = size - tape.len() - alternatives.len();
-        alternatives.extend(alternative(room.min(16_384)));
-        count += 1;
-    }
-    tape.push(0x10);
-    span(&mut tape);
-    tape.extend([0, 0, 0, 0]);
-    tape.extend(count.to_le_bytes());
-    tape.extend(alternatives);
-    (1..64).for_each(|k| named(&mut tape, 0x30, k));
-    tape
-}
-
-fn named(tape: &mut Vec<u8>, code: u8, k: u16) {
-    tape.push(code);
-    span(tape);
-    tape.extend(k.to_le_bytes());
+    let item = Nonterminal::new(used(0)).alternatives(alternatives).into();
+    write(&Stage { atoms, items: std::iter::once(item).chain((1..USED).map(|k| Item::external(used(k)))).collect() })
 }
 
 /// A tape of n nonterminals with so many arguments each; the one alternative of each names the next and its own arguments.
-pub fn items(n: u16, arguments: u8) -> Vec<u8> {
-    let mut tape = atoms(usize::from(n) + usize::from(arguments));
-    for k in 0..n {
-        named(&mut tape, 0x10, k);
-        tape.extend([0, arguments, 1, 0]);
-        let own = n..n + u16::from(arguments);
-        own.clone().for_each(|k| tape.extend([0x11, k.to_le_bytes()[0], k.to_le_bytes()[1]]));
-        tape.push(0x12);
-        span(&mut tape);
-        tape.extend([0, 0, 0, 0, 0, arguments + 1, 0]);
-        own.for_each(|k| named(&mut tape, 0x20, k));
-        call(&mut tape, (k + 1) % n, arguments);
-    }
-    tape
+pub fn items(n: usize, arguments: usize) -> Vec<u8> {
+    let item = |k: usize| {
+        let own = (n..n + arguments).map(|k| Symbol::name(counted(k)));
+        let next = counted((k + 1) % n);
+        let call = if arguments > 0 { Symbol::call(next, vec![Symbol::quoted(counted(0)); arguments]) } else { Symbol::name(next) };
+        let alternative = Alternative::new(own.chain([call]));
+        (n..n + arguments).fold(Nonterminal::new(counted(k)), |item, k| item.arg(counted(k))).alternative(alternative).into()
+    };
+    write(&Stage { items: (0..n).map(item).collect(), atoms: (0..n + arguments).map(|k| counted(k).into_bytes()).collect() })
 }
 
-/// A name, or a macro call where there are arguments.
-fn call(tape: &mut Vec<u8>, k: u16, arguments: u8) {
-    named(tape, if arguments > 0 { 0x25 } else { 0x20 }, k);
-    if arguments > 0 {
-        tape.push(arguments);
-        (0..arguments).for_each(|_| named(tape, 0x22, 0));
-    }
+fn counted(k: usize) -> String {
+    format!("a{k:x}")
 }
 
 /// A tape of n atoms.
 pub fn atoms(n: usize) -> Vec<u8> {
-    let mut tape = Vec::new();
-    for k in 0..n {
-        atom(&mut tape, format!("a{k:x}").as_bytes());
-    }
-    tape
+    of_atoms((0..n).map(|k| counted(k).into_bytes()).collect())
+}
+
+fn of_atoms(atoms: Vec<Vec<u8>>) -> Vec<u8> {
+    write(&Stage { atoms, items: vec![] })
 }
 
 const BLOCKS: u32 = 12;
@@ -129,12 +86,7 @@ pub fn names_of_many() -> Vec<u8> {
 }
 
 fn names(word: impl Fn(usize, u32) -> Word) -> Vec<u8> {
-    let mut tape = Vec::new();
-    for k in 0..NAMES {
-        let text: Vec<u8> = (0..BLOCKS).flat_map(|block| word(k, block)).collect();
-        atom(&mut tape, &text);
-    }
-    tape
+    of_atoms((0..NAMES).map(|k| (0..BLOCKS).flat_map(|block| word(k, block)).collect()).collect())
 }
 
 /// Two words with one hash: the first that are met.

@@ -1,16 +1,15 @@
 //! The whole call beside LALRPOP's `expand_macros` over its `expand_precedence`, which have their parse tree ready: on grammars like grammar files, and on
 //! hostile ones. The bytes are those of the tape and the tree.
-use crate::callgrind::{self, instructions, Call};
+use crate::callgrind::{self, sum, Call};
 use crate::functions;
 use crate::grammars::SIZES;
 use crate::hostile::ALL;
-use crate::measure::{expanding, median, so_many_turns, theirs};
+use crate::measure::{expanding, median, so_many_turns, theirs, TURNS};
 use crate::subject::Subject;
 use oracle::Ready;
 
 /// What is aimed at: LALRPOP's time, so many times ours.
 const AIM: f64 = 5.0;
-const TURNS: usize = 15;
 /// Hostile grammars take long.
 const FEW_TURNS: usize = 5;
 
@@ -18,8 +17,8 @@ pub fn tell() {
     println!("\nThe whole: nanoseconds for each byte of the tape and the tree, and instructions without the clearing of memory.\n");
     println!("| nonterminals | tape, bytes | tree, bytes | call | LALRPOP | LALRPOP / call | instructions | LALRPOP's |");
     println!("|---|---|---|---|---|---|---|---|");
-    let ratios: Vec<f64> = SIZES.iter().filter_map(|size| line(&size.to_string(), TURNS, &Subject::of_grammar(*size)).ratio).collect();
-    if let Some(least) = ratios.into_iter().reduce(f64::min) {
+    let ratios = SIZES.iter().filter_map(|size| line(&size.to_string(), TURNS, &Subject::of_grammar(*size)).ratio);
+    if let Some(least) = ratios.reduce(f64::min) {
         let end = if least >= AIM { "at least" } else { "and that is not at least" };
         println!("\nLALRPOP's passes over the call: the least is {least:.2}, {end} {AIM}.");
     }
@@ -66,9 +65,9 @@ fn counted(word: &str, bytes: usize, with_theirs: bool) -> String {
     if !callgrind::is_there() {
         return "– | –".into();
     }
-    let sum = |call| instructions(call, word).iter().map(|(count, _)| count).sum::<u64>() as f64 / bytes as f64;
-    let theirs = if with_theirs { format!("{:.1}", sum(Call::LalrpopWhole)) } else { "–".into() };
-    format!("{:.1} | {theirs}", sum(Call::Whole))
+    let per_byte = |call| sum(call, word) / bytes as f64;
+    let theirs = if with_theirs { format!("{:.1}", per_byte(Call::LalrpopWhole)) } else { "–".into() };
+    format!("{:.1} | {theirs}", per_byte(Call::Whole))
 }
 
 #[cfg(test)]

@@ -46,6 +46,11 @@ impl Case {
         Case { room: Room { output: tape.len() as isize + 2_000, work: 0 }, limit, tape }
     }
 
+    /// Without output, as validating takes it.
+    pub fn validating(tape: Vec<u8>, work: isize) -> Case {
+        Case { room: Room { output: -(tape.len() as isize), work }, limit: 0, tape }
+    }
+
     pub fn within(self, limit: u16) -> Case {
         Case { limit, ..self }
     }

@@ -18,8 +18,8 @@ const MOST_UNCHANGED: usize = 6;
 pub const LONGEST: usize = 399;
 /// Of levels: the file is to stay short.
 const LONGEST_OF_LEVELS: usize = 250;
-pub const MOST_OUTPUT: usize = 512;
-pub const MOST_WORK: usize = 8_192;
+const MOST_OUTPUT: usize = 512;
+const MOST_WORK: usize = 8_192;
 
 /// The answers of a call that are stored, 0 being a yes. Of levels only its own: 1 to 13 are resolving's, which the same code answers.
 pub fn numbers(call: Call) -> Vec<u8> {

@@ -11,9 +11,8 @@ use crate::whole::LIMITS;
 use crate::{macros, whole};
 use oracle::chance::Chance;
 use oracle::Call;
-use reading::notation::parse;
 use reading::tree::Stage;
-use reading::{write, Outcome};
+use reading::{parse, write, Outcome};
 
 /// How much longer than the tape an output may be: some of the macros go on for ever.
 const MORE: usize = 1_000;
@@ -48,8 +47,10 @@ fn tape(grammar: &str) -> Vec<u8> {
 }
 
 /// Document 01's star, and what takes more rounds, each with the limit that it needs.
-const MACROS: [(u16, &str); 2] = [(2, "L = n*; extern n;"), (3, r#"S = M<n>; M<P> = K<(P "x")>; K<Q> = <Q>? @L; extern n;"#)];
-const WHOLE: [(u16, &str); 2] = [(2, "L = n*; extern n;"), (2, r#"E = #"1" "n" | #"2" #left M<E> E; M<P> = P "m" P?;"#)];
+const MACROS: [(u16, &str); 2] =
+    [(2, "L = n*; extern { enum T { n => N } }"), (3, r#"S = M<n>; M<P> = K<(P "x")>; K<Q> = <Q>? @L; extern { enum T { n => N } }"#)];
+const WHOLE: [(u16, &str); 2] =
+    [(2, "L = n*; extern { enum T { n => N } }"), (2, r#"E = { #"1" "n", #"2" #left M<E> E }; M<P> = P "m" P?;"#)];
 
 /// The grammars of LALRPOP's unit tests of resolving and of macro expansion, the chosen ones, and a few random ones.
 fn macro_tapes() -> Vec<Vec<u8>> {
@@ -89,7 +90,7 @@ const DEEP: [(usize, usize, &str); 4] = [(31, 32, ""), (31, 33, ""), (30, 32, "+
 
 fn around(outside: usize, inside: usize, op: &str) -> Vec<u8> {
     let chosen = |count: usize, text: &str| format!("{}{text}{}", "<".repeat(count), ">".repeat(count));
-    tape(&format!("S = M<{}>; M<P> = {}{op}; extern n;", chosen(outside, "n"), chosen(inside, "P")))
+    tape(&format!("S = M<{}>; M<P> = {}{op}; extern {{ enum T {{ n => N }} }}", chosen(outside, "n"), chosen(inside, "P")))
 }
 
 /// An argument that is handed on so many times, which takes one round more.

@@ -89,13 +89,18 @@ fn many_items() -> Vec<Vec<u8>> {
     vec![with(&[]), with(&link(count / 2, 0)), with(&named(0x31, count - 1)), with(&link(count, count + 1))]
 }
 
+/// Each kind of layer around one symbol; the macro has this name.
+fn layers(macro_name: u8) -> [Vec<u8>; 5] {
+    let call = spanned(0x25, &[macro_name, 0, 1]);
+    [spanned(0x26, &[0]), spanned(0x27, &[]), spanned(0x28, &[0, 0, 0]), spanned(0x29, &[1, 0]), call]
+}
+
 /// Each kind of layer, 63 and 64 times around a name.
 fn towers() -> Vec<Vec<u8>> {
-    let layers = [spanned(0x26, &[0]), spanned(0x27, &[]), spanned(0x28, &[0, 0, 0]), spanned(0x29, &[1, 0]), spanned(0x25, &[1, 0, 1])];
     let macro_item = [nonterminal(1, 1, 0), vec![0x11, 0, 0]].concat();
     let around = |layer: &Vec<u8>, count| [layer.repeat(count), named(0x20, 0)].concat();
     let tower = |layer, count| [atoms(2), item(&[around(layer, count)]), macro_item.clone()].concat();
-    layers.iter().flat_map(|layer| [tower(layer, 63), tower(layer, 64)]).collect()
+    layers(1).iter().flat_map(|layer| [tower(layer, 63), tower(layer, 64)]).collect()
 }
 
 /// An attribute `precedence` by the atoms 1 (it), 2 (any key) and a level's.
@@ -166,10 +171,9 @@ fn many_levels() -> Vec<Vec<u8>> {
 /// Each kind of layer, 63 times around an occurrence.
 fn level_towers() -> Vec<Vec<u8>> {
     let front = [level_atoms(b"E", 1, &[]), nonterminal(6, 1, 0), vec![0x11, 0, 0]].concat();
-    let layers = [spanned(0x26, &[0]), spanned(0x27, &[]), spanned(0x28, &[0, 0, 0]), spanned(0x29, &[1, 0]), spanned(0x25, &[6, 0, 1])];
     let high = |layer: &Vec<u8>| [spanned(0x12, &[1, 0, 0, 0, 0, 1, 0]), precedence(4), layer.repeat(63), named(0x24, 0)].concat();
     let low = [spanned(0x12, &[1, 0, 0, 0, 0, 0, 0]), precedence(3)].concat();
-    layers.iter().map(|layer| [&front[..], &nonterminal(0, 0, 2), &low, &high(layer)].concat()).collect()
+    layers(6).iter().map(|layer| [&front[..], &nonterminal(0, 0, 2), &low, &high(layer)].concat()).collect()
 }
 
 /// Tapes at the limits for levels, each with outputs as long as its stages, one byte less, and longer, and work just long enough.

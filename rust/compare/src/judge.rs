@@ -24,6 +24,8 @@ pub const LEVELS: Ours =
     Ours { call: Call::Levels, made: &|tape, _, output, work, answer| normalize::levels_words(tape, output, work, answer) };
 pub const MACROS: Ours = Ours { call: Call::Macros, made: &normalize::macros_words };
 pub const WHOLE: Ours = Ours { call: Call::Whole, made: &normalize::whole_words };
+/// Validating has no limit and no output.
+pub const VALIDATE: Made = &|tape, _, _, work, answer| normalize::validate_words(tape, work, answer);
 
 #[derive(Clone, Debug, PartialEq, Eq)]
 pub enum Verdict {
@@ -78,30 +80,50 @@ fn outcome_and_rounds(case: &Case, call: Call) -> Option<(Outcome, usize)> {
 
 pub fn judge(case: &Case, dirt: u64, ours: Ours) -> Verdict {
     let Some((outcome, rounds)) = outcome_and_rounds(case, ours.call) else { return Verdict::Skipped };
-    let number = outcome.as_ref().err().map_or(0, |refusal| refusal.number);
-    difference(case, dirt, &outcome, ours).map_or(Verdict::Agreed(number, rounds), Verdict::Differs)
+    let tree = outcome.as_deref().unwrap_or_default();
+    difference(case, dirt, words(&outcome), tree, ours.made).map_or(Verdict::Agreed(number(&outcome), rounds), Verdict::Differs)
 }
 
-/// The old bytes of output, work and answer are any, as `dirt` fixes them.
-fn difference(case: &Case, dirt: u64, outcome: &Outcome, ours: Ours) -> Option<String> {
+/// Validating alone, of a case without output: 1 to 4 of the second reading, and a yes with the tape's length.
+pub fn judge_validating(case: &Case, dirt: u64, made: Made) -> Verdict {
+    assert_eq!(case.output_len(), 0, "validating writes no output");
+    let outcome = reading::asked(&case.tape, 0, case.work_len()).map(|_| case.tape.clone());
+    difference(case, dirt, words(&outcome), &[], made).map_or(Verdict::Agreed(number(&outcome), 0), Verdict::Differs)
+}
+
+/// The number of the refusal, 0 for a yes.
+fn number(outcome: &Outcome) -> u8 {
+    outcome.as_ref().err().map_or(0, |refusal| refusal.number)
+}
+
+/// These words and this tree are right. The old bytes of output, work and answer are any, as `dirt` fixes them.
+fn difference(case: &Case, dirt: u64, right_answer: Words, tree: &[u8], made: Made) -> Option<String> {
     let mut chance = Chance(dirt);
     let mut output = Fenced::dirty(&mut chance, case.output_len());
     let mut work = Fenced::dirty(&mut chance, case.work_len());
     let mut answer: Words = std::array::from_fn(|_| chance.word());
     let (mut right_output, mut right_work) = (output.clone(), work.clone());
-    if let Ok(tree) = outcome {
-        right_output.inside()[..tree.len()].copy_from_slice(tree);
-    }
-    if case.work_len() >= reading::work_needed(case.tape.len(), case.output_len()) {
-        right_work.inside().fill(0);
-    }
-    (ours.made)(&case.tape, case.limit, output.inside(), work.inside(), &mut answer);
-    let right_answer = words(outcome);
+    put(tree, case.tape.len(), right_output.inside(), right_work.inside());
+    made(&case.tape, case.limit, output.inside(), work.inside(), &mut answer);
     if answer != right_answer {
         return Some(format!("answer {answer:?}, expected {right_answer:?}"));
     }
     let output = output.differing("output", &right_output);
     output.or_else(|| work.differing("work", &right_work))
+}
+
+/// What a call of a tape so long leaves in its buffers.
+pub fn leave(outcome: &Outcome, tape: usize, output: &mut [u8], work: &mut [u8], answer: &mut Words) {
+    put(outcome.as_deref().unwrap_or_default(), tape, output, work);
+    *answer = words(outcome);
+}
+
+/// A tree before the old bytes, and work all zero where it is long enough.
+fn put(tree: &[u8], tape: usize, output: &mut [u8], work: &mut [u8]) {
+    output[..tree.len()].copy_from_slice(tree);
+    if work.len() >= reading::work_needed(tape, output.len()) {
+        work.fill(0);
+    }
 }
 
 /// The words of an answer; those behind the ones that say something are 0.

@@ -1,9 +1,9 @@
 //! Trees for levels: grown ones (`grow`) whose nonterminals get levels, sides and occurrences of themselves; and every short ladder of levels.
 use crate::grow::{tree, tree_so_wild, Size};
+use crate::renamed::{each_symbol, name_alike, nonterminals, rename_inside};
 use oracle::chance::Chance;
-use reading::level_refusal;
-use reading::notation::parse;
 use reading::tree::*;
+use reading::{level_refusal, parse};
 
 /// Levels of the alternatives of one nonterminal: ascending, descending, equal ones in several texts, those whose names can meet, the highest.
 const LADDERS: [[&str; 5]; 10] = [
@@ -52,13 +52,6 @@ pub fn with_levels(chance: &mut Chance, mut stage: Stage, often: Often) -> Stage
     stage
 }
 
-pub fn nonterminals(items: &mut [Item]) -> impl Iterator<Item = &mut Nonterminal> {
-    items.iter_mut().filter_map(|item| match item {
-        Item::Nonterminal(data) => Some(data),
-        _ => None,
-    })
-}
-
 /// Macros with their counts of arguments.
 fn macros(items: &[Item]) -> Vec<(String, usize)> {
     let head = |item: &Item| match item {
@@ -76,61 +69,6 @@ fn made_names(chance: &mut Chance, stage: &mut Stage) {
         let text = format!("{}{}", chance.one_of(&names), level.parse::<u32>().expect("a level")).into_bytes();
         if !stage.atoms.contains(&text) {
             stage.atoms.insert(chance.under(stage.atoms.len() + 1), text);
-        }
-    }
-}
-
-/// One nonterminal without arguments gets the name of another with a digit behind, so that names of levels can meet it, or its own levels' names.
-/// Both names; nothing where there aren't two, or the new one is taken.
-fn name_alike(chance: &mut Chance, items: &mut [Item]) -> Option<(String, String)> {
-    let names: Vec<String> = nonterminals(items).filter(|data| data.args.is_empty()).map(|data| data.name.clone()).collect();
-    if names.len() < 2 {
-        return None;
-    }
-    let (old, other) = (chance.one_of(&names), chance.one_of(&names));
-    let new = format!("{other}{}", chance.one_of(&["1", "1", "2", "0"]));
-    if names.contains(&new) || old == other {
-        return None;
-    }
-    for item in items {
-        match item {
-            Item::Nonterminal(data) => {
-                rename(&mut data.name, &old, &new);
-                rename_inside(data, &old, &new);
-            }
-            Item::Extern(_, name) | Item::Match(_, name) => rename(name, &old, &new),
-        }
-    }
-    Some((other, new))
-}
-
-fn rename(name: &mut String, old: &str, new: &str) {
-    if name == old {
-        *name = new.to_string();
-    }
-}
-
-/// Arguments, conditions and symbols.
-fn rename_inside(data: &mut Nonterminal, old: &str, new: &str) {
-    data.args.iter_mut().for_each(|arg| rename(arg, old, new));
-    for alternative in &mut data.alternatives {
-        alternative.condition.iter_mut().for_each(|condition| rename(&mut condition.lhs, old, new));
-        each_symbol(&mut alternative.symbols, &mut |symbol| {
-            if let Kind::Ambiguous(name) | Kind::Nonterminal(name) | Kind::Bare(name) | Kind::Macro(name, _) = &mut symbol.kind {
-                rename(name, old, new);
-            }
-        });
-    }
-}
-
-/// The symbols and those inside them, in tape order.
-pub fn each_symbol(symbols: &mut [Symbol], visit: &mut dyn FnMut(&mut Symbol)) {
-    for symbol in symbols {
-        visit(symbol);
-        match &mut symbol.kind {
-            Kind::Macro(_, inner) | Kind::Group(inner) => each_symbol(inner, visit),
-            Kind::Repeat(_, inner) | Kind::Choose(inner) | Kind::Name { inner, .. } => each_symbol(std::slice::from_mut(inner), visit),
-            _ => {}
         }
     }
 }
@@ -238,8 +176,7 @@ impl Grader<'_> {
     fn call(&mut self) -> Symbol {
         let span = Span(self.chance.under(200) as u32, self.chance.under(200) as u32);
         let (name, count) = self.chance.one_of(&self.macros);
-        let literal = Symbol { span, kind: Kind::Quoted("x".to_string()) };
-        Symbol { span, kind: Kind::Macro(name, vec![literal; count]) }
+        Symbol::call(name, vec![Symbol::quoted("x").at(span); count]).at(span)
     }
 
     /// An argument gets the macro's name, or a level's. Whether it is the macro's.
@@ -301,16 +238,16 @@ impl Grader<'_> {
 
 /// All trees of up to `most` alternatives, each with no level or one of three, and no side or one of four.
 pub fn every(most: usize) -> Vec<Stage> {
-    let levels = ["", "1", "2", "3"].map(|level| if level.is_empty() { String::new() } else { format!("#{LEVEL}(level=\"{level}\") ") });
-    let sides = [""].iter().chain(&SIDES).map(|side| if side.is_empty() { String::new() } else { format!("#{SIDE}(side=\"{side}\") ") });
+    let levels = ["", "1", "2", "3"].map(|level| if level.is_empty() { String::new() } else { format!("#[{LEVEL}(level=\"{level}\")] ") });
+    let sides = [""].iter().chain(&SIDES).map(|side| if side.is_empty() { String::new() } else { format!("#[{SIDE}(side=\"{side}\")] ") });
     let sides: Vec<String> = sides.collect();
     let alternatives: Vec<String> =
-        levels.iter().flat_map(|level| sides.iter().map(move |side| format!("{level}{side}E \"+\" M<x:E, (E)> E?"))).collect();
+        levels.iter().flat_map(|level| sides.iter().map(move |side| format!("{level}{side}E \"+\" M<<x:E>, (E)> E?"))).collect();
     let (mut all, mut last) = (vec![], vec![String::new()]);
     for _ in 0..most {
-        let longer = |front: &String| alternatives.iter().map(|next| format!("{front} | {next}")).collect::<Vec<_>>();
+        let longer = |front: &String| alternatives.iter().map(|next| format!("{front}{next}, ")).collect::<Vec<_>>();
         last = last.iter().flat_map(longer).collect();
-        all.extend(last.iter().map(|text| parse(&format!("E = {}; M<P, Q> = P Q;", text.trim_start_matches(" | ")))));
+        all.extend(last.iter().map(|text| parse(&format!("E = {{ {text}}}; M<P, Q> = P Q;"))));
     }
     all
 }

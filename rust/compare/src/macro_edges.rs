@@ -1,14 +1,16 @@
 //! Tapes at the limits for macros: printed forms of 65,535 bytes and more, as many atoms as there can be, the deepest nesting, long lists and piles.
 use crate::case::{at_round_lengths, Case, Room, Rounds};
-use crate::ladders::{each_symbol, nonterminals};
+use crate::renamed::{each_symbol, nonterminals};
 use oracle::chance::Chance;
 use oracle::Call;
-use reading::notation::parse;
 use reading::tree::*;
-use reading::write;
+use reading::{parse, write};
 
 /// A tape, its limit, and how long an output may be.
 pub type Edge = (Vec<u8>, u16, usize);
+
+/// What declares the terminal n.
+const N: &str = "extern { enum T { n => N } }";
 
 fn tape(grammar: &str) -> Vec<u8> {
     write(&parse(grammar))
@@ -30,10 +32,10 @@ fn with_literal(grammar: &str, text: &str) -> Vec<u8> {
 /// A form of 65,535 bytes is a name; one more is 20. Quotes and backslashes count twice.
 fn long_forms() -> Vec<Edge> {
     let name = |length: usize| "n".repeat(length);
-    let starred = |length| tape(&format!("S = {0}*; extern {0};", name(length)));
+    let starred = |length| tape(&format!("S = {0}*; extern {{ enum T {{ {0} => N }} }}", name(length)));
     let called = |length| tape(&format!("S = {0}<\"x\">; {0}<P> = P;", name(length)));
-    let grouped = |count: usize| tape(&format!("S = ({}); extern n;", "n ".repeat(count)));
-    let quoted = |count: usize, mark: &str| with_literal("S = \"x\"?;", &mark.repeat(count));
+    let grouped = |count: usize| tape(&format!("S = ({}); {N}", "n ".repeat(count)));
+    let quoted = |count: usize, mark: &str| with_literal(r#"S = "x"?;"#, &mark.repeat(count));
     let tapes = [
         starred(65_534),
         starred(65_535),
@@ -51,7 +53,7 @@ fn long_forms() -> Vec<Edge> {
 
 /// An argument that doubles in each round, up to 20; it is 18 within a lower limit, and 21 before with less room.
 fn doubling() -> Vec<Edge> {
-    let of_length = |length| with_literal("S = M<\"x\">; M<P> = M<(P P)>;", &"x".repeat(length));
+    let of_length = |length| with_literal(r#"S = M<"x">; M<P> = M<(P P)>;"#, &"x".repeat(length));
     let limits = [(0, 9_000), (1, 9_000), (8, 900_000), (13, 900_000), (14, 900_000), (64, 9_000), (64, 900_000), (65_535, 900_000)];
     let small = limits.map(|(limit, longest)| (of_length(1), limit, longest));
     let large = [40_000, 20_000, 10_000, 5_000].map(|length| (of_length(length), 5, 900_000));
@@ -63,7 +65,7 @@ fn many_atoms() -> Vec<Edge> {
     let stage = |others: usize, more: &[&str]| {
         let others = (0..others).map(|index| format!("a{index:x}").into_bytes());
         let atoms = others.chain(more.iter().map(|text| text.as_bytes().to_vec())).collect();
-        write(&Stage { atoms, ..parse("S = n*; extern n;") })
+        write(&Stage { atoms, ..parse(&format!("S = n*; {N}")) })
     };
     let most = 65_536 - 2;
     let fewer = [0, 1, 3, 4, 7].map(|texts| stage(most - texts, &[]));
@@ -74,10 +76,10 @@ fn many_atoms() -> Vec<Edge> {
 /// Choices around a symbol, up to what is allowed, then something that makes it deeper: a star's `v:X+`, a parameter's place.
 fn deep() -> Vec<Edge> {
     let around = |count: usize, text: &str| format!("{}{text}{}", "<".repeat(count), ">".repeat(count));
-    let repeated = |count, op: &str| tape(&format!("S = {}{op}; extern n;", around(count, "n")));
-    let put_in = |outside, inside| tape(&format!("S = M<{}>; M<P> = {}; extern n;", around(outside, "n"), around(inside, "P")));
-    let named = |outside| tape(&format!("S = M<{}>; M<P> = v:P?; extern n;", around(outside, "n")));
-    let grouped = |outside, inside| tape(&format!("S = M<{}>; M<P> = ({} \"x\")+; extern n;", around(outside, "n"), around(inside, "P")));
+    let repeated = |count, op: &str| tape(&format!("S = {}{op}; {N}", around(count, "n")));
+    let put_in = |outside, inside| tape(&format!("S = M<{}>; M<P> = {}; {N}", around(outside, "n"), around(inside, "P")));
+    let named = |outside| tape(&format!("S = M<{}>; M<P> = <v:P?>; {N}", around(outside, "n")));
+    let grouped = |outside, inside| tape(&format!("S = M<{}>; M<P> = ({} \"x\")+; {N}", around(outside, "n"), around(inside, "P")));
     let mut tapes = vec![named(60), named(61), named(62), grouped(30, 31), grouped(30, 32), grouped(30, 33)];
     tapes.extend(["*", "+", "?"].iter().flat_map(|op| [60, 61, 62].map(|count| repeated(count, op))));
     tapes.extend([(62, 0), (62, 1), (62, 2), (0, 63), (1, 63), (31, 32), (31, 33)].map(|(outside, inside)| put_in(outside, inside)));
@@ -99,9 +101,9 @@ fn long_lists() -> Vec<Edge> {
     let parameters = list(255, &|index| format!("P{index}"), ", ");
     let arguments = list(255, &|index| format!("\"{index}\""), ", ");
     let handed_on = list(255, &|index| format!("P{}", (index + 1) % 255), ", ");
-    let called = format!("S = M<{arguments}>; M<{parameters}> = P7 if P254 == \"254\" | M<{handed_on}>;");
-    let same = format!("S = {}; extern n;", "n? ".repeat(65_535));
-    let chosen = format!("S = M<\"5\">; M<P> = {};", list(65_535, &|index| format!("P if P != \"{}\"", index % 7), " | "));
+    let called = format!("S = M<{arguments}>; M<{parameters}> = {{ P7 if P254 == \"254\", M<{handed_on}> }};");
+    let same = format!("S = {}; {N}", "n? ".repeat(65_535));
+    let chosen = format!("S = M<\"5\">; M<P> = {{ {} }};", list(65_535, &|index| format!("P if P != \"{}\"", index % 7), ", "));
     let different = format!("S = {};", list(3_000, &|index| format!("\"{index}\"?"), " "));
     let nested = format!("S = {};", list(300, &|index| format!("(M<\"{index}\"*>)?"), " ") + "; M<P> = P* @L @R");
     let tapes = [called, same, chosen, different, nested];

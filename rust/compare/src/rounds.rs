@@ -1,11 +1,11 @@
 //! Trees for macros: grown ones (`grow`) with more calls, most of which end; macros that hand their arguments on, for some rounds or for ever; macros
 //! that count by conditions; long texts that are nearly the same; and every small symbol, in and around a macro.
 use crate::grow::{texts, tree, tree_so_wild, Size};
-use crate::ladders::{each_symbol, nonterminals};
+use crate::renamed::{each_symbol, nonterminals};
 use crate::stages::deciding;
 use oracle::chance::Chance;
 use oracle::Call;
-use reading::notation::parse;
+use reading::parse;
 use reading::tree::*;
 use reading::Step;
 
@@ -143,8 +143,8 @@ impl Caller<'_> {
 // ---- rounds that are counted
 
 /// What stands around a symbol; with the last two it may be refused: a name in a group, a call of `chain` with one argument.
-const LAYERS: [&str; 9] = ["_*", "_+", "_?", "<_>", "(_)", "(_ \"x\")", "(<_> @L <@R>)", "v:_", "M0<_>"];
-const ARGUMENTS: [&str; 9] = ["\"x\"", "\"\\\"", "n", "P", "Q", "@L", "!", "r\"x\"", "w:n"];
+const LAYERS: [&str; 9] = ["_*", "_+", "_?", "<_>", "(_)", "(_ \"x\")", "(<_> @L <@R>)", "<v:_>", "M0<_>"];
+const ARGUMENTS: [&str; 9] = ["\"x\"", "\"\\\\\"", "n", "P", "Q", "@L", "!", "r\"x\"", "<w:n>"];
 
 fn around(chance: &mut Chance, text: &str) -> String {
     let count = if chance.percent(10) { 9 } else { 7 };
@@ -165,7 +165,7 @@ pub fn chain(chance: &mut Chance) -> Stage {
         let condition = if link == asking { chance.one_of(&["if P == \"x\"", "if Q != \"x\""]) } else { "" };
         text += &format!("M{link}<P, Q> = {body}{condition}; ");
     }
-    parse(&format!("{text}P = \"p\" | (Q)*; Q = n; extern n;"))
+    parse(&format!("{text}P = {{ \"p\", (Q)* }}; Q = n; extern {{ enum T {{ n => N }} }}"))
 }
 
 fn handed_on(chance: &mut Chance, next: Option<usize>, more: usize) -> String {
@@ -187,7 +187,7 @@ pub fn counting(chance: &mut Chance) -> Stage {
     };
     let alternatives: Vec<String> = (0..count).map(alternative).collect();
     let first = chance.one_of(&["\"0\"", "\"0\"", "\"1\"", "n"]);
-    parse(&format!("S = C<{first}>; pub inline C<P> = {} | \"end\"; extern n;", alternatives.join(" | ")))
+    parse(&format!("S = C<{first}>; #[inline] pub C<P> = {{ {}, \"end\" }}; extern {{ enum T {{ n => N }} }}", alternatives.join(", ")))
 }
 
 // ---- long texts that are nearly the same
@@ -215,8 +215,8 @@ pub fn alike(chance: &mut Chance) -> Stage {
     let mut declared = names.to_vec();
     declared.sort();
     declared.dedup();
-    let declared: String = declared.iter().map(|name| format!("extern {name}; ")).collect();
-    let mut stage = parse(&format!("S = {}; M0<P> = P+ K<P>?; K<P> = P; {declared}", symbols.join(" ")));
+    let declared: String = declared.iter().map(|name| format!("{name} => N, ")).collect();
+    let mut stage = parse(&format!("S = {}; M0<P> = P+ K<P>?; K<P> = P; extern {{ enum T {{ {declared}}} }}", symbols.join(" ")));
     if chance.percent(50) {
         made_texts(chance, &mut stage, Call::Macros);
     }
@@ -227,7 +227,7 @@ fn one_alike(chance: &mut Chance, names: &[String], front: &str) -> String {
     let mut leaf = || match chance.under(4) {
         0 => chance.one_of(names),
         1 => format!("r\"{front}{}\"", chance.one_of(names)),
-        _ => format!("\"{front}{}\"", chance.one_of(names)),
+        _ => format!("\"{}{}\"", front.replace('\\', "\\\\"), chance.one_of(names)),
     };
     let (one, other) = (leaf(), leaf());
     chance.one_of(&["A*", "A?", "M0<A>", "M0<A>", "(A B)", "M0<(A B)>", "K<<A>>"]).replace('A', &one).replace('B', &other)
@@ -240,8 +240,8 @@ fn symbols(layers: usize, leaves: &[&str]) -> Vec<String> {
     let mut all: Vec<String> = leaves.iter().map(|leaf| leaf.to_string()).collect();
     let mut last = all.clone();
     for _ in 0..layers {
-        // the notation has no name before a name
-        let fits = |layer: &&str, text: &str| !(layer.starts_with("v:") && text.starts_with("v:"));
+        // a name of a name is left to the grown trees
+        let fits = |layer: &&str, text: &str| !(layer.starts_with("<v:") && text.starts_with("<v:"));
         let around =
             |text: &String| LAYERS.iter().filter(|layer| fits(layer, text)).map(|layer| layer.replace('_', text)).collect::<Vec<_>>();
         last = last.iter().flat_map(around).collect();
@@ -253,7 +253,8 @@ fn symbols(layers: usize, leaves: &[&str]) -> Vec<String> {
 /// Each symbol of up to so many layers as a macro's argument, beside each as the macro's alternative.
 pub fn every(outside: usize, inside: usize) -> Vec<Stage> {
     let (outside, inside) = (symbols(outside, &["\"x\"", "n", "@R"]), symbols(inside, &["P", "\"x\"", "@L"]));
-    let grammars =
-        outside.iter().flat_map(|one| inside.iter().map(move |other| format!("S = {one} M0<{one}>; M0<P> = {other}; extern n;")));
+    let grammars = outside
+        .iter()
+        .flat_map(|one| inside.iter().map(move |other| format!("S = {one} M0<{one}>; M0<P> = {other}; extern {{ enum T {{ n => N }} }}")));
     grammars.map(|text| parse(&text)).collect()
 }

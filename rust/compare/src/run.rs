@@ -14,24 +14,25 @@ pub fn run(cases: impl Iterator<Item = Case>, seed: u64, ours: Ours) -> Tally {
         let verdict = judge(&case, dirt, ours);
         tally.count(&verdict);
         if matches!(verdict, Verdict::Differs(_)) && tally.told.len() < TOLD {
-            tally.told.push(told(&shrink(&case, dirt, ours), dirt, ours));
+            let least = shrink(&case, dirt, ours);
+            tally.told.push(told(&least, &judge(&least, dirt, ours)));
         }
     }
     tally
 }
 
 /// The case, its difference, and its tape in hex and as commands.
-fn told(case: &Case, dirt: u64, ours: Ours) -> String {
-    let Verdict::Differs(text) = judge(case, dirt, ours) else { unreachable!("only cases that differ are told") };
+pub fn told(case: &Case, verdict: &Verdict) -> String {
+    let Verdict::Differs(text) = verdict else { unreachable!("only cases that differ are told") };
     let (limit, output, work) = (case.limit, case.output_len(), case.work_len());
     format!("differs: {text}\n  {} l{limit} o{output} w{work}\n{}", hex(&case.tape), shown(&case.tape))
 }
 
 /// A comparison in parts: each is printed as it ends, and all are counted together.
 pub struct Parts<'a> {
-    pub ours: Ours<'a>,
-    pub seed: u64,
-    pub total: Tally,
+    ours: Ours<'a>,
+    seed: u64,
+    total: Tally,
 }
 
 impl<'a> Parts<'a> {

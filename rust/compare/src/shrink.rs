@@ -10,12 +10,17 @@ use std::ops::Range;
 const MOST_BYTES: usize = 1 << 28;
 
 pub fn shrink(case: &Case, dirt: u64, ours: Ours) -> Case {
+    shrink_while(case, |candidate| matches!(judge(candidate, dirt, ours), Verdict::Differs(_)))
+}
+
+/// The same for any question of a case.
+pub fn shrink_while(case: &Case, differs: impl Fn(&Case) -> bool) -> Case {
     let (mut least, mut spent) = (case.clone(), 0);
     loop {
         let (stage, commands) = (read(&least.tape).ok(), split(&least.tape));
         let smaller = candidates(&least, stage.as_ref(), &commands).find(|candidate| {
             spent += candidate.tape.len() + candidate.output_len() + candidate.work_len();
-            spent > MOST_BYTES || matches!(judge(candidate, dirt, ours), Verdict::Differs(_))
+            spent > MOST_BYTES || differs(candidate)
         });
         match smaller {
             Some(found) if spent <= MOST_BYTES => least = found,
@@ -60,7 +65,7 @@ fn replaced<T: Clone>(list: &[T], index: usize, new: T) -> Vec<T> {
 
 fn smaller_stages(stage: &Stage) -> Several<'_, Stage> {
     // numbers in order of use, and no others
-    let renumbered = Stage { atoms: vec![], items: stage.items.clone() };
+    let renumbered = Stage::new(stage.items.clone());
     let inside = stage.items.iter().enumerate().flat_map(move |(index, item)| {
         let data = if let Item::Nonterminal(data) = item { Some(data) } else { None };
         let smaller = data.into_iter().flat_map(smaller_nonterminals);
@@ -110,15 +115,13 @@ fn may_hold(kind: &Kind, count: usize) -> bool {
     }
 }
 
-fn with_inner(kind: &Kind, mut inner: Vec<Symbol>) -> Kind {
-    match kind {
-        Kind::Macro(name, _) => Kind::Macro(name.clone(), inner),
-        Kind::Group(_) => Kind::Group(inner),
-        Kind::Repeat(op, _) => Kind::Repeat(*op, Box::new(inner.remove(0))),
-        Kind::Choose(_) => Kind::Choose(Box::new(inner.remove(0))),
-        Kind::Name { mutable, name, .. } => Kind::Name { mutable: *mutable, name: name.clone(), inner: Box::new(inner.remove(0)) },
-        other => other.clone(),
+fn with_inner(kind: &Kind, inner: Vec<Symbol>) -> Kind {
+    let mut kind = kind.clone();
+    match &mut kind {
+        Kind::Macro(_, symbols) | Kind::Group(symbols) => *symbols = inner,
+        other => other.inner_mut().clone_from_slice(&inner),
     }
+    kind
 }
 
 // ---- bytes

@@ -4,8 +4,7 @@ use crate::case::{round_lengths, Case, Room, Rounds};
 use crate::chosen::{has_rounds, line};
 use crate::judge::expected;
 use oracle::Call;
-use reading::notation::parse;
-use reading::{write, Refusal};
+use reading::{parse, write, Refusal};
 
 /// A case, and what is stated of it: the refusal, or a yes.
 pub struct Stated {
@@ -50,12 +49,12 @@ impl Stated {
 fn pushed_last() -> Vec<Stated> {
     let (one, other) = ("x".repeat(1_578), "x".repeat(1_577) + "y");
     let group = |last: &str| format!("({}{last})", format!("{one} ").repeat(56));
-    let equal = format!("S = {} {}; extern {one};", group(&one), group(&one));
-    let different = format!("S = {} {}; extern {one}; extern {other};", group(&one), group(&other));
+    let equal = format!("S = {} {}; extern {{ enum T {{ {one} => N }} }}", group(&one), group(&one));
+    let different = format!("S = {} {}; extern {{ enum T {{ {one} => N, {other} => N }} }}", group(&one), group(&other));
     let length = group(&one).len();
     let (first, second) = (4, 4 + length + 1);
     vec![
-        stated("reading-22-lookarounds", 0, "S = @L n* @L; extern n;", refused(18, 7, 9)),
+        stated("reading-22-lookarounds", 0, "S = @L n* @L; extern { enum T { n => N } }", refused(18, 7, 9)),
         stated("reading-22-equal-groups", 0, &equal, refused(18, first, first + length)),
         stated("reading-22-different-groups", 0, &different, refused(18, second, second + length)),
     ]
@@ -79,6 +78,6 @@ fn many_pending() -> Vec<Stated> {
 /// Reading 29: the names of what is pending have 26,939 bytes together, work 17,872; the tape has 1,117, and the output is as long.
 fn long_names() -> Vec<Stated> {
     let name = "x".repeat(400);
-    let grammar = format!("S = (m:{name}){}; {name} = ;", "*".repeat(61));
-    vec![stated("reading-29-names-longer-than-work", 64, &grammar, refused(19, 4, 408))]
+    let grammar = format!("S = (<m:{name}>){}; {name} = =>@L;", "*".repeat(61));
+    vec![stated("reading-29-names-longer-than-work", 64, &grammar, refused(19, 4, 410))]
 }

@@ -1,17 +1,15 @@
 //! Grammars for the whole call: chosen ones on which readings of document 01 part, random ones with levels and macros, and some at the limits.
-//! `#"1"` is short for `#precedence(level="1")`, `#left` for `#assoc(side="left")`.
+//! `#"1"` is short for `#[precedence(level="1")]`, `#left` for `#[assoc(side="left")]`.
 use crate::case::{at_every_length, every_room, round_lengths, Case, Rounds};
-use crate::grammars;
 use crate::grow::{tree, tree_so_wild, Size};
 use crate::ladders::{with_levels, Often};
 use crate::levels::{spelled, CASES, OTHERS, REFUSED};
-use crate::macro_edges::Edge;
 use crate::rounds::{alike, chain, counting, made_texts, with_calls};
+use crate::{grammars, macro_edges::Edge};
 use oracle::chance::Chance;
 use oracle::Call;
-use reading::notation::parse;
 use reading::tree::Stage;
-use reading::write;
+use reading::{parse, write};
 
 /// Rounds that are allowed.
 pub const LIMITS: [u16; 6] = [0, 1, 2, 3, 64, 65_535];
@@ -38,7 +36,7 @@ pub fn chosen() -> impl Iterator<Item = Vec<u8>> {
 
 /// Two levels, the higher with a repeat, within a limit, with every length of output and work around the boundary.
 pub fn in_every_room(limit: u16) -> Vec<Case> {
-    let tape = tape(r#"E = #"1" n | #"2" E n?; extern n;"#);
+    let tape = tape(r#"E = { #"1" n, #"2" E n? }; extern { enum T { n => N } }"#);
     let longest = round_lengths(&tape, Rounds { call: Call::Whole, limit, longest: usize::MAX }).into_iter().max().unwrap_or(0);
     every_room(&tape, longest).map(|case| case.within(limit)).collect()
 }
@@ -68,20 +66,28 @@ fn grown(chance: &mut Chance, size: Size) -> Stage {
 
 /// What stands around an occurrence; with the last two it may be refused: a name in a group, a condition on what is no literal.
 const AROUND: [&str; 13] =
-    ["_", "_", "_*", "_+", "_?", "<_>", "(_ \"+\")", "(<_> @L)", "M<_>", "K<_, \"x\">", "(_)", "(v:_)", "K<\"y\", _>"];
+    ["_", "_", "_*", "_+", "_?", "<_>", "(_ \"+\")", "(<_> @L)", "M<_>", "K<_, \"x\">", "(_)", "(<v:_>)", "K<\"y\", _>"];
 /// Levels of an operator's alternatives.
 const STEPS: [[&str; 4]; 5] =
     [["1", "2", "3", "4"], ["1", "2", "1", "2"], ["3", "1", "2", "9"], ["0", "+1", "001", "10"], ["1", "11", "12", "2"]];
 /// Items that a made name can meet, or that only look like it.
-const DECLARED: [&str; 8] =
-    ["E1 = \"x\"; ", "extern E1; ", "match E2; ", "E1<P> = P; ", "E11 = E; ", "F1 = F*; ", "pub E01 = \"x\"; ", "match E12; "];
+const DECLARED: [&str; 8] = [
+    r#"E1 = "x";"#,
+    "extern { enum T { E1 => E1 } }",
+    r#"match { "e2" => E2 }"#,
+    "E1<P> = P;",
+    "E11 = E;",
+    "F1 = F*;",
+    r#"pub E01 = "x";"#,
+    r#"match { "e12" => E12 }"#,
+];
 
 /// `M` with levels: resolving again refuses it, unless an argument hides the lower level, or there is only one.
 const WITH_LEVELS: [&str; 4] = [
-    "M<P> = #\"1\" P | #\"2\" P \"+\"; ",
-    "M<M1> = #\"1\" M1 | #\"2\" M1*; ",
-    "M<M> = #\"1\" M | #\"2\" #none M; ",
-    "M<P> = #\"1\" P | P?; ",
+    r#"M<P> = { #"1" P, #"2" P "+" };"#,
+    r#"M<M1> = { #"1" M1, #"2" M1* };"#,
+    r#"M<M> = { #"1" M, #"2" #none M };"#,
+    r#"M<P> = { #"1" P, P? };"#,
 ];
 
 fn layered(chance: &mut Chance, name: &str, most: usize) -> String {
@@ -92,18 +98,18 @@ fn layered(chance: &mut Chance, name: &str, most: usize) -> String {
 /// Two nonterminals of several levels each, which name themselves and each other under repeats, groups and in macro arguments; macros; now and then an item
 /// whose name is made. The items stand in any order, and some of the texts that are made are atoms already.
 fn operators(chance: &mut Chance) -> Stage {
-    let mut items = vec![operator(chance, "E", "F"), if chance.percent(60) { operator(chance, "F", "E") } else { "F = E \"f\"; ".into() }];
-    items.push(format!("S = {} {}; ", layered(chance, "E", 3), layered(chance, "F", 2)));
-    let plain = format!("M<P> = {} {}; ", layered(chance, "P", 1), chance.one_of(&["", "\"m\"", "P", "E"]));
+    let mut items = vec![operator(chance, "E", "F"), if chance.percent(60) { operator(chance, "F", "E") } else { r#"F = E "f";"#.into() }];
+    items.push(format!("S = {} {};", layered(chance, "E", 3), layered(chance, "F", 2)));
+    let plain = format!("M<P> = {} {};", layered(chance, "P", 1), chance.one_of(&["", "\"m\"", "P", "E"]));
     items.push(if chance.percent(8) { chance.one_of(&WITH_LEVELS).into() } else { plain });
-    items.push(format!("K<P, Q> = P {} if Q == \"x\" | Q if Q != \"x\"; ", layered(chance, "Q", 1)));
+    items.push(format!("K<P, Q> = {{ P {} if Q == \"x\", Q if Q != \"x\" }};", layered(chance, "Q", 1)));
     if chance.percent(12) {
         items.push(chance.one_of(&DECLARED).into());
     }
     for index in (1..items.len()).rev() {
         items.swap(index, chance.under(index + 1));
     }
-    let mut stage = parse(&spelled(&(items.concat() + "extern n;")));
+    let mut stage = parse(&spelled(&(items.join(" ") + "extern { enum T { n => N } }")));
     if chance.percent(30) {
         made_texts(chance, &mut stage, Call::Whole);
     }
@@ -119,7 +125,7 @@ fn operator(chance: &mut Chance, name: &str, other: &str) -> String {
         format!("{level}{side}{}", symbols.join(" "))
     };
     let alternatives: Vec<String> = (0..count).map(alternative).collect();
-    format!("{name} = {}; ", alternatives.join(" | "))
+    format!("{name} = {{ {} }};", alternatives.join(", "))
 }
 
 /// Often the nonterminal itself.
@@ -133,7 +139,7 @@ fn operand(chance: &mut Chance, [name, other]: [&str; 2], depth: usize) -> Strin
 /// A level's name that is 65,535 bytes long as it is, or with a star behind, or not even by itself.
 fn long_names() -> Vec<Edge> {
     let grammar = |length: usize, symbol: &str| {
-        format!("{0} = #\"1\" \"n\" | #\"2\" #none {symbol}; M<P> = P;", "E".repeat(length)).replace('_', &"E".repeat(length))
+        format!("{0} = {{ #\"1\" \"n\", #\"2\" #none {symbol} }}; M<P> = P;", "E".repeat(length)).replace('_', &"E".repeat(length))
     };
     let tapes = [
         (65_534, "_"),
@@ -153,7 +159,7 @@ fn many_atoms() -> Vec<Edge> {
     let stage = |others: usize, more: &[&str]| {
         let others = (0..others).map(|index| format!("a{index:x}").into_bytes());
         let atoms = others.chain(more.iter().map(|text| text.as_bytes().to_vec())).collect();
-        write(&Stage { atoms, ..parse(&spelled("E = #\"1\" n | #\"2\" #none E?; extern n;")) })
+        write(&Stage { atoms, ..parse(&spelled(r#"E = { #"1" n, #"2" #none E? }; extern { enum T { n => N } }"#)) })
     };
     // E, n, precedence, level, 1, 2, assoc, side, none; made: E1; `E1?`; `Some(<>)` and None
     let most = 65_536 - 9;
@@ -165,7 +171,7 @@ fn many_atoms() -> Vec<Edge> {
 /// An occurrence under 60 and more layers, in the level's alternative or in a macro's argument there.
 fn deep() -> Vec<Edge> {
     let around = |count: usize, text: &str| format!("{}{text}{}", "<".repeat(count), ">".repeat(count));
-    let grammar = |symbol: String| format!("E = #\"1\" \"n\" | #\"2\" #left E {symbol}; M<P> = {};", around(30, "P?"));
+    let grammar = |symbol: String| format!("E = {{ #\"1\" \"n\", #\"2\" #left E {symbol} }}; M<P> = {};", around(30, "P?"));
     let starred = [60, 61, 62].map(|count| grammar(format!("{}*", around(count, "E"))));
     let called = [30, 31, 32, 33, 62].map(|count| grammar(format!("M<{}>", around(count, "E"))));
     let groups = [62, 63].map(|count| grammar(format!("{}E{}", "(".repeat(count), ")".repeat(count))));
@@ -176,9 +182,9 @@ fn deep() -> Vec<Edge> {
 fn many_levels() -> Vec<Edge> {
     let ladder = |count: usize, symbol: &str| {
         let rungs: Vec<String> = (1..count).map(|level| format!("#\"{level}\" #left E \"{level}\" {symbol}")).collect();
-        tape(&format!("E = #\"0\" \"n\" | {}; M<P, Q> = P (Q P)?;", rungs.join(" | ")))
+        tape(&format!("E = {{ #\"0\" \"n\", {} }}; M<P, Q> = P (Q P)?;", rungs.join(", ")))
     };
-    let doubling = tape(r#"E = #"1" "n" | #"2" #none M<E>; M<P> = M<(P P)>;"#);
+    let doubling = tape(r#"E = { #"1" "n", #"2" #none M<E> }; M<P> = M<(P P)>;"#);
     let ladders = [(ladder(300, "E*"), 3, 900_000), (ladder(200, "M<E, E>"), 3, 900_000), (ladder(60, "(E M<E, (E)>)+"), 9, 900_000)];
     let limits = [0, 3, 9, 64, 65_535].map(|limit| (doubling.clone(), limit, 60_000));
     ladders.into_iter().chain(limits).collect()
@@ -187,13 +193,13 @@ fn many_levels() -> Vec<Edge> {
 /// A macro that counts by conditions, so many rounds, over an argument that is a level's name.
 fn many_rounds() -> Vec<Edge> {
     let alternatives: Vec<String> = (0..40).map(|number| format!("P C<P, \"{}\"> if Q == \"{number}\"", number + 1)).collect();
-    let counter = tape(&format!("E = #\"1\" \"n\" | #\"2\" #none C<E, \"0\">; C<P, Q> = {} | P;", alternatives.join(" | ")));
+    let counter = tape(&format!("E = {{ #\"1\" \"n\", #\"2\" #none C<E, \"0\"> }}; C<P, Q> = {{ {}, P }};", alternatives.join(", ")));
     [0, 1, 39, 40, 41, 42, 65_535].map(|limit| (counter.clone(), limit, 90_000)).to_vec()
 }
 
 /// An argument of so many bytes, a level's name, that doubles in each round: 20 in the first round, the second, and so on.
 fn doubling() -> Vec<Edge> {
-    let grammar = |length: usize| format!("{0} = #\"1\" \"n\" | #\"2\" #none M<{0}>; M<P> = M<(P P)>;", "E".repeat(length));
+    let grammar = |length: usize| format!("{0} = {{ #\"1\" \"n\", #\"2\" #none M<{0}> }}; M<P> = M<(P P)>;", "E".repeat(length));
     [65_000, 40_000, 20_000, 10_000, 5_000, 2_500].map(|length| (tape(&grammar(length)), 9, 900_000)).to_vec()
 }
 
@@ -210,82 +216,85 @@ pub fn few_edges() -> Vec<Edge> {
 
 static GRAMMARS: [(&str, &str); 59] = [
     ("nothing at all", ""),
-    ("document 01's star", "pub L = n*; extern n;"),
-    ("two levels, no macro", r#"E = #"1" "n" | #"2" #left E "+" E;"#),
-    ("a level's name in a macro argument", r#"S = E; E = #"1" "n" | #"2" #left M<E> E; M<P> = P "m" P?;"#),
-    ("both ends of a macro argument", r#"E = #"1" "n" | #"2" #right K<E, E> "x"; K<P, Q> = P "+" Q;"#),
-    ("a repeat over each level", r#"E = #"1" "n" | #"2" #none E* E+ E? | #"3" E* E+ E?;"#),
-    ("the same repeat elsewhere is another", r#"S = E*; E = #"1" "n" | #"2" #none E* "+";"#),
-    ("a group over a level", r#"E = #"1" "n" | #"2" #left (E "+" <E>) | #"3" #right (E "+" <E>);"#),
-    ("groups in groups", r#"E = #"1" ("n") | #"2" #none ((E) (E (E)))?;"#),
-    ("a level's name declared behind: 5", r#"E = #"1" "n" | #"2" E*; E1 = "x";"#),
-    ("declared before: 5", r#"E1 = "x"; E = #"1" "n" | #"2" E*;"#),
-    ("a terminal behind: 6", r#"E = #"1" "n" | #"2" E?; extern E1;"#),
-    ("a match terminal before", r#"match E1; E = #"1" "n" | #"2" E?;"#),
-    ("a macro of that name: 6", r#"E = #"1" "n" | #"2" E1<E>; E1<P> = P;"#),
-    ("two levels' names meet: 5", r#"E = #"11" "n" | #"12" E; E1 = #"1" "m" | #"2" E1;"#),
-    ("a name used by nobody else", r#"E = #"1" "n" | #"2" "E1" E*; S = "E1*";"#),
-    ("a level's name is an action's text", r#"E = #"1" "n" => { E1 } | #"2" #none E => { E1* };"#),
-    ("a level's name is a name given to a symbol", r#"E = #"1" E1:"n" | #"2" #none E1:E E11:E?;"#),
-    ("a macro with two levels: 10", r#"S = M<"x">; M<P> = #"1" "n" | #"2" P "+";"#),
-    ("a macro with one level", r#"S = M<"x">; M<P> = #"1" P | P?;"#),
-    ("one that nothing calls: 10", r#"S = "x"; M<P> = #"1" "n" | #"2" P;"#),
-    ("an argument of its name", r#"S = M<"x">; M<M> = #"1" "n" | #"2" #left M M;"#),
-    ("an argument of the lower level's name", r#"S = M<"x">; M<M1> = #"1" "n" | #"2" "+";"#),
-    ("three levels, one such argument: 10", r#"S = M<"x">; M<M1> = #"1" "n" | #"2" "+" | #"3" M1;"#),
-    ("three levels, both arguments", r#"S = M<"x", "y">; M<M1, M2> = #"1" "n" | #"2" "+" | #"3" M1;"#),
-    ("the lower level is called too", r#"S = M<"x"> M1<"y">; M<M1> = #"1" "n" | #"2" "+";"#),
-    ("10 before 17 and 19", r#"S = M<n> (m:n); M<P> = #"1" "n" if P == "x" | #"2" P; extern n;"#),
-    ("5 before 18", r#"S = "x"*; E = #"1" "n" | #"2" E; E1 = "x";"#),
-    ("14 before 17", r#"S = M<n>; M<P> = "x" if P == "x"; E = #"x" "n"; extern n;"#),
-    ("15 before 19", r#"S = (m:n); E = #assoc(side="x") "n"; extern n;"#),
-    ("16 before 18", r#"S = n*; E = #left "n"; extern n;"#),
-    ("14 to 16 of macros that nothing calls", r#"S = "x"; M<P> = #"1" P | #"x" P;"#),
-    ("17 of a level", r#"E = #"1" "n" | #"2" K<E>; K<P> = "x" if P == "x";"#),
-    ("17 behind a level's fall-through", r#"E = #"1" K<"x"> | #"2" #none E K<n>; K<P> = P if P != "x"; extern n;"#),
-    ("19 in the higher level", r#"E = #"1" "n" | #"2" (v:E "+");"#),
-    ("19 in an argument that a level is put in", r#"S = M<E>; E = #"1" "n" | #"2" E "+"; M<P> = (v:P)*;"#),
-    ("17 behind one round", r#"S = M<E>; M<P> = K<P>; K<P> = if P == "x"; E = #"1" "n" | #"2" E;"#),
-    ("17 behind two", r#"S = M<E>; M<P> = K<P>; K<P> = L<P>; L<P> = if P == "x"; E = #"1" "n" | #"2" E;"#),
-    ("17 behind three", r#"S = M<E>; M<P> = K<P>; K<P> = L<P>; L<P> = N<P>; N<P> = if P == "x"; E = #"1" "n" | #"2" E;"#),
-    ("17 behind four", r#"S = M<E>; M<P> = K<P>; K<P> = L<P>; L<P> = N<P>; N<P> = O<P>; O<P> = if P == "x"; E = #"1" "n" | #"2" E;"#),
-    ("19 behind one round", r#"S = M<E>; M<P> = (v:P); E = #"1" "n" | #"2" E;"#),
-    ("19 behind two", r#"S = M<E>; M<P> = K<P>; K<P> = (v:P); E = #"1" "n" | #"2" E;"#),
-    ("19 behind three", r#"S = M<E>; M<P> = K<P>; K<P> = L<P>; L<P> = (v:P); E = #"1" "n" | #"2" E;"#),
-    ("19 behind four", r#"S = M<E>; M<P> = K<P>; K<P> = L<P>; L<P> = N<P>; N<P> = (v:P); E = #"1" "n" | #"2" E;"#),
-    ("18 at the last of the higher level", r#"E = #"1" "n"* | #"2" #left E* "+" E*;"#),
-    ("18 at what only the lower level has", r#"E = #"2" #none "m" E* | #"1" "n"* "k"?;"#),
-    ("levels in any order, texts by first reference", r#"E = #"3" #left E "a" E? | #"1" "n" | #"2" #right (E "b") E;"#),
-    ("a call for ever over a level", r#"E = #"1" "n" | #"2" #none M<E>; M<P> = P M<P*>;"#),
-    ("two calls for ever over a level", r#"E = #"1" "n" | #"2" #none M<E>; M<P> = M<(P)> M<P?>;"#),
+    ("document 01's star", "pub L = n*; extern { enum T { n => N } }"),
+    ("two levels, no macro", r#"E = { #"1" "n", #"2" #left E "+" E };"#),
+    ("a level's name in a macro argument", r#"S = E; E = { #"1" "n", #"2" #left M<E> E }; M<P> = P "m" P?;"#),
+    ("both ends of a macro argument", r#"E = { #"1" "n", #"2" #right K<E, E> "x" }; K<P, Q> = P "+" Q;"#),
+    ("a repeat over each level", r#"E = { #"1" "n", #"2" #none E* E+ E?, #"3" E* E+ E? };"#),
+    ("the same repeat elsewhere is another", r#"S = E*; E = { #"1" "n", #"2" #none E* "+" };"#),
+    ("a group over a level", r#"E = { #"1" "n", #"2" #left (E "+" <E>), #"3" #right (E "+" <E>) };"#),
+    ("groups in groups", r#"E = { #"1" ("n"), #"2" #none ((E) (E (E)))? };"#),
+    ("a level's name declared behind: 5", r#"E = { #"1" "n", #"2" E* }; E1 = "x";"#),
+    ("declared before: 5", r#"E1 = "x"; E = { #"1" "n", #"2" E* };"#),
+    ("a terminal behind: 6", r#"E = { #"1" "n", #"2" E? }; extern { enum T { E1 => E1 } }"#),
+    ("a match terminal before", r#"match { "e1" => E1 } E = { #"1" "n", #"2" E? };"#),
+    ("a macro of that name: 6", r#"E = { #"1" "n", #"2" E1<E> }; E1<P> = P;"#),
+    ("two levels' names meet: 5", r#"E = { #"11" "n", #"12" E }; E1 = { #"1" "m", #"2" E1 };"#),
+    ("a name used by nobody else", r#"E = { #"1" "n", #"2" "E1" E* }; S = "E1*";"#),
+    ("a level's name is an action's text", r#"E = { #"1" "n" => E1, #"2" #none E => E1* };"#),
+    ("a level's name is a name given to a symbol", r#"E = { #"1" <E1:"n">, #"2" #none <E1:E> <E11:E?> };"#),
+    ("a macro with two levels: 10", r#"S = M<"x">; M<P> = { #"1" "n", #"2" P "+" };"#),
+    ("a macro with one level", r#"S = M<"x">; M<P> = { #"1" P, P? };"#),
+    ("one that nothing calls: 10", r#"S = "x"; M<P> = { #"1" "n", #"2" P };"#),
+    ("an argument of its name", r#"S = M<"x">; M<M> = { #"1" "n", #"2" #left M M };"#),
+    ("an argument of the lower level's name", r#"S = M<"x">; M<M1> = { #"1" "n", #"2" "+" };"#),
+    ("three levels, one such argument: 10", r#"S = M<"x">; M<M1> = { #"1" "n", #"2" "+", #"3" M1 };"#),
+    ("three levels, both arguments", r#"S = M<"x", "y">; M<M1, M2> = { #"1" "n", #"2" "+", #"3" M1 };"#),
+    ("the lower level is called too", r#"S = M<"x"> M1<"y">; M<M1> = { #"1" "n", #"2" "+" };"#),
+    ("10 before 17 and 19", r#"S = M<n> (<m:n>); M<P> = { #"1" "n" if P == "x", #"2" P }; extern { enum T { n => N } }"#),
+    ("5 before 18", r#"S = "x"*; E = { #"1" "n", #"2" E }; E1 = "x";"#),
+    ("14 before 17", r#"S = M<n>; M<P> = "x" if P == "x" =>@L; E = #"x" "n"; extern { enum T { n => N } }"#),
+    ("15 before 19", r#"S = (<m:n>); E = #[assoc(side="x")] "n"; extern { enum T { n => N } }"#),
+    ("16 before 18", r#"S = n*; E = #left "n"; extern { enum T { n => N } }"#),
+    ("14 to 16 of macros that nothing calls", r#"S = "x"; M<P> = { #"1" P, #"x" P };"#),
+    ("17 of a level", r#"E = { #"1" "n", #"2" K<E> }; K<P> = "x" if P == "x";"#),
+    ("17 behind a level's fall-through", r#"E = { #"1" K<"x">, #"2" #none E K<n> }; K<P> = P if P != "x"; extern { enum T { n => N } }"#),
+    ("19 in the higher level", r#"E = { #"1" "n", #"2" (<v:E> "+") };"#),
+    ("19 in an argument that a level is put in", r#"S = M<E>; E = { #"1" "n", #"2" E "+" }; M<P> = (<v:P>)*;"#),
+    ("17 behind one round", r#"S = M<E>; M<P> = K<P>; K<P> = if P == "x" =>@L; E = { #"1" "n", #"2" E };"#),
+    ("17 behind two", r#"S = M<E>; M<P> = K<P>; K<P> = L<P>; L<P> = if P == "x" =>@L; E = { #"1" "n", #"2" E };"#),
+    ("17 behind three", r#"S = M<E>; M<P> = K<P>; K<P> = L<P>; L<P> = N<P>; N<P> = if P == "x" =>@L; E = { #"1" "n", #"2" E };"#),
+    (
+        "17 behind four",
+        r#"S = M<E>; M<P> = K<P>; K<P> = L<P>; L<P> = N<P>; N<P> = O<P>; O<P> = if P == "x" =>@L; E = { #"1" "n", #"2" E };"#,
+    ),
+    ("19 behind one round", r#"S = M<E>; M<P> = (<v:P>); E = { #"1" "n", #"2" E };"#),
+    ("19 behind two", r#"S = M<E>; M<P> = K<P>; K<P> = (<v:P>); E = { #"1" "n", #"2" E };"#),
+    ("19 behind three", r#"S = M<E>; M<P> = K<P>; K<P> = L<P>; L<P> = (<v:P>); E = { #"1" "n", #"2" E };"#),
+    ("19 behind four", r#"S = M<E>; M<P> = K<P>; K<P> = L<P>; L<P> = N<P>; N<P> = (<v:P>); E = { #"1" "n", #"2" E };"#),
+    ("18 at the last of the higher level", r#"E = { #"1" "n"*, #"2" #left E* "+" E* };"#),
+    ("18 at what only the lower level has", r#"E = { #"2" #none "m" E*, #"1" "n"* "k"? };"#),
+    ("levels in any order, texts by first reference", r#"E = { #"3" #left E "a" E?, #"1" "n", #"2" #right (E "b") E };"#),
+    ("a call for ever over a level", r#"E = { #"1" "n", #"2" #none M<E> }; M<P> = P M<P*>;"#),
+    ("two calls for ever over a level", r#"E = { #"1" "n", #"2" #none M<E> }; M<P> = M<(P)> M<P?>;"#),
     (
         "all arguments put in together",
-        r#"S = M<Q, P>; M<P, Q> = P Q (Q P)*; P = #"1" "p" | #"2" #left P Q; Q = #"1" "q" | #"2" #right P Q;"#,
+        r#"S = M<Q, P>; M<P, Q> = P Q (Q P)*; P = { #"1" "p", #"2" #left P Q }; Q = { #"1" "q", #"2" #right P Q };"#,
     ),
-    ("an argument that bears a level's name", r#"S = M<E>; E = #"1" "n" | #"2" #none E "+"; M<E1> = E1* E1;"#),
-    ("an occurrence named 24", r#"E = #"1" "n" | #"2" #left %E* "+" %E;"#),
-    ("flags", r#"pub inline E = #"1" "n" | #"2" #left M<E> "+" E; pub inline M<P> = P?;"#),
-    ("leftover attributes", r#"E = #"1" #"2" #cfg(k="v") "n"? | #"2" #left #right E E*; M<P> = #cfg P;"#),
-    ("a long chain of rounds", r#"E = #"1" "n" | #"2" #none M<E>; M<P> = K<(P), P?>; K<P, Q> = L<Q*, P>; L<A, B> = A B+ @L @R;"#),
+    ("an argument that bears a level's name", r#"S = M<E>; E = { #"1" "n", #"2" #none E "+" }; M<E1> = E1* E1;"#),
+    ("an occurrence named 24", r#"E = { #"1" "n", #"2" #left `E`* "+" `E` };"#),
+    ("flags", r#"#[inline] pub E = { #"1" "n", #"2" #left M<E> "+" E }; #[inline] pub M<P> = P?;"#),
+    ("leftover attributes", r#"E = { #"1" #"2" #[cfg(k="v")] "n"?, #"2" #left #right E E* }; M<P> = #[cfg] P;"#),
+    ("a long chain of rounds", r#"E = { #"1" "n", #"2" #none M<E> }; M<P> = K<(P), P?>; K<P, Q> = L<Q*, P>; L<A, B> = A B+ @L @R;"#),
     (
         "the book's expressions",
-        r#"pub Expr = #"1" Term | #"2" #left l:Expr "*" r:Expr => { l * r } | l:Expr "/" r:Expr => { l / r }
-         | #"3" #left l:Expr "+" r:Expr => { l + r } | l:Expr "-" r:Expr => { l - r };
-         Term = r"[0-9]+" => { i32::from_str(<>).unwrap() } | "(" <Expr> ")";"#,
+        r#"pub Expr = { #"1" Term, #"2" #left <l:Expr> "*" <r:Expr> => l * r, <l:Expr> "/" <r:Expr> => l / r,
+         #"3" #left <l:Expr> "+" <r:Expr> => l + r, <l:Expr> "-" <r:Expr> => l - r };
+         Term = { r"[0-9]+" => i32::from_str(<>).unwrap(), "(" <Expr> ")" };"#,
     ),
     (
         "the book's lists over them",
-        r#"pub Exprs = Comma<Expr>; Comma<T> = <mut v:(<T> ",")*> <e:T?> => { match e };
-         Expr = #"0" Num | #"1" #left Expr "+" Expr; Num = r"[0-9]+";"#,
+        r#"pub Exprs = Comma<Expr>; Comma<T> = <mut v:(<T> ",")*> <e:T?> => match e;
+         Expr = { #"0" Num, #"1" #left Expr "+" Expr }; Num = r"[0-9]+";"#,
     ),
     (
         "the book's tiers",
-        r#"Expr = Tier<ExprOp, Factor>; Factor = Tier<FactorOp, Term>; Tier<Op, Next> = Tier<Op, Next> Op Next => { t } | Next;
-         ExprOp = "+" | "-"; FactorOp = "*" | "/"; Term = #"1" "n" | #"2" #right Term "^" Term | "(" <Expr> ")";"#,
+        r#"Expr = Tier<ExprOp, Factor>; Factor = Tier<FactorOp, Term>; Tier<Op, Next> = { Tier<Op, Next> Op Next => t, Next };
+         ExprOp = { "+", "-" }; FactorOp = { "*", "/" }; Term = { #"1" "n", #"2" #right Term "^" Term, "(" <Expr> ")" };"#,
     ),
     (
         "the book's conditions",
-        r#"S = Expr<"stmt"> | Expr<"call">; Expr<M> = "if" if M == "stmt" | Tern if M != "stmt" | M;
-         Tern = #"1" "n" | #"2" #right Tern "?" Tern ":" Tern;"#,
+        r#"S = { Expr<"stmt">, Expr<"call"> }; Expr<M> = { "if" if M == "stmt", Tern if M != "stmt", M };
+         Tern = { #"1" "n", #"2" #right Tern "?" Tern ":" Tern };"#,
     ),
 ];

@@ -1,6 +1,6 @@
 //! The comparison can fail: a stand-in made of the second reading and the Rust agrees, and with one fault planted it doesn't.
 use compare::case::Case;
-use compare::judge::{expected, words, Ours};
+use compare::judge::{expected, leave, Ours};
 use compare::mix;
 use compare::run::run;
 use compare::shrink::shrink;
@@ -9,7 +9,7 @@ use compare::tally::Tally;
 use compare::the_rust_is_there;
 use normalize::Words;
 use oracle::chance::Chance;
-use oracle::Call;
+use oracle::{Call, CALLS};
 use reading::Outcome;
 
 /// What a call leaves behind.
@@ -27,13 +27,7 @@ fn stand_in(call: Call, fault: Fault) -> impl Fn(&[u8], u16, &mut [u8], &mut [u8
     move |tape, limit, output, work, answer| {
         let steps = |stage: &_| deciding(stage, call, limit, output.len());
         let outcome = reading::answer(tape, output.len(), work.len(), steps).expect("the Rust was there to be asked");
-        if work.len() >= reading::work_needed(tape.len(), output.len()) {
-            work.fill(0);
-        }
-        if let Ok(tree) = &outcome {
-            output[..tree.len()].copy_from_slice(tree);
-        }
-        *answer = words(&outcome);
+        leave(&outcome, tape.len(), output, work, answer);
         fault(&outcome, &mut Left { output, work, answer });
     }
 }
@@ -43,37 +37,28 @@ fn refused(outcome: &Outcome, number: u8) -> bool {
 }
 
 /// How many cases each fault is tried on.
-const RESOLVED: usize = 1_500;
-const LEVELLED: usize = 800;
-const EXPANDED: usize = 600;
-const PASSED: usize = 600;
-
-fn cases() -> impl Iterator<Item = Case> {
-    mix::cases(Chance(7)).take(RESOLVED)
+fn count(call: Call) -> usize {
+    match call {
+        Call::Resolve => 1_500,
+        Call::Levels => 800,
+        Call::Macros | Call::Whole => 600,
+    }
 }
 
-fn level_cases() -> impl Iterator<Item = Case> {
-    mix::level_cases(Chance(7), usize::MAX).take(LEVELLED)
-}
-
-fn macro_cases() -> impl Iterator<Item = Case> {
-    mix::macro_cases(Chance(7), usize::MAX).take(EXPANDED)
-}
-
-fn whole_cases() -> impl Iterator<Item = Case> {
-    mix::whole_cases(Chance(7), usize::MAX).take(PASSED)
+fn cases(call: Call) -> impl Iterator<Item = Case> {
+    let (chance, any) = (Chance(7), usize::MAX);
+    let cases: Box<dyn Iterator<Item = Case>> = match call {
+        Call::Resolve => Box::new(mix::cases(chance)),
+        Call::Levels => Box::new(mix::level_cases(chance, any)),
+        Call::Macros => Box::new(mix::macro_cases(chance, any)),
+        Call::Whole => Box::new(mix::whole_cases(chance, any)),
+    };
+    cases.take(count(call))
 }
 
 /// The stand-in with this fault beside the Rust.
 fn tally(call: Call, fault: Fault) -> Tally {
-    let made = stand_in(call, fault);
-    let ours = Ours { call, made: &made };
-    match call {
-        Call::Levels => run(level_cases(), 7, ours),
-        Call::Macros => run(macro_cases(), 7, ours),
-        Call::Whole => run(whole_cases(), 7, ours),
-        Call::Resolve => run(cases(), 7, ours),
-    }
+    run(cases(call), 7, Ours { call, made: &stand_in(call, fault) })
 }
 
 fn turn(byte: Option<&mut u8>) {
@@ -84,10 +69,10 @@ fn turn(byte: Option<&mut u8>) {
 
 #[test]
 fn without_a_fault_all_agree() {
-    for (call, all) in [(Call::Resolve, RESOLVED), (Call::Levels, LEVELLED), (Call::Macros, EXPANDED), (Call::Whole, PASSED)] {
+    for call in CALLS {
         let tally = tally(call, |_, _| {});
         println!("{call:?}: {tally}");
-        assert_eq!((tally.differences, tally.agreed() + tally.skipped), (0, all));
+        assert_eq!((tally.differences, tally.agreed() + tally.skipped), (0, count(call)));
     }
 }
 
@@ -166,15 +151,15 @@ fn a_round_too_many_shows() {
     let one_more = |tape: &[u8], limit: u16, output: &mut [u8], work: &mut [u8], answer: &mut Words| {
         made(tape, limit.saturating_add(1), output, work, answer);
     };
-    let tally = run(macro_cases(), 7, Ours { call: Call::Macros, made: &one_more });
+    let tally = run(cases(Call::Macros), 7, Ours { call: Call::Macros, made: &one_more });
     assert!(tally.differences > 0 && tally.agreed() > tally.differences);
 }
 
 /// The largest of the cases with this answer, and what it shrinks to with a fault in that answer.
-fn shrunk(call: Call, cases: impl Iterator<Item = Case>, number: u8, fault: Fault) -> (Case, Case) {
+fn shrunk(call: Call, number: u8, fault: Fault) -> (Case, Case) {
     let made = stand_in(call, fault);
     let number_of = |case: &Case| expected(case, call).unwrap().err().map(|refusal| refusal.number);
-    let case = cases.filter(|case| number_of(case) == Some(number)).max_by_key(|case| case.tape.len()).unwrap();
+    let case = cases(call).filter(|case| number_of(case) == Some(number)).max_by_key(|case| case.tape.len()).unwrap();
     let least = shrink(&case, 7, Ours { call, made: &made });
     assert_eq!(number_of(&least), Some(number));
     (case, least)
@@ -186,7 +171,7 @@ fn a_difference_shrinks() {
     if !the_rust_is_there(1) {
         return;
     }
-    let (case, least) = shrunk(Call::Resolve, cases(), 13, |outcome, left| left.answer[1] -= 5 * u64::from(refused(outcome, 13)));
+    let (case, least) = shrunk(Call::Resolve, 13, |outcome, left| left.answer[1] -= 5 * u64::from(refused(outcome, 13)));
     assert!(case.tape.len() > 200 && least.tape.len() <= 80, "{} to {}", case.tape.len(), least.tape.len());
 }
 
@@ -196,7 +181,7 @@ fn a_difference_of_macros_shrinks() {
     if !the_rust_is_there(1) {
         return;
     }
-    let (case, least) = shrunk(Call::Macros, macro_cases(), 18, |outcome, left| left.answer[1] -= 5 * u64::from(refused(outcome, 18)));
+    let (case, least) = shrunk(Call::Macros, 18, |outcome, left| left.answer[1] -= 5 * u64::from(refused(outcome, 18)));
     assert!(case.tape.len() > 200 && least.tape.len() <= 120, "{} to {}", case.tape.len(), least.tape.len());
     assert_eq!(least.limit, 0);
 }

@@ -2,11 +2,10 @@
 use compare::the_rust_is_there;
 use normalize::{levels, macros, resolve, work_len};
 use oracle::{expand, Expanded};
-use reading::notation::parse;
-use reading::tree::Stage;
-use reading::{read, within_operands, write, Refusal};
+use reading::tree::{Alternative, Nonterminal, Repeat, Stage, Symbol};
+use reading::{parse, read, within_operands, write, Refusal};
 
-const TWO_LEVELS: &str = r#"E = #precedence(level="1") "n" | #precedence(level="2") E "+" E;"#;
+const TWO_LEVELS: &str = r#"E = { #[precedence(level="1")] "n", #[precedence(level="2")] E "+" E };"#;
 
 fn panicked(grammar: &str, limit: u16) -> String {
     let expanded = expand(&parse(grammar), limit).unwrap();
@@ -35,25 +34,25 @@ fn levels_and_sides_that_cannot_be_read_are_panics() {
     if !the_rust_is_there(5) {
         return;
     }
-    assert!(panicked(r#"E = #precedence(level="x") "n";"#, 9).contains("ParseIntError"));
-    assert!(panicked(r#"E = #precedence "n";"#, 9).contains("`None` value"));
-    assert!(panicked(r#"E = #assoc(side="x") "n";"#, 9).contains("ParseAssocError"));
-    assert!(panicked(r#"E = #assoc "n";"#, 9).contains("`None` value"));
-    assert!(panicked(r#"E = #assoc(side="left") "n";"#, 9).contains("unexpected associativity attribute on the first precedence level"));
+    assert!(panicked(r#"E = #[precedence(level="x")] "n";"#, 9).contains("ParseIntError"));
+    assert!(panicked(r#"E = #[precedence] "n";"#, 9).contains("`None` value"));
+    assert!(panicked(r#"E = #[assoc(side="x")] "n";"#, 9).contains("ParseAssocError"));
+    assert!(panicked(r#"E = #[assoc] "n";"#, 9).contains("`None` value"));
+    assert!(panicked(r#"E = #[assoc(side="left")] "n";"#, 9).contains("unexpected associativity attribute on the first precedence level"));
 }
 
 /// In ours they are refusals, at the alternative; and where the call for levels is given no room, it is 21 first.
 #[test]
 fn levels_and_sides_that_cannot_be_read_are_refused() {
     let grammars = [
-        (r#"E = #precedence(level="x") "n";"#, 14),
-        (r#"E = #precedence "n";"#, 14),
-        (r#"E = #assoc(side="x") "n";"#, 15),
-        (r#"E = #assoc "n";"#, 15),
-        (r#"E = #assoc(side="left") "n";"#, 16),
+        (r#"E = #[precedence(level="x")] "n";"#, 14),
+        (r#"E = #[precedence] "n";"#, 14),
+        (r#"E = #[assoc(side="x")] "n";"#, 15),
+        (r#"E = #[assoc] "n";"#, 15),
+        (r#"E = #[assoc(side="left")] "n";"#, 16),
     ];
     for (grammar, number) in grammars {
-        let (tape, span) = (write(&parse(grammar)), (4, grammar.len() as u64 - 1));
+        let (tape, span) = (write(&parse(grammar)), (grammar.len() as u64 - 4, grammar.len() as u64 - 1));
         let mut work = vec![0; work_len(tape.len(), tape.len())];
         let no = |number, place| Err(Refusal { number, place });
         assert_eq!(levels(&tape, &mut vec![0; tape.len()], &mut work), no(number, span), "{grammar}");
@@ -68,16 +67,15 @@ fn a_made_name_meets_another() {
     }
     assert_eq!(refused(&format!(r#"{TWO_LEVELS} E1 = "x";"#), 9), (5, "E1"));
     assert_eq!(refused(&format!(r#"E1 = "x"; {TWO_LEVELS}"#), 9), (5, "E"));
-    assert_eq!(refused(&format!("{TWO_LEVELS} extern E1;"), 9), (6, "E1"));
-    let both =
-        r#"E = #precedence(level="11") "n" | #precedence(level="12") "m"; E1 = #precedence(level="1") "n" | #precedence(level="2") "m";"#;
+    assert_eq!(refused(&format!("{TWO_LEVELS} extern {{ enum T {{ E1 => E1 }} }}"), 9), (6, "E1 => E1 "));
+    let both = r#"E = { #[precedence(level="11")] "n", #[precedence(level="12")] "m" }; E1 = { #[precedence(level="1")] "n", #[precedence(level="2")] "m" };"#;
     assert_eq!(refused(both, 9), (5, "E1"));
 }
 
 /// An atom that nothing used becomes the made name: it isn't written twice.
 #[test]
 fn an_unused_atom_becomes_a_made_name() {
-    let mut stage = parse("L = n*; extern n;");
+    let mut stage = parse("L = n*; extern { enum T { n => N } }");
     stage.atoms = vec![b"n*".to_vec()];
     let is_used_again = |tape: &[u8]| tape.windows(5).filter(|part| part == b"\x01\x02\x00n*").count() == 1 && tape[4] == b'*';
     assert!(is_used_again(&expanded(&stage, 2, 999).unwrap()));
@@ -89,11 +87,11 @@ fn an_unused_atom_becomes_a_made_name() {
 
 #[test]
 fn the_star_needs_two_rounds() {
-    let star = parse("L = n*; extern n;");
+    let star = parse("L = n*; extern { enum T { n => N } }");
     assert_eq!(expanded(&star, 1, 999), Err((18, (4, 6))));
     assert!(expanded(&star, 2, 999).is_ok());
     if the_rust_is_there(2) {
-        assert_eq!(refused("L = n*; extern n;", 1), (18, "n*"));
+        assert_eq!(refused("L = n*; extern { enum T { n => N } }", 1), (18, "n*"));
         assert!(matches!(expand(&star, 2), Some(Expanded::Tree(_))));
     }
 }
@@ -108,7 +106,7 @@ fn counter() -> String {
     };
     let step = |bit: usize| {
         let (one, zero) = (with(bit, "1"), with(bit, "0"));
-        format!("I{bit}<{}> = I0<{one}> if B{bit} == \"0\" | I{}<{zero}> if B{bit} == \"1\";\n", bits.join(", "), bit + 1)
+        format!("I{bit}<{}> = {{ I0<{one}> if B{bit} == \"0\", I{}<{zero}> if B{bit} == \"1\" }};\n", bits.join(", "), bit + 1)
     };
     let steps: String = (0..16).map(step).collect();
     format!("S = I0<{}>;\n{steps}I16<{}> = \"end\";", ["\"0\""; 16].join(", "), bits.join(", "))
@@ -146,7 +144,7 @@ fn the_atoms_end_before_the_rounds() {
 
 /// So many choices around `n`, and a star around them.
 fn starred(choices: usize) -> String {
-    format!("L = {}n{}*; extern n;", "<".repeat(choices), ">".repeat(choices))
+    format!("L = {}n{}*; extern {{ enum T {{ n => N }} }}", "<".repeat(choices), ">".repeat(choices))
 }
 
 /// The star and 62 choices around `n` are 64 deep; `v:X+` in the star's item is 65 deep, which no tape carries.
@@ -154,8 +152,10 @@ fn starred(choices: usize) -> String {
 fn a_star_around_the_deepest_symbol_grows() {
     let stage = parse(&starred(62));
     assert_eq!(read(&write(&stage)).map(|read| read.items), Ok(stage.items.clone()));
-    assert_eq!(read(&write(&parse(&starred(63)))).unwrap_err().number, 3);
-    let item = parse(&starred(62).replace('*', "+").replace("L = ", "L = v:"));
+    let deeper = |symbol: Symbol| Stage::new([Nonterminal::new("L").alternative(Alternative::new([symbol])).into()]);
+    let around = |choices| (0..choices).fold(Symbol::name("n"), |symbol, _| symbol.chosen());
+    assert_eq!(read(&write(&deeper(around(63).repeated(Repeat::Star)))).unwrap_err().number, 3);
+    let item = deeper(around(62).repeated(Repeat::Plus).named("v"));
     assert!(within_operands(&stage) && !within_operands(&item));
     assert_eq!(expanded(&stage, 2, 9_999), Err((20, (0, 0))));
     assert!(expanded(&parse(&starred(61)), 2, 9_999).is_ok());

@@ -4,9 +4,8 @@ use compare::levels::{with_kinds, without_spans, Levelled, CASES, OTHERS, REFUSE
 use compare::the_rust_is_there;
 use normalize::{levels, work_len};
 use oracle::{staged, Call};
-use reading::notation::parse;
 use reading::tree::{Item, Span, Stage};
-use reading::{read, write, Refusal, Step};
+use reading::{parse, read, write, Refusal, Step};
 
 /// The tree that our call makes.
 fn tree(stage: &Stage) -> Result<Vec<u8>, Refusal> {
@@ -70,7 +69,7 @@ fn unit_tests_of_precedence() {
     }
 }
 
-const TWO_LEVELS: &str = r#"E = #precedence(level="1") "n" | #precedence(level="2") #assoc(side="left") E "+" E;"#;
+const TWO_LEVELS: &str = r#"E = { #[precedence(level="1")] "n", #[precedence(level="2")] #[assoc(side="left")] E "+" E };"#;
 
 /// The items and the fall-through with its symbol have the nonterminal's span; all else keeps its own.
 #[test]
@@ -80,9 +79,9 @@ fn spans_of_two_levels() {
     let [sum, fall] = &high.alternatives[..] else { panic!("{high:?}") };
     assert_eq!([low.span, high.span, fall.span, fall.symbols[0].span], [Span(0, 1); 4]);
     let at = |text: &str| TWO_LEVELS.find(text).unwrap() as u32;
-    assert_eq!(low.alternatives[0].span, Span(4, at(" |")));
-    assert_eq!(sum.span, Span(at("#precedence(level=\"2"), at(";")));
-    assert_eq!(sum.symbols[2].span, Span(at(";") - 1, at(";")));
+    assert_eq!(low.alternatives[0].span, Span(at("\"n"), at(", #")));
+    assert_eq!(sum.span, Span(at("E \"+"), at(" }")));
+    assert_eq!(sum.symbols[2].span, Span(at(" }") - 1, at(" }")));
 }
 
 /// The tape's atoms, then E1, behind them the items.

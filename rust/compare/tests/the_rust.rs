@@ -3,7 +3,7 @@ use compare::chosen::{has_rounds, lines, numbers, stored, word, LONGEST, OF_EACH
 use compare::grow::{tree, Size};
 use compare::{grammars, stated, the_rust_is_there};
 use oracle::chance::Chance;
-use oracle::Call;
+use oracle::CALLS;
 
 #[test]
 fn a_tree_comes_back_from_lalrpops_types() {
@@ -29,13 +29,10 @@ fn the_unit_tests_answers_are_the_rusts() {
     }
 }
 
-/// The calls that crates/cases makes with stored cases.
-const STORED: [Call; 4] = [Call::Resolve, Call::Levels, Call::Macros, Call::Whole];
-
 /// As many of each answer of resolving and levels, some of each of the calls with rounds.
 #[test]
 fn the_stored_lists_have_each_answer() {
-    for call in STORED {
+    for call in CALLS {
         let numbers = numbers(call);
         if !the_rust_is_there(numbers.len()) {
             continue;
@@ -57,7 +54,7 @@ fn the_stored_lists_have_each_answer() {
 #[test]
 fn the_stored_files_are_these_lists() {
     let file = |name: &str| std::fs::read_to_string(format!("{}/../../crates/cases/{name}", env!("CARGO_MANIFEST_DIR"))).unwrap();
-    for call in STORED {
+    for call in CALLS {
         if !the_rust_is_there(numbers(call).len()) {
             continue;
         }

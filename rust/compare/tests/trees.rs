@@ -2,9 +2,8 @@
 use compare::levels::{CASES, OTHERS, REFUSED};
 use compare::whole::chosen;
 use normalize::{levels, macros, resolve, trees, whole, work_len};
-use reading::notation::parse;
 use reading::tree::{Item, Span, Stage};
-use reading::{read, read_made, write, Refusal};
+use reading::{parse, read, read_made, write, Refusal};
 
 const LONGEST: usize = 9_999;
 
@@ -49,7 +48,7 @@ fn each_call_makes_what_it_makes_of_the_tape() {
 /// An output of just the longest stage's length is found, one of a byte less is refused.
 #[test]
 fn the_output_grows_to_the_byte() {
-    let stage = parse(r#"pub L = n*; extern n;"#);
+    let stage = parse(r#"pub L = n*; extern { enum T { n => N } }"#);
     let fits = |output: &usize| made(&stage, *output, |t, o, w| whole(t, 64, o, w)).is_ok();
     let least = (0..LONGEST).find(fits).expect("an output that is long enough");
     assert!(least > 2 * write(&stage).len(), "it grows twice");
@@ -61,7 +60,7 @@ fn the_output_grows_to_the_byte() {
 #[test]
 fn a_tree_that_no_tape_carries_is_refused() {
     let long = Item::Extern(Span(7, 8), "n".repeat(65_536));
-    let stage = Stage { atoms: vec![], items: vec![long.clone(), long] };
+    let stage = Stage::new([long.clone(), long]);
     let no = Err(Refusal { number: 20, place: (0, 0) });
     assert_eq!(
         [trees::resolve(&stage), trees::levels(&stage, LONGEST), trees::macros(&stage, 1, LONGEST), trees::whole(&stage, 1, LONGEST)],

@@ -1,5 +1,6 @@
 //! The file, as a tape, and as a text where it is a grammar.
 use std::io::{self, Read};
+use tape::lalrpop::Unreadable;
 
 /// A tape, and the grammar that it was made of.
 pub struct Input {
@@ -10,8 +11,10 @@ pub struct Input {
 /// Why there is no tape.
 pub enum Unread {
     Io(io::Error),
-    /// A grammar that can't be read or carried: the message, with line and column.
-    Grammar(String),
+    /// Neither a tape nor a text.
+    Bytes,
+    /// A grammar that can't be read or carried, and its text.
+    Grammar(Unreadable, String),
 }
 
 /// The bytes that a tape may begin with; no grammar does. A file without a byte is the empty tape.
@@ -30,7 +33,9 @@ pub fn read(file: &str) -> Result<Input, Unread> {
     if is_tape(&bytes) {
         return Ok(Input { tape: bytes, text: None });
     }
-    let text = String::from_utf8(bytes).map_err(|_| Unread::Grammar("1:1: neither a tape nor a text in UTF-8".into()))?;
-    let stage = tape::lalrpop::parse(&text).map_err(|no| Unread::Grammar(no.to_string()))?;
-    Ok(Input { tape: tape::write(&stage), text: Some(text) })
+    let text = String::from_utf8(bytes).map_err(|_| Unread::Bytes)?;
+    match tape::lalrpop::parse(&text) {
+        Ok(stage) => Ok(Input { tape: tape::write(&stage), text: Some(text) }),
+        Err(no) => Err(Unread::Grammar(no, text)),
+    }
 }

@@ -6,6 +6,7 @@ mod refused;
 use input::{Input, Unread};
 use normalize::{grown, Refusal};
 use options::{Options, Pass, Request, HELP};
+use std::ffi::OsString;
 use std::io::{self, Write};
 use std::process::ExitCode;
 
@@ -16,8 +17,8 @@ const USAGE: u8 = 2;
 fn made(tape: &[u8], options: &Options) -> Result<Vec<u8>, Refusal> {
     let (limit, longest) = (options.limit, options.longest);
     match options.pass {
-        Pass::Resolve => grown(tape, longest, |tape, output, work| normalize::resolve(tape, output, work)),
-        Pass::Levels => grown(tape, longest, |tape, output, work| normalize::levels(tape, output, work)),
+        Pass::Resolve => grown(tape, longest, normalize::resolve),
+        Pass::Levels => grown(tape, longest, normalize::levels),
         Pass::Macros => grown(tape, longest, |tape, output, work| normalize::macros(tape, limit, output, work)),
         Pass::Expand | Pass::List | Pass::Check => grown(tape, longest, |tape, output, work| normalize::whole(tape, limit, output, work)),
     }
@@ -46,7 +47,8 @@ fn put(bytes: &[u8], file: Option<&str>) -> io::Result<()> {
 fn run(options: &Options) -> Result<(), (u8, String)> {
     let Input { tape, text } = input::read(&options.file).map_err(|unread| match unread {
         Unread::Io(error) => (USAGE, format!("gib: {}: {error}\n", options.file)),
-        Unread::Grammar(message) => (REFUSED, format!("error: {}:{message}\n", options.file)),
+        Unread::Bytes => (REFUSED, format!("error: neither a tape nor a text in UTF-8\n --> {}\n", options.file)),
+        Unread::Grammar(no, text) => (REFUSED, refused::unread(&no, &options.file, &text)),
     })?;
     let tree = made(&tape, options).map_err(|refusal| (REFUSED, refused::shown(refusal, &options.file, text.as_deref())))?;
     let output = options.output.as_deref();
@@ -54,7 +56,10 @@ fn run(options: &Options) -> Result<(), (u8, String)> {
 }
 
 fn main() -> ExitCode {
-    let done = match options::options(std::env::args().skip(1)) {
+    let words: Result<Vec<String>, OsString> = std::env::args_os().skip(1).map(OsString::into_string).collect();
+    let asked =
+        words.map_err(|word| format!("`{}` is not UTF-8", word.to_string_lossy())).and_then(|words| options::options(words.into_iter()));
+    let done = match asked {
         Ok(Request::Help) => put(HELP.as_bytes(), None).map_err(|error| (USAGE, format!("gib: standard output: {error}\n"))),
         Ok(Request::Run(options)) => run(&options),
         Err(wrong) => Err((USAGE, format!("gib: {wrong}; gib --help says what there is\n"))),

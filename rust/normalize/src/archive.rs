@@ -1,4 +1,5 @@
-//! What the archive exports: the one place that says how many words an answer has and which functions there are.
+//! The boundary to the archive, and the only place of `unsafe`: which functions it exports, and how many words an answer has.
+#![allow(unsafe_code)]
 
 /// How many words an answer has.
 pub const WORDS: usize = 5;
@@ -7,9 +8,9 @@ pub const WORDS: usize = 5;
 pub type Words = [u64; WORDS];
 
 extern "C" {
-    pub fn normalize_validate(tape: *const u8, tape_len: usize, work: *mut u8, work_len: usize, answer: *mut Words);
+    fn normalize_validate(tape: *const u8, tape_len: usize, work: *mut u8, work_len: usize, answer: *mut Words);
 
-    pub fn normalize_resolve(
+    fn normalize_resolve(
         tape: *const u8,
         tape_len: usize,
         output: *mut u8,
@@ -19,7 +20,7 @@ extern "C" {
         answer: *mut Words,
     );
 
-    pub fn normalize_levels(
+    fn normalize_levels(
         tape: *const u8,
         tape_len: usize,
         output: *mut u8,
@@ -29,18 +30,7 @@ extern "C" {
         answer: *mut Words,
     );
 
-    pub fn normalize_macros(
-        tape: *const u8,
-        tape_len: usize,
-        limit: u16,
-        output: *mut u8,
-        output_len: usize,
-        work: *mut u8,
-        work_len: usize,
-        answer: *mut Words,
-    );
-
-    pub fn normalize_whole(
+    fn normalize_macros(
         tape: *const u8,
         tape_len: usize,
         limit: u16,
@@ -50,4 +40,90 @@ extern "C" {
         work_len: usize,
         answer: *mut Words,
     );
+
+    fn normalize_whole(
+        tape: *const u8,
+        tape_len: usize,
+        limit: u16,
+        output: *mut u8,
+        output_len: usize,
+        work: *mut u8,
+        work_len: usize,
+        answer: *mut Words,
+    );
+}
+
+/// As [`crate::validate`], with the words as the archive writes them.
+///
+/// ```
+/// // the atom A, without an item
+/// let (tape, mut answer) = (&[0x01, 1, 0, b'A'], [7; normalize::WORDS]);
+/// normalize::validate_words(tape, &mut [0; 32], &mut answer);
+/// assert_eq!(answer, [1, 4, 0, 0, 0]);
+/// ```
+pub fn validate_words(tape: &[u8], work: &mut [u8], answer: &mut Words) {
+    // SAFETY: the export takes two slices, each by pointer and length, and an array, and asks nothing else of them.
+    unsafe { normalize_validate(tape.as_ptr(), tape.len(), work.as_mut_ptr(), work.len(), answer) }
+}
+
+/// As [`crate::resolve`], with the words as the archive writes them.
+///
+/// ```
+/// // the atom A, without an item
+/// let (tape, mut answer) = (&[0x01, 1, 0, b'A'], [7; normalize::WORDS]);
+/// normalize::resolve_words(tape, &mut [0; 4], &mut [0; 64], &mut answer);
+/// assert_eq!(answer, [1, 4, 0, 0, 0]);
+/// ```
+pub fn resolve_words(tape: &[u8], output: &mut [u8], work: &mut [u8], answer: &mut Words) {
+    // SAFETY: the export takes three slices, each by pointer and length, and an array, and asks nothing else of them.
+    unsafe {
+        normalize_resolve(tape.as_ptr(), tape.len(), output.as_mut_ptr(), output.len(), work.as_mut_ptr(), work.len(), answer);
+    }
+}
+
+/// As [`crate::levels`], with the words as the archive writes them.
+///
+/// ```
+/// // the atom A, without an item
+/// let (tape, mut answer) = (&[0x01, 1, 0, b'A'], [7; normalize::WORDS]);
+/// normalize::levels_words(tape, &mut [0; 4], &mut [0; 64], &mut answer);
+/// assert_eq!(answer, [1, 4, 0, 0, 0]);
+/// ```
+pub fn levels_words(tape: &[u8], output: &mut [u8], work: &mut [u8], answer: &mut Words) {
+    // SAFETY: the export takes three slices, each by pointer and length, and an array, and asks nothing else of them.
+    unsafe {
+        normalize_levels(tape.as_ptr(), tape.len(), output.as_mut_ptr(), output.len(), work.as_mut_ptr(), work.len(), answer);
+    }
+}
+
+/// As [`crate::macros`], with the words as the archive writes them.
+///
+/// ```
+/// // the atom A, without an item
+/// let (tape, mut answer) = (&[0x01, 1, 0, b'A'], [7; normalize::WORDS]);
+/// normalize::macros_words(tape, 64, &mut [0; 4], &mut [0; 64], &mut answer);
+/// assert_eq!(answer, [1, 4, 0, 0, 0]);
+/// ```
+pub fn macros_words(tape: &[u8], limit: u16, output: &mut [u8], work: &mut [u8], answer: &mut Words) {
+    let (tape, tape_len) = (tape.as_ptr(), tape.len());
+    // SAFETY: the export takes three slices, each by pointer and length, a number and an array, and asks nothing else of them.
+    unsafe {
+        normalize_macros(tape, tape_len, limit, output.as_mut_ptr(), output.len(), work.as_mut_ptr(), work.len(), answer);
+    }
+}
+
+/// As [`crate::whole`], with the words as the archive writes them.
+///
+/// ```
+/// // the atom A, without an item
+/// let (tape, mut answer) = (&[0x01, 1, 0, b'A'], [7; normalize::WORDS]);
+/// normalize::whole_words(tape, 64, &mut [0; 4], &mut [0; 64], &mut answer);
+/// assert_eq!(answer, [1, 4, 0, 0, 0]);
+/// ```
+pub fn whole_words(tape: &[u8], limit: u16, output: &mut [u8], work: &mut [u8], answer: &mut Words) {
+    let (tape, tape_len) = (tape.as_ptr(), tape.len());
+    // SAFETY: the export takes three slices, each by pointer and length, a number and an array, and asks nothing else of them.
+    unsafe {
+        normalize_whole(tape, tape_len, limit, output.as_mut_ptr(), output.len(), work.as_mut_ptr(), work.len(), answer);
+    }
 }

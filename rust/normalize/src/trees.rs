@@ -20,18 +20,39 @@ use tape::{read_made, within_operands, write};
 /// assert_eq!(trees::resolve(&parse("grammar; A = B;").unwrap()), Err(Refusal { number: 8, place: (13, 14) }));
 /// ```
 pub fn resolve(stage: &Stage) -> Result<Stage, Refusal> {
-    made(stage, 0, |tape, output, work| crate::resolve(tape, output, work))
+    made(stage, 0, crate::resolve)
 }
 
 /// Name resolution, then precedence levels, as [`crate::levels`].
 ///
 /// Where a stage doesn't fit in the output, the call is made again with one of twice the length, of `longest` bytes at most: then it is refused with 21.
 /// An output as long as the tree's own tape is there in any case.
+///
+/// ```
+/// use normalize::trees::levels;
+/// use tape::lalrpop::parse;
+///
+/// let text = r##"grammar; E = { #[precedence(level="1")] "n", #[precedence(level="2")] E "+" E };"##;
+/// // E1, the level below, and E
+/// assert_eq!(levels(&parse(text).unwrap(), 1 << 20).unwrap().items.len(), 2);
+/// let refusal = levels(&parse(&text.replace("1", "one")).unwrap(), 1 << 20).unwrap_err();
+/// assert_eq!(refusal.sentence(), "a precedence level is not a number under 4294967296");
+/// ```
 pub fn levels(stage: &Stage, longest: usize) -> Result<Stage, Refusal> {
-    made(stage, longest, |tape, output, work| crate::levels(tape, output, work))
+    made(stage, longest, crate::levels)
 }
 
 /// Name resolution, then macros in at most `limit` rounds, as [`crate::macros`]; of `longest` as in [`levels`].
+///
+/// ```
+/// use normalize::trees::macros;
+/// use tape::{lalrpop::parse, tree::Item};
+///
+/// let stage = parse("grammar; A = Two<\"b\">; Two<T> = T T;").unwrap();
+/// let expanded = macros(&stage, 64, 1 << 20).unwrap();
+/// let [_, Item::Nonterminal(two)] = &expanded.items[..] else { panic!("A and its call") };
+/// assert_eq!(two.name, "Two<\"b\">");
+/// ```
 pub fn macros(stage: &Stage, limit: u16, longest: usize) -> Result<Stage, Refusal> {
     made(stage, longest, |tape, output, work| crate::macros(tape, limit, output, work))
 }

@@ -1,4 +1,6 @@
 //! What the Rust answers to a tree, in document 01's numbers.
+#[cfg(lalrpop)]
+use crate::normalize::NormError;
 use reading::tree::Stage;
 use reading::Refusal;
 
@@ -14,14 +16,8 @@ pub fn is_there() -> bool {
 #[cfg(lalrpop)]
 pub fn resolve(stage: &Stage) -> Option<Result<Stage, Refusal>> {
     use crate::convert::{from_grammar, to_grammar};
-    Some(match crate::normalize::resolve::resolve(to_grammar(stage)) {
-        Ok(grammar) => Ok(from_grammar(&grammar, stage.atoms.clone())),
-        Err(error) => {
-            let number = number_of(&error.message);
-            assert_ne!(number, 0, "a message without a number: {}", error.message);
-            Err(Refusal { number, place: (error.span.0 as u64, error.span.1 as u64) })
-        }
-    })
+    let resolved = crate::normalize::resolve::resolve(to_grammar(stage));
+    Some(resolved.map(|grammar| from_grammar(&grammar, stage.atoms.clone())).map_err(refusal))
 }
 
 #[cfg(not(lalrpop))]
@@ -40,8 +36,16 @@ pub fn there_and_back(_: &Stage) -> Option<Stage> {
     None
 }
 
-/// The number in document 01 of a refusal, by the Rust's message; 0 if it is none of them.
-pub fn number_of(message: &str) -> u8 {
+/// The Rust's refusal, with its span.
+#[cfg(lalrpop)]
+pub fn refusal(error: NormError) -> Refusal {
+    let number = number_of(&error.message).unwrap_or_else(|| panic!("a message without a number: {}", error.message));
+    Refusal { number, place: (error.span.0 as u64, error.span.1 as u64) }
+}
+
+/// The number in document 01 of a refusal, by the Rust's message.
+#[cfg(lalrpop)]
+fn number_of(message: &str) -> Option<u8> {
     let starts = [
         ("two ", 5),
         ("multiple macro arguments", 7),
@@ -56,5 +60,5 @@ pub fn number_of(message: &str) -> u8 {
     let start = starts.iter().find(|(text, _)| message.starts_with(text));
     let end = ends.iter().find(|(text, _)| message.ends_with(text));
     let both = message.contains(" both declared with the name ").then_some(6);
-    start.or(end).map(|found| found.1).or(both).unwrap_or(0)
+    start.or(end).map(|found| found.1).or(both)
 }

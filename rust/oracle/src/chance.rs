@@ -25,6 +25,13 @@ impl Chance {
         choices[self.under(choices.len())].clone()
     }
 
+    /// The list in any order.
+    pub fn shuffle<T>(&mut self, list: &mut [T]) {
+        for index in (1..list.len()).rev() {
+            list.swap(index, self.under(index + 1));
+        }
+    }
+
     /// So many bytes of any kind.
     pub fn bytes(&mut self, count: usize) -> Vec<u8> {
         let mut bytes = vec![0; count];

@@ -2,6 +2,7 @@
 //! with one mapping to a bare terminal.
 use crate::grammar::parse_tree::*;
 use crate::grammar::pattern::Pattern;
+use crate::leaves;
 use crate::DefaultAtom as Atom;
 use reading::tree::{self, Action, Item, Kind, Repeat, Stage};
 
@@ -33,7 +34,7 @@ pub fn nonterminal_string(name: &str) -> NonterminalString {
     NonterminalString(Atom::from(name))
 }
 
-fn attribute(id: &str, arg: AttributeArg) -> Attribute {
+pub fn attribute(id: &str, arg: AttributeArg) -> Attribute {
     Attribute { id_span: Span(0, 0), id: Atom::from(id), arg }
 }
 
@@ -45,14 +46,14 @@ fn item(item: &Item) -> GrammarItem {
     }
 }
 
-fn extern_token(span: Span, name: &str) -> ExternToken {
+pub fn extern_token(span: Span, name: &str) -> ExternToken {
     let (from, unit) = (TerminalString::Bare(Atom::from(name)), TypeRef::Tuple(vec![]));
     let conversion = Conversion { span, attributes: vec![], from, to: Pattern(unit.clone()) };
     let token = EnumToken { type_name: unit, type_span: span, conversions: vec![conversion] };
     ExternToken { span, associated_types: vec![], enum_token: Some(token) }
 }
 
-fn match_token(span: Span, name: &str) -> MatchToken {
+pub fn match_token(span: Span, name: &str) -> MatchToken {
     let to = MatchMapping::Terminal(TerminalString::Bare(Atom::from(name)));
     let mapped = MatchItem::Mapped(TerminalLiteral::Quoted(Atom::from("")), to, span);
     MatchToken::new(MatchContents { items: vec![mapped] }, span)
@@ -187,13 +188,7 @@ fn alternative_back(data: &Alternative) -> tree::Alternative {
         span: span_back(data.span),
         attributes: data.attributes.iter().map(annotation_back).collect(),
         condition: data.condition.as_ref().map(condition_back),
-        action: match &data.action {
-            None => Action::None,
-            Some(ActionKind::User(text)) => Action::User(text.clone()),
-            Some(ActionKind::Fallible(text)) => Action::Fallible(text.clone()),
-            Some(ActionKind::Lookahead) => Action::Lookahead,
-            Some(ActionKind::Lookbehind) => Action::Lookbehind,
-        },
+        action: leaves::action(&data.action),
         symbols: data.expr.symbols.iter().map(symbol_back).collect(),
     }
 }
@@ -217,10 +212,10 @@ fn symbol_back(data: &Symbol) -> tree::Symbol {
     let list = |symbols: &[Symbol]| symbols.iter().map(symbol_back).collect();
     let kind = match &data.kind {
         SymbolKind::AmbiguousId(name) => Kind::Ambiguous(name.to_string()),
-        SymbolKind::Terminal(terminal) => terminal_back(terminal),
+        SymbolKind::Terminal(terminal) => leaves::terminal(terminal),
         SymbolKind::Nonterminal(name) => Kind::Nonterminal(name.to_string()),
         SymbolKind::Macro(call) => Kind::Macro(call.name.to_string(), list(&call.args)),
-        SymbolKind::Repeat(repeat) => Kind::Repeat(repeat_back(repeat.op), boxed(&repeat.symbol)),
+        SymbolKind::Repeat(repeat) => Kind::Repeat(leaves::repeat(&repeat.op), boxed(&repeat.symbol)),
         SymbolKind::Choose(inner) => Kind::Choose(boxed(inner)),
         SymbolKind::Name(name, inner) => Kind::Name { mutable: name.mutable, name: name.name.to_string(), inner: boxed(inner) },
         SymbolKind::Expr(expr) => Kind::Group(list(&expr.symbols)),
@@ -230,21 +225,4 @@ fn symbol_back(data: &Symbol) -> tree::Symbol {
         SymbolKind::Tuple(..) => panic!("a symbol that the tape doesn't carry"),
     };
     tree::Symbol { span: span_back(data.span), kind }
-}
-
-fn terminal_back(terminal: &TerminalString) -> Kind {
-    match terminal {
-        TerminalString::Bare(name) => Kind::Bare(name.to_string()),
-        TerminalString::Literal(TerminalLiteral::Quoted(text)) => Kind::Quoted(text.to_string()),
-        TerminalString::Literal(TerminalLiteral::Regex(text)) => Kind::Regex(text.to_string()),
-        TerminalString::Error => Kind::Error,
-    }
-}
-
-fn repeat_back(op: RepeatOp) -> Repeat {
-    match op {
-        RepeatOp::Star => Repeat::Star,
-        RepeatOp::Plus => Repeat::Plus,
-        RepeatOp::Question => Repeat::Question,
-    }
 }

@@ -1,7 +1,7 @@
 //! LALRPOP's levels and macros, one behind the other: a tree, a refusal, or the message of a panic.
 #[cfg(lalrpop)]
 use crate::{
-    answers::number_of,
+    answers::refusal,
     convert::{from_grammar, to_grammar},
     grammar::parse_tree::Grammar,
     normalize::{macro_expand::expand_macros, precedence::expand_precedence, NormResult},
@@ -22,10 +22,7 @@ pub enum Expanded {
 pub fn expand(stage: &Stage, limit: u16) -> Option<Expanded> {
     Some(match passes(to_grammar(stage), limit) {
         Ok(Ok(grammar)) => Expanded::Tree(from_grammar(&grammar, stage.atoms.clone())),
-        Ok(Err(error)) => {
-            let place = (error.span.0 as u64, error.span.1 as u64);
-            Expanded::Refused(Refusal { number: number_of(&error.message), place })
-        }
+        Ok(Err(error)) => Expanded::Refused(refusal(error)),
         Err(message) => Expanded::Panicked(message),
     })
 }
@@ -54,8 +51,7 @@ pub fn panics_are_answers() {
     });
 }
 
-/// What the Rust answers, or the message of its panic.
-#[cfg(lalrpop)]
+/// What is answered, or the message of a panic.
 pub fn caught<T>(ask: impl FnOnce() -> T + std::panic::UnwindSafe) -> Result<T, String> {
     std::panic::catch_unwind(ask).map_err(|panic| {
         let text = panic.downcast_ref::<String>().cloned();

@@ -1,6 +1,6 @@
 //! LALRPOP's passes, compiled from its own files (build.rs), for comparing ours with them: `resolve`, `expand` and `staged` ask them about a tree of `reading`.
 //! Where those files aren't there, cfg `lalrpop` is off and they answer nothing.
-//! What stands here beside them are only the few names that those files use and that aren't there.
+//! The few names that those files use and that aren't there are in `stand_ins`; beside them stand random numbers and damage for those who compare.
 #![allow(dead_code, unused)]
 
 // the files say `string_cache::DefaultAtom` and `regex::Regex`
@@ -15,6 +15,8 @@ pub mod chance;
 pub mod convert;
 pub mod damage;
 pub mod expanding;
+#[cfg(lalrpop)]
+mod leaves;
 mod ready;
 pub mod staging;
 #[cfg(lalrpop)]

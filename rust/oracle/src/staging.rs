@@ -1,14 +1,14 @@
 //! Each stage that document 01 names, as LALRPOP's own code makes it.
 #[cfg(lalrpop)]
 use crate::{
-    answers::number_of,
+    answers::refusal,
     convert::{from_grammar, to_grammar},
     expanding::caught,
-    grammar::parse_tree::{Grammar, GrammarItem, Span},
+    grammar::parse_tree::{Grammar, GrammarItem},
     normalize::{
         macro_expand::{expand_macros, left_by_the_rust, step_by_step, Ended},
         precedence::expand_precedence,
-        resolve, NormError, NormResult,
+        resolve,
     },
 };
 use reading::tree::{Item, Stage};
@@ -43,15 +43,15 @@ pub fn staged(_: &Stage, _: Call, _: u16) -> Option<Vec<Step>> {
 fn run(input: Grammar, call: Call, limit: u16, show: &mut dyn FnMut(&[GrammarItem])) -> Result<(), Refusal> {
     let resolved = resolve::resolve(input.clone()).map_err(refusal)?;
     show(&resolved.items);
-    let leveled = match call {
+    let levelled = match call {
         Call::Levels | Call::Whole => levels(input, &resolved)?,
         Call::Resolve | Call::Macros => input,
     };
     if matches!(call, Call::Levels | Call::Whole) {
-        show(&leveled.items);
+        show(&levelled.items);
     }
     match call {
-        Call::Macros | Call::Whole => macros(leveled, limit, show),
+        Call::Macros | Call::Whole => macros(levelled, limit, show),
         Call::Resolve | Call::Levels => Ok(()),
     }
 }
@@ -59,18 +59,6 @@ fn run(input: Grammar, call: Call, limit: u16, show: &mut dyn FnMut(&[GrammarIte
 #[cfg(lalrpop)]
 fn items_back(items: &[GrammarItem]) -> Vec<Item> {
     from_grammar(&crate::convert::grammar(items.to_vec()), vec![]).items
-}
-
-#[cfg(lalrpop)]
-fn place(span: Span) -> (u64, u64) {
-    (span.0 as u64, span.1 as u64)
-}
-
-#[cfg(lalrpop)]
-fn refusal(error: NormError) -> Refusal {
-    let number = number_of(&error.message);
-    assert_ne!(number, 0, "a message without a number: {}", error.message);
-    Refusal { number, place: place(error.span) }
 }
 
 /// 14, 15 and 16 are panics in the Rust: whether there is one and its message are the Rust's, the place is the second reading's.
@@ -91,7 +79,8 @@ fn levels(input: Grammar, resolved: &Grammar) -> Result<Grammar, Refusal> {
 }
 
 /// A missing value is 14 or 15.
-pub fn panic_numbers(message: &str) -> &'static [u8] {
+#[cfg(lalrpop)]
+fn panic_numbers(message: &str) -> &'static [u8] {
     let known: [(&str, &[u8]); 4] =
         [("ParseIntError", &[14]), ("ParseAssocError", &[15]), ("`None` value", &[14, 15]), ("unexpected associativity", &[16])];
     known.iter().find(|(text, _)| message.contains(text)).map_or(&[], |&(_, numbers)| numbers)
@@ -108,7 +97,7 @@ fn macros(input: Grammar, limit: u16, show: &mut dyn FnMut(&[GrammarItem])) -> R
     });
     let end = match ended {
         Ended::Done => Ok(seen.last().unwrap().clone()),
-        Ended::NoRoundLeft(span) => Err(Refusal { number: 18, place: place(span) }),
+        Ended::NoRoundLeft(span) => Err(Refusal { number: 18, place: (span.0 as u64, span.1 as u64) }),
         Ended::Refused(error) => Err(refusal(error)),
     };
     assert_eq!(end, expand_macros(input.clone(), limit).map(|grammar| grammar.items).map_err(refusal), "our steps end as the Rust");

@@ -25,6 +25,13 @@ impl<T: Into<String>> From<T> for DefaultAtom {
     }
 }
 
+// only the parser's files ask for it (crate parser)
+impl AsRef<str> for DefaultAtom {
+    fn as_ref(&self) -> &str {
+        &self.0
+    }
+}
+
 impl PartialEq<str> for DefaultAtom {
     fn eq(&self, text: &str) -> bool {
         &*self.0 == text

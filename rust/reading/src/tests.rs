@@ -1,7 +1,8 @@
 //! Tapes written out by hand, with the document's answers.
-use crate::notation::parse;
 use crate::tree::*;
-use crate::{answer, answer_and_stage, call, level_refusal, listing, read, read_made, stage_lengths, work_needed, write, Refusal, Step};
+use crate::{
+    answer, answer_and_stage, call, level_refusal, listing, parse, read, read_made, stage_lengths, work_needed, write, Refusal, Step,
+};
 
 fn atom(text: &[u8]) -> Vec<u8> {
     [&[0x01, text.len() as u8, 0][..], text].concat()
@@ -81,20 +82,10 @@ fn names_suit_their_use() {
 /// Unused atoms stay in front; new texts follow in the order of the operands.
 #[test]
 fn what_is_written_is_read_back() {
-    let condition = Condition { span: Span(1, 2), lhs: "P".into(), equals: false, rhs: "x".into() };
-    let attribute = Attribute { id: "cfg".into(), equal: Some(("k".into(), "v".into())) };
-    let inner = Box::new(Symbol { span: Span(9, 8), kind: Kind::Ambiguous("P".into()) });
-    let kind = Kind::Name { mutable: true, name: "n".into(), inner };
-    let alternative = Alternative {
-        span: Span(u32::MAX, 0),
-        attributes: vec![attribute],
-        condition: Some(condition),
-        action: Action::Fallible("f".into()),
-        symbols: vec![Symbol { span: Span(3, 4), kind }],
-    };
-    let (span, args) = (Span(0, 70_000), vec!["P".into()]);
-    let item = Nonterminal { span, name: "M".into(), inline: true, public: false, args, alternatives: vec![alternative] };
-    let stage = Stage { atoms: vec![b"\xff".to_vec()], items: vec![Item::Nonterminal(item), Item::Match(Span(0, 0), "t".into())] };
+    let symbol = Symbol::name("P").at(Span(9, 8)).mutable("n").at(Span(3, 4));
+    let alternative = Alternative::new([symbol]).value("cfg", "k", "v").unless("P", "x").action(Action::Fallible("f".into()));
+    let item = Nonterminal::new("M").inline().arg("P").alternative(alternative.at(Span(u32::MAX, 0))).at(Span(0, 70_000));
+    let stage = Stage { atoms: vec![b"\xff".to_vec()], ..Stage::new([item.into(), Item::matched("t")]) };
     let back = read(&write(&stage)).unwrap();
     assert_eq!(back.items, stage.items);
     assert_eq!(back.atoms, [&b"\xff"[..], b"M", b"P", b"f", b"cfg", b"k", b"v", b"x", b"n", b"t"]);
@@ -121,15 +112,15 @@ fn level_refused(grammar: &str) -> Option<(u8, &str)> {
 
 #[test]
 fn levels_are_asked_in_order() {
-    assert_eq!(level_refused(r#"E = #precedence(level="+1") "n" | #assoc(side="all") E;"#), None);
-    assert_eq!(level_refused(r#"E = "n" | #precedence(level="x") E;"#), None);
-    assert_eq!(level_refused(r#"E = #assoc(side="x") #precedence(level="++1") "n";"#).unwrap().0, 14);
-    assert_eq!(level_refused(r#"E = #precedence "n";"#).unwrap().0, 14);
-    assert_eq!(level_refused(r#"E = #assoc "n";"#).unwrap().0, 15);
-    let two = r##"E = #precedence(level="2") #assoc(side="left") E E | #precedence(level="1") "n" | #assoc(side="none") "m";"##;
-    assert_eq!(level_refused(two), Some((16, r##"#assoc(side="none") "m""##)));
+    assert_eq!(level_refused(r#"E = { #[precedence(level="+1")] "n", #[assoc(side="all")] E };"#), None);
+    assert_eq!(level_refused(r#"E = { "n", #[precedence(level="x")] E };"#), None);
+    assert_eq!(level_refused(r#"E = #[assoc(side="x")] #[precedence(level="++1")] "n";"#).unwrap().0, 14);
+    assert_eq!(level_refused(r#"E = #[precedence] "n";"#).unwrap().0, 14);
+    assert_eq!(level_refused(r#"E = #[assoc] "n";"#).unwrap().0, 15);
+    let two = r#"E = { #[precedence(level="2")] #[assoc(side="left")] E E, #[precedence(level="1")] "n", #[assoc(side="none")] "m" };"#;
+    assert_eq!(level_refused(two), Some((16, r#""m""#)));
     // a side does not outlast a new level
-    assert_eq!(level_refused(r#"E = #precedence(level="2") #assoc(side="left") E | #precedence(level="1") "n" | "m";"#), None);
+    assert_eq!(level_refused(r#"E = { #[precedence(level="2")] #[assoc(side="left")] E, #[precedence(level="1")] "n", "m" };"#), None);
 }
 
 /// Stages as they finish: the second names a new text, the third refers to it first.
@@ -153,10 +144,13 @@ fn stages_keep_the_atoms_before() {
 /// Document 01's printed forms and the listing's lines.
 #[test]
 fn a_tree_is_listed() {
-    let grammar =
-        r#"pub inline S = M<n, "a\b"> (r"z" <n>) v:n* mut w:@L @R ! => { t } | =>? { f } | ; M<P, Q> = P => @L | => @R; extern n;"#;
+    let grammar = r#"#[inline] pub S = { M<n, "a\\b"> (r"z" <n>) <v:n*> <mut w:@L> @R ! => t, =>? f }; M<P, Q> = { P =>@L, =>@R }; extern { enum T { n => N } }"#;
+    let mut items = parse(grammar).items;
+    let Item::Nonterminal(first) = &mut items[0] else { panic!("{items:?}") };
+    // LALRPOP's notation has no form for it
+    first.alternatives.push(Alternative::new([]));
     let lines = [
-        "S 11-12 pub inline",
+        "S 14-15 pub inline",
         r##"  M<n, "a\\b"> (r#"z"# <n>) v:n* mut w:@L @R error => t"##,
         "   =>? f",
         "  ",
@@ -164,13 +158,13 @@ fn a_tree_is_listed() {
         "  P => @L",
         "   => @R",
     ];
-    assert_eq!(listing(&parse(grammar).items).lines().collect::<Vec<_>>(), lines);
+    assert_eq!(listing(&items).lines().collect::<Vec<_>>(), lines);
 }
 
 /// A name that question 4 refuses is read where a call made it.
 #[test]
 fn a_made_name_is_read() {
-    let tree = write(&Stage { atoms: vec![], items: vec![Item::Extern(Span(0, 0), "n*".into())] });
+    let tree = write(&Stage::new([Item::Extern(Span(0, 0), "n*".into())]));
     assert_eq!(read(&tree).unwrap_err().number, 4);
     assert_eq!(read_made(&tree).unwrap().items, [Item::Extern(Span(0, 0), "n*".into())]);
 }

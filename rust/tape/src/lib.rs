@@ -9,6 +9,7 @@
 //! ```
 #![warn(missing_docs)]
 
+mod build;
 pub mod lalrpop;
 mod read;
 mod refusal;

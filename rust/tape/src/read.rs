@@ -1,10 +1,9 @@
 //! A tape's tree: questions 2, 3, 4, asked of each command before the next, in one pass over the tape.
 use crate::refusal::Refusal;
+use crate::sizes::DEEPEST;
 use crate::texts::{is_ascii, is_literal, is_name};
 use crate::tree::*;
 use std::collections::HashSet;
-
-const DEEPEST: usize = 64;
 
 /// The tape's tree, or its first refusal out of 2, 3, 4.
 ///
@@ -21,6 +20,15 @@ pub fn read(tape: &[u8]) -> Result<Stage, Refusal> {
 }
 
 /// A tree that a call wrote: its names may be printed forms, so question 4 is not asked.
+///
+/// ```
+/// use tape::tree::{Item, Span, Stage};
+///
+/// let items = vec![Item::Extern(Span(0, 1), "A?".into())];
+/// let tape = tape::write(&Stage::new(items.clone()));
+/// assert_eq!(tape::read_made(&tape).unwrap().items, items);
+/// assert_eq!(tape::read(&tape).unwrap_err().number, 4);
+/// ```
 pub fn read_made(tree: &[u8]) -> Result<Stage, Refusal> {
     read_with(tree, false)
 }
@@ -41,6 +49,12 @@ fn read_with(tape: &[u8], asks_texts: bool) -> Result<Stage, Refusal> {
 }
 
 /// How many bytes of operands a known command has; an atom's own bytes not counted.
+///
+/// ```
+/// // an extern terminal: a span and the number of its name
+/// assert_eq!(tape::operand_bytes(0x30), Some(4 + 4 + 2));
+/// assert_eq!(tape::operand_bytes(0xff), None);
+/// ```
 pub fn operand_bytes(code: u8) -> Option<usize> {
     Some(match code {
         0x01 | 0x11 => 2,
@@ -80,15 +94,15 @@ impl Command<'_> {
         Span(self.word(0), self.word(4))
     }
 
-    /// Refuses with the command's offset, twice, where the answer is no.
+    /// Refuses with the command's offset where the answer is no.
     fn ask(&self, number: u8, answer: bool) -> Result<(), Refusal> {
-        refuse_unless(answer, number, self.offset)
+        answer.then_some(()).ok_or(refusal(number, self.offset))
     }
 }
 
-fn refuse_unless(answer: bool, number: u8, offset: usize) -> Result<(), Refusal> {
-    let place = (offset as u64, offset as u64);
-    answer.then_some(()).ok_or(Refusal { number, place })
+/// The place of 2 to 4 is an offset, twice.
+fn refusal(number: u8, offset: usize) -> Refusal {
+    Refusal { number, place: (offset as u64, offset as u64) }
 }
 
 struct Reader<'a> {
@@ -105,15 +119,13 @@ impl<'a> Reader<'a> {
     fn take(&mut self, allowed: impl Fn(u8) -> bool) -> Result<Command<'a>, Refusal> {
         let (offset, rest) = (self.at, &self.tape[self.at..]);
         let known = rest.first().and_then(|&code| Some((code, operand_bytes(code)?)));
-        let Some((code, mut length)) = known.filter(|&(code, _)| allowed(code)) else {
-            return Err(refuse_unless(false, 2, offset).unwrap_err());
-        };
+        let (code, mut length) = known.filter(|&(code, _)| allowed(code)).ok_or(refusal(2, offset))?;
         if code == 0x01 && rest.len() >= 3 {
             length += usize::from(u16::from_le_bytes([rest[1], rest[2]]));
         }
-        refuse_unless(rest.len() > length, 2, offset)?;
+        let operands = rest.get(1..=length).ok_or(refusal(2, offset))?;
         self.at += 1 + length;
-        Ok(Command { offset, code, operands: &rest[1..=length] })
+        Ok(Command { offset, code, operands })
     }
 
     /// Question 3 of one operand that numbers an atom: the text, if there is one.

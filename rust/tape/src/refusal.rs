@@ -41,6 +41,10 @@ impl Refusal {
     }
 
     /// What is wrong, without number and place.
+    ///
+    /// ```
+    /// assert_eq!(tape::Refusal { number: 8, place: (3, 9) }.sentence(), "a name is not defined");
+    /// ```
     pub fn sentence(&self) -> &'static str {
         fault(self.number).unwrap_or("the tape was refused")
     }

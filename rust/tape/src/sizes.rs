@@ -2,23 +2,27 @@
 use crate::tree::*;
 use std::collections::HashSet;
 
-const MOST_ATOMS: usize = 65_536;
-const HALF: usize = 65_535;
-const BYTE: usize = 255;
-const DEEPEST: usize = 64;
+/// Different texts that operands reach.
+pub const MOST_TEXTS: usize = 65_536;
+/// What an operand of 16 bits counts at most: alternatives, symbols, a text's bytes.
+pub const HALF: usize = 65_535;
+/// The same of 8 bits: arguments, attributes.
+pub const BYTE: usize = 255;
+/// How deep a symbol may be; one straight in an alternative is 1 deep.
+pub const DEEPEST: usize = 64;
 
 /// Whether a tape can carry the stage: at most 65,536 texts, each of at most 65,535 bytes, every count within its operand, and symbols at most 64 deep.
 ///
 /// ```
 /// use tape::tree::{Item, Span, Stage};
 ///
-/// let named = |length| Stage { atoms: vec![], items: vec![Item::Extern(Span(7, 8), "n".repeat(length))] };
+/// let named = |length| Stage::new([Item::Extern(Span(7, 8), "n".repeat(length))]);
 /// assert!(tape::within_operands(&named(65_535)) && !tape::within_operands(&named(65_536)));
 /// ```
 pub fn within_operands(stage: &Stage) -> bool {
     let mut texts: HashSet<&[u8]> = stage.atoms.iter().map(Vec::as_slice).collect();
     let items = stage.items.iter().all(|item| item_within(item, &mut texts));
-    items && texts.len() <= MOST_ATOMS && texts.iter().all(|text| text.len() <= HALF)
+    items && texts.len() <= MOST_TEXTS && texts.iter().all(|text| text.len() <= HALF)
 }
 
 /// Collects the item's texts on the way.

@@ -44,7 +44,7 @@ pub struct Nonterminal {
 /// One way to derive a nonterminal (command 12).
 #[derive(Clone, Debug, PartialEq, Eq)]
 pub struct Alternative {
-    /// From its attributes to its action.
+    /// What stands behind its attributes, to the end of its action.
     pub span: Span,
     /// In their order.
     pub attributes: Vec<Attribute>,
@@ -153,11 +153,34 @@ pub enum Kind {
 
 impl Kind {
     /// The symbols straight inside.
+    ///
+    /// ```
+    /// let stage = tape::lalrpop::parse("grammar; A = (B C)?;").unwrap();
+    /// let [tape::tree::Item::Nonterminal(a)] = &stage.items[..] else { panic!("A is a nonterminal") };
+    /// let [repeat] = &a.alternatives[0].symbols[..] else { panic!("one symbol") };
+    /// let [group] = repeat.kind.inner() else { panic!("one group") };
+    /// assert_eq!(group.kind.inner().len(), 2);
+    /// ```
     pub fn inner(&self) -> &[Symbol] {
         match self {
             Kind::Macro(_, symbols) | Kind::Group(symbols) => symbols,
             Kind::Repeat(_, inner) | Kind::Choose(inner) | Kind::Name { inner, .. } => std::slice::from_ref(inner),
             _ => &[],
+        }
+    }
+
+    /// The same, to be changed.
+    ///
+    /// ```
+    /// let mut choice = tape::tree::Symbol::name("A").chosen();
+    /// choice.kind.inner_mut()[0].span = tape::tree::Span(3, 4);
+    /// assert_eq!(choice, tape::tree::Symbol::name("A").at(tape::tree::Span(3, 4)).chosen());
+    /// ```
+    pub fn inner_mut(&mut self) -> &mut [Symbol] {
+        match self {
+            Kind::Macro(_, symbols) | Kind::Group(symbols) => symbols,
+            Kind::Repeat(_, inner) | Kind::Choose(inner) | Kind::Name { inner, .. } => std::slice::from_mut(inner),
+            _ => &mut [],
         }
     }
 }

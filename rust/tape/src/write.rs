@@ -7,7 +7,7 @@ use std::collections::HashMap;
 /// ```
 /// use tape::tree::{Item, Span, Stage};
 ///
-/// let stage = Stage { atoms: vec![], items: vec![Item::Extern(Span(7, 8), "n".into())] };
+/// let stage = Stage::new([Item::Extern(Span(7, 8), "n".into())]);
 /// // the atom n, then the terminal that it names
 /// assert_eq!(tape::write(&stage), [0x01, 1, 0, b'n', 0x30, 7, 0, 0, 0, 8, 0, 0, 0, 0, 0]);
 /// ```
@@ -16,6 +16,15 @@ pub fn write(stage: &Stage) -> Vec<u8> {
 }
 
 /// The same, with its atoms.
+///
+/// ```
+/// use tape::tree::{Item, Span, Stage};
+///
+/// let stage = Stage { atoms: vec![b"unused".to_vec()], items: vec![Item::Extern(Span(7, 8), "n".into())] };
+/// let (atoms, tape) = tape::write_over(&stage);
+/// assert_eq!(atoms, [&b"unused"[..], b"n"]);
+/// assert_eq!(tape, tape::write(&stage));
+/// ```
 pub fn write_over(stage: &Stage) -> (Vec<Vec<u8>>, Vec<u8>) {
     let mut writer = Writer::default();
     for text in &stage.atoms {

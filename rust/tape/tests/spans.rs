@@ -1,4 +1,4 @@
-//! Spans are bytes of the text, from the first token to the last. Code ends where the next token begins.
+//! Spans are bytes of the text, from the first token to the last; an alternative begins behind its attributes. Code ends where the next token begins.
 mod common;
 use common::carried;
 use tape::tree::*;
@@ -26,7 +26,7 @@ fn each_span_is_its_text() {
     };
     assert_eq!([&a.span, &m.span, n, terminal].map(text), ["A", "M<B>", "n => N(<i32>) ", "\"m\" => m "]);
     let [first, second] = &m.alternatives[..] else { panic!() };
-    assert_eq!([&first.span, &second.span].map(text), [r#"#[x] <b: B*> (C ) if B == "b" => f(b) "#, "C<D>"]);
+    assert_eq!([&first.span, &second.span].map(text), [r#"<b: B*> (C ) if B == "b" => f(b) "#, "C<D>"]);
     assert_eq!(first.condition.as_ref().map(|condition| text(&condition.span)), Some(r#"B == "b""#));
     let mut found = vec![];
     pieces(&first.symbols, &mut found);

@@ -1,10 +1,11 @@
-//! Grammars in LALRPOP's notation and in the short one of `reading`: the same trees, but for their spans.
+//! Grammars in LALRPOP's notation, and the trees that the builder makes: the same, but for their spans.
 mod common;
 use common::carried;
 use tape::tree::*;
 
-fn same(grammar: &str, short: &str) {
-    assert_eq!(without_spans(carried(grammar)), without_spans(reading::notation::parse(short)));
+/// The grammar's items are these, wherever they stand.
+fn same(grammar: &str, items: impl IntoIterator<Item = Item>) {
+    assert_eq!(without_spans(carried(grammar)).items, items.into_iter().collect::<Vec<_>>());
 }
 
 fn without_spans(mut stage: Stage) -> Stage {
@@ -23,16 +24,16 @@ fn without_spans(mut stage: Stage) -> Stage {
 fn forget(alternative: &mut Alternative) {
     alternative.span = Span(0, 0);
     alternative.condition.iter_mut().for_each(|condition| condition.span = Span(0, 0));
-    alternative.symbols.iter_mut().for_each(forget_symbol);
+    alternative.symbols.iter_mut().for_each(|symbol| *symbol = symbol.clone().nowhere());
 }
 
-fn forget_symbol(symbol: &mut Symbol) {
-    symbol.span = Span(0, 0);
-    match &mut symbol.kind {
-        Kind::Macro(_, symbols) | Kind::Group(symbols) => symbols.iter_mut().for_each(forget_symbol),
-        Kind::Repeat(_, inner) | Kind::Choose(inner) | Kind::Name { inner, .. } => forget_symbol(inner),
-        _ => {}
-    }
+/// A nonterminal of one alternative.
+fn one<const N: usize>(name: &str, symbols: [Symbol; N]) -> Item {
+    Nonterminal::new(name).alternative(Alternative::new(symbols)).into()
+}
+
+fn name(name: &str) -> Symbol {
+    Symbol::name(name)
 }
 
 /// The only alternative of the only item.
@@ -47,22 +48,49 @@ fn action(code: &str) -> Action {
     only(&format!("grammar; A = {{ \"a\" {code}}};")).action
 }
 
+fn user(code: &str) -> Action {
+    Action::User(code.into())
+}
+
 fn kind(symbol: &str) -> Kind {
     only(&format!("grammar; A = {symbol};")).symbols.remove(0).kind
 }
 
 #[test]
 fn every_symbol() {
-    same(
-        r#"grammar; A = B "b" r"b+" M<B, "x"> M <B> B* B+ B? <B> <b:B> <mut b:B> (B "b") () @L @R !;"#,
-        r#"A = B "b" r"b+" M<B, "x"> M <B> B* B+ B? <B> b:B mut b:B (B "b") () @L @R !;"#,
-    );
+    let (b, text) = (name("B"), Symbol::quoted("b"));
+    let symbols = [
+        b.clone(),
+        text.clone(),
+        Symbol::regex("b+"),
+        Symbol::call("M", [b.clone(), Symbol::quoted("x")]),
+        name("M"),
+        b.clone().chosen(),
+        b.clone().repeated(Repeat::Star),
+        b.clone().repeated(Repeat::Plus),
+        b.clone().repeated(Repeat::Question),
+        b.clone().chosen(),
+        b.clone().named("b"),
+        b.clone().mutable("b"),
+        Symbol::group([b, text]),
+        Symbol::group([]),
+        Symbol::lookahead(),
+        Symbol::lookbehind(),
+        Symbol::error(),
+    ];
+    same(r#"grammar; A = B "b" r"b+" M<B, "x"> M <B> B* B+ B? <B> <b:B> <mut b:B> (B "b") () @L @R !;"#, [one("A", symbols)]);
 }
 
 #[test]
 fn symbols_inside_symbols() {
-    same("grammar; A = <b:(<B> \",\")*> <M<N<B?>, (B C+)>>*+?;", "A = b:(<B> \",\")* <M<N<B?>, (B C+)>>*+?;");
-    same("grammar; A = <b:<B>> M<<b:B>,> (<b:B>);", "A = b:<B> M<b:B> (b:B);");
+    let list = Symbol::group([name("B").chosen(), Symbol::quoted(",")]).repeated(Repeat::Star).named("b");
+    let pair = Symbol::group([name("B"), name("C").repeated(Repeat::Plus)]);
+    let call = Symbol::call("M", [Symbol::call("N", [name("B").repeated(Repeat::Question)]), pair]).chosen();
+    let repeats = [Repeat::Star, Repeat::Plus, Repeat::Question].into_iter().fold(call, Symbol::repeated);
+    same("grammar; A = <b:(<B> \",\")*> <M<N<B?>, (B C+)>>*+?;", [one("A", [list, repeats])]);
+    let named = name("B").named("b");
+    let symbols = [name("B").chosen().named("b"), Symbol::call("M", [named.clone()]), Symbol::group([named.clone()]), named.named("c")];
+    same("grammar; A = <b:<B>> M<<b:B>,> (<b:B>) <c:<b:B>>;", [one("A", symbols)]);
 }
 
 #[test]
@@ -74,15 +102,30 @@ fn texts_of_terminals() {
     assert_eq!(kind("r"), Kind::Ambiguous("r".into()));
 }
 
+/// A name in backticks is a nonterminal's, be it a keyword.
+#[test]
+fn backticks() {
+    let group = Symbol::group([Symbol::nonterminal("grammar").repeated(Repeat::Question)]);
+    let a = Nonterminal::new("A").public().alternative(Alternative::new([Symbol::nonterminal("B"), group, name("B")]));
+    same("grammar; pub `A` = `B` (`grammar`?) B; `grammar` = A;", [a.into(), one("grammar", [name("A")])]);
+}
+
 #[test]
 fn heads() {
-    same("grammar; pub A = B; #[inline] C = B; #[inline] pub(crate) D = B;", "pub A = B; inline C = B; pub inline D = B;");
-    same("grammar; A<> = B; pub(in a::b) M<P, Q,> = P Q;", "A = B; pub M<P, Q> = P Q;");
+    let b = || Alternative::new([name("B")]);
+    let [a, c, d] = ["A", "C", "D"].map(|name| Nonterminal::new(name).alternative(b()));
+    let flags = [a.clone().public().into(), c.inline().into(), d.public().inline().into()];
+    same("grammar; pub A = B; #[inline] C = B; #[inline] pub(crate) D = B;", flags);
+    let m = Nonterminal::new("M").public().arg("P").arg("Q").alternative(Alternative::new([name("P"), name("Q")]));
+    same("grammar; A<> = B; pub(in a::b) M<P, Q,> = P Q;", [a.into(), m.into()]);
 }
 
 #[test]
 fn one_alternative_or_many() {
-    same("grammar; A = { B, C } D = { B, C, }; E = =>@L;", "A = B | C; D = B | C; E = => @L;");
+    let either = ["B", "C"].map(|symbol| Alternative::new([name(symbol)]));
+    let [a, d] = ["A", "D"].map(|name| Nonterminal::new(name).alternatives(either.clone()).into());
+    let e = Nonterminal::new("E").alternative(Alternative::new([]).action(Action::Lookahead));
+    same("grammar; A = { B, C } D = { B, C, }; E = =>@L;", [a, d, e.into()]);
     let stage = carried("grammar; A = {};");
     assert!(matches!(&stage.items[..], [Item::Nonterminal(none)] if none.alternatives.is_empty()));
 }
@@ -101,7 +144,7 @@ fn what_is_left_out() {
         A: Box<dyn Fn(&'input [T]) -> Vec<(T, ())>>= B; /* C = /* D */ ; */
         B: () = "b";
         "##,
-        r#"A = B; B = "b";"#,
+        [one("A", [name("B")]), one("B", [Symbol::quoted("b")])],
     );
 }
 
@@ -120,23 +163,30 @@ fn terminals_of_blocks() {
         extern { type Location = usize; }
         extern {}
         "##,
-        "extern num; extern name; match m; match id;",
+        [Item::external("num"), Item::external("name"), Item::matched("m"), Item::matched("id")],
     );
 }
 
 #[test]
 fn attributes_and_conditions() {
+    let alternatives = [
+        Alternative::new([name("P")]).attribute("a").value("b", "k", "v").when("P", "x"),
+        Alternative::new([Symbol::quoted("y")]).value("cfg", "feature", "f").unless("P", "").action(user("z")),
+        Alternative::new([]).when("P", "z").action(user("w")),
+    ];
     same(
         r#"grammar; M<P> = { #[a] #[ b ( k = "v" ) ] P if P == "x", #[cfg(feature = "f",)] "y" if P != "" => z, if P == "z" => w };"#,
-        "M<P> = #a #b(k=\"v\") P if P == \"x\" | #cfg(feature=\"f\") \"y\" if P != \"\" => { z } | if P == \"z\" => { w };",
+        [Nonterminal::new("M").arg("P").alternatives(alternatives).into()],
     );
-    let escapes = only(r#"grammar; A = #[b(k = "\n\r\t\"\\")] B;"#).attributes;
-    assert_eq!(escapes, [Attribute { id: "b".into(), equal: Some(("k".into(), "\n\r\t\"\\".into())) }]);
+    // LALRPOP leaves escapes in a value as they are written
+    let escapes = only(r#"grammar; A = #[b(k = "\n\"\d\\")] B;"#).attributes;
+    assert_eq!(escapes, [Attribute { id: "b".into(), equal: Some(("k".into(), r#"\n\"\d\\"#.into())) }]);
+    let condition = only(r#"grammar; A = B if P == "\"\\";"#).condition.expect("a condition");
+    assert_eq!(condition.rhs, r#""\"#);
 }
 
 #[test]
 fn actions() {
-    let user = |text: &str| Action::User(text.into());
     assert_eq!((action(""), action("=>@L"), action("=>@R")), (Action::None, Action::Lookahead, Action::Lookbehind));
     // a blank makes it code
     assert_eq!((action("=> @L"), action("=> "), action("=>? f(<>)?")), (user("@L"), user(""), Action::Fallible("f(<>)?".into())));
@@ -151,6 +201,17 @@ fn actions() {
 /// Three levels, as in LALRPOP's book.
 #[test]
 fn a_calculator() {
+    let binary = |op: &str| Alternative::new([name("Expr").named("l"), Symbol::quoted(op), name("Expr").named("r")]);
+    let left = |alternative: Alternative, level: &str| alternative.value("precedence", "level", level).value("assoc", "side", "left");
+    let expressions = [
+        Alternative::new([name("Num")]).value("precedence", "level", "1"),
+        Alternative::new([Symbol::quoted("("), name("Expr").chosen(), Symbol::quoted(")")]),
+        left(binary("*"), "2").action(user("Box::new(Expr::Op(l, Mul, r))")),
+        binary("/").action(Action::Fallible("l.over(r)".into())),
+        left(binary("+"), "3").action(user("Box::new(Expr::Op(l, Add, r))")),
+    ];
+    let num = Alternative::new([Symbol::regex("[0-9]+")]).action(user("i32::from_str(<>).unwrap()"));
+    let num = Nonterminal::new("Num").alternative(num);
     same(
         r#"
         use std::str::FromStr;
@@ -173,18 +234,26 @@ fn a_calculator() {
 
         Num: i32 = r"[0-9]+" => i32::from_str(<>).unwrap();
         "#,
-        r#"
-        pub Expr = #precedence(level="1") Num | "(" <Expr> ")"
-            | #precedence(level="2") #assoc(side="left") l:Expr "*" r:Expr => { Box::new(Expr::Op(l, Mul, r)) }
-            | l:Expr "/" r:Expr =>? { l.over(r) }
-            | #precedence(level="3") #assoc(side="left") l:Expr "+" r:Expr => { Box::new(Expr::Op(l, Add, r)) };
-        Num = r"[0-9]+" => { i32::from_str(<>).unwrap() };
-        "#,
+        [Nonterminal::new("Expr").public().alternatives(expressions).into(), num.into()],
     );
 }
 
 #[test]
 fn a_grammar_with_macros() {
+    let calls = Nonterminal::new("Calls").public().alternative(Alternative::new([Symbol::call("Comma", [name("Call")])]));
+    let arguments = Symbol::call("Comma", [Symbol::call("Tier", [Symbol::quoted("left"), name("name"), Symbol::quoted("+")])]);
+    let call = [name("name").named("n"), Symbol::quoted("("), arguments.named("a"), Symbol::quoted(")")];
+    let call = Nonterminal::new("Call").alternative(Alternative::new(call).action(user("Call::new(n, a)")));
+    let items = Symbol::group([name("T").chosen(), Symbol::quoted(",")]).repeated(Repeat::Star).mutable("v");
+    let list = Alternative::new([items, name("T").repeated(Repeat::Question).named("e")]).action(user("joined(v, e)"));
+    let comma = Nonterminal::new("Comma").arg("T").alternative(list);
+    let (tier, next) = (Symbol::call("Tier", ["Side", "Next", "Op"].map(name)), name("Next"));
+    let tree = |left: &Symbol, right: &Symbol| {
+        let symbols = [left.clone().named("l"), name("Op").named("o"), right.clone().named("r")];
+        Alternative::new(symbols).action(user("tree(l, o, r)"))
+    };
+    let tiers = [tree(&tier, &next).when("Side", "left"), tree(&next, &tier).unless("Side", "left"), Alternative::new([next])];
+    let tiers = Nonterminal::new("Tier").arg("Side").arg("Next").arg("Op").alternatives(tiers);
     same(
         r#"
         grammar;
@@ -198,13 +267,6 @@ fn a_grammar_with_macros() {
         };
         extern { enum Token { name => Token::Name(<String>) } }
         "#,
-        r#"
-        pub Calls = Comma<Call>;
-        Call = n:name "(" a:Comma<Tier<"left", name, "+">> ")" => { Call::new(n, a) };
-        Comma<T> = mut v:(<T> ",")* e:T? => { joined(v, e) };
-        Tier<Side, Next, Op> = l:Tier<Side, Next, Op> o:Op r:Next if Side == "left" => { tree(l, o, r) }
-            | l:Next o:Op r:Tier<Side, Next, Op> if Side != "left" => { tree(l, o, r) } | Next;
-        extern name;
-        "#,
+        [calls.into(), call.into(), comma.into(), tiers.into(), Item::external("name")],
     );
 }

@@ -60,7 +60,6 @@ fn before_the_items() {
 #[test]
 fn items() {
     refuses("A = B;;", "2:7: a grammar: expected a nonterminal, `extern`, `match` or `use`, found `;`");
-    refuses("`A` = B;", "2:1: a grammar: expected a nonterminal, `extern`, `match` or `use`, found ```");
     refuses("grammar;", "2:1: a grammar: expected a nonterminal, `extern`, `match` or `use`, found `grammar`");
     refuses("pub = B;", "2:5: a nonterminal: expected a name, found `=`");
     refuses("pub(crate A = B;", "2:16: `pub`: expected `)`, found `;`");
@@ -82,7 +81,13 @@ fn names() {
     }
     refuses("A = error;", "2:5: the name `error` can't be carried: `!` is printed so");
     refuses("é = B;", "2:1: the name `é` can't be carried: it is not ASCII");
-    refuses("A = `B`;", "2:5: a name in backticks is not read");
+    let no = "in backticks can't be carried: names are letters, digits and `_`, not `mut` or `error`";
+    refuses("A = `B?`;", &format!("2:5: the name `B?` {no}"));
+    refuses("`A<\"b\">` = B;", &format!("2:1: the name `A<\"b\">` {no}"));
+    refuses("A = ``;", &format!("2:5: the name `` {no}"));
+    refuses("A = `error`;", &format!("2:5: the name `error` {no}"));
+    refuses("A = `B;", "2:5: a name in backticks is not closed");
+    refuses("M<`A`> = B;", "2:3: arguments of a macro: expected a name, found `A` in backticks");
 }
 
 #[test]

@@ -1,9 +1,9 @@
 -- Expanding only hands spans on: what holds of every span of a tree, and of the macros' definitions, holds of every span of the rounds' yes.
 -- Assumes nothing.
 use mathlib.Core.Path.{◌≡◌, subst}
-use mathlib.Core.Bool.{Bool, true, false, cond, ◌&&◌}
+use mathlib.Core.Bool.{Bool, true, false, cond}
 use mathlib.Core.List.{List, [], ◌∷◌, ◌++◌}
-use mathlib.Core.Option.{Option, none, some}
+use mathlib.Core.Option.{Option, some}
 use Prim.Native.Nat.{ℕ, zero, suc}
 use Rattle.octets.specs.Plain.Runs.{same_as}
 use Rattle.parse_tree.specs.Plain.Tree.{Text, Op, star, plus, question, Leaf, Around, Over, Sym, Syms, ambiguous, bare, quoted, regex, nonterminal, lookahead, lookbehind, error, repeat, choose, name, macro, group, leaf, around, over, nil, cons, Alternative, Nonterminal, Item, item, Stage}
@@ -15,12 +15,14 @@ use Rattle.parse_tree.specs.declared.syntax.Span.{Span}
 use Rattle.parse_tree.proofs.ReadingLaws.{each_append}
 use Rattle.passes.specs.Outcome.{Tree, Outcome, yes, no, after, simple}
 use Rattle.passes.specs.Views.{Look, ahead, behind}
-use Rattle.passes.specs.Macros.{Pending, looking, repeating, listing, symbol_of, span_of, expand_alternative, expand_lookaround_symbol, Expander, push, replace_around, replace_symbol, replace_symbols, replace_alternatives, replace_items, at, argument_of, or_name, macro_expand_symbol, macro_expand_symbols, evaluate_condition, expand_alternatives, macro_in, expand_macro_symbol, has_name, group_action, made, expand_expr_symbol, expand_repeat_symbol, expand_over, expand_symbol, drain, without_macros}
+use Rattle.passes.specs.Macros.{Pending, looking, repeating, listing, symbol_of, span_of, expand_lookaround_symbol, Expander, push, replace_around, replace_symbol, replace_symbols, replace_alternatives, replace_items, at, argument_of, or_name, macro_expand_symbol, macro_expand_symbols, macro_in, expand_macro_symbol, has_name, group_action, made, expand_expr_symbol, expand_repeat_symbol, expand_over, expand_symbol, drain, without_macros}
 use Rattle.passes.specs.Stages.{last_stage, or_more, stage, rounds}
 use Rattle.passes.specs.Calls.{sizes}
 use Rattle.passes.proofs.Outcomes.{no≢yes, after-yes}
+use Rattle.passes.proofs.ResolveKeeps.{yes_as}
+use Rattle.passes.proofs.MacrosKeep.{Found, macro_found, call_keeps}
 use Rattle.meaning.proofs.Calls.Staged.{admitted}
-use Rattle.meaning.proofs.Calls.Spans.{yes_as, SymSpans, SymsSpans, AlternativeSpans, ItemSpans}
+use Rattle.meaning.proofs.Calls.Spans.{SymSpans, SymsSpans, AlternativeSpans, ItemSpans}
 
 module _ (P : Span → Type 0) where
   -- ---- replacing: what it gives, and the pile
@@ -130,41 +132,13 @@ module _ (P : Span → Type 0) where
       expand_symbols_in nil h = tt
       expand_symbols_in (cons x xs) h = (expand_symbol-in x h.0, expand_symbols_in xs h.1)
 
-    expand_alternatives-in : (s : Span) (as' bs : List Alternative) → P s → Each (AlternativeSpans P) as' → expand_alternatives s ps args as' ≡ yes bs → Each (AlternativeSpans P) bs
-    unfolding expand_alternatives
-    expand_alternatives-in s [] bs h k e = yes_as (Each (AlternativeSpans P)) e tt
-    expand_alternatives-in s (a ∷ rest) bs h k e =
-        let (b, eb, e1) = after-yes (evaluate_condition ps args a.condition) _ bs e in
-        let (cs, ec, e2) = after-yes (expand_alternatives s ps args rest) _ bs e1 in
-        yes_as (Each (AlternativeSpans P)) e2 (go b cs (expand_alternatives-in s rest cs h k.1 ec))
-      where
-        go : (b : Bool) (cs : List Alternative) → Each (AlternativeSpans P) cs → Each (AlternativeSpans P) (cond b (expand_alternative s ps args a ∷ cs) cs)
-        go true cs r = ((h, tt, expand_symbols_in a.symbols k.0.2), r)
-        go false cs r = r
-
   -- ---- the item of a symbol taken off the pile
-  abbrev FoundSpans : Option Nonterminal → Type 0
-  FoundSpans none = Unit {0}
-  FoundSpans (some d) = ItemSpans P (item d)
-
-  macro_in-spans : (G : Tree) (n : Text) → Each (ItemSpans P) G → FoundSpans (macro_in G n)
-  macro_in-spans [] n h = tt
-  macro_in-spans (item d ∷ rest) n h = go (same_as d.name n && (elim d.args [ [] ↦ false | p ∷ ps ↦ true ])) (macro_in-spans rest n h.1)
-    where
-      go : (b : Bool) → FoundSpans (macro_in rest n) → FoundSpans (cond b (some d) (macro_in rest n))
-      go true r = h.0
-      go false r = r
-  macro_in-spans (Item.terminal s o t ∷ rest) n h = macro_in-spans rest n h.1
-
   -- what an expanded symbol must be
   abbrev ItemOf : Nonterminal → Type 0
   ItemOf d = ItemSpans P (item d)
 
-  macro_spans : (s : Span) (key : Text) (xs : Syms) (o : Option Nonterminal) (d : Nonterminal) → P s → SymsSpans P xs → FoundSpans o → expand_macro_symbol s key xs o ≡ yes d → ItemOf d
-  macro_spans s key xs none d h k f e = absurd (no≢yes 11 s d e)
-  macro_spans s key xs (some c) d h k f e =
-      let (bs, eb, e1) = after-yes (expand_alternatives s c.args xs c.alternatives) _ d e in
-      yes_as ItemOf e1 (h, expand_alternatives-in c.args xs k s c.alternatives bs h f.1 eb)
+  macro_spans : (s : Span) (key : Text) (xs : Syms) (o : Option Nonterminal) (d : Nonterminal) → P s → SymsSpans P xs → Found (ItemSpans P) o → expand_macro_symbol s key xs o ≡ yes d → ItemOf d
+  macro_spans s key xs o d h k f e = call_keeps (AlternativeSpans P) s xs (λ ps a i. (h, tt, expand_symbols_in ps xs k a.symbols i.2)) (ItemSpans P) (λ m i. i.1) key (λ m bs i. (h, i)) o d f e
 
   group_spans : (s : Span) (key : Text) (xs : Syms) (d : Nonterminal) → P s → SymsSpans P xs → expand_expr_symbol s key xs ≡ yes d → ItemOf d
   group_spans s key xs d h k e = go (has_name xs) e
@@ -184,7 +158,7 @@ module _ (P : Span → Type 0) where
 
   module _ (G : Tree) (defined : Each (ItemSpans P) G) where
     over_item_spans : (s : Span) (key : Text) (o : Over) (xs : Syms) (d : Nonterminal) → P s → SymsSpans P xs → expand_over G s key o xs ≡ yes d → ItemOf d
-    over_item_spans s key (macro n) xs d h k e = macro_spans s key xs (macro_in G n) d h k (macro_in-spans G n defined) e
+    over_item_spans s key (macro n) xs d h k e = macro_spans s key xs (macro_in G n) d h k (macro_found (ItemSpans P) G n defined) e
     over_item_spans s key group xs d h k e = group_spans s key xs d h k e
 
     item_spans : (x : Pending) (d : Nonterminal) → SymSpans P (symbol_of x) → expand_symbol G x ≡ yes d → ItemOf d

@@ -1,6 +1,6 @@
 -- The spans of a tree, and that resolving and the levels only hand them on: what holds of every span of a tree holds of every span of theirs.
 -- Assumes nothing.
-use mathlib.Core.Path.{◌≡◌, subst}
+use mathlib.Core.Path.{◌≡◌}
 use mathlib.Core.Bool.{Bool, true, false, cond}
 use mathlib.Core.List.{List, [], ◌∷◌, map}
 use mathlib.Core.Option.{Option, none, some}
@@ -10,15 +10,12 @@ use Rattle.parse_tree.specs.Plain.Tree.{Text, Leaf, Sym, Syms, ambiguous, bare, 
 use Rattle.parse_tree.specs.Working.Within.{Each}
 use Rattle.parse_tree.specs.declared.syntax.Span.{Span}
 use Rattle.parse_tree.proofs.ReadingLaws.{each_append}
-use Rattle.passes.specs.Outcome.{Tree, Outcome, yes}
+use Rattle.passes.specs.Outcome.{Tree, yes}
 use Rattle.passes.specs.Resolve.{Def, terminal_def, nonterminal_def, argument_def, lookup, globals, check_globals, check_condition, validate_nonterminal, rewrite_ambiguous_id, validate_leaf, validate_over, validate_symbol, validate_symbols, validate_alternatives, validate_macro_args, validate_items, resolve}
 use Rattle.passes.specs.Grades.{Side, all, value_of, is_given, without_first, precedence, assoc, level_of, side_of, with_levels, Graded, with_sides, graded, annotated}
 use Rattle.passes.specs.Levels.{level_name, levels_of, of_level, Group, groups_of, occurs, replace_occurrences, replace_occurrences_in, substitute, substituted, fall_through, with_fall_through, level_items, levelled, check_levels, levels}
-use Rattle.passes.proofs.Outcomes.{no≢yes, yes_inj, after-yes}
-
--- what holds of a yes holds of the same yes
-pub yes_as : {A : Type 0} (Q : A → Type 0) {x y : A} → ◌≡◌ {A = Outcome A} (yes x) (yes y) → Q x → Q y
-yes_as Q {x} {y} p h = subst Q (yes_inj x y p) h
+use Rattle.passes.proofs.Outcomes.{no≢yes, after-yes}
+use Rattle.passes.proofs.ResolveKeeps.{yes_as}
 
 -- ---- every span satisfies P
 module _ (P : Span → Type 0) where

@@ -2,9 +2,7 @@
 //! document 01 and the Rust, one line each.
 use compare::chosen::{lines, stored, word};
 use compare::stated;
-use oracle::Call;
-
-const CALLS: [Call; 4] = [Call::Resolve, Call::Levels, Call::Macros, Call::Whole];
+use oracle::CALLS;
 
 fn main() {
     let words: Vec<String> = std::env::args().skip(1).collect();

@@ -2,6 +2,7 @@
 use super::parser::{counted, is_mark, Parser};
 use super::scanner::Lexeme;
 use super::unreadable::{Fault, Read};
+use crate::sizes::{BYTE, HALF};
 use crate::tree::{Action, Alternative, Attribute, Condition};
 
 impl Parser<'_> {
@@ -18,12 +19,14 @@ impl Parser<'_> {
     }
 
     fn alternative(&mut self) -> Read<Alternative> {
-        let (from, mut attributes) = (self.from(), vec![]);
+        let (before, mut attributes) = (self.from(), vec![]);
         while self.is("#") {
             attributes.push(self.attribute()?);
         }
-        let attributes = counted(attributes, 255, from, "an alternative with more than 255 attributes")?;
-        let symbols = counted(self.symbols(1)?, 65_535, from, "an alternative with more than 65,535 symbols")?;
+        let attributes = counted(attributes, BYTE, before, "an alternative with more than 255 attributes")?;
+        // as LALRPOP has it, an alternative's span is without its attributes
+        let from = self.from();
+        let symbols = counted(self.symbols(1)?, HALF, from, "an alternative with more than 65,535 symbols")?;
         let condition = if self.take("if") { Some(self.condition()?) } else { None };
         let action = self.action()?;
         if symbols.is_empty() && action == Action::None {
@@ -59,7 +62,8 @@ impl Parser<'_> {
         }
         let (key_at, value_at) = (self.ahead(1).from, self.ahead(3).from);
         let key = self.plain(key, key_at, "the key of an attribute")?;
-        let value = self.plain(&value, value_at, "the value of an attribute")?;
+        // as LALRPOP has it, escapes are left as they are written
+        let value = self.plain(value, value_at, "the value of an attribute")?;
         (0..=close).for_each(|_| self.step());
         Ok(Some((key, value)))
     }
@@ -74,9 +78,7 @@ impl Parser<'_> {
         if !equals && !self.take("!=") {
             return Err(self.expected("a condition", "`==` or `!=`"));
         }
-        let Lexeme::Text(text) = self.token().lexeme.clone() else {
-            return Err(self.expected("a condition", "a quoted text"));
-        };
+        let text = self.quoted()?.ok_or_else(|| self.expected("a condition", "a quoted text"))?;
         let rhs = self.literal(&text, self.from(), "the text of a condition")?;
         self.step();
         Ok(Condition { span: self.span(from), lhs, equals, rhs })

@@ -2,11 +2,16 @@
 use super::parser::{counted, Parser};
 use super::scanner::Lexeme;
 use super::unreadable::{Fault, Read};
+use crate::sizes::{BYTE, HALF};
 use crate::tree::{Item, Nonterminal};
 
 impl Parser<'_> {
     pub fn grammar(&mut self) -> Read<Vec<Item>> {
         self.head()?;
+        self.items()
+    }
+
+    pub fn items(&mut self) -> Read<Vec<Item>> {
         let mut items = vec![];
         while self.token().lexeme != Lexeme::End {
             self.item(&mut items)?;
@@ -49,7 +54,8 @@ impl Parser<'_> {
         if self.take("match") {
             return self.match_block(items);
         }
-        if !self.is("#") && !self.is("pub") && self.word().is_none() {
+        let begins = self.is("#") || self.is("pub") || self.word().is_some() || matches!(self.token().lexeme, Lexeme::Escape(_));
+        if !begins {
             return Err(self.expected("a grammar", "a nonterminal, `extern`, `match` or `use`"));
         }
         items.push(Item::Nonterminal(self.nonterminal()?));
@@ -59,9 +65,8 @@ impl Parser<'_> {
     fn nonterminal(&mut self) -> Read<Nonterminal> {
         let (inline, public) = (self.inline()?, self.public()?);
         let from = self.from();
-        let name = self.name("a nonterminal")?;
-        let args = if self.calls() { self.arguments()? } else { vec![] };
-        let args = counted(args, 255, from, "a macro with more than 255 arguments")?;
+        let (name, args) = self.declared()?;
+        let args = counted(args, BYTE, from, "a macro with more than 255 arguments")?;
         let span = self.span(from);
         if self.take(":") {
             let start = self.from();
@@ -71,8 +76,18 @@ impl Parser<'_> {
             }
         }
         self.need("=", "a nonterminal")?;
-        let alternatives = counted(self.alternatives()?, 65_535, from, "a nonterminal with more than 65,535 alternatives")?;
+        let alternatives = counted(self.alternatives()?, HALF, from, "a nonterminal with more than 65,535 alternatives")?;
         Ok(Nonterminal { span, name, inline, public, args, alternatives })
+    }
+
+    /// A name, and the arguments of a macro. A name in backticks takes none.
+    fn declared(&mut self) -> Read<(String, Vec<String>)> {
+        if let Lexeme::Escape(name) = self.token().lexeme {
+            return Ok((self.escaped_name(name)?, vec![]));
+        }
+        let name = self.name("a nonterminal")?;
+        let args = if self.calls() { self.arguments()? } else { vec![] };
+        Ok((name, args))
     }
 
     fn arguments(&mut self) -> Read<Vec<String>> {

@@ -14,8 +14,9 @@ mod unreadable;
 
 pub use unreadable::Unreadable;
 
-use crate::tree::Stage;
+use crate::tree::{Item, Stage};
 use parser::Parser;
+use unreadable::Read;
 
 /// The tree of a grammar. Spans are bytes of the text, names are not yet resolved, and there are no atoms: [`write`](crate::write()) makes them.
 ///
@@ -38,6 +39,23 @@ use parser::Parser;
 /// assert_eq!(no.to_string(), "2:5: a macro call without arguments can't be carried");
 /// ```
 pub fn parse(text: &str) -> Result<Stage, Unreadable> {
-    let items = Parser::new(text).and_then(|mut parser| parser.grammar());
-    Ok(Stage { atoms: vec![], items: items.map_err(|fault| fault.located(text))? })
+    stage(text, Parser::new(text).and_then(|mut parser| parser.grammar()))
+}
+
+/// The tree of a grammar's items alone: what stands behind the `grammar` line.
+///
+/// ```
+/// use tape::lalrpop::parse_items;
+/// use tape::tree::{Item, Span};
+///
+/// let stage = parse_items("extern { enum Token { n => N } }").unwrap();
+/// assert_eq!(stage.items, [Item::external("n").at(Span(22, 29))]);
+/// assert!(parse_items("grammar; A = B;").is_err());
+/// ```
+pub fn parse_items(text: &str) -> Result<Stage, Unreadable> {
+    stage(text, Parser::new(text).and_then(|mut parser| parser.items()))
+}
+
+fn stage(text: &str, items: Read<Vec<Item>>) -> Result<Stage, Unreadable> {
+    Ok(Stage::new(items.map_err(|fault| fault.located(text))?))
 }

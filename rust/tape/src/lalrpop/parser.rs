@@ -1,11 +1,10 @@
 //! Steps over tokens, and what is asked of every text: whether a tape can carry it.
-use super::scanner::{tokens, Lexeme, Token};
+use super::scanner::{tokens, unescaped, Lexeme, Token};
 use super::unreadable::{Fault, Read};
+use crate::sizes::{HALF, MOST_TEXTS};
+use crate::texts::{is_literal, is_name};
 use crate::tree::Span;
 use std::collections::HashSet;
-
-const MOST_TEXTS: usize = 65_536;
-const LONGEST: usize = 65_535;
 
 /// Words that are no names; `_` is a mark of LALRPOP's.
 const KEYWORDS: [&str; 14] = ["_", "dyn", "else", "enum", "extern", "for", "grammar", "if", "in", "match", "mut", "pub", "type", "where"];
@@ -80,6 +79,7 @@ impl<'a> Parser<'a> {
             Lexeme::Fault(fault) => return fault.clone(),
             Lexeme::End => "the end".to_string(),
             Lexeme::Text(_) => "a quoted text".to_string(),
+            Lexeme::Escape(name) => format!("`{name}` in backticks"),
             Lexeme::Regex(_) => "a regex".to_string(),
             Lexeme::Word(text) | Lexeme::Mark(text) | Lexeme::Code(text, _) => format!("`{text}`"),
             Lexeme::Use => "`use`".to_string(),
@@ -135,6 +135,14 @@ impl<'a> Parser<'a> {
         matches!(self.token().lexeme, Lexeme::Text(_) | Lexeme::Regex(_))
     }
 
+    /// The next token, where it is a text in quotes: what its escapes stand for.
+    pub fn quoted(&self) -> Read<Option<String>> {
+        match self.token().lexeme {
+            Lexeme::Text(text) => Ok(Some(unescaped(text, self.from() + 1)?)),
+            _ => Ok(None),
+        }
+    }
+
     pub fn name(&mut self, place: &str) -> Read<String> {
         let (at, word) = (self.from(), self.word().ok_or_else(|| self.expected(place, "a name"))?);
         self.step();
@@ -149,6 +157,19 @@ impl<'a> Parser<'a> {
         self.plain(word, at, &format!("the name `{word}`"))
     }
 
+    /// A name that stands there in backticks: LALRPOP lets it be any text.
+    pub fn escaped_name(&mut self, name: &str) -> Read<String> {
+        let at = self.from();
+        if !is_name(name.as_bytes()) {
+            return Err(Fault::new(
+                at,
+                format!("the name `{name}` in backticks can't be carried: names are letters, digits and `_`, not `mut` or `error`"),
+            ));
+        }
+        self.step();
+        self.carried(name, at)
+    }
+
     /// A text of ASCII.
     pub fn plain(&mut self, text: &str, at: usize, what: &str) -> Read<String> {
         if !text.is_ascii() {
@@ -159,14 +180,14 @@ impl<'a> Parser<'a> {
 
     /// The text of a terminal, or one that is compared with it.
     pub fn literal(&mut self, text: &str, at: usize, what: &str) -> Read<String> {
-        if !text.bytes().all(|byte| (0x20..=0x7e).contains(&byte)) {
+        if !is_literal(text.as_bytes()) {
             return Err(Fault::new(at, format!("{what} can't be carried: it is not printable ASCII")));
         }
         self.carried(text, at)
     }
 
     fn carried(&mut self, text: &str, at: usize) -> Read<String> {
-        if text.len() > LONGEST {
+        if text.len() > HALF {
             return Err(Fault::new(at, "a text of more than 65,535 bytes can't be carried"));
         }
         self.texts.insert(text.to_string());

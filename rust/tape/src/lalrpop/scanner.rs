@@ -7,8 +7,10 @@ pub enum Lexeme<'a> {
     /// A name or a keyword.
     Word(&'a str),
     Mark(&'a str),
-    /// Between quotes, without escapes.
-    Text(String),
+    /// Between quotes, escapes as they are written.
+    Text(&'a str),
+    /// A name between backticks.
+    Escape(&'a str),
     Regex(&'a str),
     /// `=>` or `=>?`, and the Rust code behind it.
     Code(&'a str, &'a str),
@@ -76,7 +78,8 @@ impl<'a> Scanner<'a> {
         let from = self.at;
         match self.peek() {
             None => Ok(Lexeme::End),
-            Some('"') => Ok(Lexeme::Text(unescaped(self.quoted()?, from + 1)?)),
+            Some('"') => Ok(Lexeme::Text(self.quoted()?)),
+            Some('`') => self.escape(),
             Some('\'') => {
                 self.tick();
                 Ok(Lexeme::Mark(&self.text[from..self.at]))
@@ -96,6 +99,13 @@ impl<'a> Scanner<'a> {
             return Ok(Lexeme::Use);
         }
         Ok(Lexeme::Word(word))
+    }
+
+    fn escape(&mut self) -> Read<Lexeme<'a>> {
+        let inside = &self.rest()[1..];
+        let length = inside.find('`').ok_or_else(|| Fault::new(self.at, "a name in backticks is not closed"))?;
+        self.at += length + 2;
+        Ok(Lexeme::Escape(&inside[..length]))
     }
 
     fn module(&mut self) -> Read<Lexeme<'a>> {
@@ -128,7 +138,7 @@ impl<'a> Scanner<'a> {
 }
 
 /// The text that escapes stand for; it is written at this offset.
-fn unescaped(written: &str, at: usize) -> Read<String> {
+pub fn unescaped(written: &str, at: usize) -> Read<String> {
     let (mut text, mut rest) = (String::new(), written.char_indices());
     while let Some((_, next)) = rest.next() {
         let escape = if next == '\\' { rest.next() } else { None };

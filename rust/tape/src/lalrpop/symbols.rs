@@ -1,10 +1,10 @@
 //! Symbols.
 use super::parser::{counted, is_mark, Parser};
-use super::scanner::Lexeme;
+use super::scanner::{unescaped, Lexeme};
 use super::unreadable::{Fault, Read};
+use crate::sizes::{BYTE, DEEPEST, HALF};
 use crate::tree::{Kind, Repeat, Symbol};
 
-const DEEPEST: usize = 64;
 const CALL: &str = "a macro call";
 const CHOICE: &str = "a choice";
 
@@ -19,7 +19,8 @@ impl Parser<'_> {
     }
 
     fn begins(&self) -> bool {
-        self.is_literal() || self.word().is_some() || ["(", "<", "@L", "@R", "!", "`"].iter().any(|mark| self.is(mark))
+        let is_escape = matches!(self.token().lexeme, Lexeme::Escape(_));
+        self.is_literal() || is_escape || self.word().is_some() || ["(", "<", "@L", "@R", "!"].iter().any(|mark| self.is(mark))
     }
 
     fn symbol(&mut self, depth: usize) -> Read<Symbol> {
@@ -42,7 +43,9 @@ impl Parser<'_> {
     /// A symbol without what repeats it.
     fn kind(&mut self, depth: usize) -> Read<Kind> {
         match self.token().lexeme.clone() {
-            Lexeme::Text(text) => Ok(Kind::Quoted(self.terminal(&text, "a quoted terminal")?)),
+            Lexeme::Text(text) => Ok(Kind::Quoted(self.terminal(&unescaped(text, self.from() + 1)?, "a quoted terminal")?)),
+            // no other name stands for a nonterminal alone
+            Lexeme::Escape(name) => Ok(Kind::Nonterminal(self.escaped_name(name)?)),
             Lexeme::Regex(text) => Ok(Kind::Regex(self.terminal(text, "a regex")?)),
             Lexeme::Word(_) => self.named(depth),
             Lexeme::Mark("(") => self.group(depth),
@@ -50,7 +53,6 @@ impl Parser<'_> {
             Lexeme::Mark("@L") => Ok(self.only(Kind::Lookahead)),
             Lexeme::Mark("@R") => Ok(self.only(Kind::Lookbehind)),
             Lexeme::Mark("!") => Ok(self.only(Kind::Error)),
-            Lexeme::Mark("`") => Err(Fault::new(self.from(), "a name in backticks is not read")),
             _ => Err(self.expected("an alternative", "a symbol")),
         }
     }
@@ -83,7 +85,7 @@ impl Parser<'_> {
         if arguments.is_empty() {
             return Err(Fault::new(at, "a macro call without arguments can't be carried"));
         }
-        Ok(Kind::Macro(name, counted(arguments, 255, at, "a macro call with more than 255 arguments")?))
+        Ok(Kind::Macro(name, counted(arguments, BYTE, at, "a macro call with more than 255 arguments")?))
     }
 
     fn group(&mut self, depth: usize) -> Read<Kind> {
@@ -91,7 +93,7 @@ impl Parser<'_> {
         self.step();
         let symbols = self.symbols(depth + 1)?;
         self.need(")", "a group")?;
-        Ok(Kind::Group(counted(symbols, 65_535, at, "a group with more than 65,535 symbols")?))
+        Ok(Kind::Group(counted(symbols, HALF, at, "a group with more than 65,535 symbols")?))
     }
 
     /// `<A>`, or `<name:A>`, which is no choice.

@@ -1,6 +1,6 @@
 //! The blocks that declare terminals.
 use super::parser::{is_keyword, Parser};
-use super::scanner::{tokens, Lexeme};
+use super::scanner::{tokens, unescaped, Lexeme};
 use super::unreadable::{Fault, Read};
 use crate::tree::Item;
 
@@ -38,6 +38,7 @@ impl Parser<'_> {
         if word.is_none() && !self.is_literal() {
             return Err(self.expected(EXTERN, "a terminal"));
         }
+        self.quoted()?;
         self.step();
         let Lexeme::Code("=>", pattern) = self.token().lexeme else {
             return Err(self.expected(EXTERN, "`=>`"));
@@ -70,6 +71,7 @@ impl Parser<'_> {
         if !self.is_literal() {
             return Err(self.expected(MATCH, "a literal or `_`"));
         }
+        self.quoted()?;
         self.step();
         let Lexeme::Code("=>", code) = self.token().lexeme else { return Ok(None) };
         let end = self.token().to;
@@ -88,7 +90,8 @@ impl<'a> Parser<'a> {
         match lexemes[..] {
             [.., Lexeme::Fault(fault)] => Err(fault.clone()),
             [Lexeme::Word(word), Lexeme::End] if !is_keyword(word) => Ok(Some((word, found[0].from))),
-            [Lexeme::Text(_) | Lexeme::Regex(_), Lexeme::End] | [Lexeme::Mark("{"), Lexeme::Mark("}"), Lexeme::End] => Ok(None),
+            [Lexeme::Text(text), Lexeme::End] => unescaped(text, found[0].from + 1).map(|_| None),
+            [Lexeme::Regex(_), Lexeme::End] | [Lexeme::Mark("{"), Lexeme::Mark("}"), Lexeme::End] => Ok(None),
             _ => Err(Fault::new(found[0].from, format!("{MATCH}: expected a terminal or `{{}}` behind `=>`"))),
         }
     }

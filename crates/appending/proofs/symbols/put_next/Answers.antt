@@ -1,3 +1,5 @@
+use Prim.Native.Nat.{◌+◌, ◌<◌}
+use lib.ListN.{length}
 use Rattle.appending.proofs.SymbolsNextCode.{coming}
 use Rattle.appending.proofs.symbols.put_next.Goals as goal
 
@@ -21,3 +23,6 @@ copy_command-run-requires c = search coming
 
 pub returns-else-is_expanded : goal.returns-else-is_expanded
 returns-else-is_expanded c = search coming
+
+pub overflow_add-at : goal.overflow_add-at
+overflow_add-at c = let z : c.args.round.now.g.from + c.args.x.run.at < length c.args.work.now = search coming in search coming

@@ -12,3 +12,9 @@ overflow_sub-result c = search referring_one
 
 pub returns : goal.returns
 returns c = search referring_one
+
+pub overflow_add-at : goal.overflow_add-at
+overflow_add-at c = search referring_one
+
+pub overflow_add-at-2 : goal.overflow_add-at-2
+overflow_add-at-2 c = search referring_one

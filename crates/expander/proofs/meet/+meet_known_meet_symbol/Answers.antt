@@ -77,3 +77,6 @@ meet_symbol-returns-in_err-e t c = let d = holding_met c.loop-k.invariant.held c
 
 pub meet_symbol-returns : goal.meet_symbol-returns
 meet_symbol-returns t c = let d = holding_met c.loop-k.invariant.held c.behind.ensures in search (symbol_meeting, d, c.in_ok-e.was)
+
+pub meet_symbol-overflow_add-q : goal.meet_symbol-overflow_add-q
+meet_symbol-overflow_add-q t c = search symbol_meeting

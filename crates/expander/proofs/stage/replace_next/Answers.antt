@@ -19,10 +19,10 @@ pub is_macro-requires : goal.is_macro-requires
 is_macro-requires c = search turning
 
 pub next_item-requires : goal.next_item-requires
-next_item-requires c = (search rules, search (turn_hops c.args.tape.now c.args.work.now c.args.g c.args.r))
+next_item-requires c = (search rules, search (turn_hops c.args.tape.now c.args.work.now c.args.g.now c.args.r))
 
 pub returns-then-is_macro : goal.returns-then-is_macro
 returns-then-is_macro c = search turning
 
 pub copy_run-requires : goal.copy_run-requires
-copy_run-requires c = (search rules, search rules, search (turn_first c.args.tape.now c.args.work.now c.args.g c.args.r), search rules)
+copy_run-requires c = (search rules, search rules, search (turn_first c.args.tape.now c.args.work.now c.args.g.now c.args.r), search rules)

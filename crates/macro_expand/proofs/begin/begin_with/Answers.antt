@@ -6,3 +6,6 @@ put_symbols-y-requires c = search beginning_with
 
 pub returns : goal.returns
 returns c = search beginning_with
+
+pub overflow_add-q : goal.overflow_add-q
+overflow_add-q c = search beginning_with

@@ -12,3 +12,9 @@ built-t-requires c = search naming-both
 
 pub returns : goal.returns
 returns c = search naming-both
+
+pub overflow_add-round : goal.overflow_add-round
+overflow_add-round c = search naming-both
+
+pub overflow_add-round-2 : goal.overflow_add-round-2
+overflow_add-round-2 c = search naming-both

@@ -13,13 +13,13 @@ arguments-requires c = search expanding_macro
 pub map_err-requires : goal.map_err-requires
 map_err-requires c =
     let a = c.arguments.ensures in
-    let z : c.holding-held.result ≡ hold_from c.args.round.g c.read_call-x.result.call c.args.work.now c.read_call-x.result.many c.read_call-x.result.from 0 = c.holding-held.ensures ∙ rw (a.0, a.1, a.2) refl in
+    let z : c.holding-held.result ≡ hold_from c.args.round.now.g c.read_call-x.result.call c.args.work.now c.read_call-x.result.many c.read_call-x.result.from 0 = c.holding-held.ensures ∙ rw (a.0, a.1, a.2) refl in
     λ e h k l p r t f. search expanding_macro
 
 pub returns-in_err-m : goal.returns-in_err-m
 returns-in_err-m c =
     let a = c.arguments.ensures in
-    let z : c.holding-held.result ≡ hold_from c.args.round.g c.read_call-x.result.call c.args.work.now c.read_call-x.result.many c.read_call-x.result.from 0 = c.holding-held.ensures ∙ rw (a.0, a.1, a.2) refl in
+    let z : c.holding-held.result ≡ hold_from c.args.round.now.g c.read_call-x.result.call c.args.work.now c.read_call-x.result.many c.read_call-x.result.from 0 = c.holding-held.ensures ∙ rw (a.0, a.1, a.2) refl in
     let p = err_from_is_err_and c.from_residual.result c.from_residual.ensures.1 in
     let t = of_err c.holding-held.result c.map_err.result _ c.map_err.ensures.cases _ c.in_err-m.was in
     rw (p.1, p.2) (search (expanding_macro, t.1, t.2))
@@ -27,13 +27,13 @@ returns-in_err-m c =
 pub put_macro-requires : goal.put_macro-requires
 put_macro-requires c =
     let a = c.arguments.ensures in
-    let z : c.holding-held.result ≡ hold_from c.args.round.g c.read_call-x.result.call c.args.work.now c.read_call-x.result.many c.read_call-x.result.from 0 = c.holding-held.ensures ∙ rw (a.0, a.1, a.2) refl in
+    let z : c.holding-held.result ≡ hold_from c.args.round.now.g c.read_call-x.result.call c.args.work.now c.read_call-x.result.many c.read_call-x.result.from 0 = c.holding-held.ensures ∙ rw (a.0, a.1, a.2) refl in
     let t = of_ok c.holding-held.result c.map_err.result _ c.map_err.ensures.cases _ c.in_ok-m.was in
     search (expanding_macro, t)
 
 pub returns : goal.returns
 returns c =
     let a = c.arguments.ensures in
-    let z : c.holding-held.result ≡ hold_from c.args.round.g c.read_call-x.result.call c.args.work.now c.read_call-x.result.many c.read_call-x.result.from 0 = c.holding-held.ensures ∙ rw (a.0, a.1, a.2) refl in
+    let z : c.holding-held.result ≡ hold_from c.args.round.now.g c.read_call-x.result.call c.args.work.now c.read_call-x.result.many c.read_call-x.result.from 0 = c.holding-held.ensures ∙ rw (a.0, a.1, a.2) refl in
     let t = of_ok c.holding-held.result c.map_err.result _ c.map_err.ensures.cases _ c.in_ok-m.was in
     search (expanding_macro, t)

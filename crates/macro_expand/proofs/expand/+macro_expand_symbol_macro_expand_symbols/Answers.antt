@@ -15,13 +15,13 @@ macro_expand_symbol-parameter-requires t c = rw c.arguments.ensures.0 (search ex
 pub macro_expand_symbol-put_parameter-requires : goal.macro_expand_symbol-put_parameter-requires
 macro_expand_symbol-put_parameter-requires t c =
     let e = c.arguments.ensures in
-    let z : c.parameter.result ≡ parameter_at c.args.c.round.g c.args.c.call c.args.work.now c.args.x.at = c.parameter.ensures ∙ rw (e.0, e.1, e.2) refl in
+    let z : c.parameter.result ≡ parameter_at c.args.c.now.round.g c.args.c.now.call c.args.work.now c.args.x.at = c.parameter.ensures ∙ rw (e.0, e.1, e.2) refl in
     search expanding_one
 
 pub macro_expand_symbol-open-h-requires : goal.macro_expand_symbol-open-h-requires
 macro_expand_symbol-open-h-requires t c =
     let e = c.arguments.ensures in
-    let z : c.parameter.result ≡ parameter_at c.args.c.round.g c.args.c.call c.args.work.now c.args.x.at = c.parameter.ensures ∙ rw (e.0, e.1, e.2) refl in
+    let z : c.parameter.result ≡ parameter_at c.args.c.now.round.g c.args.c.now.call c.args.work.now c.args.x.at = c.parameter.ensures ∙ rw (e.0, e.1, e.2) refl in
     search expanding_one
 
 pub macro_expand_symbols-loop-preserved : goal.macro_expand_symbols-loop-preserved

@@ -15,3 +15,12 @@ returns-in_default c = search expressing
 
 pub returns : goal.returns
 returns c = search expressing
+
+pub overflow_add-at : goal.overflow_add-at
+overflow_add-at c = search expressing
+
+pub overflow_add-at-2 : goal.overflow_add-at-2
+overflow_add-at-2 c = search expressing
+
+pub overflow_add-q : goal.overflow_add-q
+overflow_add-q c = search expressing

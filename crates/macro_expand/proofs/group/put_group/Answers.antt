@@ -6,3 +6,6 @@ put_symbols-x-requires c = search grouping
 
 pub returns : goal.returns
 returns c = search grouping
+
+pub overflow_add-q : goal.overflow_add-q
+overflow_add-q c = search grouping

@@ -12,3 +12,9 @@ number-x-requires c = search calling
 
 pub returns : goal.returns
 returns c = search calling
+
+pub overflow_add-at : goal.overflow_add-at
+overflow_add-at c = search calling
+
+pub overflow_add-at-2 : goal.overflow_add-at-2
+overflow_add-at-2 c = search calling

@@ -15,3 +15,9 @@ put_symbols-r-requires c = search plain-one
 
 pub returns : goal.returns
 returns c = search plain-one
+
+pub overflow_add-e : goal.overflow_add-e
+overflow_add-e c = search plain-one
+
+pub overflow_add-p : goal.overflow_add-p
+overflow_add-p c = search plain-one

@@ -6,3 +6,9 @@ fits-deep-requires c = search starring
 
 pub returns : goal.returns
 returns c = search starring
+
+pub overflow_add-p : goal.overflow_add-p
+overflow_add-p c = search starring
+
+pub overflow_add-round : goal.overflow_add-round
+overflow_add-round c = search starring

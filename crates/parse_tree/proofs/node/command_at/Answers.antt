@@ -1,5 +1,5 @@
 use native.Mathlib.Omega.{arith}
-use Rattle.parse_tree.proofs.SizeLaws.{size_16, size_17, size_18, size_19, size_20, size_symbol, size_terminal}
+use Rattle.parse_tree.proofs.CodeSizes.{size_16, size_17, size_18, size_19, size_20, size_symbol, size_terminal}
 use Rattle.parse_tree.proofs.NodeCode.{commanding}
 use Rattle.parse_tree.proofs.node.command_at.Goals as goal
 

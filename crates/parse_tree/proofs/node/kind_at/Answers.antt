@@ -1,5 +1,5 @@
 use native.Mathlib.Omega.{arith}
-use Rattle.parse_tree.proofs.SizeLaws.{size_37, size_38, size_40, size_41, size_named}
+use Rattle.parse_tree.proofs.CodeSizes.{size_37, size_38, size_40, size_41, size_named}
 use Rattle.parse_tree.proofs.NodeCode.{kinding}
 use Rattle.parse_tree.proofs.node.kind_at.Goals as goal
 

@@ -1,4 +1,4 @@
-use Rattle.parse_tree.proofs.SizeLaws.{lengthening}
+use Rattle.parse_tree.proofs.CodeSizes.{lengthening}
 use Rattle.parse_tree.proofs.size.long.Goals as goal
 
 pub returns-in-18 : goal.returns-in-18

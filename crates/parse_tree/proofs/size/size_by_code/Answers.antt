@@ -1,4 +1,4 @@
-use Rattle.parse_tree.proofs.SizeLaws.{coding}
+use Rattle.parse_tree.proofs.CodeSizes.{coding}
 use Rattle.parse_tree.proofs.size.size_by_code.Goals as goal
 
 pub returns-in-16 : goal.returns-in-16

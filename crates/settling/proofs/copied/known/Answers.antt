@@ -6,3 +6,6 @@ bounds-work-x c = search knowing
 
 pub numbered-requires : goal.numbered-requires
 numbered-requires c = search knowing
+
+pub overflow_add-x : goal.overflow_add-x
+overflow_add-x c = search knowing

@@ -23,3 +23,9 @@ put_behind-requires c =
 
 pub returns : goal.returns
 returns c = search symbolling
+
+pub overflow_add-at : goal.overflow_add-at
+overflow_add-at c = search symbolling
+
+pub overflow_add-e : goal.overflow_add-e
+overflow_add-e c = search symbolling

@@ -21,3 +21,6 @@ print_symbol-requires c = search walking
 
 pub returns-else-inside-eq0 : goal.returns-else-inside-eq0
 returns-else-inside-eq0 c = search walking
+
+pub overflow_add-at : goal.overflow_add-at
+overflow_add-at c = search walking

@@ -21,3 +21,12 @@ write-requires c = search writing
 
 pub returns : goal.returns
 returns c = search writing
+
+pub overflow_add-x : goal.overflow_add-x
+overflow_add-x c = search writing
+
+pub overflow_add-x-2 : goal.overflow_add-x-2
+overflow_add-x-2 c = search writing
+
+pub overflow_add-g : goal.overflow_add-g
+overflow_add-g c = search writing

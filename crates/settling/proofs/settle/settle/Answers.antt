@@ -10,5 +10,8 @@ loop-i-preserved c = search settling
 pub grow-m-requires : goal.grow-m-requires
 grow-m-requires c = search settling
 
+pub widen-m-requires : goal.widen-m-requires
+widen-m-requires c = search settling
+
 pub returns : goal.returns
 returns c = search settling

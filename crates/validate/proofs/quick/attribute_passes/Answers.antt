@@ -1,4 +1,4 @@
-use Rattle.validate.proofs.QuickCode.{passing_both}
+use Rattle.validate.proofs.PassesCode.{passing_both}
 use Rattle.validate.proofs.quick.attribute_passes.Goals as goal
 
 pub returns-then-not-r : goal.returns-then-not-r

@@ -1,4 +1,4 @@
-use Rattle.validate.proofs.QuickCode.{naming}
+use Rattle.validate.proofs.PassesCode.{naming}
 use Rattle.validate.proofs.quick.is_used.Goals as goal
 
 pub returns-then-not-r : goal.returns-then-not-r

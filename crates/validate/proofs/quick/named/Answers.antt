@@ -1,4 +1,4 @@
-use Rattle.validate.proofs.QuickCode.{leafing}
+use Rattle.validate.proofs.PassesCode.{leafing}
 use Rattle.validate.proofs.quick.named.Goals as goal
 
 pub returns-in-34 : goal.returns-in-34

@@ -1,4 +1,4 @@
-use Rattle.validate.proofs.QuickCode.{passing}
+use Rattle.validate.proofs.PassesCode.{passing}
 use Rattle.validate.proofs.quick.passes.Goals as goal
 
 pub returns-in-0-to-36 : goal.returns-in-0-to-36

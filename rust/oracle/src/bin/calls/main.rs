@@ -4,11 +4,11 @@
 #[cfg(lalrpop)]
 mod case;
 #[cfg(lalrpop)]
-mod choose;
-#[cfg(lalrpop)]
 mod chosen;
 #[cfg(lalrpop)]
 mod grow;
+#[cfg(lalrpop)]
+mod random;
 #[cfg(lalrpop)]
 mod show;
 
@@ -21,7 +21,7 @@ fn main() {
     }
     let numbers: Vec<u64> = words.iter().map(|word| word.parse().expect("a number")).collect();
     let rows_each = numbers.get(2).map_or(25, |rows| *rows as usize);
-    print!("{}", show::random(&choose::cases(numbers[0], numbers[1] as usize), rows_each));
+    print!("{}", show::random(&random::cases(numbers[0], numbers[1] as usize), rows_each));
 }
 
 #[cfg(not(lalrpop))]

@@ -29,7 +29,7 @@ pub fn random(cases: &[Case], rows_each: usize) -> String {
 pub fn chosen(cases: &[(String, Case)]) -> String {
     let rows: Vec<_> = cases.iter().map(|(shows, case)| (shows.clone(), row(&list(&case.tape), case))).collect();
     let head = "-- Cases chosen for what they show, with LALRPOP's answers, all in bytes: written by rust/oracle (`calls chosen`). Behind what a case shows\n\
-                -- stands its grammar, in the notation of rust/reading/src/notation.rs; spans are places in that text.\n";
+                -- stands its grammar, items in LALRPOP's notation, with \"$n\" for a bare terminal n; spans are places in that text.\n";
     format!("{head}{USES}{}", theorem("rows", "chosen", &rows))
 }
 
