@@ -1,14 +1,14 @@
-# run, test: README's two commands; run TAPE=file lists that tape. archive: what Rust and C link. valgrind: the tests that call it, under valgrind. compare: all calls set against the Rust on some hundred thousand
+# run, test: README's two commands; run TAPE=file lists that tape. archive: what Rust and C link. valgrind: the tests of rust/normalize and rust/gib under valgrind. compare: all calls set against the Rust on some hundred thousand
 # tapes. bench: the calls' time, beside LALRPOP's. fuzz: tapes put to all calls for SECONDS in guarded memory (PART=.. as tools/fuzz.sh has them).
 # trust: counts what a reader must believe, and holds docs/TRUST.md to the files.
 # They need the Rattle kit's rt, cargo and make.
-.PHONY: run test archive rust rust-tests valgrind compare bench fuzz trust clean need-rt
+.PHONY: run test archive rust-tests valgrind compare bench fuzz trust clean need-rt
 
 cargo = cargo $(1) --quiet --offline --manifest-path rust/Cargo.toml --target-dir target/rust
 
 # rattle's lines, which rt run writes as errors, are shown where it fails
 run: need-rt
-	@echo "run: proves the calls (some 20 minutes the first time, seconds afterwards), then lists $(or $(TAPE),docs/examples/query.tape)" >&2
+	@echo "run: proves the calls (some 15 minutes the first time on four cores, seconds afterwards), then lists $(or $(TAPE),docs/examples/query.tape)" >&2
 	@mkdir -p target
 	@cd crates/list && rt run < "$(abspath $(or $(TAPE),docs/examples/query.tape))" 2> ../../target/run.log || { cat ../../target/run.log; exit 1; }
 
@@ -19,8 +19,6 @@ test: need-rt
 archive: need-rt
 	@mkdir -p target
 	@cd crates/exports && rt lib > ../../target/archive.log 2>&1 || { cat ../../target/archive.log; exit 1; }
-
-rust: archive rust-tests
 
 # the tests that link the archive
 rust-tests:

@@ -1,5 +1,5 @@
 #!/usr/bin/env bash
-# tools/compare_calls.sh SEED COUNT: compares the four calls (crates/passes/specs/Calls.antt) with LALRPOP's own Rust in COUNT random cases.
+# tools/compare_calls.sh SEED COUNT: compares the four calls that write a tree (crates/passes/specs/Calls.antt) with LALRPOP's own Rust in COUNT random cases.
 # rust/oracle compiles LALRPOP's files, unchanged, from the folder LALRPOP_SRC (default: ../shared/docs/src/lalrpop/src beside the repository),
 # grows the tapes that SEED fixes, has LALRPOP's code make every stage of each call, and writes an antt module: each tape with a call, a limit
 # and the lengths of output and work, what document 01 then says, and theorems by `refl` that the definitions give the same answer and the same

@@ -6,7 +6,7 @@ from pathlib import Path
 
 TOP = Path(__file__).resolve().parent.parent
 IMPORT = re.compile(r"(ghost )?use ")
-OF_A_FUNCTION = ("Proof.antt", "Invariants.antt", "Answers.antt")
+OF_A_FUNCTION = ("Invariants.antt", "Answers.antt")
 
 
 def lines(paths, skipped=lambda line: False):

@@ -13,8 +13,6 @@ LIMIT = 1250
 EXPORTS = ["crates/exports/src/export.rt", "crates/normalize/src/calls.rt"]
 DEMAND_3 = "crates/meaning/proofs/**/OnBytes.antt"
 THEOREMS = ["demand_3", "demand_3_flat", "higher_answer", "higher_bytes"]
-# the calls, of which not all are exported yet
-CALLS = ["validate_call", "resolve_call", "levels_call", "macros_call", "whole", "answer_words", "written", "work_after"]
 
 DECLARED = re.compile(r"^\s*(?:abbrev |unfoldable )?(?:pub )?(?:data |record )?([^\s(){}:]+)(?:\s[^:=]*)? :")
 BLOCK = re.compile(r"^\s*(?:(?:abbrev |unfoldable )?mutual|module _.*|where)\b")
@@ -84,7 +82,7 @@ class Specs:
 
     def of(self, path):
         if path not in self.files:
-            exists = os.path.exists(f"{ROOT}/{path}") and "/specs/" in path and "/declared/" not in path
+            exists = os.path.exists(f"{ROOT}/{path}") and "/specs/" in path
             own = definitions(path) if exists else []
             names, modules = imports(lines_of(f"{ROOT}/{path}")) if exists else ({}, {})
             by_name = {d.name: d for d in own}
@@ -144,8 +142,6 @@ def roots(specs):
         for token in set(TOKEN.findall(text)):
             if token in names and ".specs." in names[token][0]:
                 yield specs.find(file_of(names[token][0]), names[token][1])
-    for name in CALLS:
-        yield specs.find("crates/passes/specs/Calls.antt", name)
 
 
 def reached(specs):

@@ -1,5 +1,5 @@
 // Names LALRPOP's own files to the compiler: they are compiled where they stand, unchanged, and are no part of this repository.
-// LALRPOP_SRC names their folder; the default is the folder docs/src beside the repository. Where they are missing, cfg `lalrpop` is off;
+// LALRPOP_SRC names their folder; the default is ../shared/docs/src/lalrpop/src beside the repository. Where they are missing, cfg `lalrpop` is off;
 // with REQUIRE_LALRPOP=1 that is an error, so that a run that counts on the comparison can't skip it.
 use std::path::{Path, PathBuf};
 

@@ -27,13 +27,13 @@ use Rattle.texts.proofs.TableStays.{le_at-agree, stays, above_stays, above_lower
 use Rattle.passes.specs.Outcome.{Tree, Outcome, yes, no}
 use Rattle.passes.specs.Resolve.{resolve}
 use Rattle.passes.proofs.ResolveWithin.{KeptItems, resolve-alike}
-use Rattle.resolve.specs.Items.{Standing}
+use Rattle.resolve.specs.Items.{Standing, Row}
 use Rattle.resolve.specs.Whole.{Holds, Free, Became, Answers, Resolves}
 use Rattle.resolve.specs.declared.Grammar.{Grammar}
 use Rattle.std.specs.Prelude.{Result, Ok, Err}
 use Rattle.resolve.proofs.CellsLaws.{lies_agree}
 use Rattle.resolve.proofs.CommandsCode.{fine_not}
-use Rattle.resolve.proofs.GrammarLaws.{Row, row_start}
+use Rattle.resolve.proofs.GrammarLaws.{row_start}
 use Rattle.rounds.specs.Define.{Cells, Forgot, Items}
 use Rattle.rounds.proofs.ResolvedFew.{resolved-few}
 use Rattle.again.specs.List.{Listable, SomeListed, ListedItems, ListsItems}

@@ -17,10 +17,10 @@ use Rattle.laws.specs.Keys.{built_ins}
 use Rattle.replacing.specs.Slots.{among}
 use Rattle.expander.specs.declared.Ground.{Ground}
 use Rattle.expander.specs.declared.slots.Numbered.{Numbered}
-use Rattle.expander.specs.Ground.{slot_at, key_at, printed_at, Grounded}
+use Rattle.expander.specs.Ground.{slot_at, key_at, printed_at, Grounded, Around}
 use Rattle.expander.specs.Held.{followed}
 use Rattle.expander.specs.Names.{named_in, Names, NamedBy}
-use Rattle.expander.proofs.GroundLaws.{Around, listed-around, texts-around, printed_around}
+use Rattle.expander.proofs.GroundLaws.{listed-around, texts-around, printed_around}
 use Rattle.appending.specs.Built.{built_text, built_place, built_at, BuiltIs, BuiltNot, Built, Gives}
 use Rattle.expander.proofs.SlotsCode.{odd_one}
 use Rattle.appending.proofs.BuiltGround.{key_kept}

@@ -21,9 +21,9 @@ use Rattle.texts.proofs.TextCode.{length_texts}
 use Rattle.laws.specs.Keys.{built_ins}
 use Rattle.replacing.proofs.NumbersMean.{new_known, new_unknown}
 use Rattle.expander.specs.declared.Ground.{Ground}
-use Rattle.expander.specs.Ground.{key_at, list_place, list_at, printed_at, Grounded}
+use Rattle.expander.specs.Ground.{key_at, list_place, list_at, printed_at, Grounded, Around}
 use Rattle.expander.specs.Names.{described_by, named_in, Names}
-use Rattle.expander.proofs.GroundLaws.{Around, keys_slots, slots_top, texts-around}
+use Rattle.expander.proofs.GroundLaws.{keys_slots, slots_top, texts-around}
 use Rattle.expander.proofs.NamedTexts.{has_more, length_named, named-found, named_more}
 use Rattle.appending.specs.Built.{built_text, built_place, built_at, BuiltIs, BuiltNot, Built, Gives}
 use Rattle.appending.proofs.BuiltStays.{is_stays, not_stays}

@@ -10,9 +10,9 @@ use Rattle.parse_tree.specs.Plain.Tree.{Text}
 use Rattle.parse_tree.specs.Plain.Texts.{has, distinct}
 use Rattle.texts.proofs.TableStays.{le_at-agree}
 use Rattle.expander.specs.declared.Ground.{Ground}
-use Rattle.expander.specs.Ground.{top_of, slot_place, slot_at, key_at, list_place, list_at, printed_at, Grounded}
+use Rattle.expander.specs.Ground.{top_of, slot_place, slot_at, key_at, list_place, list_at, printed_at, Grounded, Around}
 use Rattle.expander.specs.Names.{named_in, Names}
-use Rattle.expander.proofs.GroundLaws.{Around, slots_top, stage_around, texts-around, printed_around}
+use Rattle.expander.proofs.GroundLaws.{slots_top, stage_around, texts-around, printed_around}
 use Rattle.appending.specs.Built.{Built}
 use Rattle.expander.proofs.NamesStay.{named_stay, names_then}
 use Rattle.appending.proofs.BuiltGround.{key_kept, records_kept}

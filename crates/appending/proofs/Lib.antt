@@ -11,7 +11,6 @@ pub mod PiecesLaws
 mod SymbolsNamedCode
 pub mod SymbolsTrees
 pub mod SymbolsStays
-mod SymbolsPutCode
 mod SymbolsReferenceCode
 mod SymbolsFirst
 mod SymbolsNextCode

@@ -7,7 +7,7 @@ use native.Mathlib.Omega.{arith}
 use lib.ListN.{length, length-append}
 use Rattle.std.specs.Prelude.{Some}
 use Rattle.octets.specs.Working.Choice.{pick}
-use Rattle.parse_tree.specs.Plain.Tree.{Text, Leaf, Around, Sym, Syms, ambiguous, bare, quoted, regex, nonterminal, lookahead, lookbehind, error, repeat, choose, name, leaf, around, over, nil, cons, count}
+use Rattle.parse_tree.specs.Plain.Tree.{Text, Leaf, Around, Sym, Syms, sym_span, ambiguous, bare, quoted, regex, nonterminal, lookahead, lookbehind, error, repeat, choose, name, leaf, around, over, nil, cons, count}
 use Rattle.parse_tree.specs.Plain.Texts.{number, with_new}
 use Rattle.parse_tree.specs.Plain.Display.{print}
 use Rattle.parse_tree.specs.Plain.References.{leaf_texts, around_texts, sym_texts, syms_texts}
@@ -99,12 +99,7 @@ module _ (wd : ℕ) (ts : List Text) where
       ((each-parts P (keys_of_all wd ts (children y) (p + size_of wd (sym_node ts y))) (p ∷ []) (subst (Each P) is a)).1.0, b)
 
 -- ---- a symbol that is expanded, renamed
-abbrev pub span_of : Sym → Span
-span_of (leaf s l) = s
-span_of (around s a x) = s
-span_of (over s o xs) = s
-
-pub renamed_key : (y : Sym) → is_key y ≡ true → renamed y ≡ keyed (span_of y) y
+pub renamed_key : (y : Sym) → is_key y ≡ true → renamed y ≡ keyed (sym_span y) y
 unfolding renamed
 renamed_key (leaf s (ambiguous x)) k = absurd (false≢true k)
 renamed_key (leaf s (bare x)) k = absurd (false≢true k)
@@ -136,7 +131,7 @@ key_plain ts (around s (name m n) x) k = absurd (false≢true k)
 key_plain ts (over s o xs) k = refl
 
 -- theorem: the bytes of its name, by the number of its print
-pub key_named : (wd : ℕ) (ts T : List Text) (y : Sym) (k : ℕ) → k ≡ number T (print y) → key_bytes wd (Some (sym_node ts y)) k ≡ sym_bytes wd T (keyed (span_of y) y)
+pub key_named : (wd : ℕ) (ts T : List Text) (y : Sym) (k : ℕ) → k ≡ number T (print y) → key_bytes wd (Some (sym_node ts y)) k ≡ sym_bytes wd T (keyed (sym_span y) y)
 unfolding key_bytes sym_node sym_bytes leaf_node
 key_named wd ts T (leaf s l) k e = ap (λ (i : ℕ). node_bytes wd (Node.Symbol s (SymbolKind.Leaf (LeafNode.Nonterminal (record { 0 = i }))))) e
 key_named wd ts T (around s a x) k e = ap (λ (i : ℕ). node_bytes wd (Node.Symbol s (SymbolKind.Leaf (LeafNode.Nonterminal (record { 0 = i }))))) e

@@ -6,9 +6,8 @@ use Rattle.parse_tree.specs.Plain.Texts.{has, number, with_new}
 use Rattle.laws.specs.Keys.{built_ins}
 use Rattle.expander.specs.declared.Ground.{Ground}
 use Rattle.expander.specs.declared.slots.Numbered.{Numbered}
-use Rattle.expander.specs.Ground.{size_in, key_at, list_place, printed_at}
+use Rattle.expander.specs.Ground.{size_in, key_at, list_place, printed_at, Around}
 use Rattle.expander.specs.Names.{listed_texts, named_in, Names}
-use Rattle.expander.proofs.GroundLaws.{Around}
 use Rattle.appending.specs.declared.built.BuiltIn.{BuiltIn}
 
 -- a text's number, by which it stands in work

@@ -23,9 +23,13 @@ pub record Piece : Type 0 where
   pub bytes : List Text → List ℕ
   pub fits : Bool
 
--- a text that is referred to, and nothing written
+-- texts that are referred to, and nothing written
+abbrev pub all_named : List Text → Piece
+all_named us = record { texts = us; bytes = λ ts. []; fits = true }
+
+-- one
 abbrev pub naming : Text → Piece
-naming t = record { texts = t ∷ []; bytes = λ ts. []; fits = true }
+naming t = all_named (t ∷ [])
 
 -- bytes that are written
 abbrev pub plainly : List ℕ → Piece

@@ -86,7 +86,7 @@ pub record Onward (s w : List ℕ) (g : Ground) (n lim : ℕ) (ps : List ℕ) (f
   pub referring : Referring s w' g ps four left r.run.at e zs
   pub carry : (v' : Appended) (w'' : List ℕ) → Appends s g n lim ps w' r.run.out (symbols_piece g.width.bytes zs) v' w'' → Appends s g n lim ps w x.run.out (symbols_piece g.width.bytes ys) v' w''
 
--- of every symbols to come
+-- of whatever symbols are to come
 pub record PutsNext (s w : List ℕ) (g : Ground) (n lim : ℕ) (x r : Coming) (w' : List ℕ) : Type 0 where
   pub long : length w' ≡ length w
   pub on : x.run.at < r.run.at

@@ -1,4 +1,4 @@
-// Built-in texts, and their numbers: those that the Rust's repeats and groups have. No printed form is one of them, so only the texts that have their bytes are asked.
+// Built-in texts, and their numbers: those that the Rust's repeats and groups have. No printed form has the bytes of one, so one is looked for among the table's texts alone, not among this round's prints.
 ghost use Rattle.std.specs.Prelude.{◌≡◌, ◌+◌, ◌*◌, ◌^◌, ◌≤◌, ◌<◌, length};
 ghost use Rattle.octets.specs.Plain.Numbers.{le};
 ghost use Rattle.octets.specs.Working.Stores.{store};

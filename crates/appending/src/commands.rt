@@ -1,13 +1,13 @@
 // Commands of items that are appended. Each is put if it ends at lim or before; else the cursor is lim + 1.
 // A span is one u64, here and in macro_expand: it is only copied, its eight bytes at once, and a type for it would be made where they are read and opened where they are written.
-ghost use Rattle.std.specs.Prelude.{◌≡◌, [], ◌∷◌, ◌++◌, ◌+◌, ◌≤◌, ◌<◌, length};
+ghost use Rattle.std.specs.Prelude.{◌≡◌, ◌∷◌, ◌++◌, ◌+◌, ◌≤◌, length};
 ghost use Rattle.octets.specs.Plain.Numbers.{le};
 ghost use Rattle.octets.specs.Working.Stores.{store};
 ghost use Rattle.precedence.specs.Write.{Puts, alternative_head};
 ghost use Rattle.appending.specs.Commands.{item_head, name_head, plus_head};
 
-use octets::numbers::{Width, put_atom, store16};
-use precedence::write::{put, put_command, store_alternative, store_named};
+use octets::numbers::{Width, store_atom, store16};
+use precedence::write::{put, store_alternative, store_command, store_named, store_nonterminal};
 
 fn store_item(
     work: &mut [u8],
@@ -69,9 +69,9 @@ fn store_name(work: &mut [u8], span: u64, k: u32, width: Width, to: usize)
     requires { to + (10 + width.bytes) ≤ length work.old }
     ensures { work.new ≡ store work.old to (name_head width.bytes span k) }
 {
-    put_command(work, 40, span, to);
+    store_command(work, 40, span, to);
     work[to + 9] = 0;
-    put_atom(work, to + 10, width, k);
+    store_atom(work, to + 10, width, k);
 }
 
 // A name around the symbol that comes next.
@@ -90,7 +90,7 @@ pub fn put_plus(work: &mut [u8], span: u64, lim: usize, to: usize) -> usize
     ensures { Puts work.old lim to (plus_head span) result work.new }
 {
     put(work, 10, lim, to, move |w| {
-        put_command(w, 38, span, to);
+        store_command(w, 38, span, to);
         w[to + 9] = 1;
     })
 }
@@ -108,6 +108,6 @@ pub fn put_nonterminal(
     ensures { Puts work.old lim to (36 ∷ (le 8 span ++ le width.bytes k)) result work.new }
 {
     put(work, 9 + width.bytes, lim, to, move |w| {
-        store_named(w, 36, span, k, width, to)
+        store_nonterminal(w, span, k, width, to)
     })
 }

@@ -1,7 +1,5 @@
 // Symbols of the unreplaced items written again when one around them is expanded: a run over their commands in which those that are expanded give way to their names.
-ghost use Rattle.std.specs.Prelude.{◌∷◌, ◌++◌, ◌+◌, ◌≤◌, ◌<◌, length};
-ghost use Rattle.octets.specs.Plain.Numbers.{le};
-ghost use Rattle.precedence.specs.Write.{Puts};
+ghost use Rattle.std.specs.Prelude.{◌+◌, ◌≤◌, ◌<◌, length};
 ghost use Rattle.parse_tree.specs.Working.Nodes.{long_of};
 ghost use Rattle.appending.specs.Symbols.{Nameable, PutsNamed, SomeReference, PutsReference, PutsCommand, SomeReferring, PutsNext, PutsSymbols};
 

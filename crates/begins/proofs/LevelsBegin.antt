@@ -13,20 +13,20 @@ use Rattle.parse_tree.specs.Plain.WriteTape.{bytes_of_each}
 use Rattle.parse_tree.specs.Working.Encode.{atom_bytes, item_bytes, stage_bytes}
 use Rattle.parse_tree.specs.Working.Within.{Each, SpanWithin, ItemWithin, StageWithin}
 use Rattle.parse_tree.proofs.AmongLaws.{has-before, has-behind}
+use Rattle.parse_tree.proofs.ReadingLaws.{each_all}
 use Rattle.passes.specs.Outcome.{Tree, yes}
 use Rattle.passes.specs.Levels.{levelled, check_levels}
 use Rattle.passes.specs.Macros.{without_macros}
 use Rattle.passes.specs.Resolve.{resolve}
 use Rattle.passes.specs.Stages.{stage}
 use Rattle.passes.specs.Calls.{sizes}
-use Rattle.meaning.proofs.Calls.Spans.{ItemSpans}
+use Rattle.meaning.specs.Spans.{ItemSpans}
 use Rattle.laws.specs.Counts.{heads}
 use Rattle.laws.specs.Keys.{ItemSound}
 use Rattle.laws.proofs.Counts.{expanded_fit}
 use Rattle.rounds.specs.Begins.{piled_of, BeginsRound}
 use Rattle.rounds.specs.Calls.{ItemCalls}
 use Rattle.rounds.specs.Paid.{weigh, Known, Paid}
-use Rattle.rounds.proofs.PaidPile.{each_all}
 use Rattle.rounds.proofs.PaidRounds.{together}
 use Rattle.rounds.proofs.PaidKeeps.{texts-both, keys_none, without_each}
 use Rattle.rounds.proofs.PaidStarts.{pile_heads}

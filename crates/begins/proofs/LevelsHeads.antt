@@ -8,7 +8,7 @@ use native.Mathlib.Omega.{arith}
 use lib.Dec.{ltb}
 use lib.ListN.{length, length-append, length-map}
 use Rattle.parse_tree.specs.Plain.Tree.{Text, Alternative, Nonterminal, Item, item}
-use Rattle.parse_tree.specs.Plain.Texts.{name_bytes}
+use Rattle.parse_tree.specs.Plain.Texts.{is_identifier}
 use Rattle.parse_tree.specs.Working.Within.{Each}
 use Rattle.parse_tree.proofs.ReadingLaws.{each_append}
 use Rattle.passes.specs.Outcome.{Tree}
@@ -162,15 +162,15 @@ digits-some k n = go (ltb n 10) (digits_more k (n / 10) ((0x30 + n % 10) ∷ [])
     go true i = omega arith
     go false i = i
 
-name_some : (E : Text) → name_bytes E ≡ true → 1 ≤ length E
-unfolding name_bytes
+name_some : (E : Text) → is_identifier E ≡ true → 1 ≤ length E
+unfolding is_identifier
 name_some [] h = absurd (false≢true h)
 name_some (b ∷ bs) h = omega arith
 
-lower_long : (E : Text) (v : ℕ) → name_bytes E ≡ true → Long (E ++ decimal v)
+lower_long : (E : Text) (v : ℕ) → is_identifier E ≡ true → Long (E ++ decimal v)
 lower_long E v h = omega (arith, name_some E h, digits-some 9 v, length-append E (decimal v))
 
-lowers-long : (E : Text) (vs : List ℕ) → name_bytes E ≡ true → Each Long (lowers_of E vs)
+lowers-long : (E : Text) (vs : List ℕ) → is_identifier E ≡ true → Each Long (lowers_of E vs)
 unfolding lowers_of
 lowers-long E [] h = tt
 lowers-long E (v ∷ []) h = tt

@@ -13,9 +13,9 @@ use Rattle.parse_tree.specs.Working.Encode.{atom_bytes}
 use Rattle.parse_tree.specs.Working.Within.{Each}
 use Rattle.parse_tree.proofs.ReadBack.{atom_size}
 use Rattle.parse_tree.proofs.AmongLaws.{has_here, has-later}
+use Rattle.parse_tree.proofs.ReadingLaws.{each_all}
 use Rattle.rounds.specs.Paid.{weigh, cost24, cost20, Known}
 use Rattle.rounds.proofs.PaidTexts.{new_weighs, records_24, records_20}
-use Rattle.rounds.proofs.PaidPile.{each_all}
 use Rattle.rounds.proofs.PaidRounds.{each_at}
 use Rattle.begins.specs.Lowers.{owes, unless}
 

@@ -6,32 +6,33 @@ use Prim.Native.Nat.{ℕ}
 use Rattle.octets.specs.Plain.Runs.{same_as}
 use Rattle.octets.specs.Working.Choice.{pick}
 use Rattle.parse_tree.specs.Plain.Tree.{Text, Item, item, Stage}
-use Rattle.parse_tree.specs.Plain.Texts.{is_name, name_bytes, mut_text, error_text, has, with_new}
+use Rattle.parse_tree.specs.Plain.Texts.{is_name, is_identifier, mut_text, error_text, has, with_new}
 use Rattle.parse_tree.specs.Plain.References.{texts_of_each, item_texts, stage_of}
 use Rattle.parse_tree.specs.Working.Within.{Each, SpanWithin, ItemWithin, StageWithin}
 use Rattle.parse_tree.proofs.NothingNew.{none_new}
 use Rattle.parse_tree.proofs.TextLaws.{both}
+use Rattle.parse_tree.proofs.ReadingLaws.{each_all}
 use Rattle.passes.specs.Outcome.{Tree, yes}
 use Rattle.passes.specs.Levels.{levelled, check_levels, levels}
 use Rattle.passes.specs.Resolve.{resolve}
 use Rattle.passes.specs.Stages.{stage}
 use Rattle.passes.specs.Calls.{sizes}
 use Rattle.passes.proofs.ResolveWithin.{resolve-alike}
-use Rattle.meaning.proofs.Calls.Spans.{ItemSpans, resolve-spans, levels-spans}
+use Rattle.meaning.specs.Spans.{ItemSpans}
+use Rattle.meaning.proofs.Calls.Spans.{resolve-spans, levels-spans}
 use Rattle.meaning.proofs.Calls.Atoms.{Stocked, stage_stocked, with_new_holds}
 use Rattle.meaning.proofs.Calls.Output.{item_spans, stage_within}
 use Rattle.laws.specs.Keys.{ItemSound}
 use Rattle.rounds.specs.Paid.{TreeKnown}
-use Rattle.rounds.proofs.PaidPile.{each_all}
 use Rattle.rounds.proofs.PaidRounds.{apart}
 use Rattle.rounds.proofs.KeptMeans.{items_sound}
 use Rattle.rounds.proofs.LevelsSound.{NamedItem, levelled-sound}
 use Rattle.begins.proofs.ResolvedAgain.{resolve-sound, resolve-texts}
 
 -- names of items that passed question 4
-name_bytes_lem : (n : Text) → pick true (is_name n) true ≡ true → name_bytes n ≡ true
+name_bytes_lem : (n : Text) → pick true (is_name n) true ≡ true → is_identifier n ≡ true
 unfolding pick is_name
-name_bytes_lem n e = (both (name_bytes n) (not (same_as n mut_text) && not (same_as n error_text)) e).0
+name_bytes_lem n e = (both (is_identifier n) (not (same_as n mut_text) && not (same_as n error_text)) e).0
 
 items_named : (ts : List Text) (is : List Item) → Each (ItemWithin true 2 ts) is → Each NamedItem is
 items_named ts [] h = tt

@@ -1,6 +1,5 @@
 // One case run, and its answer printed.
 use crate::call::Call;
-use notation::buffers::is_all;
 use notation::bytes::put_digits;
 use output::room::enough;
 use parse_tree::refusal::Refusal;
@@ -15,7 +14,12 @@ fn print_number(before: &[u8], n: usize, writer: &mut impl Write) -> io::Result<
     write!(writer, "{n}")
 }
 
-// The bytes as digits, as far as the line's buffer goes.
+// Whether every byte is this one.
+fn is_all(work: &[u8], byte: u8) -> bool {
+    work.iter().all(|b| *b == byte)
+}
+
+// The bytes as digits: of 16,384 at most, which is the longest output.
 fn print_bytes(bytes: &[u8], writer: &mut impl Write) -> io::Result<()> {
     let mut text = [0u8; 32768];
     let n = put_digits(bytes, &mut text, 0);

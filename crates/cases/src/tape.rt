@@ -1,4 +1,4 @@
-// The tape of a case, word by word. What finds no room is counted and not written.
+// The tape of a case, word by word. What finds no room is not written, and the place is then one behind the end.
 ghost use Rattle.std.specs.Prelude.{◌<◌};
 
 use notation::bytes::put_bytes;

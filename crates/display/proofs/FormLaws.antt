@@ -16,8 +16,8 @@ use Rattle.texts.specs.Table.{Table}
 use Rattle.texts.specs.Hash.{hash_by, hash_step, hash_from, hash_of, power_by, power}
 use Rattle.texts.specs.Forms.{stop, more}
 use Rattle.texts.specs.Forms.{Form as Parts, form_of as parts_of}
-use Rattle.texts.proofs.FormLaws.{mod_factor, mod_factor_right, hash_from-small, hash_from-is, stop-add, form_more}
-use Rattle.texts.proofs.HashComposes.{hash_snoc, hash_join, power-join}
+use Rattle.texts.proofs.FormLaws.{mod_factor, mod_factor_right, hash_from-small, hash_from-is, form_more}
+use Rattle.texts.proofs.HashComposes.{hash_snoc}
 use Rattle.display.specs.declared.form.Form.{Form}
 use Rattle.display.specs.Form.{text_form, join_of, Hashed, more_of, form_from, From}
 
@@ -110,12 +110,6 @@ from_narrow f r t n a = record {
 pub join_narrow : (x y r : Form) → r ≡ join_of x y → Narrow r
 unfolding join_of
 join_narrow x y r e = record { hash = rw e (mod-lt (x.hash * y.power + y.hash) (omega arith)); power = rw e (mod-lt (x.power * y.power) (omega arith)) }
-
--- theorem: forms join to that of both texts
-pub form_join : (t u : Text) → join_of (text_form t) (text_form u) ≡ text_form (t ++ u)
-unfolding text_form join_of
-form_join t u =
-    same_form (sym (hash_join t u)) (sym (power-join (length t) (length u)) ∙ ap power (sym (length-append t u))) (sym (stop-add 2654435761 (length t) (length u)) ∙ ap stop (sym (length-append t u)))
 
 -- theorem: so a text's form joined is the text more
 pub from_join : (f : Form) (t : Text) (r : Form) → f.hash < 4294967296 → f.power < 4294967296 → r ≡ join_of f (text_form t) → From f t r

@@ -12,7 +12,7 @@ use Rattle.parse_tree.proofs.DisplayLaws.{print-then}
 use Rattle.texts.specs.declared.Map.{Map}
 use Rattle.display.specs.Standing.{SymStands, SymsStand, SomeSym, SomeSyms}
 use Rattle.display.specs.Follow.{between_by}
-use Rattle.display.specs.Sink.{all_of, Taken, PrintsOne, PrintsTo}
+use Rattle.display.specs.Sink.{all_of, Taken, PrintsSymbol, PrintsList}
 use Rattle.display.proofs.TakenLaws.{all_append, taken_then}
 use Rattle.display.proofs.FollowCode.{shown_from, shown_none, shown_later, shown_first}
 use Rattle.display.proofs.StandsLaws.{first_stands, none_stand}
@@ -47,7 +47,7 @@ module _ {A : Type 0} (more : A → ℕ → A) (s w : List ℕ) (m : Map) (wd n 
     abbrev k : ℕ
     k = n - d
 
-    pub forming_done : n ≤ d → PrintsTo more s w m wd n left at code f p g
+    pub forming_done : n ≤ d → PrintsList more s w m wd n left at code f p g
     unfolding all_of count
     forming_done z = record { each = λ four e xs q h. go four e xs (inv.each four e xs q h) }
       where
@@ -68,7 +68,7 @@ module _ {A : Type 0} (more : A → ℕ → A) (s w : List ℕ) (m : Map) (wd n 
           go nil c h = absurd (omega arith)
           go (cons y ys) c h = record { four = inv.some.four; end = _; symbol = y; stands = (first_stands s w m wd inv.some.four left p inv.some.end y ys h).0 }
 
-      module _ (x : A) (before-x : Taken more g (between_by code d) x) (to : ℕ) (h : A) (printed : PrintsOne more s w m wd left p x to h) where
+      module _ (x : A) (before-x : Taken more g (between_by code d) x) (to : ℕ) (h : A) (printed : PrintsSymbol more s w m wd left p x to h) where
         abbrev k1 : ℕ
         k1 = n - (d + 1)
 

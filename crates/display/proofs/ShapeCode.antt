@@ -1,6 +1,6 @@
 -- The flat run of `same_shape` over the commands of two symbols, and the quick look of `same_print`. Assumes nothing.
 use mathlib.Core.Path.{◌≡◌, refl, sym, ap, ◌∙◌}
-use mathlib.Core.Bool.{Bool, true, false, not, false≢true}
+use mathlib.Core.Bool.{Bool, true, false, false≢true}
 use mathlib.Core.List.{List, append-nil}
 use Prim.Native.Nat.{ℕ, ◌+◌, ◌-◌, ◌*◌, ◌^◌, ◌<◌, ◌≤◌}
 use native.Mathlib.Omega.{arith}
@@ -42,10 +42,6 @@ operands_done w p q n r h e =
     record { says = λ t. part_same w p q 9 n (same_as-eq _ _ (sym z ∙ t)) }
 
 pub ruleset operands = (rules, operands_done)
-
-yes : (r : Bool) → not r ≡ false → r ≡ true
-yes true h = refl
-yes false h = absurd (false≢true (sym h))
 
 -- ---- symbols to come at one place
 module _ (s w : List ℕ) (m : Map) (wd : ℕ) (four : Bool) where

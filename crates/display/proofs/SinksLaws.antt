@@ -13,7 +13,7 @@ use Rattle.display.specs.declared.follow.Held.{Held}
 use Rattle.display.specs.declared.form.Form.{Form}
 use Rattle.display.specs.declared.emit.Spot.{Spot}
 use Rattle.display.specs.declared.emit.Window.{Window}
-use Rattle.display.specs.Sink.{all_of, Taken, PrintsOne}
+use Rattle.display.specs.Sink.{all_of, Taken, PrintsSymbol}
 use Rattle.display.specs.Follow.{met_by, held_more}
 use Rattle.display.specs.Form.{more_of, form_from, From}
 use Rattle.display.specs.Window.{Emitted, window_more, Fills}
@@ -97,7 +97,7 @@ module _ {x : Window} {xs : List ℕ} where
 
 pub ruleset windowing = (rules, window_taken)
 
-pub window_fills : (s w : List ℕ) (m : Map) (wd left a n r : ℕ) (o : List ℕ) (y : Window) → PrintsOne window_more s w m wd left a (record { bytes = o; spot = record { skip = n; to = 0 } }) r y → Fills s w m wd left a n o y.spot.to y.bytes
+pub window_fills : (s w : List ℕ) (m : Map) (wd left a n r : ℕ) (o : List ℕ) (y : Window) → PrintsSymbol window_more s w m wd left a (record { bytes = o; spot = record { skip = n; to = 0 } }) r y → Fills s w m wd left a n o y.spot.to y.bytes
 window_fills s w m wd left a n r o y h = record {
   fills = λ four e x st.
       let k = taken_emitted (record { is = (h.each four e x st).1 }) in

@@ -21,6 +21,7 @@ use Rattle.parse_tree.specs.Working.Encode.{leaf_node, around_node, over_node, s
 use Rattle.parse_tree.specs.Working.Within.{SpanWithin, LeafWithin, AroundWithin, OverWithin, SymWithin, SymsWithin}
 use Rattle.parse_tree.specs.declared.syntax.Span.{Span}
 use Rattle.parse_tree.specs.Working.Nested.{inside_by}
+use Rattle.parse_tree.proofs.DisplayLaws.{shown_all_app}
 use Rattle.parse_tree.proofs.SizeLaws.{length_span}
 use Rattle.parse_tree.proofs.TextLaws.{text_number}
 use Rattle.parse_tree.proofs.FieldLaws.{byte_read, le-read_then, span_read}
@@ -69,6 +70,10 @@ unfolding print shown shown_all shown_more before_text between_text behind_text 
 print-parts (leaf s l) = sym (append-nil (shown_leaf l []))
 print-parts (around s a x) = before-then a (shown x (shown_behind a []))
 print-parts (over s o xs) = opening-then o (shown_all xs (separator o) (closing o ∷ []))
+
+-- theorem: a printed form is what stands before, inside and behind
+pub print-whole : (x : Sym) → print x ≡ before_text x ++ (shown_all (children x) (between_text x) [] ++ behind_text x)
+print-whole x = print-parts x ∙ ap (λ (y : Text). before_text x ++ y) (sym (shown_all_app (children x) (between_text x) [] (behind_text x)))
 
 escaped-then : (t r u : Text) → escaped t r ++ u ≡ escaped t (r ++ u)
 unfolding escaped

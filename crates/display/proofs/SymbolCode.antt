@@ -10,20 +10,15 @@ use Rattle.parse_tree.specs.Plain.Tree.{Text, Sym, count}
 use Rattle.parse_tree.specs.Plain.Display.{shown_all, print}
 use Rattle.parse_tree.specs.Working.Nodes.{long_of}
 use Rattle.parse_tree.specs.Working.Nested.{inside_by}
-use Rattle.parse_tree.proofs.DisplayLaws.{shown_all_app}
 use Rattle.texts.specs.declared.Map.{Map}
 use Rattle.texts.specs.Table.{texts}
 use Rattle.laws.specs.Flat.{children}
 use Rattle.display.specs.Standing.{SymStands, SymsStand, SomeSym, SomeSyms}
 use Rattle.display.specs.Follow.{before_by, behind_by, between_by}
-use Rattle.display.specs.Sink.{all_of, Taken, PrintsOne, PrintsTo}
+use Rattle.display.specs.Sink.{all_of, Taken, PrintsSymbol, PrintsList}
 use Rattle.display.proofs.TakenLaws.{taken_then, taken_as}
 use Rattle.display.proofs.FollowCode.{some_room, some_within, some_high, some_deep, some_fits}
-use Rattle.display.proofs.StandsLaws.{before_text, between_text, behind_text, print-parts, standing}
-
--- theorem: a printed form is what stands before, inside and behind
-print-whole : (x : Sym) → print x ≡ before_text x ++ (shown_all (children x) (between_text x) [] ++ behind_text x)
-print-whole x = print-parts x ∙ ap (λ (y : Text). before_text x ++ y) (sym (shown_all_app (children x) (between_text x) [] (behind_text x)))
+use Rattle.display.proofs.StandsLaws.{before_text, between_text, behind_text, print-whole, standing}
 
 module _ (s w : List ℕ) (m : Map) (wd left p : ℕ) (here : SomeSym s w m wd left p) where
   -- the nesting left falls
@@ -50,8 +45,8 @@ module _ (s w : List ℕ) (m : Map) (wd left p : ℕ) (here : SomeSym s w m wd l
     }
 
     module _ {A : Type 0} (more : A → ℕ → A) (f b : A) (before-b : Taken more f (before_by wd (texts s w m) w p c) b) (to : ℕ) (q : A)
-        (printed : PrintsTo more s w m wd n (left - 1) (p + l) c b to q) (g : A) (behind-g : Taken more q (behind_by w p c) g) where
-      pub symbol_done : PrintsOne more s w m wd left p f to g
+        (printed : PrintsList more s w m wd n (left - 1) (p + l) c b to q) (g : A) (behind-g : Taken more q (behind_by w p c) g) where
+      pub symbol_done : PrintsSymbol more s w m wd left p f to g
       symbol_done = record { each = λ four e y st. go four e y st }
         where
           go : (four : Bool) (e : ℕ) (y : Sym) → SymStands s w m wd four left p e y → (to ≡ e) × (g ≡ all_of more f (print y))

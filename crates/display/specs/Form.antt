@@ -1,5 +1,5 @@
 -- Hash, power and length of printed forms of symbols that stand in work: the form of a text, and forms with a text behind.
--- s is the tape, w is work, wd the width of an atom's number in bytes. Assumes nothing: these are definitions.
+-- s is the tape, w is work, wd the width of an atom's number in bytes. Assumes nothing: these are definitions, and one law, which the field `short` needs.
 use Rattle.std.specs.Prelude.{◌≡◌, List, [], ◌∷◌, ℕ, ◌+◌, ◌*◌, ◌%◌, ◌≤◌, ◌<◌, eqb, length}
 use Rattle.octets.specs.Working.Choice.{pick}
 use Rattle.parse_tree.specs.Plain.Tree.{Text}
@@ -23,7 +23,7 @@ text_form t = record { hash = hash_of t; power = power (length t); len = stop (l
 unfoldable pub odd_times : ℕ → ℕ → ℕ → ℕ
 odd_times r b k = pick (eqb (k % 2) 1) (r * b % 4294967296) r
 
--- that of a text of n bytes with the hash h
+-- the form of a text of n bytes with the hash h
 unfoldable pub whole_of : ℕ → ℕ → Form
 whole_of h n = record { hash = h; power = power n; len = stop n; short = stop_short n }
 

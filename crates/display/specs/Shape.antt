@@ -5,7 +5,7 @@ use Rattle.parse_tree.specs.Plain.Display.{print}
 use Rattle.texts.specs.declared.Map.{Map}
 use Rattle.display.specs.Standing.{Readable, SymStands, SomeSym}
 
--- a yes says that the bytes at p and at q are the same, from the ninth up to the n-th
+-- a yes says that the bytes at p and at q are the same, from byte 9 up to byte n, counted from 0
 pub record OperandsAlike (w : List ℕ) (p q n : ℕ) (r : Bool) : Type 0 where
   pub says : r ≡ true → (i : ℕ) → 9 ≤ i → i < n → get_or w (p + i) 0 ≡ get_or w (q + i) 0
 

@@ -17,9 +17,9 @@ pub record Taken {A : Type 0} (more : A → ℕ → A) (s : A) (xs : List ℕ) (
 
 module _ {A : Type 0} (more : A → ℕ → A) (s w : List ℕ) (m : Map) (wd : ℕ) where
   -- r is the place behind whatever symbol stands there, and y is x with its printed form more
-  pub record PrintsOne (left at : ℕ) (x : A) (r : ℕ) (y : A) : Type 0 where
+  pub record PrintsSymbol (left at : ℕ) (x : A) (r : ℕ) (y : A) : Type 0 where
     pub each : (four : Bool) (e : ℕ) (z : Sym) → SymStands s w m wd four left at e z → (r ≡ e) × (y ≡ all_of more x (print z))
 
   -- r is the place behind whatever n symbols stand there, straight inside a command of the code c, and y is x with their printed forms more
-  pub record PrintsTo (n left at c : ℕ) (x : A) (r : ℕ) (y : A) : Type 0 where
+  pub record PrintsList (n left at c : ℕ) (x : A) (r : ℕ) (y : A) : Type 0 where
     pub each : (four : Bool) (e : ℕ) (xs : Syms) → count xs ≡ n → SymsStand s w m wd four left at e xs → (r ≡ e) × (y ≡ all_of more x (shown_all xs (between_by c 1) []))

@@ -1,5 +1,5 @@
-// Bytes of a printed form that go to a window of it: the first are skipped, what falls into the window is written, the rest counted.
-ghost use Rattle.std.specs.Prelude.{[], ◌∷◌, length};
+// Bytes of a printed form that go to a window of it: the first are skipped, what falls into the window is written; the cursor stops one behind its end.
+ghost use Rattle.std.specs.Prelude.{[], ◌∷◌};
 ghost use Rattle.display.specs.Window.{Emitted, window_more};
 
 use crate::sink::Sink;
@@ -12,7 +12,7 @@ pub struct Spot {
     pub to: usize,
 }
 
-// A byte: skipped, or written if there is room, and counted.
+// A byte: skipped, or written if there is room.
 fn emit(out: &mut [u8], p: Spot, b: u8) -> Spot
     ensures { Emitted (b ∷ []) out.old p result out.new }
 {

@@ -1,4 +1,4 @@
-// Bytes of printed forms held against a text t. The text whose number stands at a place of work.
+// Bytes of printed forms held against a text t. And what sinks read of a command: the text whose number stands at a place, the byte of a repeat.
 ghost use Rattle.std.specs.Prelude.{◌≡◌, Some, [], ◌∷◌, ◌+◌, ◌≤◌, length};
 ghost use Rattle.texts.specs.Table.{texts};
 ghost use Rattle.display.specs.Follow.{met_by, word_at, op_byte, held_more};
@@ -6,7 +6,6 @@ ghost use Rattle.display.specs.Follow.{met_by, word_at, op_byte, held_more};
 use crate::sink::Sink;
 use grades::words::Words;
 use octets::numbers::atom_at;
-pub use parse_tree::nested::inside;
 
 // The place in t behind the byte b, if it stands at i. None, here and below, after a difference.
 fn meet_byte(t: &[u8], i: usize, b: u8) -> Option<usize>

@@ -26,7 +26,7 @@ pub fn none() -> Form
 }
 
 // A byte more.
-pub fn snoc(f: Form, b: u8) -> Form
+fn snoc(f: Form, b: u8) -> Form
     ensures { From f (b ∷ []) result }
 {
     Form {
@@ -54,7 +54,7 @@ fn odd_times(r: u32, b: u32, k: usize) -> u32
     if k % 2 == 1 { r.wrapping_mul(b) } else { r }
 }
 
-// The power of the multiplier by a length, by squaring. `wrapping_pow` takes a u32: tried, and the proof that a text in `Words` is so short didn't close.
+// The power of the multiplier by a length, by squaring. Not by `wrapping_pow`, which takes a u32: that a text in `Words` is so short would have to be proved.
 fn power_of(n: usize) -> u32
     ensures { result ≡ power n }
 {

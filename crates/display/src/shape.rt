@@ -2,8 +2,8 @@
 ghost use Rattle.std.specs.Prelude.{◌+◌, ◌≤◌, length};
 ghost use Rattle.display.specs.Shape.{OperandsAlike, SomeTwo, PrintsAlike};
 
-use crate::follow::inside;
 use octets::numbers::Width;
+use parse_tree::nested::inside;
 use parse_tree::size::long;
 
 // Whether two commands of n bytes are the same behind their spans.

@@ -5,11 +5,12 @@ ghost use Rattle.parse_tree.specs.Working.Nodes.{long_of};
 ghost use Rattle.texts.specs.declared.Map.{Map};
 ghost use Rattle.texts.specs.Table.{texts};
 ghost use Rattle.display.specs.Standing.{SomeSym, SomeSyms};
-ghost use Rattle.display.specs.Sink.{Taken, PrintsOne, PrintsTo};
+ghost use Rattle.display.specs.Sink.{Taken, PrintsSymbol, PrintsList};
 ghost use Rattle.display.specs.Follow.{quoted_text, word_at, leaf_text, mark_text, label_text, name_text, before_by, behind_by, between_by};
 
-use crate::follow::{inside, op_byte, word};
+use crate::follow::{op_byte, word};
 use grades::words::Words;
+use parse_tree::nested::inside;
 use parse_tree::size::long;
 
 pub trait Sink {
@@ -160,7 +161,7 @@ pub fn between<S: Sink>(s: &mut S, c: u8, k: usize)
 #[cycle(print_symbol_print_list)]
 pub fn print_symbol<S: Sink>(s: &mut S, words: Words, left: usize, at: usize) -> usize
     requires { S.knows words.tape.now words.work.now words.m × SomeSym words.tape.now words.work.now words.m words.width.bytes left at }
-    ensures { PrintsOne S.more words.entry.tape.now words.entry.work.now words.entry.m words.entry.width.bytes left at s.old result s.new }
+    ensures { PrintsSymbol S.more words.entry.tape.now words.entry.work.now words.entry.m words.entry.width.bytes left at s.old result s.new }
 {
     let c = words.work[at];
     let e = at + long(c, words.width);
@@ -175,7 +176,7 @@ pub fn print_symbol<S: Sink>(s: &mut S, words: Words, left: usize, at: usize) ->
 #[cycle(print_symbol_print_list)]
 fn print_list<S: Sink>(s: &mut S, words: Words, left: usize, at: usize, n: usize, c: u8) -> usize
     requires { S.knows words.tape.now words.work.now words.m × SomeSyms words.tape.now words.work.now words.m words.width.bytes n left at }
-    ensures { PrintsTo S.more words.entry.tape.now words.entry.work.now words.entry.m words.entry.width.bytes n left at c s.old result s.new }
+    ensures { PrintsList S.more words.entry.tape.now words.entry.work.now words.entry.m words.entry.width.bytes n left at c s.old result s.new }
 {
     let mut p = at;
     for k in 0..n {

@@ -1,5 +1,5 @@
 // The printed form of a symbol that stands in work, of any length: a window of it is written, and two forms are compared window by window.
-ghost use Rattle.std.specs.Prelude.{◌≡◌, ◌+◌, ◌≤◌, ◌<◌, length};
+ghost use Rattle.std.specs.Prelude.{◌≡◌, length};
 ghost use Rattle.display.specs.Standing.{SomeSym};
 ghost use Rattle.display.specs.Window.{Fills, judged, Looks, SamePrints};
 

@@ -9,7 +9,7 @@ use lib.Dec.{leb}
 use lib.ListN.{length, get_or}
 use Rattle.parse_tree.specs.Plain.Tree.{Text}
 use Rattle.parse_tree.specs.Plain.Texts.{distinct}
-use Rattle.passes.specs.Macros.{Expander}
+use Rattle.passes.specs.Macros.{MacroExpander}
 use Rattle.texts.specs.Table.{Stays, texts}
 use Rattle.texts.proofs.TableStays.{part-agree, stays, above_stays}
 use Rattle.resolve.specs.Whole.{Apart}
@@ -17,13 +17,8 @@ use Rattle.replacing.specs.Prints.{sym_at, print_at}
 use Rattle.replacing.specs.Slots.{Slots}
 use Rattle.replacing.specs.Sound.{Firm, Sound}
 use Rattle.expander.specs.declared.Ground.{Ground}
-use Rattle.expander.specs.Ground.{stage_in, top_of, list_place, pushed_text, symbol_in, printed_at, KeyAt, Grounded, KeptAround}
+use Rattle.expander.specs.Ground.{stage_in, top_of, list_place, pushed_text, symbol_in, printed_at, KeyAt, Grounded, KeptAround, Around}
 use Rattle.expander.specs.Held.{Listed}
-
--- from w to w' nothing changed but the list of new texts, records of pushed symbols and slots
-pub record Around (g : Ground) (w w' : List ℕ) : Type 0 where
-  pub long : length w' ≡ length w
-  pub others : (i : ℕ) → (i < list_place g 0) ⊎ (top_of g ≤ i) → get_or w' i 0 ≡ get_or w i 0
 
 -- ---- where the regions stand
 pub list_start : (g : Ground) → list_place g 0 ≡ g.m.base + 24 * g.m.count
@@ -115,14 +110,11 @@ module _ (s w w' : List ℕ) (g : Ground) (h : Grounded s w g) (a : Around g w w
   pub said_around : (P : List ℕ → List Text → Type 0) → P (stage_in w g) (texts s w g.m) → P (stage_in w' g) (texts s w' g.m)
   said_around P x = subst (λ (ts : List Text). P (stage_in w' g) ts) (sym texts-around) (subst (λ (st : List ℕ). P st (texts s w g.m)) (sym stage_around) x)
 
-  pub symbol_around : (p : ℕ) → symbol_in s w' g p ≡ symbol_in s w g p
-  symbol_around p = said_around (λ st ts. sym_at false g.width.bytes st ts p ≡ symbol_in s w g p) refl
-
   pub printed_around : (p : ℕ) → printed_at s w' g p ≡ printed_at s w g p
   printed_around p = said_around (λ st ts. print_at false g.width.bytes st ts p ≡ printed_at s w g p) refl
 
   pub key_around : (p : ℕ) → KeyAt s w g p → KeyAt s w' g p
   key_around p k = said_around (λ st ts. Firm false g.width.bytes st ts p) k
 
-  pub sound_around : (x : Slots) (σ : Expander) → Sound (symbol_in s w g) (KeyAt s w g) (texts s w g.m) x σ → Sound (symbol_in s w' g) (KeyAt s w' g) (texts s w' g.m) x σ
+  pub sound_around : (x : Slots) (σ : MacroExpander) → Sound (symbol_in s w g) (KeyAt s w g) (texts s w g.m) x σ → Sound (symbol_in s w' g) (KeyAt s w' g) (texts s w' g.m) x σ
   sound_around x σ k = said_around (λ st ts. Sound (λ p. sym_at false g.width.bytes st ts p) (λ p. Firm false g.width.bytes st ts p) ts x σ) k

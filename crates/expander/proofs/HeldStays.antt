@@ -17,10 +17,10 @@ use Rattle.replacing.specs.Prints.{sym_at}
 use Rattle.replacing.specs.Slots.{like, Slots, among}
 use Rattle.replacing.specs.Sound.{Firm, HasRef, Sound}
 use Rattle.expander.specs.declared.Ground.{Ground}
-use Rattle.expander.specs.Ground.{stage_in, top_of, slot_place, slot_at, key_at, list_place, list_at, new_at, pushed_text, Grounded, Records}
+use Rattle.expander.specs.Ground.{stage_in, top_of, slot_place, slot_at, key_at, list_place, list_at, new_at, pushed_text, Grounded, Records, Around}
 use Rattle.expander.specs.Held.{down, keep_if, any_of, followed, ref_by, ref_in, is_like, is_text, Refers, Held}
 use Rattle.expander.specs.Stage.{WroteOnly}
-use Rattle.expander.proofs.GroundLaws.{Around, list_start, keys_slots, slots_top, grounded_stays}
+use Rattle.expander.proofs.GroundLaws.{list_start, keys_slots, slots_top, grounded_stays}
 use Rattle.expander.proofs.RecordsLaws.{key_stays, records_stay}
 use Rattle.expander.proofs.HeldLists.{down-same, upto-same, keep_down, any_down}
 use Rattle.expander.proofs.SlotsCode.{followed-kept, ref_text, ref_new, ref_like, odd_one, key_has, slot_inside, followed-refers}

@@ -21,7 +21,7 @@ use Rattle.parse_tree.specs.Working.Encode.{leaf_node, around_node, over_node, s
 use Rattle.parse_tree.specs.Working.Within.{Each, LeafWithin, AroundWithin, OverWithin, SymWithin, SymsWithin}
 use Rattle.parse_tree.specs.declared.syntax.Span.{Span}
 use Rattle.parse_tree.proofs.SizeLaws.{length_span}
-use Rattle.parse_tree.proofs.ReadingLaws.{each_append}
+use Rattle.parse_tree.proofs.ReadingLaws.{each_append, each_map}
 use Rattle.parse_tree.proofs.ItemBack.{sym_reads}
 use Rattle.laws.specs.Flat.{sym_node, children}
 use Rattle.laws.proofs.Flat.{sym_bytes_lem, node_size, sym_fits_lem, sym_here}
@@ -30,7 +30,6 @@ use Rattle.replacing.specs.Trees.{is_key}
 use Rattle.replacing.specs.Prints.{sym_of, sym_at, print_at}
 use Rattle.replacing.specs.Runs.{plain_leaf, plain_around, plain_kind, plain}
 use Rattle.replacing.proofs.Readings.{read_more}
-use Rattle.replacing.proofs.SlotsMean.{each_map}
 use Rattle.expander.specs.declared.Ground.{Ground}
 use Rattle.expander.specs.Ground.{size_in, stage_in, symbol_in, printed_at, KeyAt, Grounded}
 use Rattle.expander.specs.Replace.{expanded_code, leaf_keys, around_keys, around_long, over_long, keys_of, keys_of_all, StandsAt}

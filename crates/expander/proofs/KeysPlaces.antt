@@ -103,7 +103,3 @@ module _ (four : Bool) (wd : ℕ) (t : List ℕ) (ts : List Text) (b : Bytes t) 
       stands_then four wd t ts symbols_place (suc left) b _ p r (λ n c h q.
       symbol_wanted (Standing four wd t ts p c) p c y e _ n h q (λ sp k i o.
       places-at wd t left p c sp k i.here i.behind ∙ kind-keys left (sym_keys left) sp k p c y e i.behind o))
-
-  pub syms_keys : (left n p : ℕ) (ys : List Sym) (e : ℕ) → times (λ q. read_sym four wd t ts left q) n p ≡ got ys e
-      → listed (λ q. places wd t left q) n p ≡ got (keys_of_all wd ts (syms_of ys) p) e
-  syms_keys left n p ys e r = all_keys left (sym_keys left) n p ys e r

@@ -4,9 +4,7 @@ use mathlib.Core.Bool.{Bool, true, false, not, false≢true}
 use mathlib.Core.List.{List, ◌∷◌, ◌++◌}
 use Prim.Native.Nat.{ℕ, ◌+◌, ◌*◌, ◌/◌, ◌%◌, ◌<◌, ◌≤◌}
 use native.Mathlib.Omega.{arith}
-use borrow.Author.Tests.{leb-false}
-use lib.Dec.{leb}
-use lib.ListN.{length, get_or}
+use lib.ListN.{get_or}
 use Rattle.std.specs.Prelude.{Option as Optional, Some, None}
 use Rattle.octets.specs.Working.Choice.{pick}
 use Rattle.octets.specs.Plain.Numbers.{le_at, le, Bytes}
@@ -24,15 +22,6 @@ use Rattle.expander.specs.Stage.{item_code, macro_at, WholeAt}
 use Rattle.expander.proofs.NodeCodes.{by_code}
 
 module _ (wd : ℕ) (t : List ℕ) (p : ℕ) where
-  -- a command that is known stands inside
-  pub known_inside : (node_at wd t p ≡ None → ⊥) → p < length t
-  unfolding node_at pick
-  known_inside z = go (leb (length t) p) refl
-    where
-      go : (b : Bool) → leb (length t) p ≡ b → p < length t
-      go false e = omega (arith, leb-false (length t) p e)
-      go true e = absurd (z (rw e refl))
-
   -- ---- where the code is an atom's, an atom stands, or nothing that is known
   abbrev AtomOrNone : Optional Node → Type 0
   AtomOrNone None = Unit {0}
@@ -77,16 +66,10 @@ module _ (wd : ℕ) (t : List ℕ) (p : ℕ) where
   pub item_code_lem : is_item (node_at wd t p) ≡ true → item_code (get_or t p 0) ≡ true
   item_code_lem i = sym (by_code wd t p (item_known i)).item ∙ i
 
-  pub item_inside : is_item (node_at wd t p) ≡ true → p < length t
-  item_inside i = known_inside (item_known i)
-
   -- ---- a symbol that is expanded
   key_known : plain (node_at wd t p) ≡ false → node_at wd t p ≡ None → ⊥
   unfolding plain
   key_known z e = false≢true (sym z ∙ ap plain e)
-
-  pub key_inside : plain (node_at wd t p) ≡ false → p < length t
-  key_inside z = known_inside (key_known z)
 
   pub key_code_lem : plain (node_at wd t p) ≡ false → expanded_code (get_or t p 0) ≡ true
   key_code_lem z = go (expanded_code (get_or t p 0)) (sym z ∙ (by_code wd t p (key_known z)).copied)

@@ -10,7 +10,7 @@ use lib.ListN.{length, get_or}
 use Rattle.std.specs.Prelude.{Option as Optional, Some, None}
 use Rattle.octets.specs.Working.Choice.{pick}
 use Rattle.octets.proofs.ChoiceLaws.{by_pick}
-use Rattle.parse_tree.specs.Working.Nodes.{code_size, leaf_operand, if_whole, span_in, named_leaf, bare_leaf, symbol_node_at, text_node, nonterminal_node_at, terminal_node_at, argument_node_at, alternative_node_at, attribute_node_at, condition_node_at, node_by, node_at, size_read, long_of}
+use Rattle.parse_tree.specs.Working.Nodes.{code_size, leaf_operand, if_whole, span_in, named_leaf, word_leaf, symbol_node_at, text_node, nonterminal_node_at, terminal_node_at, argument_node_at, alternative_node_at, attribute_node_at, condition_node_at, node_by, node_at, size_read, long_of}
 use Rattle.parse_tree.specs.declared.syntax.Span.{Span}
 use Rattle.parse_tree.specs.declared.syntax.Atom.{Atom}
 use Rattle.parse_tree.specs.declared.syntax.NonterminalString.{NonterminalString}
@@ -166,8 +166,8 @@ module _ (wd : ℕ) (t : List ℕ) (p : ℕ) where
       is_leaf 35 _ _ (told 35 _ (regex_code _)) (λ n5.
       told 36 _ (name_leaf_code _) (omega arith)))))
 
-  bare_told : 42 ≤ get_or t p 0 → get_or t p 0 < 45 → LeafTold (bare_leaf (get_or t p 0))
-  unfolding bare_leaf
+  bare_told : 42 ≤ get_or t p 0 → get_or t p 0 < 45 → LeafTold (word_leaf (get_or t p 0))
+  unfolding word_leaf
   bare_told l h =
       is_leaf 42 _ _ (told 42 _ lookahead_code) (λ n2.
       is_leaf 43 _ _ (told 43 _ lookbehind_code) (λ n3.

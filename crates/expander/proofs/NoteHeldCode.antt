@@ -16,7 +16,7 @@ use Rattle.octets.proofs.StoreLaws.{length_store, le_at-other, le_at-same, get_d
 use Rattle.texts.specs.Table.{texts}
 use Rattle.replacing.specs.Slots.{Ref, text, like, Slots, ref_at, among}
 use Rattle.replacing.specs.Sound.{HasRef, Sound}
-use Rattle.passes.specs.Macros.{Expander}
+use Rattle.passes.specs.Macros.{MacroExpander}
 use Rattle.expander.specs.declared.Ground.{Ground}
 use Rattle.expander.specs.Ground.{size_in, top_of, slot_place, slot_at, key_at, list_at, new_at, pushed_text, symbol_in, KeyAt, Records}
 use Rattle.expander.specs.Held.{down, keep_if, any_of, followed, ref_by, ref_in, is_like, is_text, Refers, Held, Off}
@@ -143,7 +143,7 @@ module _ (s w w2 : List ℕ) (g : Ground) (n c : ℕ) (x : Slots) (h : Held s w 
 
     pub held_then : Records s w2 g m → y.pile ≡ down (key_at w2 g) m → y.firsts ≡ keep_if (λ q. is_like (ref_in w2 g q)) (down (key_at w2 g) m)
         → ((k : ℕ) → k < g.m.count → among k y.marks ≡ (pushed_text w2 g k || any_of (λ q. is_text k (ref_in w2 g q)) (down (key_at w2 g) m)))
-        → (σ : Expander) → Sound (symbol_in s w2 g) (KeyAt s w2 g) (texts s w2 g.m) y σ → Held s w2 g m c y
+        → (σ : MacroExpander) → Sound (symbol_in s w2 g) (KeyAt s w2 g) (texts s w2 g.m) y σ → Held s w2 g m c y
     held_then records pile firsts marks σ sound = record {
       records = records;
       room = h.room;

@@ -15,6 +15,7 @@ use Rattle.parse_tree.specs.Plain.Texts.{has, number}
 use Rattle.parse_tree.specs.Plain.Display.{print}
 use Rattle.parse_tree.specs.Working.Within.{Each}
 use Rattle.parse_tree.proofs.TextLaws.{has-text, number-text}
+use Rattle.parse_tree.proofs.ReadingLaws.{each_map}
 use Rattle.texts.specs.Table.{texts, Is}
 use Rattle.texts.proofs.TextCode.{length_texts}
 use Rattle.replacing.specs.Trees.{enter}
@@ -22,7 +23,7 @@ use Rattle.replacing.specs.Prints.{print_at, same_print, text_is}
 use Rattle.replacing.specs.Slots.{Ref, text, like, Slots, ref_at, among, refer, push_text, push_new, note_by, note_as, note}
 use Rattle.replacing.specs.Sound.{Key, Good, Sound}
 use Rattle.replacing.proofs.Keys.{firm_key}
-use Rattle.replacing.proofs.SlotsMean.{has-or, or-true, each_map, note_sound, first-none}
+use Rattle.replacing.proofs.SlotsMean.{has-or, or-true, note_sound, first-none}
 use Rattle.replacing.proofs.NumbersMean.{first_some, ref_good}
 use Rattle.expander.specs.declared.Ground.{Ground}
 use Rattle.expander.specs.Ground.{stage_in, key_at, pushed_text, symbol_in, printed_at, KeyAt, same_at, text_in, Grounded}
@@ -78,7 +79,7 @@ module _ (s w : List ℕ) (g : Ground) (bytes : Bytes w) (d : Grounded s w g) wh
     key_good j l = ref_good (symbol_in s w g) (KeyAt s w g) (texts s w g.m) d.distinct-texts x.firsts (key_at w g j) x.refs h.sound.refs (key_has s w g n c x h j l)
 
     -- where no first prints so, its text says what it is
-    note_apart : Each (λ q. same_as (pr q) (pr p) ≡ false) x.firsts → noted ≡ note_by (same_at s w g) (text_in s w g) p (text_in s w g p) x
+    note_apart : Each (λ q. same_as (pr q) (pr p) ≡ false) x.firsts → noted ≡ note_by p (text_in s w g p) x
     unfolding note note_as
     note_apart a =
         let z = first-none (symbol_in s w g) (KeyAt s w g) (texts s w g.m) d.distinct-texts (same_at s w g) (text_in s w g) same_is text_is_lem key_print p x.firsts (prints_not (pr p) x.firsts a) in
@@ -87,7 +88,7 @@ module _ (s w : List ℕ) (g : Ground) (bytes : Bytes w) (d : Grounded s w g) wh
     note_like : (q : ℕ) → among q x.firsts ≡ true → pr q ≡ pr p → noted ≡ refer p (like q) x
     unfolding note note_as
     note_like q i e =
-        let z = first_some (symbol_in s w g) (KeyAt s w g) (texts s w g.m) d.distinct-texts (same_at s w g) (text_in s w g) same_is p q x.firsts h.sound.apart i e in
+        let z = first_some (symbol_in s w g) (KeyAt s w g) (texts s w g.m) d.distinct-texts (same_at s w g) same_is p q x.firsts h.sound.apart i e in
         rw z refl
 
     -- a text is the print of no first
@@ -98,15 +99,15 @@ module _ (s w : List ℕ) (g : Ground) (bytes : Bytes w) (d : Grounded s w g) wh
         go q z true e = absurd (false≢true (sym z ∙ ap (λ (t : Text). has t (texts s w g.m)) (same_as-eq (pr q) (pr p) e) ∙ i))
         go q z false e = refl
 
-    by_text : (k : ℕ) → text_in s w g p ≡ some k → among k x.marks ≡ true → note_by (same_at s w g) (text_in s w g) p (text_in s w g p) x ≡ refer p (text k) x
+    by_text : (k : ℕ) → text_in s w g p ≡ some k → among k x.marks ≡ true → note_by p (text_in s w g p) x ≡ refer p (text k) x
     unfolding note_by
     by_text k e m = rw (e, m) refl
 
-    by_push : (k : ℕ) → text_in s w g p ≡ some k → among k x.marks ≡ false → note_by (same_at s w g) (text_in s w g) p (text_in s w g p) x ≡ push_text p k x
+    by_push : (k : ℕ) → text_in s w g p ≡ some k → among k x.marks ≡ false → note_by p (text_in s w g p) x ≡ push_text p k x
     unfolding note_by
     by_push k e m = rw (e, m) refl
 
-    by_new : text_in s w g p ≡ none → note_by (same_at s w g) (text_in s w g) p (text_in s w g p) x ≡ push_new p x
+    by_new : text_in s w g p ≡ none → note_by p (text_in s w g p) x ≡ push_new p x
     unfolding note_by
     by_new e = rw e refl
 

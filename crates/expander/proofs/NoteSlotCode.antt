@@ -12,14 +12,14 @@ use Rattle.octets.specs.Plain.Numbers.{le}
 use Rattle.octets.specs.Working.Stores.{store}
 use Rattle.texts.specs.Table.{texts}
 use Rattle.texts.proofs.TableStays.{le_at-agree}
-use Rattle.passes.specs.Macros.{Expander}
+use Rattle.passes.specs.Macros.{MacroExpander}
 use Rattle.replacing.specs.Slots.{Ref, text, like, Slots, ref_at, among, refer, push_text, push_new, note}
 use Rattle.replacing.specs.Sound.{HasRef, Sound}
 use Rattle.replacing.proofs.SlotsMean.{or_skip}
 use Rattle.expander.specs.declared.Ground.{Ground}
-use Rattle.expander.specs.Ground.{size_in, top_of, slot_place, slot_at, key_at, list_at, pushed_text, symbol_in, KeyAt, same_at, text_in, Grounded, Records, KeptAround}
+use Rattle.expander.specs.Ground.{size_in, top_of, slot_place, slot_at, key_at, list_at, pushed_text, symbol_in, KeyAt, same_at, text_in, Grounded, Records, KeptAround, Around}
 use Rattle.expander.specs.Held.{down, keep_if, any_of, ref_in, ref_by, followed, is_like, is_text, Refers, Held, Off, NotedBy}
-use Rattle.expander.proofs.GroundLaws.{Around, keys_slots, slots_top, kept-around, stage_around, texts-around, pushed-around, sound_around}
+use Rattle.expander.proofs.GroundLaws.{keys_slots, slots_top, kept-around, stage_around, texts-around, pushed-around, sound_around}
 use Rattle.expander.proofs.RecordsLaws.{key_stays, records_stay}
 use Rattle.expander.proofs.SlotsCode.{followed-even, followed-odd, ref_text, ref_like, key_has}
 use Rattle.expander.proofs.NoteHeldCode.{slot_long, slot_before, slot_here, slot_other, slot_after, ref_same, key_followed, firsts_then, pile_then, marks_then, held_then}
@@ -32,7 +32,7 @@ place_room s w g p d h = omega (arith, d.top)
 module _ (s w w1 w2 : List ℕ) (g : Ground) (n c m v p : ℕ) (x : Slots) (d : Grounded s w g) (h : Held s w g n c x) (off : Off p x) (inside : p + 9 ≤ size_in g)
     (long : length w1 ≡ length w) (before : (j : ℕ) → j < n → key_at w1 g j ≡ key_at w g j) (others : (i : ℕ) → (i < g.keys) ⊎ (g.slots ≤ i) → get_or w1 i 0 ≡ get_or w i 0)
     (records : Records s w1 g m) (o : w2 ≡ store w1 (slot_place g p) (le 8 v)) (small : v < 256 ^ 8)
-    (σ : Expander) (sound : Sound (symbol_in s w g) (KeyAt s w g) (texts s w g.m) (note (same_at s w g) (text_in s w g) p x) σ) where
+    (σ : MacroExpander) (sound : Sound (symbol_in s w g) (KeyAt s w g) (texts s w g.m) (note (same_at s w g) (text_in s w g) p x) σ) where
   abbrev noted : Slots
   noted = note (same_at s w g) (text_in s w g) p x
 

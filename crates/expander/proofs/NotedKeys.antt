@@ -7,9 +7,9 @@ use mathlib.Core.Option.{Option}
 use Prim.Native.Nat.{ℕ, ◌+◌, ◌≤◌}
 use native.Mathlib.Omega.{arith}
 use Rattle.parse_tree.specs.Working.Within.{Each}
+use Rattle.parse_tree.proofs.ReadingLaws.{each_map}
 use Rattle.replacing.specs.Slots.{Slots, note, note_all}
 use Rattle.replacing.specs.Sound.{HasRef}
-use Rattle.replacing.proofs.SlotsMean.{each_map}
 use Rattle.replacing.proofs.Closing.{note_from, note_here, notes_stay}
 use Rattle.expander.specs.Held.{Off, AllBefore}
 use Rattle.expander.proofs.KeysLaws.{Spread}

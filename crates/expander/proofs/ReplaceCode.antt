@@ -17,7 +17,6 @@ use Rattle.parse_tree.specs.Working.Nodes.{size_of, long_of}
 use Rattle.parse_tree.specs.Working.Within.{Each}
 use Rattle.parse_tree.specs.Working.Encode.{syms_bytes}
 use Rattle.parse_tree.specs.Working.Nested.{inside_by}
-use Rattle.parse_tree.proofs.DisplayLaws.{shown_all_app}
 use Rattle.laws.specs.Flat.{sym_node, children}
 use Rattle.laws.proofs.Flat.{node_size}
 use Rattle.texts.specs.Table.{texts}
@@ -30,9 +29,9 @@ use Rattle.display.specs.declared.form.Form.{Form}
 use Rattle.display.specs.Follow.{before_by, behind_by, between_by}
 use Rattle.display.specs.Form.{text_form, Hashed, form_from, From}
 use Rattle.display.proofs.FormLaws.{from_form, from_then, from_as, table-hashed}
-use Rattle.display.proofs.StandsLaws.{before_text, between_text, behind_text, print-parts, Standing, standing}
+use Rattle.display.proofs.StandsLaws.{before_text, between_text, behind_text, print-whole, Standing, standing}
 use Rattle.expander.specs.declared.Ground.{Ground}
-use Rattle.expander.specs.declared.replace.Keyed.{Keyed}
+use Rattle.expander.specs.declared.replace.Formed.{Formed}
 use Rattle.expander.specs.Ground.{size_in, symbol_in, printed_at, same_at, text_in, Grounded, KeptAround}
 use Rattle.expander.specs.Held.{Notes}
 use Rattle.expander.specs.Meet.{inner_keys, Notable}
@@ -76,9 +75,6 @@ module _ (c : ℕ) where
 pub ruleset expanding = (rules, expanded_below, expanded_between, expanded_above, expanded_first, expanded_second)
 
 -- ---- replace_symbol
-print-whole : (x : Sym) → print x ≡ before_text x ++ (shown_all (children x) (between_text x) [] ++ behind_text x)
-print-whole x = print-parts x ∙ ap (λ (y : Text). before_text x ++ y) (sym (shown_all_app (children x) (between_text x) [] (behind_text x)))
-
 module _ (s w : List ℕ) (g : Ground) (G : Grounded s w g) where
   pub ground_worded : Worded s w g.m
   ground_worded = table-worded s w g.m G.table
@@ -161,7 +157,7 @@ module _ (s w : List ℕ) (g : Ground) (left p n : ℕ) (G : Grounded s w g) (S 
         }
 
     module _ (z b : Form) (empty : z ≡ text_form []) (before-b : From z (before_by g.width.bytes (texts s w g.m) w (g.from + p) c) b)
-        (q : Keyed) (v : List ℕ) (inner : ReplacesAll s w g k (left - 1) (p + l) c b n q v) where
+        (q : Formed) (v : List ℕ) (inner : ReplacesAll s w g k (left - 1) (p + l) c b n q v) where
       met : (four : Bool) (e : ℕ) (y : Sym) (h : StandsAt s w g four left p e y) → e ≤ size_in g
           → NotedAll s w g (p + l) n e (keys_of_all g.width.bytes (texts s w g.m) (children y) (p + l)) q v × (q.form ≡ form_from b (shown_all (children y) (between_by c 1) []))
       unfolding ReplacesAll

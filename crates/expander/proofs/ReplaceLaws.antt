@@ -17,11 +17,11 @@ use Rattle.resolve.specs.Whole.{Apart}
 use Rattle.replacing.specs.Prints.{same_print, text_is}
 use Rattle.replacing.specs.Slots.{Slots, note_all}
 use Rattle.expander.specs.declared.Ground.{Ground}
-use Rattle.expander.specs.declared.replace.Keyed.{Keyed}
-use Rattle.expander.specs.Ground.{size_in, stage_in, top_of, same_at, text_in, Grounded, KeptAround}
+use Rattle.expander.specs.declared.replace.Formed.{Formed}
+use Rattle.expander.specs.Ground.{size_in, stage_in, top_of, same_at, text_in, Grounded, KeptAround, Around}
 use Rattle.expander.specs.Held.{Held, AllBefore, Off, Notes}
 use Rattle.expander.specs.Replace.{StandsAt, StandAt, HeldBefore, NotedAll}
-use Rattle.expander.proofs.GroundLaws.{Around, kept-around, stage_around, texts-around, grounded_around}
+use Rattle.expander.proofs.GroundLaws.{kept-around, stage_around, texts-around, grounded_around}
 use Rattle.expander.proofs.KeysLaws.{Spread}
 use Rattle.expander.proofs.NotedKeys.{notes_append, notes_before, notes_off}
 
@@ -88,7 +88,7 @@ module _ (s w v : List ℕ) (g : Ground) (G : Grounded s w g) (k : KeptAround g 
 -- ---- one behind another
 module _ (s w : List ℕ) (g : Ground) where
   -- no symbols
-  pub noted_none : (p n e : ℕ) (r : Keyed) → r.at ≡ e → r.pile ≡ n → p ≡ e → NotedAll s w g p n e [] r w
+  pub noted_none : (p n e : ℕ) (r : Formed) → r.at ≡ e → r.pile ≡ n → p ≡ e → NotedAll s w g p n e [] r w
   unfolding note_all
   noted_none p n e r a b z = record {
     end = a;
@@ -100,7 +100,7 @@ module _ (s w : List ℕ) (g : Ground) where
 
   module _ (G : Grounded s w g) where
     -- theorem: some, then others
-    pub noted_then : (v z : List ℕ) (p n d e : ℕ) (ps qs : List ℕ) (r t : Keyed) → p ≤ d → Spread p d ps → NotedAll s w g p n d ps r v → NotedAll s v g d r.pile e qs t z → NotedAll s w g p n e (ps ++ qs) t z
+    pub noted_then : (v z : List ℕ) (p n d e : ℕ) (ps qs : List ℕ) (r t : Formed) → p ≤ d → Spread p d ps → NotedAll s w g p n d ps r v → NotedAll s v g d r.pile e qs t z → NotedAll s w g p n e (ps ++ qs) t z
     noted_then v z p n d e ps qs r t l sp a b = record {
       end = b.end;
       kept = kept_then g w v z a.kept b.kept;
@@ -112,7 +112,7 @@ module _ (s w : List ℕ) (g : Ground) where
     }
 
     -- those inside a symbol that is not expanded
-    pub noted_plain : (v : List ℕ) (p d n e : ℕ) (ps : List ℕ) (q r : Keyed) → p ≤ d → r.at ≡ q.at → r.pile ≡ q.pile → NotedAll s w g d n e ps q v → NotedAll s w g p n e ps r v
+    pub noted_plain : (v : List ℕ) (p d n e : ℕ) (ps : List ℕ) (q r : Formed) → p ≤ d → r.at ≡ q.at → r.pile ≡ q.pile → NotedAll s w g d n e ps q v → NotedAll s w g p n e ps r v
     noted_plain v p d n e ps q r l i j a = record {
       end = i ∙ a.end;
       kept = a.kept;
@@ -122,7 +122,7 @@ module _ (s w : List ℕ) (g : Ground) where
     }
 
     -- theorem: those inside a symbol that is, then itself
-    pub noted_own : (v z : List ℕ) (p d n e m : ℕ) (ps : List ℕ) (q r : Keyed) → p + 9 ≤ d → Spread d e ps → r.at ≡ q.at → r.pile ≡ m → HeldBefore s w g p n → NotedAll s w g d n e ps q v → Notes s v g q.pile p m z
+    pub noted_own : (v z : List ℕ) (p d n e m : ℕ) (ps : List ℕ) (q r : Formed) → p + 9 ≤ d → Spread d e ps → r.at ≡ q.at → r.pile ≡ m → HeldBefore s w g p n → NotedAll s w g d n e ps q v → Notes s v g q.pile p m z
         → NotedAll s w g p n e (ps ++ (p ∷ [])) r z
     unfolding note_all Notes
     noted_own v z p d n e m ps q r l sp i j b a o =
@@ -146,7 +146,7 @@ module _ (s w : List ℕ) (g : Ground) where
         }
 
     -- what is held behind them
-    pub held-behind : (v : List ℕ) (p d n : ℕ) (ps : List ℕ) (r : Keyed) → p ≤ d → Spread p d ps → HeldBefore s w g p n → NotedAll s w g p n d ps r v → HeldBefore s v g d r.pile
+    pub held-behind : (v : List ℕ) (p d n : ℕ) (ps : List ℕ) (r : Formed) → p ≤ d → Spread p d ps → HeldBefore s w g p n → NotedAll s w g p n d ps r v → HeldBefore s v g d r.pile
     held-behind v p d n ps r l sp b a = record {
       few = omega (arith, a.most, b.few);
       new = b.new;

@@ -18,7 +18,7 @@ use Rattle.display.specs.Form.{text_form, join_of, form_from, From}
 use Rattle.display.proofs.FormLaws.{from-append, from_then, from_join, Narrow, from_narrow, join_narrow}
 use Rattle.display.proofs.StandsLaws.{first_stands, none_stand, more}
 use Rattle.expander.specs.declared.Ground.{Ground}
-use Rattle.expander.specs.declared.replace.Keyed.{Keyed}
+use Rattle.expander.specs.declared.replace.Formed.{Formed}
 use Rattle.expander.specs.Ground.{size_in, Grounded, KeptAround}
 use Rattle.expander.specs.Replace.{keys_of, keys_of_all, StandsAt, StandAt, HeldBefore, SomeSymbol, SomeSymbols, NotedAll, ReplacesOne, ReplacesAll}
 use Rattle.display.proofs.FollowCode.{shown_from, shown_none, shown_later, shown_first}
@@ -53,14 +53,14 @@ firsts s w g four left p e y ys h =
 -- ---- w₀ is work before; of k symbols from p on, i are to come from q.at on; d of them were met
 module _ (s w₀ : List ℕ) (g : Ground) (left p k c n : ℕ) (f : Form) where
   -- of the symbols xs
-  pub record Onward (w : List ℕ) (q : Keyed) (d i : ℕ) (four : Bool) (e : ℕ) (xs : Syms) : Type 0 where
+  pub record Onward (w : List ℕ) (q : Formed) (d i : ℕ) (four : Bool) (e : ℕ) (xs : Syms) : Type 0 where
     pub ys : Syms
     pub many : count ys ≡ i
     pub stand : StandAt s w g four left q.at e ys
     pub same : form_from f (shown_all xs (between_by c 1) []) ≡ form_from q.form (shown_from d ys (between_by c 1) [])
-    pub carry : (r : Keyed) (w' : List ℕ) → NotedAll s w g q.at q.pile e (keys_of_all g.width.bytes (texts s w g.m) ys q.at) r w' → NotedAll s w₀ g p n e (keys_of_all g.width.bytes (texts s w₀ g.m) xs p) r w'
+    pub carry : (r : Formed) (w' : List ℕ) → NotedAll s w g q.at q.pile e (keys_of_all g.width.bytes (texts s w g.m) ys q.at) r w' → NotedAll s w₀ g p n e (keys_of_all g.width.bytes (texts s w₀ g.m) xs p) r w'
 
-  pub record Replacing (w : List ℕ) (q : Keyed) (d i : ℕ) : Type 0 where
+  pub record Replacing (w : List ℕ) (q : Formed) (d i : ℕ) : Type 0 where
     pub ground : Grounded s w g
     pub some : SomeSymbols s w g i left q.at q.pile
     pub form : Narrow q.form
@@ -79,7 +79,7 @@ module _ (s w₀ : List ℕ) (g : Ground) (left p k c n : ℕ) (f : Form) where
         each = λ four e xs m h i. record { ys = xs; many = m; stand = h; same = refl; carry = λ r w' x. x };
       })
 
-  module _ (w : List ℕ) (q : Keyed) (d : ℕ) (inv : Replacing w q d (k - d)) where
+  module _ (w : List ℕ) (q : Formed) (d : ℕ) (inv : Replacing w q d (k - d)) where
     abbrev i : ℕ
     i = k - d
 
@@ -88,7 +88,7 @@ module _ (s w₀ : List ℕ) (g : Ground) (left p k c n : ℕ) (f : Form) where
     replacing_done z four e xs m h l = go (inv.each four e xs m h l)
       where
         last : (ys : Syms) → count ys ≡ i → StandAt s w g four left q.at e ys → form_from f (shown_all xs (between_by c 1) []) ≡ form_from q.form (shown_from d ys (between_by c 1) [])
-            → ((r : Keyed) (w' : List ℕ) → NotedAll s w g q.at q.pile e (keys_of_all g.width.bytes (texts s w g.m) ys q.at) r w' → NotedAll s w₀ g p n e (keys_of_all g.width.bytes (texts s w₀ g.m) xs p) r w')
+            → ((r : Formed) (w' : List ℕ) → NotedAll s w g q.at q.pile e (keys_of_all g.width.bytes (texts s w g.m) ys q.at) r w' → NotedAll s w₀ g p n e (keys_of_all g.width.bytes (texts s w₀ g.m) xs p) r w')
             → NotedAll s w₀ g p n e (keys_of_all g.width.bytes (texts s w₀ g.m) xs p) q w × (q.form ≡ form_from f (shown_all xs (between_by c 1) []))
         last nil j st t u =
             let v = none_stand s w g.m g.width.bytes four left (g.from + q.at) (g.from + e) st in
@@ -115,7 +115,7 @@ module _ (s w₀ : List ℕ) (g : Ground) (left p k c n : ℕ) (f : Form) where
               let a = firsts s w g inv.some.four left q.at inv.some.end y ys st in
               record { four = inv.some.four; end = a.end; symbol = y; levels = inv.some.levels; stands = a.stands; inside = omega (arith, a.before, inv.some.inside); held = inv.some.held }
 
-      module _ (x : Keyed) (v : List ℕ) (one : ReplacesOne s w g left q.at q.pile x v) where
+      module _ (x : Formed) (v : List ℕ) (one : ReplacesOne s w g left q.at q.pile x v) where
         -- what was met
         met : (four : Bool) (e : ℕ) (y : Sym) → StandsAt s w g four left q.at e y → e ≤ size_in g → NotedAll s w g q.at q.pile e (keys_of g.width.bytes (texts s w g.m) y q.at) x v × (x.form ≡ text_form (print y))
         unfolding ReplacesOne
@@ -159,7 +159,7 @@ module _ (s w₀ : List ℕ) (g : Ground) (left p k c n : ℕ) (f : Form) where
           next_each four e xs l o = go o.ys o.many o.stand o.same o.carry
             where
               go : (ys : Syms) → count ys ≡ i → StandAt s w g four left q.at e ys → form_from f (shown_all xs (between_by c 1) []) ≡ form_from q.form (shown_from d ys (between_by c 1) [])
-                  → ((r : Keyed) (w' : List ℕ) → NotedAll s w g q.at q.pile e (keys_of_all g.width.bytes (texts s w g.m) ys q.at) r w' → NotedAll s w₀ g p n e (keys_of_all g.width.bytes (texts s w₀ g.m) xs p) r w')
+                  → ((r : Formed) (w' : List ℕ) → NotedAll s w g q.at q.pile e (keys_of_all g.width.bytes (texts s w g.m) ys q.at) r w' → NotedAll s w₀ g p n e (keys_of_all g.width.bytes (texts s w₀ g.m) xs p) r w')
                   → Onward v (record { at = x.at; form = j; pile = x.pile }) (d + 1) (k - (d + 1)) four e xs
               go nil t st u y = absurd (omega arith)
               go (cons y ys) t st u rest =

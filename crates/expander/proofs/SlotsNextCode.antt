@@ -14,10 +14,10 @@ use Rattle.octets.proofs.NumbersLaws.{length-le}
 use Rattle.octets.proofs.StoreLaws.{length_store, get_d_store_before, get_d_store_after, le_at-other, le_at-same}
 use Rattle.replacing.specs.Slots.{among}
 use Rattle.expander.specs.declared.Ground.{Ground}
-use Rattle.expander.specs.Ground.{top_of, slot_place, slot_at, key_at, list_place, list_at, Grounded, Records}
+use Rattle.expander.specs.Ground.{top_of, slot_place, slot_at, key_at, list_place, list_at, Grounded, Records, Around}
 use Rattle.expander.specs.Held.{Refers, Listed}
 use Rattle.expander.specs.Names.{Names}
-use Rattle.expander.proofs.GroundLaws.{Around, list_keys, keys_slots, slots_top, listed-around, stage_around, texts-around}
+use Rattle.expander.proofs.GroundLaws.{list_keys, keys_slots, slots_top, listed-around, stage_around, texts-around}
 use Rattle.expander.proofs.SlotsCode.{place_inside, record_inside}
 use Rattle.expander.proofs.RecordsLaws.{key_stays, records_stay}
 

@@ -21,14 +21,14 @@ use Rattle.replacing.specs.Runs.{key_bytes}
 use Rattle.replacing.specs.Slots.{Slots, numbered}
 use Rattle.replacing.specs.Sound.{HasRef}
 use Rattle.expander.specs.declared.Ground.{Ground}
-use Rattle.expander.specs.declared.replace.Keyed.{Keyed}
+use Rattle.expander.specs.declared.replace.Formed.{Formed}
 use Rattle.expander.specs.declared.slots.Numbered.{Numbered}
 use Rattle.expander.specs.declared.stage.Replaced.{Replaced}
-use Rattle.expander.specs.Ground.{size_in, stage_in, Grounded}
+use Rattle.expander.specs.Ground.{size_in, stage_in, Grounded, Around}
 use Rattle.expander.specs.Held.{Held, NumberedBy, Numbers}
 use Rattle.expander.specs.Names.{SomeNamed, NameRoom}
-use Rattle.expander.specs.Stage.{WroteOnly, SomeKeyed, PutBy, PutsKeyed}
-use Rattle.expander.proofs.GroundLaws.{Around, list_keys, keys_slots, slots_top, listed-around, stage_around, table-around, grounded_around}
+use Rattle.expander.specs.Stage.{WroteOnly, SomeFormed, PutBy, PutsFormed}
+use Rattle.expander.proofs.GroundLaws.{list_keys, keys_slots, slots_top, listed-around, stage_around, table-around, grounded_around}
 use Rattle.expander.proofs.HeldStays.{Between, between-wrote, around_wrote, wrote_same, held_stays}
 use Rattle.expander.proofs.NamesLaws.{held-named}
 use Rattle.expander.proofs.KnownCodes.{key_bytes_lem}
@@ -57,7 +57,7 @@ stored_between w w' a n vs o l = rw o (record { long = length_store w a vs; othe
 pub stored_lies : (w w' : List ℕ) (a n : ℕ) (vs : List ℕ) → w' ≡ store w a vs → length vs ≡ n → a + n ≤ length w → Lies w' a vs (a + n)
 stored_lies w w' a n vs o l r = rw o (lies_to (ap (λ (m : ℕ). a + m) l) (lies_store w a vs (omega arith)))
 
-module _ (s w : List ℕ) (g : Ground) (r : Replaced) (k : Keyed) (G : Grounded s w g) (K : SomeKeyed s w g r k) where
+module _ (s w : List ℕ) (g : Ground) (r : Replaced) (k : Formed) (G : Grounded s w g) (K : SomeFormed s w g r k) where
   -- ---- it is named, and there is room
   pub key_named : SomeNamed s w g k.pile r.count r.at
   key_named = held-named s w g G k.pile r.count K.slots K.held r.at K.noted
@@ -143,7 +143,7 @@ module _ (s w : List ℕ) (g : Ground) (r : Replaced) (k : Keyed) (G : Grounded 
           held = held_stays s w1 w2 g r.to end K.writable.lim ground K.writable.top K.writable.items upto above between k.pile n.count (numbered g.m.count r.at x).1 d.held;
         }
 
-    pub key_put : PutsKeyed s w g r k (record { at = k.at; to = r.to + 9 + g.width.bytes; pile = k.pile; count = n.count }) w2
+    pub key_put : PutsFormed s w g r k (record { at = k.at; to = r.to + 9 + g.width.bytes; pile = k.pile; count = n.count }) w2
     key_put = record { at = refl; pile = refl; to = refl; most = first.most; wrote = wrote; each = each }
 
 pub ruleset putting = (rules, key_named, key_room, key_span_room, key_to_fits, key_end_fits, key_put)

@@ -27,13 +27,13 @@ use Rattle.replacing.specs.Slots.{Ref, text, like, Slots, places, among, note_al
 use Rattle.replacing.specs.Sound.{HasRef}
 use Rattle.replacing.proofs.Going.{own-last}
 use Rattle.expander.specs.declared.Ground.{Ground}
-use Rattle.expander.specs.declared.replace.Keyed.{Keyed}
+use Rattle.expander.specs.declared.replace.Formed.{Formed}
 use Rattle.expander.specs.declared.stage.Replaced.{Replaced}
-use Rattle.expander.specs.Ground.{size_in, stage_in, list_place, symbol_in, same_at, text_in, Grounded}
+use Rattle.expander.specs.Ground.{size_in, stage_in, list_place, symbol_in, same_at, text_in, Grounded, Around}
 use Rattle.expander.specs.Held.{Held, AllBefore}
 use Rattle.expander.specs.Replace.{expanded_code, keys_of, StandsAt, SomeSymbol, NotedAll, ReplacesOne}
-use Rattle.expander.specs.Stage.{Walks, Writable, WroteOnly, SomeKeyed, PutBy, PutsKeyed, SomeTurn, turned, TurnedBy, Turns}
-use Rattle.expander.proofs.GroundLaws.{Around, kept-around, stage_around, table-around, grounded_around, key_around}
+use Rattle.expander.specs.Stage.{Walks, Writable, WroteOnly, SomeFormed, PutBy, PutsFormed, SomeTurn, turned, TurnedBy, Turns}
+use Rattle.expander.proofs.GroundLaws.{kept-around, stage_around, table-around, grounded_around, key_around}
 use Rattle.expander.proofs.HeldStays.{around_wrote, wrote_same, said_wrote, above_wrote}
 use Rattle.expander.proofs.KeysLaws.{keys_spread}
 use Rattle.expander.proofs.NotedKeys.{notes_before}
@@ -146,7 +146,7 @@ module _ (s w : List ℕ) (g : Ground) (r : Replaced) (G : Grounded s w g) (T : 
         (keys_spread wd ts (symbol_in s w g r.at) r.at end (omega (arith, stands.lies.end))) i
 
     -- ---- the symbols inside it were noted
-    module _ (k : Keyed) (w1 : List ℕ) (R : ReplacesOne s w g 64 r.at r.pile k w1) where
+    module _ (k : Formed) (w1 : List ℕ) (R : ReplacesOne s w g 64 r.at r.pile k w1) where
       N : NotedAll s w g r.at r.pile end ps k w1
       unfolding ReplacesOne
       N = (R false end (symbol_in s w g r.at) stands inside).0
@@ -160,7 +160,7 @@ module _ (s w : List ℕ) (g : Ground) (r : Replaced) (G : Grounded s w g) (T : 
       above : Above s w1 g.m W.lim
       above = above_stays s w g.m w1 g.m W.lim (table-around s w w1 g G around) W.above
 
-      pub turn_keyed : SomeKeyed s w1 g r k
+      pub turn_keyed : SomeFormed s w1 g r k
       turn_keyed = record {
         key = key_around s w w1 g G around r.at M.firm;
         inside = omega (arith, nine, inside);
@@ -174,7 +174,7 @@ module _ (s w : List ℕ) (g : Ground) (r : Replaced) (G : Grounded s w g) (T : 
       }
 
       -- ---- and the nonterminal was written
-      module _ (q : Replaced) (w2 : List ℕ) (P : PutsKeyed s w1 g r k q w2) where
+      module _ (q : Replaced) (w2 : List ℕ) (P : PutsFormed s w1 g r k q w2) where
         at-is : q.at ≡ end
         at-is = P.at ∙ N.end
 

@@ -1,4 +1,4 @@
--- Laws of `is_name`, `is_left` and `run_end`: commands that are copied, one behind another, are so many steps of the definition. Assumes nothing.
+-- Laws of `is_named_leaf`, `is_uncopied` and `run_end`: commands that are copied, one behind another, are so many steps of the definition. Assumes nothing.
 use mathlib.Core.Path.{◌≡◌, refl, sym, ap, ◌∙◌, subst}
 use mathlib.Core.Bool.{Bool, true, false, false≢true}
 use mathlib.Core.List.{List, ◌++◌, append-nil, append_assoc}
@@ -22,13 +22,13 @@ use Rattle.replacing.proofs.Going.{run, steps_append}
 use Rattle.expander.specs.declared.Ground.{Ground}
 use Rattle.expander.specs.Ground.{size_in, stage_in, same_at, text_in, Grounded}
 use Rattle.expander.specs.Replace.{expanded_code}
-use Rattle.expander.specs.Stage.{macro_at, name_code, left_at, RoomFor, Walks, SomeWalk, Copies}
+use Rattle.expander.specs.Stage.{macro_at, name_code, uncopied_at, RoomFor, Walks, SomeWalk, Copies}
 use Rattle.expander.proofs.KnownCodes.{whole_long}
 use Rattle.expander.proofs.StageReads.{stage_length}
 use Rattle.expander.proofs.StageCode.{stage_room, stage_byte, stage_in_lem}
 use Rattle.expander.proofs.StageMeets.{macro_stage, meets_whole, meets_copy}
 
--- ---- `is_name`
+-- ---- `is_named_leaf`
 pub name_low : (c : ℕ) → c < 32 → false ≡ name_code c
 unfolding name_code pick
 name_low c l = cc (lt-ltb c 32 l)
@@ -79,21 +79,21 @@ name_no_macro : (wd : ℕ) (w : List ℕ) (p c : ℕ) → name_code c ≡ true �
 unfolding macro_at pick
 name_no_macro wd w p = name_each (λ (c : ℕ). macro_at wd w p c ≡ false) refl refl refl refl refl
 
--- ---- `is_left`
+-- ---- `is_uncopied`
 module _ (wd : ℕ) (w : List ℕ) (at c : ℕ) where
-  pub left_key : (b : Bool) → b ≡ expanded_code c → b ≡ true → true ≡ left_at wd w at c
-  unfolding left_at pick
+  pub left_key : (b : Bool) → b ≡ expanded_code c → b ≡ true → true ≡ uncopied_at wd w at c
+  unfolding uncopied_at pick
   left_key b e f = cc
 
   pub left_room : (b : Bool) → b ≡ expanded_code c → b ≡ false → RoomFor wd w at c → at + code_size wd c ≤ length w
   left_room b e f r = r.room (sym e ∙ f)
 
-  pub left_other : (b : Bool) → b ≡ expanded_code c → b ≡ false → (m : Bool) → m ≡ macro_at wd w at c → m ≡ left_at wd w at c
-  unfolding left_at pick
+  pub left_other : (b : Bool) → b ≡ expanded_code c → b ≡ false → (m : Bool) → m ≡ macro_at wd w at c → m ≡ uncopied_at wd w at c
+  unfolding uncopied_at pick
   left_other b e f m h = cc
 
-  left_not : left_at wd w at c ≡ false → (expanded_code c ≡ false) × (macro_at wd w at c ≡ false)
-  unfolding left_at pick
+  left_not : uncopied_at wd w at c ≡ false → (expanded_code c ≡ false) × (macro_at wd w at c ≡ false)
+  unfolding uncopied_at pick
   left_not h = go (expanded_code c) refl h
     where
       go : (b : Bool) → expanded_code c ≡ b → pick b true (macro_at wd w at c) ≡ false → (expanded_code c ≡ false) × (macro_at wd w at c ≡ false)
@@ -223,7 +223,7 @@ module _ (s w : List ℕ) (g : Ground) (p q : ℕ) (G : Grounded s w g) (S : Som
     unfolding size_in
     run_left_room = record { room = λ e. omega (arith, inside e, G.inside, G.ordered) }
 
-    module _ (b : Bool) (e : b ≡ left_at g.width.bytes w (g.from + q) c) (f : b ≡ false) (n : ℕ) (k : n ≡ code_size g.width.bytes c) where
+    module _ (b : Bool) (e : b ≡ uncopied_at g.width.bytes w (g.from + q) c) (f : b ≡ false) (n : ℕ) (k : n ≡ code_size g.width.bytes c) where
       copied : (expanded_code c ≡ false) × (macro_at g.width.bytes w (g.from + q) c ≡ false)
       copied = left_not g.width.bytes w (g.from + q) c (sym e ∙ f)
 

@@ -10,6 +10,7 @@ use lib.ListN.{length, get_or}
 use Rattle.parse_tree.specs.Plain.Tree.{Text, Sym}
 use Rattle.parse_tree.specs.Plain.Texts.{has, distinct}
 use Rattle.parse_tree.specs.Working.Within.{Each}
+use Rattle.parse_tree.proofs.ReadingLaws.{each_map}
 use Rattle.texts.specs.Fields.{Chained}
 use Rattle.texts.specs.Table.{texts}
 use Rattle.texts.proofs.TextCode.{length_texts}
@@ -17,7 +18,6 @@ use Rattle.texts.proofs.TableFindCode.{linked-few}
 use Rattle.replacing.specs.Runs.{started}
 use Rattle.replacing.specs.Slots.{among}
 use Rattle.replacing.specs.Sound.{HasRef, Sound}
-use Rattle.replacing.proofs.SlotsMean.{each_map}
 use Rattle.expander.specs.declared.Ground.{Ground}
 use Rattle.expander.specs.Ground.{pushed_text, symbol_in, KeyAt, Grounded, Records}
 use Rattle.expander.specs.Held.{down, upto, keep_if, any_of, Held, AllBefore}

@@ -1,7 +1,6 @@
 -- A printed form among those of the pushed symbols and among the texts, told by numbers. s is the tape, w is work. Assumes nothing: these are definitions.
-use Rattle.std.specs.Prelude.{◌≡◌, false, List, ℕ, ◌<◌}
+use Rattle.std.specs.Prelude.{◌≡◌, false, List, ℕ, ◌<◌, Option, Some, None}
 use Rattle.octets.specs.Plain.Runs.{same_as}
-use Rattle.std.specs.Prelude.{Option, Some, None}
 use Rattle.expander.specs.declared.Ground.{Ground}
 use Rattle.expander.specs.Ground.{printed_at, key_at}
 

@@ -44,14 +44,14 @@ top_of g = g.slots + 8 * (size_in g / 9)
 unfoldable pub key_at : List ℕ → Ground → ℕ → ℕ
 key_at w g j = mark_at w g.keys j
 
--- the entry of the i-th new text in the list: twice the number of its record
+-- where the entry of the i-th new text stands in the list; what it says: Entries
 abbrev pub list_place : Ground → ℕ → ℕ
 list_place g i = g.m.base + 24 * g.m.count + 8 * i
 
 abbrev pub list_at : List ℕ → Ground → ℕ → ℕ
 list_at w g i = le_at 8 w (list_place g i)
 
--- the place of the symbol whose print it is
+-- if it is a print: the place of its symbol
 unfoldable pub new_at : List ℕ → Ground → ℕ → ℕ
 new_at w g i = key_at w g (list_at w g i / 2)
 
@@ -110,3 +110,8 @@ module _ (s w : List ℕ) (g : Ground) where
 pub record KeptAround (g : Ground) (w w' : List ℕ) : Type 0 where
   pub long : length w' ≡ length w
   pub others : (i : ℕ) → (i < g.keys) ⊎ (top_of g ≤ i) → get_or w' i 0 ≡ get_or w i 0
+
+-- nor the list of new texts
+pub record Around (g : Ground) (w w' : List ℕ) : Type 0 where
+  pub long : length w' ≡ length w
+  pub others : (i : ℕ) → (i < list_place g 0) ⊎ (top_of g ≤ i) → get_or w' i 0 ≡ get_or w i 0

@@ -2,7 +2,7 @@
 use Rattle.std.specs.Prelude.{◌≡◌, Bool, true, false, cond, ◌||◌, ◌⊎◌, List, [], ◌∷◌, ◌++◌, ℕ, zero, suc, ◌+◌, ◌-◌, ◌*◌, ◌/◌, ◌%◌, ◌≤◌, ◌<◌, eqb, ltb, length, get_or}
 use Rattle.octets.specs.Working.Choice.{pick}
 use Rattle.texts.specs.Table.{texts}
-use Rattle.passes.specs.Macros.{Expander}
+use Rattle.passes.specs.Macros.{MacroExpander}
 use Rattle.replacing.specs.Slots.{Ref, text, like, Slots, ref_at, among, note, numbered}
 use Rattle.replacing.specs.Sound.{HasRef, Sound}
 use Rattle.expander.specs.declared.Ground.{Ground}
@@ -78,7 +78,7 @@ pub record Held (s w : List ℕ) (g : Ground) (n c : ℕ) (x : Slots) : Type 0 w
   pub marks : (k : ℕ) → k < g.m.count → among k x.marks ≡ (pushed_text w g k || any_of (λ q. is_text k (ref_in w g q)) (down (key_at w g) n))
   pub inside : (p : ℕ) → HasRef p x → p + 9 ≤ size_in g
   pub apart : (p q : ℕ) → HasRef p x → HasRef q x → (p ≡ q) ⊎ (p + 9 ≤ q) ⊎ (q + 9 ≤ p)
-  pub expander : Expander
+  pub expander : MacroExpander
   pub sound : Sound (symbol_in s w g) (KeyAt s w g) (texts s w g.m) x expander
 
 -- from w to w' nothing changed but the list of new texts and slots

@@ -11,7 +11,7 @@ use Rattle.display.specs.Standing.{SymStands, SymsStand}
 use Rattle.display.specs.Follow.{between_by}
 use Rattle.display.specs.Form.{text_form, form_from}
 use Rattle.expander.specs.declared.Ground.{Ground}
-use Rattle.expander.specs.declared.replace.Keyed.{Keyed}
+use Rattle.expander.specs.declared.replace.Formed.{Formed}
 use Rattle.expander.specs.Ground.{size_in, same_at, text_in, KeptAround}
 use Rattle.expander.specs.Held.{Held, AllBefore}
 
@@ -92,7 +92,7 @@ module _ (s w : List ℕ) (g : Ground) where
     pub held : HeldBefore p n
 
   -- from w to w' the symbols at ps, between p and e, were noted
-  pub record NotedAll (p n e : ℕ) (ps : List ℕ) (r : Keyed) (w' : List ℕ) : Type 0 where
+  pub record NotedAll (p n e : ℕ) (ps : List ℕ) (r : Formed) (w' : List ℕ) : Type 0 where
     pub end : r.at ≡ e
     pub kept : KeptAround g w w'
     pub least : n ≤ r.pile
@@ -100,10 +100,10 @@ module _ (s w : List ℕ) (g : Ground) where
     pub held : (c : ℕ) (x : Slots) → Held s w g n c x → AllBefore p x → Held s w' g r.pile c (note_all (same_at s w g) (text_in s w g) ps x)
 
   -- of every symbol that stands at p
-  unfoldable pub ReplacesOne : ℕ → ℕ → ℕ → Keyed → List ℕ → Type 0
+  unfoldable pub ReplacesOne : ℕ → ℕ → ℕ → Formed → List ℕ → Type 0
   ReplacesOne left p n r w' = (four : Bool) (e : ℕ) (y : Sym) → StandsAt four left p e y → e ≤ size_in g
       → NotedAll p n e (keys_of g.width.bytes (texts s w g.m) y p) r w' × (r.form ≡ text_form (print y))
 
-  unfoldable pub ReplacesAll : ℕ → ℕ → ℕ → ℕ → Form → ℕ → Keyed → List ℕ → Type 0
+  unfoldable pub ReplacesAll : ℕ → ℕ → ℕ → ℕ → Form → ℕ → Formed → List ℕ → Type 0
   ReplacesAll k left p c f n r w' = (four : Bool) (e : ℕ) (ys : Syms) → count ys ≡ k → StandAt four left p e ys → e ≤ size_in g
       → NotedAll p n e (keys_of_all g.width.bytes (texts s w g.m) ys p) r w' × (r.form ≡ form_from f (shown_all ys (between_by c 1) []))

@@ -12,7 +12,7 @@ use Rattle.replacing.specs.Runs.{plain, is_item, is_macro, hops, key_bytes, Run,
 use Rattle.replacing.specs.Sound.{Firm, HasRef}
 use Rattle.replacing.specs.Round.{replaced}
 use Rattle.expander.specs.declared.Ground.{Ground}
-use Rattle.expander.specs.declared.replace.Keyed.{Keyed}
+use Rattle.expander.specs.declared.replace.Formed.{Formed}
 use Rattle.expander.specs.declared.stage.Replaced.{Replaced}
 use Rattle.expander.specs.Ground.{size_in, stage_in, top_of, list_place, pushed_text, KeyAt, same_at, text_in, Grounded}
 use Rattle.expander.specs.Replace.{expanded_code}
@@ -30,8 +30,8 @@ unfoldable pub macro_at : ℕ → List ℕ → ℕ → ℕ → Bool
 macro_at wd w at c = pick (eqb c 16) (ltb 0 (get_or w (at + 10 + wd) 0)) false
 
 -- a symbol that is expanded, or the definition of a macro
-unfoldable pub left_at : ℕ → List ℕ → ℕ → ℕ → Bool
-left_at wd w at c = pick (expanded_code c) true (macro_at wd w at c)
+unfoldable pub uncopied_at : ℕ → List ℕ → ℕ → ℕ → Bool
+uncopied_at wd w at c = pick (expanded_code c) true (macro_at wd w at c)
 
 pub record RoomFor (wd : ℕ) (w : List ℕ) (at c : ℕ) : Type 0 where
   pub room : expanded_code c ≡ false → at + code_size wd c ≤ length w
@@ -87,7 +87,7 @@ pub record WroteOnly (g : Ground) (a e : ℕ) (w w' : List ℕ) : Type 0 where
 
 module _ (s w : List ℕ) (g : Ground) where
   -- ---- the nonterminal of a symbol that was noted
-  pub record SomeKeyed (r : Replaced) (k : Keyed) : Type 0 where
+  pub record SomeFormed (r : Replaced) (k : Formed) : Type 0 where
     pub key : KeyAt s w g r.at
     pub inside : r.at + 9 ≤ size_in g
     pub list : list_place g r.count + 8 ≤ g.keys
@@ -100,7 +100,7 @@ module _ (s w : List ℕ) (g : Ground) where
     pub lies : Lies w' r.to (key_bytes g.width.bytes (node_at g.width.bytes (stage_in w g) r.at) (numbered g.m.count r.at x).0) q.to
     pub held : Held s w' g q.pile q.count (numbered g.m.count r.at x).1
 
-  pub record PutsKeyed (r : Replaced) (k : Keyed) (q : Replaced) (w' : List ℕ) : Type 0 where
+  pub record PutsFormed (r : Replaced) (k : Formed) (q : Replaced) (w' : List ℕ) : Type 0 where
     pub at : q.at ≡ k.at
     pub pile : q.pile ≡ k.pile
     pub to : q.to ≡ r.to + 9 + g.width.bytes

@@ -1,8 +1,7 @@
 // A printed form found: among the symbols that were pushed this round, and among the texts. Hash and length say where to look; what is found is compared.
-ghost use Rattle.std.specs.Prelude.{◌≡◌, [], ◌≤◌, ◌<◌, get_or};
+ghost use Rattle.std.specs.Prelude.{◌≡◌, [], ◌<◌, get_or};
 ghost use Rattle.octets.specs.Plain.Runs.{same_as};
 ghost use Rattle.texts.specs.Table.{texts, Finds};
-ghost use Rattle.texts.specs.Fields.{cell_at};
 ghost use Rattle.display.specs.Form.{text_form};
 ghost use Rattle.expander.specs.Ground.{printed_at, key_at, KeyAt, pushed_text, Grounded, Records};
 ghost use Rattle.expander.specs.Meet.{InnerNoted};

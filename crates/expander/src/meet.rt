@@ -1,5 +1,5 @@
 // A symbol's printed form held against a text t. The symbols inside it were noted: one that is known to print as a text is compared as that text, without a walk through it.
-ghost use Rattle.std.specs.Prelude.{◌≡◌, ◌≤◌};
+ghost use Rattle.std.specs.Prelude.{◌≡◌};
 ghost use Rattle.display.specs.Follow.{Follows};
 ghost use Rattle.expander.specs.Ground.{Grounded};
 ghost use Rattle.expander.specs.Meet.{SomeEnd, EndsAt, SlotAt, text_known_at, SomeKnown, SomeInner};
@@ -8,9 +8,10 @@ use crate::Ground;
 use crate::replace::is_expanded;
 use crate::slots::{Noted, tells};
 use display::Met;
-use display::follow::{Held, inside, meet};
+use display::follow::{Held, meet};
 use display::sink::{before, behind, between};
 use octets::numbers::Width;
+use parse_tree::nested::inside;
 use parse_tree::size::long;
 use texts::text::text;
 

@@ -1,5 +1,5 @@
 // A symbol that is expanded, met: it refers to one that prints as it does, or is pushed.
-ghost use Rattle.std.specs.Prelude.{◌≡◌, ◌*◌, ◌/◌, ◌≤◌, ◌<◌};
+ghost use Rattle.std.specs.Prelude.{◌≡◌, ◌/◌, ◌<◌};
 ghost use Rattle.display.specs.Form.{text_form};
 ghost use Rattle.expander.specs.Ground.{size_in, printed_at, KeyAt, Grounded, Records};
 ghost use Rattle.expander.specs.Held.{Notes};

@@ -5,15 +5,15 @@ ghost use Rattle.expander.specs.Replace.{expanded_code, SomeSymbol, SomeSymbols,
 
 use crate::Ground;
 use crate::note::note;
-use display::follow::inside;
 use display::form::Form;
 use display::forms::{join, none};
 use display::sink::{before, behind, between};
+use parse_tree::nested::inside;
 use parse_tree::size::long;
 
 // The place behind symbols, a form with theirs behind, and how many symbols are pushed.
 #[derive(Clone, Copy)]
-pub struct Keyed {
+pub struct Formed {
     pub at: usize,
     pub form: Form,
     pub pile: usize,
@@ -35,7 +35,7 @@ pub fn replace_symbol(
     left: usize,
     p: usize,
     n: usize,
-) -> Keyed
+) -> Formed
     requires { Grounded tape.now work.old g.now × SomeSymbol tape.now work.old g.now left p n }
     ensures { ReplacesOne tape.now work.old g.now left p n result work.new }
 {
@@ -44,7 +44,7 @@ pub fn replace_symbol(
     let mut b = none();
     before(&mut b, g.words(tape, work), at, c);
     let k = inside(work, g.width, at, c);
-    let q = Keyed {
+    let q = Formed {
         at: p + long(c, g.width),
         form: b,
         pile: n,
@@ -52,7 +52,7 @@ pub fn replace_symbol(
     let q = replace_symbols(tape, work, g, left - 1, k, c, q);
     let mut f = q.form;
     behind(&mut f, work, g.width.bytes, at, c);
-    Keyed {
+    Formed {
         at: q.at,
         form: f,
         pile: if is_expanded(c) {
@@ -65,15 +65,15 @@ pub fn replace_symbol(
 
 // k symbols, straight inside a command of the code c; their forms come behind that of q.
 #[cycle(replace_symbol_replace_symbols)]
-pub fn replace_symbols(
+fn replace_symbols(
     tape: &[u8],
     work: &mut [u8],
     g: &Ground,
     left: usize,
     k: usize,
     c: u8,
-    q: Keyed,
-) -> Keyed
+    q: Formed,
+) -> Formed
     requires { Grounded tape.now work.old g.now × SomeSymbols tape.now work.old g.now k left q.at q.pile }
     ensures { ReplacesAll tape.now work.old g.now k left q.at c q.form q.pile result work.new }
 {
@@ -82,7 +82,7 @@ pub fn replace_symbols(
         let x = replace_symbol(tape, work, g, left, r.at, r.pile);
         let mut f = r.form;
         between(&mut f, c, i);
-        r = Keyed {
+        r = Formed {
             at: x.at,
             form: join(f, x.form),
             pile: x.pile,

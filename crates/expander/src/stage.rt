@@ -3,15 +3,15 @@
 ghost use Rattle.std.specs.Prelude.{◌≡◌, ◌+◌, ◌≤◌, ◌<◌, length};
 ghost use Rattle.expander.specs.Ground.{size_in, Grounded};
 ghost use Rattle.parse_tree.specs.Working.Nodes.{code_size};
-ghost use Rattle.expander.specs.Stage.{item_code, macro_at, name_code, left_at, RoomFor, SomeHops, Skips, SomeKeyed, PutsKeyed, SomeWalk, Copies, SomeTurn, Turns, SomeStage, Stages};
+ghost use Rattle.expander.specs.Stage.{item_code, macro_at, name_code, uncopied_at, RoomFor, SomeHops, Skips, SomeFormed, PutsFormed, SomeWalk, Copies, SomeTurn, Turns, SomeStage, Stages};
 
 use crate::Ground;
-use crate::replace::{Keyed, is_expanded, replace_symbol};
+use crate::replace::{Formed, is_expanded, replace_symbol};
 use crate::slots::number;
 use octets::numbers::{Width, u64_at};
 use parse_tree::node::whole_nonterminal;
 use parse_tree::size::size_by_code;
-use precedence::write::{copy_within, put_nonterminal};
+use precedence::write::{copy_within, store_nonterminal};
 
 // Where the run stands: the place to read on at, the place to write on at, how many symbols are pushed, how many texts are new.
 #[derive(Clone, Copy)]
@@ -55,17 +55,17 @@ fn next_item(tape: &[u8], work: &[u8], g: &Ground, p: usize) -> usize
     q
 }
 
-// Whether a command of this code is a span and a name: most are, so this is asked first.
-fn is_name(c: u8) -> bool
+// Whether a command of this code is a span and the number of a text: most are, so this is asked first.
+fn is_named_leaf(c: u8) -> bool
     ensures { result ≡ name_code c }
 {
     matches!(c, 32..=36)
 }
 
 // Whether what begins at a place of work with the code c is not copied as it stands.
-fn is_left(work: &[u8], width: Width, at: usize, c: u8) -> bool
+fn is_uncopied(work: &[u8], width: Width, at: usize, c: u8) -> bool
     requires { RoomFor width.bytes work.now at c }
-    ensures { result ≡ left_at width.bytes work.now at c }
+    ensures { result ≡ uncopied_at width.bytes work.now at c }
 {
     is_expanded(c) || is_macro(work, width, at, c)
 }
@@ -79,10 +79,10 @@ fn run_end(tape: &[u8], work: &[u8], g: &Ground, p: usize) -> usize
     let mut q = p;
     while q < end {
         let c = work[g.from + q];
-        if is_name(c) {
+        if is_named_leaf(c) {
             q += 9 + g.width.bytes;
         } else {
-            if is_left(work, g.width, g.from + q, c) {
+            if is_uncopied(work, g.width, g.from + q, c) {
                 return q;
             }
             q += size_by_code(c, g.width);
@@ -92,13 +92,13 @@ fn run_end(tape: &[u8], work: &[u8], g: &Ground, p: usize) -> usize
 }
 
 // The nonterminal of the symbol at r.at, behind which k says where to read on.
-fn put_key(tape: &[u8], work: &mut [u8], g: &Ground, r: Replaced, k: Keyed) -> Replaced
-    requires { Grounded tape.now work.old g.now × SomeKeyed tape.now work.old g.now r k }
-    ensures { PutsKeyed tape.now work.old g.now r k result work.new }
+fn put_key(tape: &[u8], work: &mut [u8], g: &Ground, r: Replaced, k: Formed) -> Replaced
+    requires { Grounded tape.now work.old g.now × SomeFormed tape.now work.old g.now r k }
+    ensures { PutsFormed tape.now work.old g.now r k result work.new }
 {
     let x = number(tape, work, g, k.pile, r.count, r.at);
     let span = u64_at(work, g.from + r.at + 1);
-    put_nonterminal(work, span, x.atom(), g.width, r.to);
+    store_nonterminal(work, span, x.atom(), g.width, r.to);
     Replaced {
         at: k.at,
         to: r.to + 9 + g.width.bytes,

@@ -1,4 +1,4 @@
-// The entries for Rust: byte slices in, five words out.
+// The entries for Rust and C: byte slices in, five words out, which answer becomes.
 ghost use Rattle.std.specs.Prelude.{◌≡◌, true, length};
 ghost use Rattle.passes.specs.Calls.{validate_call, resolve_call, levels_call, macros_call, whole};
 ghost use Rattle.output.specs.Plain.Answers.{Exported, CheckedWords};
@@ -17,7 +17,7 @@ fn words(r: Result<usize, Refusal>) -> [u64; 5]
     }
 }
 
-// Validating alone; answer becomes the words of the answer.
+// Validating alone.
 #[unsafe(no_mangle)]
 pub extern "C" fn normalize_validate(tape: &[u8], work: &mut [u8], answer: &mut [u64; 5])
     ensures { CheckedWords (validate_call true 2 tape.now 0 (length work.old)) tape.now work.old answer.new work.new }
@@ -25,7 +25,7 @@ pub extern "C" fn normalize_validate(tape: &[u8], work: &mut [u8], answer: &mut 
     *answer = words(validate(tape, work));
 }
 
-// Resolving alone; answer becomes the words of the answer.
+// Resolving alone.
 #[unsafe(no_mangle)]
 pub extern "C" fn normalize_resolve(
     tape: &[u8],
@@ -38,7 +38,7 @@ pub extern "C" fn normalize_resolve(
     *answer = words(resolve(tape, output, work));
 }
 
-// Resolving and precedence levels; answer becomes the words of the answer.
+// Resolving and precedence levels.
 #[unsafe(no_mangle)]
 pub extern "C" fn normalize_levels(
     tape: &[u8],
@@ -51,7 +51,7 @@ pub extern "C" fn normalize_levels(
     *answer = words(levels(tape, output, work));
 }
 
-// Resolving and macro expansion, within so many rounds; answer becomes the words of the answer.
+// Resolving and macro expansion, within so many rounds.
 #[unsafe(no_mangle)]
 pub extern "C" fn normalize_macros(
     tape: &[u8],
@@ -65,7 +65,7 @@ pub extern "C" fn normalize_macros(
     *answer = words(macros(tape, usize::from(limit), output, work));
 }
 
-// Resolving, precedence levels and macro expansion, within so many rounds; answer becomes the words of the answer.
+// Resolving, precedence levels and macro expansion, within so many rounds.
 #[unsafe(no_mangle)]
 pub extern "C" fn normalize_whole(
     tape: &[u8],

@@ -5,12 +5,11 @@ use mathlib.Core.Logic.{inl, inr}
 use mathlib.Core.List.{List, [], ◌∷◌, map}
 use Prim.Native.Nat.{ℕ, zero, suc, ◌+◌, ◌-◌, ◌*◌, ◌%◌, ◌≤◌, ◌<◌}
 use native.Mathlib.Omega.{arith}
-use native.Mathlib.Nat.{mul_comm}
 use borrow.Author.Rules.{rules}
 use borrow.Author.Tests.{tests, lt-ltb, le-ltb, le-leb, lt-leb, leb-false}
 use denote.Enum.Bare.{sameb}
 use lib.Dec.{eqb, leb, ltb}
-use lib.ListN.{length, get_or}
+use lib.ListN.{length}
 use Rattle.std.specs.Prelude.{Option, Some, None, MatchOption, Result, Ok, Err}
 use Rattle.std.specs.List.{range_with_len, take_while, find}
 use Rattle.std.proofs.lemmas.List.Sums.{take_while-cons}
@@ -30,7 +29,7 @@ use Rattle.grades.specs.contracts.Assoc.{the_type as assoc_type}
 use Rattle.grades.specs.declared.Graded.{Graded}
 use Rattle.grades.specs.declared.Ungraded.{Ungraded}
 use Rattle.grades.specs.declared.Ids.{Ids}
-use Rattle.grades.specs.Annotations.{attributes_long, attributes_end, conditions_from, symbols_from, alternative_end}
+use Rattle.grades.specs.Annotations.{conditions_from, symbols_from, alternative_end}
 use Rattle.grades.specs.Grading.{Worded, graded_at}
 use Rattle.grades.specs.Key.{grade_key, key_side}
 use Rattle.grades.specs.Sort.{level_at}
@@ -61,12 +60,9 @@ module _ (wd : ℕ) (ids : Ids) (ts : List Text) (w : List ℕ) (at e level : �
       unfolding graded_there
       next_fails q z = cc there
 
-before-ends : (wd : ℕ) (w : List ℕ) (at : ℕ) → attributes_end wd w at ≤ symbols_from wd w at
-unfolding symbols_from conditions_from attributes_long
-before-ends wd w at = omega (arith, mul_comm (get_or w (at + 9) 0) (2 + 3 * wd))
-
-pub next_fits : (wd : ℕ) (w : List ℕ) (at e x : ℕ) → x ≡ symbols_from wd w at → x ≤ e → e + 16 ≤ length w → attributes_end wd w at ≤ length w
-next_fits wd w at e x q l k = omega (arith, before-ends wd w at)
+pub next_fits : (wd : ℕ) (w : List ℕ) (at e x : ℕ) → x ≡ symbols_from wd w at → x ≤ e → e + 16 ≤ length w → conditions_from wd w at ≤ length w
+unfolding symbols_from
+next_fits wd w at e x q l k = omega arith
 
 pub ruleset nexting = (rules, next-none, next_short, next_there, next_fails, next_fits)
 

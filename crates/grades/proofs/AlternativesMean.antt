@@ -28,7 +28,7 @@ use Rattle.laws.proofs.Flat.{syms_fit_lem}
 use Rattle.resolve.proofs.GrammarLaws.{Headed, headed, terminal_headed}
 use Rattle.grades.specs.Skip.{skip_out}
 use Rattle.grades.specs.Ids.{ids_in}
-use Rattle.grades.specs.Annotations.{attributes_long, attributes_end, first_with, annotated_at, HeadInside, first_alternative, has_prec_attr, conditions_from, symbols_from, alternative_end}
+use Rattle.grades.specs.Annotations.{attributes_long, first_with, annotated_at, HeadInside, first_alternative, has_prec_attr, conditions_from, symbols_from, alternative_end}
 use Rattle.grades.proofs.SkipMean.{skip-means}
 use Rattle.grades.proofs.AnnotationsMean.{Value, attributes_long_lem, value_means, value_given}
 
@@ -37,7 +37,7 @@ module _ (four : Bool) (wd : ℕ) (ts : List Text) where
   pub record AlternativeAt (w : List ℕ) (p : ℕ) (a : Alternative) : Type 0 where
     pub many : get_or w (p + 9) 0 ≡ length a.attributes
     pub lies : Lies w (p + 14 + wd) (bytes_of_each (attribute_bytes wd ts) a.attributes) (p + 14 + wd + length (bytes_of_each (attribute_bytes wd ts) a.attributes))
-    pub inside : attributes_end wd w p ≤ length w
+    pub inside : conditions_from wd w p ≤ length w
     pub symbols : le_at 2 w (p + 12 + wd) ≡ count a.symbols
     pub place : Lies w (symbols_from wd w p) (syms_bytes wd ts a.symbols) (p + length (alternative_bytes wd ts a))
 
@@ -51,9 +51,13 @@ module _ (four : Bool) (wd : ℕ) (ts : List Text) where
   conditions-long (x ∷ xs) =
       omega (arith, length-append (condition_bytes wd ts x) (bytes_of_each (condition_bytes wd ts) xs), condition_long x, conditions-long xs, mul-suc (10 + 2 * wd) (length xs))
 
+  conditions_place : (w : List ℕ) (p m : ℕ) → attributes_long wd (get_or w (p + 9) 0) ≡ m → conditions_from wd w p ≡ p + 14 + wd + m
+  unfolding conditions_from attributes_long
+  conditions_place w p m e = omega (arith, e, mul_comm (get_or w (p + 9) 0) (2 + 3 * wd))
+
   symbols_place_lem : (w : List ℕ) (p m n : ℕ) → attributes_long wd (get_or w (p + 9) 0) ≡ m → (10 + 2 * wd) * get_or w (p + 10) 0 ≡ n → symbols_from wd w p ≡ p + 14 + wd + m + n
-  unfolding symbols_from conditions_from attributes_long
-  symbols_place_lem w p m n e f = omega (arith, e, f, mul_comm (get_or w (p + 9) 0) (2 + 3 * wd), mul_comm (get_or w (p + 10) 0) (10 + 2 * wd))
+  unfolding symbols_from
+  symbols_place_lem w p m n e f = omega (arith, conditions_place w p m e, f, mul_comm (get_or w (p + 10) 0) (10 + 2 * wd))
 
   pub alternative_read : (w : List ℕ) (p e : ℕ) (a : Alternative) (more : List ℕ) → AlternativeWithin four wd ts a → Lies w p (alternative_bytes wd ts a ++ more) e → AlternativeAt w p a
   unfolding alternative_bytes alternative_node node_bytes
@@ -83,7 +87,7 @@ module _ (four : Bool) (wd : ℕ) (ts : List Text) where
       record {
         many = f.0;
         lies = g.0;
-        inside = omega (arith, m, y);
+        inside = omega (arith, m, conditions_place w p (length xs) y);
         symbols = le_read 2 w (p + 12 + wd) c _ h.fewer (lies_from z d3.1);
         place = lies_from (sym (symbols_place_lem w p (length xs) (length cs) y u)) v.1;
       }
@@ -168,7 +172,7 @@ module _ (four : Bool) (wd : ℕ) (ts : List Text) where
     where
       go : (xs : List Alternative) → Each (AlternativeWithin four wd ts) xs → le_at 2 w (at + 11 + wd) ≡ length xs
           → Lies w (at + 13 + wd + length (bytes_of_each (argument_bytes wd ts) d.args)) (bytes_of_each (alternative_bytes wd ts) xs) e → Headed w wd ts at d e
-          → (le_at 2 w (at + 11 + wd) ≡ 0 → ⊥) → attributes_end wd w (first_alternative wd w at) ≤ length w
+          → (le_at 2 w (at + 11 + wd) ≡ 0 → ⊥) → conditions_from wd w (first_alternative wd w at) ≤ length w
       go [] y k m g z = absurd (z k)
       go (a ∷ rest) y k m g z = rw (first_means w at e d g) (alternative_read w _ e a (bytes_of_each (alternative_bytes wd ts) rest) y.0 m).inside
 

@@ -39,12 +39,12 @@ use Rattle.grades.specs.Grade.{assoc_of}
 use Rattle.grades.specs.Ids.{ids_in}
 use Rattle.grades.specs.Sort.{keys_at}
 use Rattle.grades.specs.Grading.{graded_as}
-use Rattle.grades.specs.Key.{grade_key}
+use Rattle.grades.specs.Key.{grade_key, code_of}
 use Rattle.grades.specs.Alternatives.{ungraded_as, graded_there, next_grade, stored_grade, Gradable, GradesOut, grades_out, grade_then, grade_from, still_ascends}
 use Rattle.grades.proofs.AlternativesMean.{AlternativeAt, alternative_read, end_means}
 use Rattle.grades.proofs.GradingMean.{asked_by, grade_says, graded-means}
 use Rattle.grades.proofs.AlternativesCode.{stored_long, texts-kept, gradable_stays}
-use Rattle.grades.proofs.AscendsMean.{code_of, ascends_from, side_few}
+use Rattle.grades.proofs.AscendsMean.{ascends_from, side_few}
 use Rattle.grades.proofs.AlternativesLaws.{level_of_small, Outside, outside_part, apart_outside, stored_kept}
 
 module _ (four : Bool) (wd : ℕ) (ts : List Text) (s : List ℕ) (m : Map) (places keys n e : ℕ) where

@@ -21,7 +21,8 @@ use Rattle.grades.specs.Grade.{assoc_of}
 use Rattle.grades.specs.Ids.{ids_in}
 use Rattle.grades.specs.Sort.{keys_at}
 use Rattle.grades.specs.Alternatives.{grades_out, grade_from, Grades}
-use Rattle.grades.proofs.AscendsMean.{code_of, ascends_from}
+use Rattle.grades.specs.Key.{code_of}
+use Rattle.grades.proofs.AscendsMean.{ascends_from}
 use Rattle.grades.proofs.AlternativesLaws.{outside_part, cell_kept}
 use Rattle.grades.proofs.AlternativesStored.{Ready, places_from, Others, AllStored, OneRefused, GradesMean, mean_same, one_more}
 

@@ -4,7 +4,7 @@ use mathlib.Core.Bool.{Bool, true, false}
 use mathlib.Core.List.{List}
 use Prim.Native.Nat.{ℕ, zero, suc, ◌+◌, ◌*◌, ◌^◌, ◌≤◌, ◌<◌}
 use native.Mathlib.Omega.{arith}
-use native.Mathlib.Nat.{mul-suc, mul-le-mul, mul-le-mul_left, mul-le-mul_right}
+use native.Mathlib.Nat.{mul_comm, mul-suc, mul-le-mul, mul-le-mul_left, mul-le-mul_right}
 use borrow.Author.Rules.{rules}
 use borrow.Author.Tests.{eq-eqb, ne_eqb, eqb-true, eqb-false}
 use mir.Val.{Fits}
@@ -20,7 +20,7 @@ use Rattle.parse_tree.specs.Working.Nodes.{alternative_here, nonterminal_here}
 use Rattle.grades.specs.declared.Indices.{Indices}
 use Rattle.grades.specs.declared.Ids.{Ids}
 use Rattle.grades.specs.Skip.{skip_out}
-use Rattle.grades.specs.Annotations.{attributes_long, first_with, Finding, Annotates, attributes_end, annotated_at, first_alternative, has_prec_attr, HeadInside, conditions_from, symbols_from, alternative_end}
+use Rattle.grades.specs.Annotations.{attributes_long, first_with, Finding, Annotates, annotated_at, first_alternative, has_prec_attr, HeadInside, conditions_from, symbols_from, alternative_end}
 
 -- ---- the bytes of attributes
 pub long_more : (wd n : ℕ) → attributes_long wd (suc n) ≡ attributes_long wd n + (2 + 3 * wd)
@@ -104,9 +104,10 @@ look_fits wd at n i m h l = omega (arith, mul-le-mul_left {m = suc i} {n = n} (2
 pub ruleset looking = (rules, look_none, look_fits)
 
 -- ---- annotated
-pub end_whole : (wd : ℕ) (w : List ℕ) (at n : ℕ) (d : Alternative) → attributes_end wd w at ≤ length w → d ≡ alternative_here wd w at → n ≡ d.attributes
+pub end_whole : (wd : ℕ) (w : List ℕ) (at n : ℕ) (d : Alternative) → conditions_from wd w at ≤ length w → d ≡ alternative_here wd w at → n ≡ d.attributes
     → at + 14 + wd + attributes_long wd n ≤ length w
-end_whole wd w at n d h p q = let z : n ≡ get_or w (at + 9) 0 = cc in rw z h
+unfolding conditions_from attributes_long
+end_whole wd w at n d h p q = let z : n ≡ get_or w (at + 9) 0 = cc in rw z (omega (arith, h, mul_comm (get_or w (at + 9) 0) (2 + 3 * wd)))
 
 module _ (wd : ℕ) (ids : Ids) (w : List ℕ) (at n : ℕ) (d : Alternative) (p : d ≡ alternative_here wd w at) (q : n ≡ d.attributes) (f : Indices) (a : Annotates wd ids w (at + 14 + wd) n f) where
   pub annotated-level : is_some f.precedence ≡ true → true ≡ annotated_at wd ids w at
@@ -151,7 +152,7 @@ module _ (wd : ℕ) (w : List ℕ) (at : ℕ) where
     has-none ids h = cc (eq-eqb (get_or w at 0) 16 e, eq-eqb (le_at 2 w (at + 11 + wd)) 0 (sym j ∙ h))
 
     module _ (h : d.alternatives ≡ 0 → ⊥) (a : ℕ) (p : a ≡ first_alternative wd w at) where
-      pub has-fits : HeadInside wd w at → attributes_end wd w a ≤ length w
+      pub has-fits : HeadInside wd w at → conditions_from wd w a ≤ length w
       has-fits g = rw p (g.first e (λ z. h (j ∙ z)))
 
       pub has_first : (ids : Ids) (r : Bool) → r ≡ annotated_at wd ids w a → r ≡ has_prec_attr wd ids w at
@@ -173,19 +174,29 @@ times-attributes n wd a b = record { fits = omega (arith, few_attributes n wd a 
 pub times-conditions : (n wd : ℕ) → n < 256 → wd ≤ 3 → Fits w64 (n * (10 + 2 * wd))
 times-conditions n wd a b = record { fits = omega (arith, few_conditions n wd a b) }
 
+-- ---- conditions
+module _ (w : List ℕ) (wd p : ℕ) (k : wd ≤ 3) (n : ℕ) (h : n < 256) where
+  pub sum_attributes : p + 11 ≤ length w → length w * 1 < 2 ^ 63 → Fits w64 (p + (14 + wd) + n * (2 + 3 * wd))
+  sum_attributes l x = record { fits = omega (arith, few_attributes n wd h k) }
+
+  pub conditions_near : p + (14 + wd) + n * (2 + 3 * wd) < p + 4096
+  conditions_near = omega (arith, few_attributes n wd h k)
+
+pub conditions_are : (w : List ℕ) (wd p n : ℕ) → n ≡ get_or w (p + 9) 0 → p + (14 + wd) + n * (2 + 3 * wd) ≡ conditions_from wd w p
+unfolding conditions_from
+conditions_are w wd p n z = cc
+
+pub ruleset conditioning = (rules, times-attributes, sum_attributes, conditions_near, conditions_are)
+
 -- ---- symbols
-module _ (w : List ℕ) (wd p : ℕ) (k : wd ≤ 3) (l : p + 11 ≤ length w) (n : ℕ) (h : n < 256) where
-  pub sum_attributes : length w * 1 < 2 ^ 63 → Fits w64 (p + (14 + wd) + n * (2 + 3 * wd))
-  sum_attributes x = record { fits = omega (arith, few_attributes n wd h k) }
+pub sum_conditions : (w : List ℕ) (wd p z m : ℕ) → wd ≤ 3 → p + 11 ≤ length w → z < p + 4096 → m < 256 → length w * 1 < 2 ^ 63 → Fits w64 (z + m * (10 + 2 * wd))
+sum_conditions w wd p z m k l near o x = record { fits = omega (arith, few_conditions m wd o k) }
 
-  pub sum_conditions : (m : ℕ) → m < 256 → length w * 1 < 2 ^ 63 → Fits w64 (p + (14 + wd) + n * (2 + 3 * wd) + m * (10 + 2 * wd))
-  sum_conditions m o x = record { fits = omega (arith, few_attributes n wd h k, few_conditions m wd o k) }
+pub symbols_are : (w : List ℕ) (wd p z m : ℕ) → z ≡ conditions_from wd w p → m ≡ get_or w (p + 10) 0 → z + m * (10 + 2 * wd) ≡ symbols_from wd w p
+unfolding symbols_from
+symbols_are w wd p z m y x = cc
 
-pub symbols_are : (w : List ℕ) (wd p n m : ℕ) → n ≡ get_or w (p + 9) 0 → m ≡ get_or w (p + 10) 0 → p + (14 + wd) + n * (2 + 3 * wd) + m * (10 + 2 * wd) ≡ symbols_from wd w p
-unfolding symbols_from conditions_from
-symbols_are w wd p n m z y = cc
-
-pub ruleset symboling = (rules, times-attributes, times-conditions, sum_attributes, sum_conditions, symbols_are)
+pub ruleset symboling = (rules, times-conditions, sum_conditions, symbols_are)
 
 -- ---- alternative_end
 pub end_is : (wd : ℕ) (w : List ℕ) (at e s n r : ℕ) (d : Alternative) → s ≡ symbols_from wd w at → d ≡ alternative_here wd w at → n ≡ d.symbols → r ≡ skip_out wd e w s e n → r ≡ alternative_end wd w at e

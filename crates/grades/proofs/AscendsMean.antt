@@ -13,12 +13,8 @@ use Rattle.passes.specs.Grades.{Side, all, assoc, value_of, side_of, Levelled, w
 use Rattle.laws.specs.Sort.{Ascends, keys_from}
 use Rattle.grades.specs.declared.Assoc.{Assoc}
 use Rattle.grades.specs.Grade.{assoc_of}
-use Rattle.grades.specs.Key.{side_number}
+use Rattle.grades.specs.Key.{side_number, code_of}
 use Rattle.grades.specs.Alternatives.{still_ascends}
-
--- a side in a key
-abbrev pub code_of : Side → ℕ
-code_of s = side_number (assoc_of s)
 
 -- whether levels ascend, behind a level
 unfoldable pub ascends_from : Bool → ℕ → List Levelled → Bool

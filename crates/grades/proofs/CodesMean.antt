@@ -13,7 +13,7 @@ use Rattle.octets.proofs.LiesLaws.{lies_first, lies_split}
 use Rattle.octets.proofs.NumbersLaws.{length-le}
 use Rattle.parse_tree.specs.Plain.Tree.{Text, Sym, Syms, leaf, around, over, cons}
 use Rattle.parse_tree.specs.Working.Nodes.{leaf_code, leaf_operand, symbol_bytes, node_bytes, size_of, span_bytes, long_of}
-use Rattle.parse_tree.specs.Working.Operands.{inside_of}
+use Rattle.parse_tree.specs.Working.Operands.{inside_of, inside}
 use Rattle.parse_tree.specs.Working.Encode.{sym_bytes, syms_bytes}
 use Rattle.parse_tree.specs.Working.Within.{SpanWithin}
 use Rattle.parse_tree.specs.declared.syntax.Span.{Span}
@@ -26,7 +26,7 @@ use Rattle.parse_tree.specs.Working.Nested.{inside_by, inside_at}
 use Rattle.parse_tree.proofs.SizeLaws.{length_span}
 use Rattle.parse_tree.proofs.NodeFits.{LeafFits, KindFits}
 use Rattle.parse_tree.proofs.FieldLaws.{byte_read, le-read_then, span_read}
-use Rattle.laws.specs.Flat.{sym_node, children, inside}
+use Rattle.laws.specs.Flat.{sym_node, children}
 use Rattle.laws.proofs.Flat.{SymFits, SymsFits, sym_bytes_lem}
 use Rattle.grades.specs.Skip.{names_at}
 

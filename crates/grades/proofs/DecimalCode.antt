@@ -9,7 +9,7 @@ use lib.Seq.{sets, set_comm}
 use Rattle.std.specs.Prelude.{Option, Some, None, IfNone, IfSome, MatchOption}
 use Rattle.octets.specs.Working.Stores.{store}
 use Rattle.octets.proofs.StoreLaws.{store-none, length_store}
-use Rattle.grades.specs.Grade.{number_digits}
+use Rattle.passes.specs.Levels.{number_digits}
 use Rattle.grades.proofs.DecimalLaws.{last, size_by, front, number-front, number_long, size_one, size_more}
 
 -- ---- number_size

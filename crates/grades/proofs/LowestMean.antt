@@ -23,9 +23,9 @@ use Rattle.laws.specs.Sort.{Ascends, key_of, level_keys, by_levels}
 use Rattle.laws.proofs.Levels.{levels-ascend}
 use Rattle.grades.specs.Grade.{assoc_of}
 use Rattle.grades.specs.Sort.{keys_at, level_at}
-use Rattle.grades.specs.Key.{side_number}
+use Rattle.grades.specs.Key.{side_number, code_of}
 use Rattle.grades.specs.Alternatives.{place_of_key, lowest_from}
-use Rattle.grades.proofs.AscendsMean.{code_of, side_few}
+use Rattle.grades.proofs.AscendsMean.{side_few}
 
 -- ---- on a list of keys: the first of a level whose side is not 3
 unfoldable first_in : ℕ → List ℕ → Option ℕ

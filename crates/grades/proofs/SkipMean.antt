@@ -13,7 +13,8 @@ use Rattle.parse_tree.specs.Plain.Tree.{Text, Sym, Syms, nil, cons, count}
 use Rattle.parse_tree.specs.Working.Nodes.{size_of, long_of}
 use Rattle.parse_tree.specs.Working.Encode.{sym_bytes, syms_bytes}
 use Rattle.parse_tree.specs.Working.Nested.{inside_at}
-use Rattle.laws.specs.Flat.{sym_node, children, joined, inside, nodes}
+use Rattle.parse_tree.specs.Working.Operands.{inside}
+use Rattle.laws.specs.Flat.{sym_node, children, joined, nodes}
 use Rattle.laws.proofs.Flat.{SymsFits, step, nodes_few}
 use Rattle.grades.specs.Skip.{skip_out}
 use Rattle.grades.proofs.CodesMean.{first_codes}

@@ -33,9 +33,9 @@ pub record Annotates (wd : ℕ) (ids : Ids) (w : List ℕ) (at n : ℕ) (r : Ind
 unfoldable pub value_text : ℕ → List Text → List ℕ → ℕ → Text
 value_text wd ts w p = pick (eqb (get_or w (p + 1 + wd) 0) 0) [] (get_or ts (le_at wd w (p + 2 + wd + wd)) [])
 
--- the place behind the attributes of the alternative at a place
-abbrev pub attributes_end : ℕ → List ℕ → ℕ → ℕ
-attributes_end wd w at = at + 14 + wd + attributes_long wd (get_or w (at + 9) 0)
+-- where the conditions of the alternative at a place begin, behind its attributes
+unfoldable pub conditions_from : ℕ → List ℕ → ℕ → ℕ
+conditions_from wd w p = p + (14 + wd) + get_or w (p + 9) 0 * (2 + 3 * wd)
 
 -- whether the alternative at a place has an attribute of one of the two ids
 unfoldable pub annotated_at : ℕ → Ids → List ℕ → ℕ → Bool
@@ -54,13 +54,9 @@ has_prec_attr wd ids w at = pick (eqb (get_or w at 0) 16) (pick (eqb (le_at 2 w 
 -- what is looked at of an item lies in work
 pub record HeadInside (wd : ℕ) (w : List ℕ) (at : ℕ) : Type 0 where
   pub head : at + 16 ≤ length w
-  pub first : get_or w at 0 ≡ 16 → (le_at 2 w (at + 11 + wd) ≡ 0 → ⊥) → attributes_end wd w (first_alternative wd w at) ≤ length w
+  pub first : get_or w at 0 ≡ 16 → (le_at 2 w (at + 11 + wd) ≡ 0 → ⊥) → conditions_from wd w (first_alternative wd w at) ≤ length w
 
--- where the conditions of the alternative at a place begin
-unfoldable pub conditions_from : ℕ → List ℕ → ℕ → ℕ
-conditions_from wd w p = p + (14 + wd) + get_or w (p + 9) 0 * (2 + 3 * wd)
-
--- and where its symbols do
+-- where the symbols of the alternative at a place begin
 unfoldable pub symbols_from : ℕ → List ℕ → ℕ → ℕ
 symbols_from wd w p = conditions_from wd w p + get_or w (p + 10) 0 * (10 + 2 * wd)
 

@@ -1,9 +1,9 @@
 -- What the texts of `precedence` and `assoc` say, as the code's answers, and a level's digits. Assumes nothing: these are definitions.
-use Rattle.std.specs.Prelude.{◌≡◌, List, [], ℕ, ◌+◌, length, Option as Maybe, Some, None}
+use Rattle.std.specs.Prelude.{◌≡◌, List, ℕ, ◌+◌, length, Option as Maybe, Some, None}
 use Rattle.std.proofs.Math.Option.{Option, none, some}
 use Rattle.octets.specs.Working.Stores.{store}
 use Rattle.passes.specs.Grades.{Side, all, non, left, right, level_in, side_in}
-use Rattle.passes.specs.Levels.{decimal, decimal_from}
+use Rattle.passes.specs.Levels.{decimal}
 use Rattle.grades.specs.declared.Assoc.{Assoc}
 
 -- a level or nothing, as the code's answer
@@ -34,10 +34,6 @@ assoc_said t = assoc_answer (side_in t)
 -- a level's digits: `decimal`, shut, since it is long where it is open
 unfoldable pub level_digits : ℕ → List ℕ
 level_digits v = decimal v
-
--- a number's digits: 64 bits have at most twenty
-unfoldable pub number_digits : ℕ → List ℕ
-number_digits v = decimal_from 20 v []
 
 -- the digits of v, written to w from `to` on, leave w' and the place behind
 pub record PutsDecimal (w : List ℕ) (to v r : ℕ) (w' : List ℕ) : Type 0 where

@@ -1,8 +1,6 @@
 // All alternatives of an annotated nonterminal graded: their places and keys go to two arrays in work.
 ghost use Rattle.std.specs.Prelude.{◌≡◌, true, ◌+◌, ◌*◌, ◌≤◌, ◌<◌, length};
 ghost use Rattle.grades.specs.declared.Assoc.{Assoc};
-ghost use Rattle.octets.specs.Plain.Numbers.{le};
-ghost use Rattle.octets.specs.Working.Stores.{store};
 ghost use Rattle.texts.specs.Table.{texts};
 ghost use Rattle.grades.specs.Alternatives.{next_grade, stored_grade, Gradable, grade_from, Grades, still_ascends, place_of_key, lowest_from};
 
@@ -15,7 +13,7 @@ use crate::{Assoc, Graded, Ids, Ungraded};
 use octets::numbers::{Width, store64, u64_at};
 use texts::Map;
 
-// Level and side of the alternative at a place, behind one of those before; the question is None where none stands there before e.
+// Level and side of the alternative at a place; `before` has those of the one before it. The question is None where no alternative stands there before e.
 fn next_grade<'a>(
     t: Words<'a>,
     at: usize,

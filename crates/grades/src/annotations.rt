@@ -1,6 +1,6 @@
 // The attributes `precedence` and `assoc` of alternatives that stand in work.
-ghost use Rattle.std.specs.Prelude.{◌≡◌, ◌+◌, ◌*◌, ◌≤◌, ◌<◌, length};
-ghost use Rattle.grades.specs.Annotations.{attributes_long, Finding, Annotates, attributes_end, annotated_at, first_alternative, HeadInside, has_prec_attr, symbols_from, alternative_end};
+ghost use Rattle.std.specs.Prelude.{◌≡◌, ◌+◌, ◌≤◌, ◌<◌, length};
+ghost use Rattle.grades.specs.Annotations.{attributes_long, Finding, Annotates, annotated_at, first_alternative, HeadInside, has_prec_attr, conditions_from, symbols_from, alternative_end};
 
 use crate::skip::skip;
 use crate::{Ids, Indices};
@@ -29,8 +29,9 @@ pub fn annotations(work: &[u8], at: usize, n: usize, width: Width, ids: Ids) -> 
 }
 
 // Whether the alternative at a place has one of the two.
+#[tactic(auto, using(crate::proofs::AnnotationsCode::end_whole), unfolding(crate::specs::Annotations::conditions_from))]
 fn annotated(work: &[u8], at: usize, width: Width, ids: Ids) -> bool
-    requires { attributes_end width.bytes work.now at ≤ length work.now }
+    requires { conditions_from width.bytes work.now at ≤ length work.now }
     ensures { result ≡ annotated_at width.bytes ids work.now at }
 {
     let n = usize::from(whole_alternative(work, at, width).attributes);
@@ -57,14 +58,22 @@ pub fn has_prec_attr(work: &[u8], at: usize, width: Width, ids: Ids) -> bool
         && annotated(work, first_alternative(work, at, width), width, ids)
 }
 
-// Where the symbols of the alternative at p begin. Two counts, read by their places: a reader of the whole command would ask for more than 11 bytes.
+// Where the conditions of the alternative at p begin. Here and below counts are read by their places: a reader of the whole command would ask for more than 11 bytes.
+pub fn conditions(work: &[u8], p: usize, width: Width) -> usize
+    requires { p + 11 ≤ length work.now }
+    ensures { (result ≡ conditions_from width.bytes work.now p) × (result < p + 4096) }
+{
+    let n = usize::from(work[p + 9]);
+    p + (14 + width.bytes) + n * (2 + 3 * width.bytes)
+}
+
+// Where its symbols begin.
 pub fn symbols(work: &[u8], p: usize, width: Width) -> usize
     requires { p + 11 ≤ length work.now }
     ensures { result ≡ symbols_from width.bytes work.now p }
 {
-    let n = usize::from(work[p + 9]);
     let c = usize::from(work[p + 10]);
-    p + (14 + width.bytes) + n * (2 + 3 * width.bytes) + c * (10 + 2 * width.bytes)
+    conditions(work, p, width) + c * (10 + 2 * width.bytes)
 }
 
 // The place behind the alternative at a place, which ends before e.

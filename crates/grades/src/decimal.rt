@@ -1,7 +1,7 @@
 // Numbers in plain decimal.
 ghost use Rattle.std.specs.Prelude.{◌≡◌, ◌+◌, ◌≤◌, ◌<◌, length};
 ghost use Rattle.octets.specs.Working.Stores.{store};
-ghost use Rattle.grades.specs.Grade.{number_digits};
+ghost use Rattle.passes.specs.Levels.{number_digits};
 
 // How many digits a number has.
 pub fn number_size(v: usize) -> usize

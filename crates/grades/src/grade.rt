@@ -1,9 +1,8 @@
 // What the texts of the attributes `precedence` and `assoc` say, and a level written in decimal.
-ghost use Rattle.std.specs.Prelude.{◌≡◌, ◌+◌, ◌≤◌, ◌<◌, length};
+ghost use Rattle.std.specs.Prelude.{◌≡◌, ◌+◌, ◌≤◌, length};
 ghost use Rattle.grades.specs.Grade.{level_said, assoc_said, level_digits, PutsDecimal};
 
 use crate::Assoc;
-pub use crate::decimal::digit;
 use crate::decimal::{number_size, put_digits};
 
 // A `u32` as Rust parses it: perhaps a plus, then one digit or more.

@@ -1,7 +1,7 @@
 // The level and the side of an alternative that stands in work.
 ghost use Rattle.std.specs.Prelude.{◌≡◌, IfSome, ◌+◌, ◌*◌, ◌≤◌, ◌<◌, length};
 ghost use Rattle.texts.specs.Table.{texts};
-ghost use Rattle.grades.specs.Annotations.{value_text, attributes_long, attributes_end};
+ghost use Rattle.grades.specs.Annotations.{value_text, attributes_long, conditions_from};
 ghost use Rattle.grades.specs.Grading.{sided_at, graded_at};
 
 use crate::annotations::annotations;
@@ -53,8 +53,9 @@ fn sided<'a>(
 }
 
 // Level and side of the alternative at a place; those of the one before are handed on, but a level that is said resets the side.
+#[tactic(auto, using(crate::proofs::AnnotationsCode::end_whole), unfolding(crate::specs::Annotations::conditions_from))]
 pub fn graded<'a>(t: Words<'a>, at: usize, ids: Ids, before: Graded) -> Result<Graded, Question>
-    requires { attributes_end t.width.bytes t.work.now at ≤ length t.work.now }
+    requires { conditions_from t.width.bytes t.work.now at ≤ length t.work.now }
     ensures { result ≡ graded_at t.entry.width.bytes ids (texts t.entry.tape.now t.entry.work.now t.entry.m) t.entry.work.now at before.level before.side }
 {
     let n = usize::from(whole_alternative(t.work, at, t.width).attributes);

@@ -1,5 +1,5 @@
 // The place behind symbols that stand in work: a flat run, so many symbols are to come.
-ghost use Rattle.std.specs.Prelude.{◌≡◌, ◌+◌, ◌≤◌, ◌<◌, length};
+ghost use Rattle.std.specs.Prelude.{◌≡◌, ◌+◌, ◌≤◌, length};
 ghost use Rattle.grades.specs.Skip.{skip_out};
 
 use octets::numbers::Width;

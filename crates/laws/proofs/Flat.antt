@@ -4,14 +4,14 @@ use mathlib.Core.Bool.{Bool}
 use mathlib.Core.List.{List, ◌++◌, append-nil, append_assoc}
 use Prim.Native.Nat.{ℕ, zero, suc, ◌+◌, ◌-◌, ◌*◌, ◌≤◌}
 use native.Mathlib.Omega.{arith}
-use lib.ListN.{length, drop, length-append, length-drop}
+use lib.ListN.{length, drop, length-append}
 use lib.Seq.{drop-drop}
 use Rattle.std.specs.Prelude.{Some}
 use Rattle.octets.specs.Plain.Runs.{Lies}
 use Rattle.octets.proofs.LiesLaws.{lies_split, lies_inside}
 use Rattle.parse_tree.specs.Plain.Tree.{Text, Over, Sym, Syms, leaf, around, over, nil, cons, macro, group, count}
 use Rattle.parse_tree.specs.Working.Nodes.{node_bytes, symbol_bytes, node_at, size_of}
-use Rattle.parse_tree.specs.Working.Operands.{inside_of}
+use Rattle.parse_tree.specs.Working.Operands.{inside_of, inside}
 use Rattle.parse_tree.specs.Working.Encode.{leaf_node, around_node, over_node, sym_bytes, syms_bytes}
 use Rattle.parse_tree.specs.Working.Within.{SymWithin, SymsWithin}
 use Rattle.parse_tree.specs.declared.syntax.Span.{Span}
@@ -23,7 +23,7 @@ use Rattle.parse_tree.proofs.SizeLaws.{length_span}
 use Rattle.parse_tree.proofs.NodeFits.{NodeFits, TextFits}
 use Rattle.parse_tree.proofs.NodeBack.{node_back}
 use Rattle.parse_tree.proofs.ToCommands.{leaf_passes, around_passes, over_passes}
-use Rattle.laws.specs.Flat.{sym_node, children, joined, inside, nodes, nodes_all, fold_sym, fold_syms, run}
+use Rattle.laws.specs.Flat.{sym_node, children, joined, nodes, nodes_all, fold_sym, fold_syms, run}
 
 -- ---- what lies behind a place depends on the bytes from there on only
 pub lies_kept : (s s' : List ℕ) (a e : ℕ) (xs : List ℕ) → drop a s' ≡ drop a s → Lies s a xs e → Lies s' a xs e
@@ -133,11 +133,6 @@ module _ (w : ℕ) (ts : List Text) where
     pub nodes_all_few : (xs : Syms) → 9 * nodes_all xs ≤ length (syms_bytes w ts xs)
     nodes_all_few nil = omega arith
     nodes_all_few (cons x xs) = omega (arith, nodes_few x, nodes_all_few xs, length-append (sym_bytes w ts x) (syms_bytes w ts xs))
-
-  pub steps_enough : (s : List ℕ) (a e : ℕ) (xs : Syms) → Lies s a (syms_bytes w ts xs) e → nodes_all xs ≤ length s
-  steps_enough s a e xs l =
-      let n : length (drop a s) ≡ length (syms_bytes w ts xs) + length (drop e s) = ap length l.is ∙ length-append (syms_bytes w ts xs) (drop e s) in
-      omega (arith, length-drop a s, nodes_all_few xs)
 
   joined-count : (xs ys : Syms) → count (joined xs ys) ≡ count xs + count ys
   unfolding joined count

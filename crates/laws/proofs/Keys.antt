@@ -8,12 +8,12 @@ use Prim.Native.Nat.{ℕ, zero, suc}
 use Rattle.octets.specs.Working.Choice.{pick}
 use Rattle.octets.specs.Plain.Runs.{same_as}
 use Rattle.parse_tree.specs.Plain.Tree.{Text, Op, star, plus, question, Leaf, Around, Over, Sym, Syms, ambiguous, bare, quoted, regex, nonterminal, lookahead, lookbehind, error, repeat, choose, name, macro, group, leaf, around, over, nil, cons, Alternative, Nonterminal, Item, item}
-use Rattle.parse_tree.specs.Plain.Texts.{has, is_name, name_bytes, starts_name, every, mut_text, error_text}
+use Rattle.parse_tree.specs.Plain.Texts.{has, is_name, is_identifier, starts_name, every, mut_text, error_text}
 use Rattle.parse_tree.specs.Plain.Display.{print}
 use Rattle.parse_tree.specs.Working.Within.{Each, LeafWithin, AroundWithin, OverWithin, SymWithin, SymsWithin}
 use Rattle.parse_tree.specs.declared.syntax.Span.{Span}
 use Rattle.passes.specs.Outcome.{Tree, yes, no, simple}
-use Rattle.passes.specs.Macros.{Pending, looking, repeating, listing, symbol_of, expand_lookaround_symbol, Expander, push, replace_around, replace_symbol, replace_symbols, replace_alternatives, replace_items, at, argument_of, or_name, macro_expand_symbol, macro_expand_symbols, macro_in, expand_repeat_symbol, expand_expr_symbol, expand_symbol, drain, has_name, group_action, made, one_chosen, v_name, e_name}
+use Rattle.passes.specs.Macros.{Pending, looking, repeating, listing, symbol_of, expand_lookaround_symbol, MacroExpander, push, replace_around, replace_symbol, replace_symbols, replace_alternatives, replace_items, at, argument_of, or_name, macro_expand_symbol, macro_expand_symbols, macro_in, expand_repeat_symbol, expand_expr_symbol, expand_symbol, drain, has_name, group_action, made, one_chosen, v_name, e_name}
 use Rattle.passes.specs.Views.{Look, ahead, behind}
 use Rattle.passes.proofs.Outcomes.{no≢yes, after-yes}
 use Rattle.passes.proofs.ResolveKeeps.{yes_as}
@@ -28,7 +28,7 @@ pending_expands (looking s behind) = tt
 pending_expands (repeating s o x) = tt
 pending_expands (listing s o xs) = tt
 
-push-sound : (x : Pending) (σ : Expander) → SymSound (symbol_of x) → Piled σ → SymSound (push x σ).0 × Piled (push x σ).1
+push-sound : (x : Pending) (σ : MacroExpander) → SymSound (symbol_of x) → Piled σ → SymSound (push x σ).0 × Piled (push x σ).1
 unfolding push
 push-sound x σ h p = (print-sound (symbol_of x) h, go (has (print (symbol_of x)) σ.keys))
   where
@@ -37,7 +37,7 @@ push-sound x σ h p = (print-sound (symbol_of x) h, go (has (print (symbol_of x)
     go false = record { keys = (print-built (symbol_of x) (pending_expands x) h, p.keys); pile = (h, p.pile) }
 
 -- ---- replacing
-leaf_sound : (s : Span) (l : Leaf) (σ : Expander) → LeafSound l → Piled σ → SymSound (replace_symbol (leaf s l) σ).0 × Piled (replace_symbol (leaf s l) σ).1
+leaf_sound : (s : Span) (l : Leaf) (σ : MacroExpander) → LeafSound l → Piled σ → SymSound (replace_symbol (leaf s l) σ).0 × Piled (replace_symbol (leaf s l) σ).1
 unfolding replace_symbol
 leaf_sound s (ambiguous n) σ h p = (h, p)
 leaf_sound s (bare n) σ h p = (h, p)
@@ -48,7 +48,7 @@ leaf_sound s lookahead σ h p = push-sound (looking s ahead) σ tt p
 leaf_sound s lookbehind σ h p = push-sound (looking s behind) σ tt p
 leaf_sound s error σ h p = (h, p)
 
-around_sound : (s : Span) (a : Around) (q : Sym × Expander) → AroundSound a → SymSound q.0 × Piled q.1 → SymSound (replace_around s a q).0 × Piled (replace_around s a q).1
+around_sound : (s : Span) (a : Around) (q : Sym × MacroExpander) → AroundSound a → SymSound q.0 × Piled q.1 → SymSound (replace_around s a q).0 × Piled (replace_around s a q).1
 around_sound s (repeat o) q h p = push-sound (repeating s o q.0) q.1 (h, p.0) p.1
 around_sound s choose q h p = ((h, p.0), p.1)
 around_sound s (name m n) q h p = ((h, p.0), p.1)
@@ -56,19 +56,19 @@ around_sound s (name m n) q h p = ((h, p.0), p.1)
 mutual
   unfolding replace_symbol
 
-  pub replace_sound : (x : Sym) (σ : Expander) → SymSound x → Piled σ → SymSound (replace_symbol x σ).0 × Piled (replace_symbol x σ).1
+  pub replace_sound : (x : Sym) (σ : MacroExpander) → SymSound x → Piled σ → SymSound (replace_symbol x σ).0 × Piled (replace_symbol x σ).1
   replace_sound (leaf s l) σ h p = leaf_sound s l σ h p
   replace_sound (around s a x) σ h p = around_sound s a (replace_symbol x σ) h.0 (replace_sound x σ h.1 p)
   replace_sound (over s o xs) σ h p = let r = replace_all_sound xs σ h.1 p in push-sound (listing s o (replace_symbols xs σ).0) (replace_symbols xs σ).1 (h.0, r.0) r.1
 
-  pub replace_all_sound : (xs : Syms) (σ : Expander) → SymsSound xs → Piled σ → SymsSound (replace_symbols xs σ).0 × Piled (replace_symbols xs σ).1
+  pub replace_all_sound : (xs : Syms) (σ : MacroExpander) → SymsSound xs → Piled σ → SymsSound (replace_symbols xs σ).0 × Piled (replace_symbols xs σ).1
   replace_all_sound nil σ h p = (tt, p)
   replace_all_sound (cons x xs) σ h p =
       let r = replace_sound x σ h.0 p in
       let t = replace_all_sound xs (replace_symbol x σ).1 h.1 r.1 in
       ((r.0, t.0), t.1)
 
-replace_alternatives_sound : (as' : List Alternative) (σ : Expander) → Each AlternativeSound as' → Piled σ → Each AlternativeSound (replace_alternatives as' σ).0 × Piled (replace_alternatives as' σ).1
+replace_alternatives_sound : (as' : List Alternative) (σ : MacroExpander) → Each AlternativeSound as' → Piled σ → Each AlternativeSound (replace_alternatives as' σ).0 × Piled (replace_alternatives as' σ).1
 unfolding replace_alternatives
 replace_alternatives_sound [] σ h p = (tt, p)
 replace_alternatives_sound (a ∷ rest) σ h p =
@@ -76,7 +76,7 @@ replace_alternatives_sound (a ∷ rest) σ h p =
     let t = replace_alternatives_sound rest (replace_symbols a.symbols σ).1 h.1 r.1 in
     ((r.0, t.0), t.1)
 
-pub replace_items_sound : (is : List Item) (σ : Expander) → Each ItemSound is → Piled σ → Each ItemSound (replace_items is σ).0 × Piled (replace_items is σ).1
+pub replace_items_sound : (is : List Item) (σ : MacroExpander) → Each ItemSound is → Piled σ → Each ItemSound (replace_items is σ).0 × Piled (replace_items is σ).1
 unfolding replace_items
 replace_items_sound [] σ h p = (tt, p)
 replace_items_sound (item d ∷ rest) σ h p =
@@ -125,12 +125,12 @@ module _ (ps : List Text) (args : Syms) (k : SymsSound args) where
     put_all_sound (cons x xs) h = (put_sound x h.0, put_all_sound xs h.1)
 
 -- ---- the items of popped symbols
-v_ident : name_bytes v_name ≡ true
-unfolding name_bytes starts_name every
+v_ident : is_identifier v_name ≡ true
+unfolding is_identifier starts_name every
 v_ident = refl
 
-e_ident : name_bytes e_name ≡ true
-unfolding name_bytes starts_name every
+e_ident : is_identifier e_name ≡ true
+unfolding is_identifier starts_name every
 e_ident = refl
 
 repeat_sound : (s : Span) (key : Text) (o : Op) (x : Sym) → SymSound x → SoundText key → Each AlternativeSound (expand_repeat_symbol s key o x).alternatives
@@ -165,12 +165,12 @@ drain-sound G (x ∷ xs) is g h e =
     yes_as (Each ItemSound) t (expand_sound G x d g h.0 p, drain-sound G xs ds g h.1 r)
 
 -- ---- where it starts: the symbols of a tape that passed question 4, and the names of levels
-name_bytes_lem : (n : Text) → is_name n ≡ true → name_bytes n ≡ true
+name_bytes_lem : (n : Text) → is_name n ≡ true → is_identifier n ≡ true
 unfolding is_name
-name_bytes_lem n e = and_elim_left (name_bytes n) (not (same_as n mut_text) && not (same_as n error_text)) e
+name_bytes_lem n e = and_elim_left (is_identifier n) (not (same_as n mut_text) && not (same_as n error_text)) e
 
 -- theorem: a level's name: an identifier, and digits
-pub level_sound : (n r : Text) → name_bytes n ≡ true → SoundText (n ++ r)
+pub level_sound : (n r : Text) → is_identifier n ≡ true → SoundText (n ++ r)
 unfolding starts_name
 level_sound n r h = record { some = λ p. unlike_start n r [] h refl p; other = λ p. unlike_start n r one_chosen h refl p }
 

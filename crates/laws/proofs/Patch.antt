@@ -22,7 +22,7 @@ use Rattle.parse_tree.specs.declared.syntax.Leaf.{Leaf as LeafNode}
 use Rattle.parse_tree.specs.declared.syntax.SymbolKind.{SymbolKind}
 use Rattle.parse_tree.specs.declared.syntax.Node.{Node}
 use Rattle.laws.specs.Flat.{sym_node, nodes_all, fold_sym, fold_syms, run}
-use Rattle.laws.specs.Patch.{settled_leaf, settled, settled_all, patch_leaf, patch}
+use Rattle.laws.specs.Patch.{rewritten_leaf, rewritten, rewritten_all, patch_leaf, patch}
 use Rattle.laws.proofs.Flat.{lies_kept, SymsFits, symbol_size, Keeps, kept, run_whole}
 
 -- ---- what lies there already is stored by nothing
@@ -69,10 +69,10 @@ module _ (terminal : ℕ → Bool) (w : ℕ) where
     patch_keeps s at sp (SymbolKind.Over o) = refl
 
     -- ---- settling keeps how many symbols and bytes there are
-    pub settled_count : (xs : Syms) → count (settled_all terminal ts xs) ≡ count xs
-    unfolding settled_all count
-    settled_count nil = refl
-    settled_count (cons x xs) = ap suc (settled_count xs)
+    pub rewritten_count : (xs : Syms) → count (rewritten_all terminal ts xs) ≡ count xs
+    unfolding rewritten_all count
+    rewritten_count nil = refl
+    rewritten_count (cons x xs) = ap suc (rewritten_count xs)
 
     -- a leaf's bytes, and those of what it becomes
     patch_name : (sp : Span) (n : Text) (b : Bool) (s : List ℕ) (at e : ℕ) → Lies s at (sym_bytes w ts (leaf sp (ambiguous n))) e → set s at (pick b 33 36) ≡ store s at (sym_bytes w ts (leaf sp (pick b (bare n) (nonterminal n))))
@@ -80,8 +80,8 @@ module _ (terminal : ℕ → Bool) (w : ℕ) where
     patch_name sp n true s at e l = store-first s at e 32 33 (span_bytes sp ++ le w (number ts n)) l
     patch_name sp n false s at e l = store-first s at e 32 36 (span_bytes sp ++ le w (number ts n)) l
 
-    patch_leaf_lem : (sp : Span) (l : Leaf) (s : List ℕ) (at e : ℕ) → Lies s at (sym_bytes w ts (leaf sp l)) e → patch_leaf terminal s at (leaf_node ts l) ≡ store s at (sym_bytes w ts (leaf sp (settled_leaf terminal ts l)))
-    unfolding leaf_node patch_leaf settled_leaf
+    patch_leaf_lem : (sp : Span) (l : Leaf) (s : List ℕ) (at e : ℕ) → Lies s at (sym_bytes w ts (leaf sp l)) e → patch_leaf terminal s at (leaf_node ts l) ≡ store s at (sym_bytes w ts (leaf sp (rewritten_leaf terminal ts l)))
+    unfolding leaf_node patch_leaf rewritten_leaf
     patch_leaf_lem sp (ambiguous n) s at e l = patch_name sp n (terminal (number ts n)) s at e l
     patch_leaf_lem sp (bare n) s at e l = sym (store_same s at e _ l)
     patch_leaf_lem sp (quoted t) s at e l = sym (store_same s at e _ l)
@@ -96,8 +96,8 @@ module _ (terminal : ℕ → Bool) (w : ℕ) where
     name_length sp n true = refl
     name_length sp n false = refl
 
-    leaf_length : (sp : Span) (l : Leaf) → length (sym_bytes w ts (leaf sp (settled_leaf terminal ts l))) ≡ length (sym_bytes w ts (leaf sp l))
-    unfolding settled_leaf
+    leaf_length : (sp : Span) (l : Leaf) → length (sym_bytes w ts (leaf sp (rewritten_leaf terminal ts l))) ≡ length (sym_bytes w ts (leaf sp l))
+    unfolding rewritten_leaf
     leaf_length sp (ambiguous n) = name_length sp n (terminal (number ts n))
     leaf_length sp (bare n) = refl
     leaf_length sp (quoted t) = refl
@@ -108,38 +108,38 @@ module _ (terminal : ℕ → Bool) (w : ℕ) where
     leaf_length sp error = refl
 
     mutual
-      unfolding sym_bytes syms_bytes settled settled_all
+      unfolding sym_bytes syms_bytes rewritten rewritten_all
 
-      pub settled_length : (x : Sym) → length (sym_bytes w ts (settled terminal ts x)) ≡ length (sym_bytes w ts x)
-      settled_length (leaf s l) = leaf_length s l
-      settled_length (around s a x) =
+      pub rewritten_length : (x : Sym) → length (sym_bytes w ts (rewritten terminal ts x)) ≡ length (sym_bytes w ts x)
+      rewritten_length (leaf s l) = leaf_length s l
+      rewritten_length (around s a x) =
           let n = node_bytes w (Node.Symbol s (SymbolKind.Around (around_node ts a))) in
-          omega (arith, settled_length x, length-append n (sym_bytes w ts x), length-append n (sym_bytes w ts (settled terminal ts x)))
-      settled_length (over s o xs) =
+          omega (arith, rewritten_length x, length-append n (sym_bytes w ts x), length-append n (sym_bytes w ts (rewritten terminal ts x)))
+      rewritten_length (over s o xs) =
           let n = node_bytes w (Node.Symbol s (SymbolKind.Over (over_node ts o (count xs)))) in
-          rw (settled_count xs) (omega (arith, settled_all_length xs, length-append n (syms_bytes w ts xs), length-append n (syms_bytes w ts (settled_all terminal ts xs))))
+          rw (rewritten_count xs) (omega (arith, rewritten_all_length xs, length-append n (syms_bytes w ts xs), length-append n (syms_bytes w ts (rewritten_all terminal ts xs))))
 
-      pub settled_all_length : (xs : Syms) → length (syms_bytes w ts (settled_all terminal ts xs)) ≡ length (syms_bytes w ts xs)
-      settled_all_length nil = refl
-      settled_all_length (cons x xs) =
-          omega (arith, settled_length x, settled_all_length xs, length-append (sym_bytes w ts x) (syms_bytes w ts xs), length-append (sym_bytes w ts (settled terminal ts x)) (syms_bytes w ts (settled_all terminal ts xs)))
+      pub rewritten_all_length : (xs : Syms) → length (syms_bytes w ts (rewritten_all terminal ts xs)) ≡ length (syms_bytes w ts xs)
+      rewritten_all_length nil = refl
+      rewritten_all_length (cons x xs) =
+          omega (arith, rewritten_length x, rewritten_all_length xs, length-append (sym_bytes w ts x) (syms_bytes w ts xs), length-append (sym_bytes w ts (rewritten terminal ts x)) (syms_bytes w ts (rewritten_all terminal ts xs)))
 
-    -- ---- the effect on a tree is its settled bytes, stored
+    -- ---- the effect on a tree is its rewritten bytes, stored
     mutual
-      unfolding sym_bytes syms_bytes fold_sym fold_syms settled settled_all sym_node patch size_of
+      unfolding sym_bytes syms_bytes fold_sym fold_syms rewritten rewritten_all sym_node patch size_of
 
-      pub patch_sym : (x : Sym) (s : List ℕ) (at e : ℕ) → Lies s at (sym_bytes w ts x) e → fold_sym w (patch terminal) ts x s at ≡ store s at (sym_bytes w ts (settled terminal ts x))
+      pub patch_sym : (x : Sym) (s : List ℕ) (at e : ℕ) → Lies s at (sym_bytes w ts x) e → fold_sym w (patch terminal) ts x s at ≡ store s at (sym_bytes w ts (rewritten terminal ts x))
       patch_sym (leaf sp l) s at e k = patch_leaf_lem sp l s at e k
       patch_sym (around sp a x) s at e k =
           let n = node_bytes w (Node.Symbol sp (SymbolKind.Around (around_node ts a))) in
           let m = lies_split s at e n (sym_bytes w ts x) k in
-          patch_sym x s (at + length n) e m.1 ∙ behind_node s at (at + length n) n (sym_bytes w ts (settled terminal ts x)) m.0 refl
+          patch_sym x s (at + length n) e m.1 ∙ behind_node s at (at + length n) n (sym_bytes w ts (rewritten terminal ts x)) m.0 refl
       patch_sym (over sp o xs) s at e k =
           let n = node_bytes w (Node.Symbol sp (SymbolKind.Over (over_node ts o (count xs)))) in
           let m = lies_split s at e n (syms_bytes w ts xs) k in
-          rw (settled_count xs) (patch_syms xs s (at + length n) e m.1 ∙ behind_node s at (at + length n) n (syms_bytes w ts (settled_all terminal ts xs)) m.0 refl)
+          rw (rewritten_count xs) (patch_syms xs s (at + length n) e m.1 ∙ behind_node s at (at + length n) n (syms_bytes w ts (rewritten_all terminal ts xs)) m.0 refl)
 
-      pub patch_syms : (xs : Syms) (s : List ℕ) (at e : ℕ) → Lies s at (syms_bytes w ts xs) e → fold_syms w (patch terminal) ts xs s at ≡ store s at (syms_bytes w ts (settled_all terminal ts xs))
+      pub patch_syms : (xs : Syms) (s : List ℕ) (at e : ℕ) → Lies s at (syms_bytes w ts xs) e → fold_syms w (patch terminal) ts xs s at ≡ store s at (syms_bytes w ts (rewritten_all terminal ts xs))
       patch_syms nil s at e k = sym (store-none s at)
       patch_syms (cons x xs) s at e k =
           let m = lies_split s at e (sym_bytes w ts x) (syms_bytes w ts xs) k in
@@ -147,11 +147,11 @@ module _ (terminal : ℕ → Bool) (w : ℕ) where
           let t = fold_sym w (patch terminal) ts x s at in
           let l = lies_kept s t d e (syms_bytes w ts xs) (kept w (patch terminal) ts (λ r. r) patch_keeps x s at d refl) m.1 in
           patch_syms xs t d e l
-          ∙ ap (λ (r : List ℕ). store r d (syms_bytes w ts (settled_all terminal ts xs))) (patch_sym x s at d m.0)
-          ∙ store-append s at d (sym_bytes w ts (settled terminal ts x)) (syms_bytes w ts (settled_all terminal ts xs)) (omega (arith, settled_length x))
+          ∙ ap (λ (r : List ℕ). store r d (syms_bytes w ts (rewritten_all terminal ts xs))) (patch_sym x s at d m.0)
+          ∙ store-append s at d (sym_bytes w ts (rewritten terminal ts x)) (syms_bytes w ts (rewritten_all terminal ts xs)) (omega (arith, rewritten_length x))
 
     -- the flat run
     pub patch_run : (xs : Syms) (g : ℕ) (s : List ℕ) (at e : ℕ) → SymsFits w ts xs → nodes_all xs ≤ g → Lies s at (syms_bytes w ts xs) e
-        → run w (patch terminal) (λ r. r) g (count xs) s at ≡ (store s at (syms_bytes w ts (settled_all terminal ts xs)), e)
+        → run w (patch terminal) (λ r. r) g (count xs) s at ≡ (store s at (syms_bytes w ts (rewritten_all terminal ts xs)), e)
     patch_run xs g s at e h k l =
         run_whole w (patch terminal) ts (λ r. r) patch_keeps xs h g s at e k l ∙ ap (λ (r : List ℕ). (r, e)) (patch_syms xs s at e l)

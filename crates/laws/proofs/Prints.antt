@@ -10,7 +10,7 @@ use lib.Dec.{eqb}
 use Rattle.octets.specs.Plain.Runs.{same_as}
 use Rattle.octets.proofs.SameLaws.{same_as-eq}
 use Rattle.parse_tree.specs.Plain.Tree.{Text, Op, star, plus, question, Leaf, Around, Over, Sym, Syms, ambiguous, bare, quoted, regex, nonterminal, lookahead, lookbehind, error, repeat, choose, name, macro, group, leaf, around, over, nil, cons}
-use Rattle.parse_tree.specs.Plain.Texts.{has, every, starts_name, in_name, name_bytes}
+use Rattle.parse_tree.specs.Plain.Texts.{has, every, starts_name, in_name, is_identifier}
 use Rattle.parse_tree.specs.Plain.Display.{shown_op, shown_leaf, shown_before, shown_behind, opening, shown, shown_all, shown_more, print}
 use Rattle.parse_tree.specs.declared.syntax.Span.{Span}
 use Rattle.passes.specs.Macros.{vec_none, vec_one, pushed, some_text, none_text, one_chosen, all_chosen, v_name, e_name}
@@ -67,12 +67,12 @@ unlike_head : (u v : Text) → (head_of u ≡ head_of v → ⊥) → u ≡ v →
 unlike_head u v h p = h (ap head_of p)
 
 -- an identifier begins with a letter or `_`
-starts : (n r : Text) → name_bytes n ≡ true → starts_name (head_of (n ++ r)) ≡ true
-unfolding name_bytes
+starts : (n r : Text) → is_identifier n ≡ true → starts_name (head_of (n ++ r)) ≡ true
+unfolding is_identifier
 starts [] r e = absurd (false≢true e)
 starts (b ∷ bs) r e = and_elim_left (starts_name b) (every in_name bs) e
 
-pub unlike_start : (n r v : Text) → name_bytes n ≡ true → starts_name (head_of v) ≡ false → n ++ r ≡ v → ⊥
+pub unlike_start : (n r v : Text) → is_identifier n ≡ true → starts_name (head_of v) ≡ false → n ++ r ≡ v → ⊥
 unlike_start n r v e f p = true≢false (sym (starts n r e) ∙ ap (λ (t : Text). starts_name (head_of t)) p ∙ f)
 
 -- ---- how printed forms end
@@ -245,7 +245,7 @@ print-built (around s a x) e h = around_built s a x e
 print-built (over s o xs) e h = over_built s o xs h
 
 -- ---- what is sound: identifiers, and printed forms
-pub ident_sound : (n : Text) → name_bytes n ≡ true → SoundText n
+pub ident_sound : (n : Text) → is_identifier n ≡ true → SoundText n
 unfolding starts_name
 ident_sound n h = record { some = λ p. unlike_start n [] [] h refl (append-nil n ∙ p); other = λ p. unlike_start n [] one_chosen h refl (append-nil n ∙ p) }
 

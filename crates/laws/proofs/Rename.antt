@@ -26,9 +26,9 @@ use Rattle.parse_tree.specs.declared.syntax.Node.{Node}
 use Rattle.parse_tree.proofs.SizeLaws.{length_span}
 use Rattle.parse_tree.proofs.TextLaws.{number-below, text_number}
 use Rattle.passes.specs.Levels.{occurs, occurs_in, replace_occurrences, replace_occurrences_in}
-use Rattle.laws.specs.Flat.{sym_node, nodes_all, fold_sym, fold_syms, run}
+use Rattle.laws.specs.Flat.{sym_node, fold_sym, fold_syms}
 use Rattle.laws.specs.Rename.{rename_leaf, rename}
-use Rattle.laws.proofs.Flat.{lies_kept, SymsFits, Keeps, kept, run_whole}
+use Rattle.laws.proofs.Flat.{lies_kept, Keeps, kept}
 use Rattle.laws.proofs.Patch.{store_same, behind_node}
 
 -- ---- a number tells its text, where the other one is an atom
@@ -185,11 +185,3 @@ module _ (w : ℕ) (ts : List Text) (E : Text) (F : ℕ → Text) (known : has E
               ∙ store-append σ.0 at d (sym_bytes w ts (replace_occurrences E F x σ.1)) (syms_bytes w ts (replace_occurrences_in E F xs (σ.1 + occurs E x))) (omega (arith, renamed_length x σ.1)),
           omega (arith, p.1, q.1),
         )
-
-  -- theorem: the flat run: occurrence j, in tape order, becomes F j
-  pub rename_run : (xs : Syms) (g : ℕ) (s : List ℕ) (at e : ℕ) → SymsFits w ts xs → nodes_all xs ≤ g → Lies s at (syms_bytes w ts xs) e
-      → Renamed (run w effect bytes g (count xs) (s, 0) at).0 s at (syms_bytes w ts (replace_occurrences_in E F xs 0)) (occurs_in E xs)
-  rename_run xs g s at e h k l =
-      let z = ap (λ (p : (List ℕ × ℕ) × ℕ). p.0) (run_whole w effect ts bytes rename_keeps xs h g (s, 0) at e k l) in
-      let r = renamed_syms xs (s, 0) at e l in
-      rw z (r.0, omega (arith, r.1))

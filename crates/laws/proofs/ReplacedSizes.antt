@@ -17,19 +17,19 @@ use Rattle.parse_tree.specs.declared.syntax.SymbolKind.{SymbolKind}
 use Rattle.parse_tree.specs.declared.syntax.Node.{Node}
 use Rattle.parse_tree.proofs.SizeLaws.{length_span}
 use Rattle.passes.specs.Outcome.{with_symbols, with_alternatives}
-use Rattle.passes.specs.Macros.{Pending, looking, repeating, listing, symbol_of, span_of, Expander, push, replace_around, replace_symbol, replace_symbols, replace_alternatives, replace_items}
+use Rattle.passes.specs.Macros.{Pending, looking, repeating, listing, symbol_of, span_of, MacroExpander, push, replace_around, replace_symbol, replace_symbols, replace_alternatives, replace_items}
 use Rattle.passes.specs.Views.{ahead, behind}
 use Rattle.laws.specs.Counts.{looks_leaf, looks, looks_all, heads_in, heads, over_alternatives, over_items}
 use Rattle.laws.proofs.Flat.{nodes_few}
 use Rattle.laws.proofs.Counts.{around_size, head_size, item_head_lem, nodes_some}
 
 -- ---- replacing keeps how many items and alternatives there are, and how many symbols stand straight in these
-replaced_count : (xs : Syms) (σ : Expander) → count (replace_symbols xs σ).0 ≡ count xs
+replaced_count : (xs : Syms) (σ : MacroExpander) → count (replace_symbols xs σ).0 ≡ count xs
 unfolding replace_symbols count
 replaced_count nil σ = refl
 replaced_count (cons x xs) σ = ap suc (replaced_count xs (replace_symbol x σ).1)
 
-replaced_alternatives : (as' : List Alternative) (σ : Expander) → (heads_in (replace_alternatives as' σ).0 ≡ heads_in as') × (over_alternatives count (replace_alternatives as' σ).0 ≡ over_alternatives count as')
+replaced_alternatives : (as' : List Alternative) (σ : MacroExpander) → (heads_in (replace_alternatives as' σ).0 ≡ heads_in as') × (over_alternatives count (replace_alternatives as' σ).0 ≡ over_alternatives count as')
 unfolding replace_alternatives heads_in over_alternatives
 replaced_alternatives [] σ = (refl, refl)
 replaced_alternatives (a ∷ as') σ =
@@ -37,7 +37,7 @@ replaced_alternatives (a ∷ as') σ =
     let j = replaced_count a.symbols σ in
     (omega (arith, i.0), omega (arith, i.1, j))
 
-pub replaced_items : (is : List Item) (σ : Expander) → (heads (replace_items is σ).0 ≡ heads is) × (over_items count (replace_items is σ).0 ≡ over_items count is)
+pub replaced_items : (is : List Item) (σ : MacroExpander) → (heads (replace_items is σ).0 ≡ heads is) × (over_items count (replace_items is σ).0 ≡ over_items count is)
 unfolding replace_items heads over_items
 replaced_items [] σ = (refl, refl)
 replaced_items (item d ∷ is) σ =
@@ -52,11 +52,11 @@ module _ (ts us : List Text) where
   unfolding sym_bytes node_bytes symbol_bytes leaf_node leaf_code leaf_operand
   key_size s n = simp (length-append, length-le, length_span) (omega arith)
 
-  push-size : (x : Pending) (σ : Expander) → length (sym_bytes 2 us (push x σ).0) ≡ 11
+  push-size : (x : Pending) (σ : MacroExpander) → length (sym_bytes 2 us (push x σ).0) ≡ 11
   unfolding push
   push-size x σ = key_size (span_of x) (print (symbol_of x))
 
-  leaf_size : (s : Span) (l : Leaf) (σ : Expander) → length (sym_bytes 2 us (replace_symbol (leaf s l) σ).0) ≤ length (sym_bytes 2 ts (leaf s l)) + 2 * looks_leaf l
+  leaf_size : (s : Span) (l : Leaf) (σ : MacroExpander) → length (sym_bytes 2 us (replace_symbol (leaf s l) σ).0) ≤ length (sym_bytes 2 ts (leaf s l)) + 2 * looks_leaf l
   unfolding replace_symbol sym_bytes node_bytes symbol_bytes leaf_node leaf_code leaf_operand
   leaf_size s (ambiguous n) σ = simp (length-append, length-le, length_span) (omega arith)
   leaf_size s (bare n) σ = simp (length-append, length-le, length_span) (omega arith)
@@ -78,7 +78,7 @@ module _ (ts us : List Text) where
   over_head s (macro n) k = simp (length-append, length-le, length_span) (omega arith)
   over_head s group k = simp (length-append, length-le, length_span) (omega arith)
 
-  around_size_lem : (s : Span) (a : Around) (x : Sym) (q : Sym × Expander) → length (sym_bytes 2 us q.0) ≤ length (sym_bytes 2 ts x) + 2 * looks x → length (sym_bytes 2 us (replace_around s a q).0) ≤ length (sym_bytes 2 ts (around s a x)) + 2 * looks x
+  around_size_lem : (s : Span) (a : Around) (x : Sym) (q : Sym × MacroExpander) → length (sym_bytes 2 us q.0) ≤ length (sym_bytes 2 ts x) + 2 * looks x → length (sym_bytes 2 us (replace_around s a q).0) ≤ length (sym_bytes 2 ts (around s a x)) + 2 * looks x
   unfolding sym_bytes
   around_size_lem s (repeat o) x q h =
       omega (arith, push-size (repeating s o q.0) q.1, around_head s (repeat o) ts, nodes_some x, nodes_few 2 ts x, length-append (node_bytes 2 (Node.Symbol s (SymbolKind.Around (around_node ts (repeat o))))) (sym_bytes 2 ts x))
@@ -90,13 +90,13 @@ module _ (ts us : List Text) where
   mutual
     unfolding replace_symbol looks sym_bytes syms_bytes
 
-    pub replaced_size_lem : (x : Sym) (σ : Expander) → length (sym_bytes 2 us (replace_symbol x σ).0) ≤ length (sym_bytes 2 ts x) + 2 * looks x
+    pub replaced_size_lem : (x : Sym) (σ : MacroExpander) → length (sym_bytes 2 us (replace_symbol x σ).0) ≤ length (sym_bytes 2 ts x) + 2 * looks x
     replaced_size_lem (leaf s l) σ = leaf_size s l σ
     replaced_size_lem (around s a x) σ = around_size_lem s a x (replace_symbol x σ) (replaced_size_lem x σ)
     replaced_size_lem (over s o xs) σ =
         omega (arith, push-size (listing s o (replace_symbols xs σ).0) (replace_symbols xs σ).1, over_head s o (count xs), length-append (node_bytes 2 (Node.Symbol s (SymbolKind.Over (over_node ts o (count xs))))) (syms_bytes 2 ts xs))
 
-    pub replaced_all_size : (xs : Syms) (σ : Expander) → length (syms_bytes 2 us (replace_symbols xs σ).0) ≤ length (syms_bytes 2 ts xs) + 2 * looks_all xs
+    pub replaced_all_size : (xs : Syms) (σ : MacroExpander) → length (syms_bytes 2 us (replace_symbols xs σ).0) ≤ length (syms_bytes 2 ts xs) + 2 * looks_all xs
     replaced_all_size nil σ = omega arith
     replaced_all_size (cons x xs) σ =
         omega (arith, replaced_size_lem x σ, replaced_all_size xs (replace_symbol x σ).1, length-append (sym_bytes 2 ts x) (syms_bytes 2 ts xs), length-append (sym_bytes 2 us (replace_symbol x σ).0) (syms_bytes 2 us (replace_symbols xs (replace_symbol x σ).1).0))
@@ -126,7 +126,7 @@ module _ (ts us : List Text) where
   unfolding argument_bytes node_bytes
   argument-size vs x = simp length-le (omega arith)
 
-  alternative_size : (a : Alternative) (σ : Expander) → length (alternative_bytes 2 us (with_symbols a (replace_symbols a.symbols σ).0)) ≤ length (alternative_bytes 2 ts a) + 2 * looks_all a.symbols
+  alternative_size : (a : Alternative) (σ : MacroExpander) → length (alternative_bytes 2 us (with_symbols a (replace_symbols a.symbols σ).0)) ≤ length (alternative_bytes 2 ts a) + 2 * looks_all a.symbols
   unfolding alternative_bytes
   alternative_size a σ =
       let b = with_symbols a (replace_symbols a.symbols σ).0 in
@@ -153,7 +153,7 @@ module _ (ts us : List Text) where
         length-append ds ys,
       )
 
-  alternatives_size : (as' : List Alternative) (σ : Expander) → length (bytes_of_each (alternative_bytes 2 us) (replace_alternatives as' σ).0) ≤ length (bytes_of_each (alternative_bytes 2 ts) as') + 2 * over_alternatives looks_all as'
+  alternatives_size : (as' : List Alternative) (σ : MacroExpander) → length (bytes_of_each (alternative_bytes 2 us) (replace_alternatives as' σ).0) ≤ length (bytes_of_each (alternative_bytes 2 ts) as') + 2 * over_alternatives looks_all as'
   unfolding replace_alternatives over_alternatives bytes_of_each
   alternatives_size [] σ = omega arith
   alternatives_size (a ∷ as') σ =
@@ -171,7 +171,7 @@ module _ (ts us : List Text) where
   terminal_size s o x vs = simp (length-append, length-le, length_span) (omega arith)
 
   -- what replacing writes, of items that are no macros
-  pub items_size_lem : (is : List Item) (σ : Expander) → length (bytes_of_each (item_bytes 2 us) (replace_items is σ).0) ≤ length (bytes_of_each (item_bytes 2 ts) is) + 2 * over_items looks_all is
+  pub items_size_lem : (is : List Item) (σ : MacroExpander) → length (bytes_of_each (item_bytes 2 us) (replace_items is σ).0) ≤ length (bytes_of_each (item_bytes 2 ts) is) + 2 * over_items looks_all is
   unfolding replace_items over_items bytes_of_each item_bytes
   items_size_lem [] σ = omega arith
   items_size_lem (item d ∷ is) σ =

@@ -23,12 +23,13 @@ unfoldable mutual
   looks_all nil = 0
   looks_all (cons x xs) = looks x + looks_all xs
 
--- symbols that are replaced, at any depth
+-- 1 for a repeat
 abbrev pub repeats : Around → ℕ
 repeats (repeat o) = 1
 repeats choose = 0
 repeats (name m n) = 0
 
+-- symbols that are replaced, at any depth
 unfoldable mutual
   pub count_expanded : Sym → ℕ
   count_expanded (leaf s l) = looks_leaf l
@@ -39,7 +40,7 @@ unfoldable mutual
   count_expanded_all nil = 0
   count_expanded_all (cons x xs) = count_expanded x + count_expanded_all xs
 
--- ---- of the alternatives of items: the bytes of the commands of items and alternatives, the symbols straight in alternatives, all symbols, those that are replaced
+-- ---- over items: the bytes of the commands of nonterminals and alternatives, with atom numbers of two bytes; and a count summed over the symbols of all alternatives
 unfoldable pub heads_in : List Alternative → ℕ
 heads_in [] = 0
 heads_in (a ∷ as') = 16 + heads_in as'

@@ -3,7 +3,7 @@
 use Rattle.std.specs.Prelude.{ℕ, zero, suc, ◌+◌, List, length, Some, None}
 use Rattle.parse_tree.specs.Plain.Tree.{Text, Sym, Syms, leaf, around, over, nil, cons, count}
 use Rattle.parse_tree.specs.Working.Nodes.{node_at, size_of}
-use Rattle.parse_tree.specs.Working.Operands.{inside_of}
+use Rattle.parse_tree.specs.Working.Operands.{inside}
 use Rattle.parse_tree.specs.Working.Encode.{leaf_node, around_node, over_node, sym_bytes}
 use Rattle.parse_tree.specs.declared.syntax.SymbolKind.{SymbolKind}
 use Rattle.parse_tree.specs.declared.syntax.Node.{Node}
@@ -23,22 +23,6 @@ children (over s o xs) = xs
 unfoldable pub joined : Syms → Syms → Syms
 joined nil ys = ys
 joined (cons x xs) ys = cons x (joined xs ys)
-
--- and how many a command says
-abbrev pub inside_kind : SymbolKind → ℕ
-inside_kind (SymbolKind.Leaf l) = 0
-inside_kind (SymbolKind.Around a) = 1
-inside_kind (SymbolKind.Over o) = inside_of o
-
-unfoldable pub inside : Node → ℕ
-inside (Node.Text n) = 0
-inside (Node.Nonterminal d) = 0
-inside (Node.Terminal t) = 0
-inside (Node.Argument n) = 0
-inside (Node.Alternative a) = 0
-inside (Node.Attribute a) = 0
-inside (Node.Condition c) = 0
-inside (Node.Symbol s k) = inside_kind k
 
 -- how many symbols there are in all
 unfoldable mutual

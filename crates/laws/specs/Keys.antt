@@ -1,9 +1,9 @@
 -- The symbols that macro expansion replaces, and the names that stand in them. Assumes nothing: these are definitions.
 use Rattle.std.specs.Prelude.{◌≡◌, true, false, List, [], ◌∷◌}
 use Rattle.parse_tree.specs.Plain.Tree.{Text, Leaf, Around, Over, Sym, Syms, ambiguous, bare, quoted, regex, nonterminal, lookahead, lookbehind, error, repeat, choose, name, macro, group, leaf, around, over, nil, cons, Alternative, Item, item}
-use Rattle.parse_tree.specs.Plain.Texts.{has, name_bytes}
+use Rattle.parse_tree.specs.Plain.Texts.{has, is_identifier}
 use Rattle.parse_tree.specs.Working.Within.{Each}
-use Rattle.passes.specs.Macros.{Expander, vec_none, vec_one, pushed, some_text, none_text, one_chosen, all_chosen, v_name, e_name, symbol_of}
+use Rattle.passes.specs.Macros.{MacroExpander, vec_none, vec_one, pushed, some_text, none_text, one_chosen, all_chosen, v_name, e_name, symbol_of}
 
 -- the nine texts of built-in items
 unfoldable pub built_ins : List Text
@@ -49,10 +49,10 @@ LeafSound error = Unit {0}
 abbrev pub AroundSound : Around → Type 0
 AroundSound (repeat o) = Unit {0}
 AroundSound choose = Unit {0}
-AroundSound (name m n) = name_bytes n ≡ true
+AroundSound (name m n) = is_identifier n ≡ true
 
 abbrev pub OverSound : Over → Type 0
-OverSound (macro n) = name_bytes n ≡ true
+OverSound (macro n) = is_identifier n ≡ true
 OverSound group = Unit {0}
 
 abbrev mutual
@@ -73,6 +73,6 @@ ItemSound (item d) = Each AlternativeSound d.alternatives
 ItemSound (Item.terminal s o n) = Unit {0}
 
 -- the expander: no key is a text of a built-in item, and what is on the pile is sound
-pub record Piled (σ : Expander) : Type 0 where
+pub record Piled (σ : MacroExpander) : Type 0 where
   pub keys : Each (λ (k : Text). has k built_ins ≡ false) σ.keys
   pub pile : Each (λ p. SymSound (symbol_of p)) σ.pile

@@ -11,25 +11,25 @@ use Rattle.parse_tree.specs.declared.syntax.Node.{Node}
 module _ (terminal : ℕ → Bool) where
   -- ---- in the tree; ts are the atoms
   module _ (ts : List Text) where
-    unfoldable pub settled_leaf : Leaf → Leaf
-    settled_leaf (ambiguous n) = pick (terminal (number ts n)) (bare n) (nonterminal n)
-    settled_leaf (bare n) = bare n
-    settled_leaf (quoted t) = quoted t
-    settled_leaf (regex t) = regex t
-    settled_leaf (nonterminal n) = nonterminal n
-    settled_leaf lookahead = lookahead
-    settled_leaf lookbehind = lookbehind
-    settled_leaf error = error
+    unfoldable pub rewritten_leaf : Leaf → Leaf
+    rewritten_leaf (ambiguous n) = pick (terminal (number ts n)) (bare n) (nonterminal n)
+    rewritten_leaf (bare n) = bare n
+    rewritten_leaf (quoted t) = quoted t
+    rewritten_leaf (regex t) = regex t
+    rewritten_leaf (nonterminal n) = nonterminal n
+    rewritten_leaf lookahead = lookahead
+    rewritten_leaf lookbehind = lookbehind
+    rewritten_leaf error = error
 
     unfoldable mutual
-      pub settled : Sym → Sym
-      settled (leaf s l) = leaf s (settled_leaf l)
-      settled (around s a x) = around s a (settled x)
-      settled (over s o xs) = over s o (settled_all xs)
+      pub rewritten : Sym → Sym
+      rewritten (leaf s l) = leaf s (rewritten_leaf l)
+      rewritten (around s a x) = around s a (rewritten x)
+      rewritten (over s o xs) = over s o (rewritten_all xs)
 
-      pub settled_all : Syms → Syms
-      settled_all nil = nil
-      settled_all (cons x xs) = cons (settled x) (settled_all xs)
+      pub rewritten_all : Syms → Syms
+      rewritten_all nil = nil
+      rewritten_all (cons x xs) = cons (rewritten x) (rewritten_all xs)
 
   -- ---- in the bytes: one byte for each 20
   unfoldable pub patch_leaf : List ℕ → ℕ → LeafNode → List ℕ

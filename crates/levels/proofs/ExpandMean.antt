@@ -138,7 +138,7 @@ module _ (s : List ℕ) (m : Map) (room : Room) (wd : ℕ) (ids : Ids) (p e : �
 
     -- theorem: and it is refused as it should be
     pub refused_means : (o : Outcome (Unit {0})) (f : Unit {0} → Outcome (Unit {0})) → Said o → (why : Refusal) → why ≡ refusal_over (number_of q) (span_in w1 (a + 1))
-        → ExpandedBy s m room wd ids p e (after o f) d v w (Err why) w1
+        → ExpandedBy s m room wd ids (after o f) d v w (Err why) w1
     unfolding ExpandedBy
     refused_means (yes u) f k why z = absurd (is_not (sym k.answer))
     refused_means (no r sp) f k why z = go k.place k.question k.asks k.answer k.span

@@ -6,7 +6,6 @@ use mathlib.Core.List.{List}
 use mathlib.Core.Option.{none}
 use Prim.Native.Nat.{ℕ, ◌+◌, ◌*◌, ◌≤◌}
 use native.Mathlib.Omega.{arith}
-use borrow.Author.Rules.{rules}
 use lib.ListN.{length}
 use Rattle.std.specs.Prelude.{Option as Maybe, Some, None, Result, Ok, Err}
 use Rattle.octets.specs.Plain.Numbers.{le_at}
@@ -31,7 +30,7 @@ use Rattle.grades.proofs.AlternativesWholeMean.{Keyed, GradeMeans}
 use Rattle.levels.specs.declared.Room.{Room}
 use Rattle.levels.specs.declared.Written.{Written}
 use Rattle.levels.specs.Expand.{SortsKeys, SomeLeft, Finishes, Expandable, SomeExpandable, ExpandedBy, ExpandsOne, alternatives_at}
-use Rattle.levels.proofs.ExpandMean.{keys_place, is_not, unasked-not, stands_before, stands_many, stands_roomy, stands_gradable, stands_graded, refused_inside, refused_means}
+use Rattle.levels.proofs.ExpandMean.{keys_place, is_not, unasked-not, stands_many, stands_roomy, stands_gradable, stands_graded, refused_inside, refused_means}
 use Rattle.levels.proofs.ExpandMeanSorted.{Ordered, keys_ordered, lowest_says, low_inside, low_means, low_none}
 use Rattle.levels.proofs.ExpandMeanLeft.{all_left, all_written}
 
@@ -59,11 +58,11 @@ module _ (s : List ℕ) (m : Map) (room : Room) (wd : ℕ) (ids : Ids) (p e : �
       keys_ordered s m room wd p e w four d n S.stood.within.fewer (stands_roomy s m room wd ids p e v w four d S n many) b w1 keyed-of k w2 y
 
   -- theorem: the answer of check_lowest is the answer
-  pub after-attributes : (r : Result Written Refusal) (w3 : List ℕ) → ExpandedBy s m room wd ids p e (check_lowest (grouped d.name (graded d))) d v w r w3
-      → ExpandedBy s m room wd ids p e (after (check_attributes d.alternatives) (λ u. check_lowest (grouped d.name (graded d)))) d v w r w3
+  pub after-attributes : (r : Result Written Refusal) (w3 : List ℕ) → ExpandedBy s m room wd ids (check_lowest (grouped d.name (graded d))) d v w r w3
+      → ExpandedBy s m room wd ids (after (check_attributes d.alternatives) (λ u. check_lowest (grouped d.name (graded d)))) d v w r w3
   after-attributes r w3 f = go (check_attributes d.alternatives) said
     where
-      go : (o : Outcome (Unit {0})) → Said o → ExpandedBy s m room wd ids p e (after o (λ u. check_lowest (grouped d.name (graded d)))) d v w r w3
+      go : (o : Outcome (Unit {0})) → Said o → ExpandedBy s m room wd ids (after o (λ u. check_lowest (grouped d.name (graded d)))) d v w r w3
       go (yes u) k = f
       go (no q sp) k = absurd (is_not k.answer)
 
@@ -82,10 +81,6 @@ module _ {s : List ℕ} {m : Map} {room : Room} {wd : ℕ} {ids : Ids} {p e : �
 
   abbrev S : Expandable s m room wd ids p e v w four d
   S = pre.standing
-
-  -- theorem: what is read of its head lies in work
-  pub expand_head : p + 16 ≤ length w
-  expand_head = let h = stands_before s m room wd ids p e v w four d S in omega (arith, h.0, h.2)
 
   module _ {n : ℕ} (many : n ≡ le_at 2 w (p + 11 + wd)) where
     -- theorem: and so do the arrays
@@ -201,5 +196,3 @@ module _ {s : List ℕ} {m : Map} {room : Room} {wd : ℕ} {ids : Ids} {p e : �
                   let o = ordered four' d' S' in
                   let i = low_none s m room wd ids p e v w four' d' S' n c k w2 o (lowest_says s m room wd ids p e v w four' d' S' n c k w2 o None none_found) in
                   after-attributes s m room wd ids p e v w four' d' S' n many wide at first b w1 answered (Ok u) w3 (rw i (u, refl, all_written s m room wd ids p e v w four' d' S' n c k w2 o u w3 f))
-
-pub ruleset heading = (rules, expand_head, expand_room)

@@ -23,7 +23,7 @@ use Rattle.grades.specs.declared.Ids.{Ids}
 use Rattle.grades.specs.Grading.{Worded}
 use Rattle.grades.specs.Ids.{ids_in}
 use Rattle.grades.specs.Sort.{keys_at}
-use Rattle.grades.proofs.AscendsMean.{code_of}
+use Rattle.grades.specs.Key.{code_of}
 use Rattle.grades.proofs.AlternativesStored.{places_from}
 use Rattle.grades.proofs.WordedLaws.{worded_stays}
 use Rattle.precedence.specs.Names.{named_texts}

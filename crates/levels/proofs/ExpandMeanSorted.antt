@@ -28,7 +28,8 @@ use Rattle.grades.specs.declared.Ungraded.{Ungraded}
 use Rattle.grades.specs.declared.Ids.{Ids}
 use Rattle.grades.specs.Sort.{keys_at, Sorted}
 use Rattle.grades.specs.Alternatives.{lowest_from}
-use Rattle.grades.proofs.AscendsMean.{code_of, ascends_from}
+use Rattle.grades.specs.Key.{code_of}
+use Rattle.grades.proofs.AscendsMean.{ascends_from}
 use Rattle.grades.proofs.AlternativesWholeMean.{Keyed}
 use Rattle.grades.proofs.AlternativesStored.{places_from}
 use Rattle.grades.proofs.KeysMean.{ascending_keys, sorted_keys}
@@ -176,11 +177,11 @@ module _ (s : List ℕ) (m : Map) (room : Room) (wd : ℕ) (ids : Ids) (p e : �
 
     -- theorem: and is refused by question 16
     pub low_means : (a : ℕ) → LowSays (Some a) → (why : Refusal) → why ≡ refusal_over 16 (span_in w2 (a + 1))
-        → ExpandedBy s m room wd ids p e (check_lowest (grouped d.name (graded d))) d v w (Err why) w2
+        → ExpandedBy s m room wd ids (check_lowest (grouped d.name (graded d))) d v w (Err why) w2
     unfolding ExpandedBy
     low_means a f why z = go (check_lowest (grouped d.name (graded d))) f
       where
-        go : (o : Outcome (Unit {0})) → LowestMeans w2 k room.arrays n (graded d) few upto (Some a) o → ExpandedBy s m room wd ids p e o d v w (Err why) w2
+        go : (o : Outcome (Unit {0})) → LowestMeans w2 k room.arrays n (graded d) few upto (Some a) o → ExpandedBy s m room wd ids o d v w (Err why) w2
         go (yes u) f = absurd (at-not f)
         go (no q sp) f = let x = refused a q sp f in cc (z, x.question, x.span)
 

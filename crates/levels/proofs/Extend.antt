@@ -10,7 +10,7 @@ use Rattle.parse_tree.specs.Plain.WriteTape.{bytes_of_each}
 use Rattle.parse_tree.specs.Working.Nodes.{node_bytes}
 use Rattle.parse_tree.specs.Working.Encode.{over_node, action_text, alternative_node, attribute_node, condition_node, nonterminal_node, sym_bytes, syms_bytes, argument_bytes, attribute_bytes, condition_bytes, alternative_bytes, item_bytes}
 use Rattle.parse_tree.specs.Working.Within.{Each, Uses, LeafWithin, AroundWithin, OverWithin, SymWithin, SymsWithin, ActionWithin, ArgumentWithin, AttributeWithin, ConditionWithin, AlternativeWithin, NonterminalWithin, ItemWithin}
-use Rattle.replacing.proofs.SlotsMean.{each_map}
+use Rattle.parse_tree.proofs.ReadingLaws.{each_map}
 use Rattle.replacing.proofs.Growing.{Extends, extends_has, extends_number}
 use Rattle.replacing.proofs.SymbolsGo.{leaf_later, around_later}
 
@@ -159,8 +159,3 @@ module _ (four : Bool) (wd : ℕ) (ts us : List Text) (p : Extends ts us) where
     fewer = h.fewer;
     alternatives = each_map alternative_within_extend d.alternatives h.alternatives;
   }
-
-  -- theorem: an item that lies within texts lies within more
-  pub within_extend : (x : Item) → ItemWithin four wd ts x → ItemWithin four wd us x
-  within_extend (item d) h = nonterminal_within_extend d h
-  within_extend (Item.terminal s o x) h = (h.0, uses_extend is_name x h.1)

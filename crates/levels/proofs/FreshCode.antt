@@ -1,12 +1,10 @@
 -- The names' bytes, counted and put: name_length, count_bytes, put_level, put_name, put_names. Assumes nothing.
 use mathlib.Core.Path.{◌≡◌, refl, sym, ap, ◌∙◌}
-use mathlib.Core.Bool.{Bool, true, false, ◌||◌, true≢false}
+use mathlib.Core.Bool.{Bool, true, false}
 use mathlib.Core.List.{List, [], ◌∷◌, ◌++◌, append_assoc}
 use Prim.Native.Nat.{ℕ, zero, suc, ◌+◌, ◌*◌, ◌-◌, ◌/◌, ◌%◌, ◌≤◌, ◌<◌}
 use native.Mathlib.Omega.{arith}
 use borrow.Author.Rules.{rules}
-use borrow.Author.Tests.{ltb-true, ltb-false, lt-ltb, le-ltb}
-use lib.Dec.{ltb}
 use lib.ListN.{length, get_or, length-append}
 use mir.Syntax.{w64}
 use mir.Val.{Fits}
@@ -23,14 +21,16 @@ use Rattle.parse_tree.specs.Working.Encode.{atom_bytes}
 use Rattle.parse_tree.proofs.ReadingLaws.{bytes_more}
 use Rattle.parse_tree.proofs.ReadBack.{atom_size}
 use Rattle.texts.specs.declared.Map.{Map}
+use Rattle.texts.specs.Atoms.{some_long}
 use Rattle.texts.specs.Fields.{mark_at}
 use Rattle.texts.specs.Table.{texts}
+use Rattle.texts.proofs.AtomsLaws.{long_yes, long_no, long_last}
 use Rattle.grades.specs.Grade.{level_digits, PutsDecimal}
 use Rattle.precedence.specs.Names.{Naming, Based, BaseText, level_text, described_text, described_texts, named_text}
 use Rattle.precedence.proofs.NamesHashCode.{named-described}
 use Rattle.precedence.proofs.NamesFindCode.{naming-based}
 use Rattle.grades.proofs.DecimalLaws.{digits-most}
-use Rattle.levels.specs.Fresh.{too_long, new_texts, fresh_of, NameLong, PutsNames}
+use Rattle.levels.specs.Fresh.{new_texts, fresh_of, NameLong, PutsNames}
 
 -- ---- name_length
 module _ (s w : List ℕ) (m : Map) (n k : ℕ) (g : Naming s w m n) (l : m.count ≤ k) (h : k < n) where
@@ -59,29 +59,6 @@ length_done s w m k l x b v e p q t c z i = record {
 
 pub ruleset lengthening = (rules, name_based, length_done)
 
--- ---- whether a text is too long, with one text more
-long_yes : (ts : List Text) (t : Text) → 65535 < length t → too_long (ts ++ (t ∷ [])) ≡ true
-unfolding too_long
-long_yes [] t h = rw (lt-ltb 65535 (length t) h) refl
-long_yes (u ∷ ts) t h = go (ltb 65535 (length u)) (long_yes ts t h)
-  where
-    go : (b : Bool) → too_long (ts ++ (t ∷ [])) ≡ true → b || too_long (ts ++ (t ∷ [])) ≡ true
-    go true e = refl
-    go false e = e
-
-long_no : (ts : List Text) (t : Text) → length t ≤ 65535 → too_long (ts ++ (t ∷ [])) ≡ too_long ts
-unfolding too_long
-long_no [] t h = rw (le-ltb 65535 (length t) h) refl
-long_no (u ∷ ts) t h = ap (λ (b : Bool). ltb 65535 (length u) || b) (long_no ts t h)
-
--- a text of texts that aren't too long
-long_last : (ts : List Text) (t : Text) → too_long (ts ++ (t ∷ [])) ≡ false → length t ≤ 65535
-long_last ts t e = go (ltb 65535 (length t)) refl
-  where
-    go : (b : Bool) → ltb 65535 (length t) ≡ b → length t ≤ 65535
-    go true p = absurd (true≢false (sym (long_yes ts t (ltb-true 65535 (length t) p)) ∙ e))
-    go false p = ltb-false 65535 (length t) p
-
 -- ---- one described name more
 module _ (s w : List ℕ) (m : Map) where
   pub new_none : new_texts s w m m.count ≡ []
@@ -105,11 +82,11 @@ module _ (s w : List ℕ) (m : Map) where
         ap length new_bytes_lem ∙ length-append (bytes_of_each (atom_bytes 2) (new_texts s w m k)) (atom_bytes 2 (named_text s w m k))
         ∙ ap (λ (i : ℕ). length (bytes_of_each (atom_bytes 2) (new_texts s w m k)) + i) (atom_size 2 (named_text s w m k))
 
-    pub new_short : too_long (new_texts s w m (k + 1)) ≡ false → length (named_text s w m k) ≤ 65535
-    new_short e = long_last (new_texts s w m k) (named_text s w m k) (ap too_long (sym new_more) ∙ e)
+    pub new_short : some_long (new_texts s w m (k + 1)) ≡ false → length (named_text s w m k) ≤ 65535
+    new_short e = long_last (new_texts s w m k) (named_text s w m k) (ap some_long (sym new_more) ∙ e)
 
-    pub new_rest : too_long (new_texts s w m (k + 1)) ≡ false → too_long (new_texts s w m k) ≡ false
-    new_rest e = sym (long_no (new_texts s w m k) (named_text s w m k) (new_short e)) ∙ ap too_long (sym new_more) ∙ e
+    pub new_rest : some_long (new_texts s w m (k + 1)) ≡ false → some_long (new_texts s w m k) ≡ false
+    new_rest e = sym (long_no (new_texts s w m k) (named_text s w m k) (new_short e)) ∙ ap some_long (sym new_more) ∙ e
 
   -- those before a record are no more bytes than all
   pub size_grows : (k d : ℕ) → m.count ≤ k → length (bytes_of_each (atom_bytes 2) (new_texts s w m k)) ≤ length (bytes_of_each (atom_bytes 2) (new_texts s w m (k + d)))
@@ -117,7 +94,7 @@ module _ (s w : List ℕ) (m : Map) where
   size_grows k (suc d) h = let z : k + suc d ≡ k + d + 1 = omega arith in rw z (omega (arith, size_grows k d h, new_size_lem (k + d) (omega arith)))
 
   -- and none of them is too long if none of all is
-  pub short_before : (k d : ℕ) → m.count ≤ k → too_long (new_texts s w m (k + d)) ≡ false → too_long (new_texts s w m k) ≡ false
+  pub short_before : (k d : ℕ) → m.count ≤ k → some_long (new_texts s w m (k + d)) ≡ false → some_long (new_texts s w m k) ≡ false
   short_before k zero h e = let z : k + 0 ≡ k = omega arith in rw z at e
   short_before k (suc d) h e = let z : k + suc d ≡ k + d + 1 = omega arith in short_before k d h (new_rest (k + d) (omega arith) (rw z at e))
 
@@ -127,17 +104,17 @@ pub record Counting (s w : List ℕ) (m : Map) (n k bytes : ℕ) (long : Bool) :
   pub upto : k ≤ n
   pub few : n ≤ 4294967295
   pub size : bytes ≡ length (bytes_of_each (atom_bytes 2) (new_texts s w m k))
-  pub far : long ≡ too_long (new_texts s w m k)
+  pub far : long ≡ some_long (new_texts s w m k)
   pub small : bytes ≤ 65549 * k
 
 pub count-start : (s w : List ℕ) (m : Map) (n : ℕ) → Naming s w m n → Counting s w m n m.count 0 false
-unfolding bytes_of_each too_long
+unfolding bytes_of_each some_long
 count-start s w m n g = record {
   from = omega arith;
   upto = g.upto;
   few = g.few;
   size = ap (λ (ts : List Text). length (bytes_of_each (atom_bytes 2) ts)) (sym (new_none s w m));
-  far = ap too_long (sym (new_none s w m));
+  far = ap some_long (sym (new_none s w m));
   small = omega arith;
 }
 
@@ -147,13 +124,13 @@ module _ (s w : List ℕ) (m : Map) (n k bytes : ℕ) (long : Bool) (c : Countin
     count_fits = record { fits = omega (arith, c.small, c.upto, c.few, e.small) }
 
     module _ (h : k < n) (r : Bool) where
-      count_next : r ≡ too_long (new_texts s w m k ++ (named_text s w m k ∷ [])) → Counting s w m n (k + 1) (bytes + (3 + l)) r
+      count_next : r ≡ some_long (new_texts s w m k ++ (named_text s w m k ∷ [])) → Counting s w m n (k + 1) (bytes + (3 + l)) r
       count_next p = record {
         from = omega (arith, c.from);
         upto = omega arith;
         few = c.few;
         size = omega (arith, c.size, e.is, new_size_lem s w m k c.from);
-        far = p ∙ ap too_long (sym (new_more s w m k c.from));
+        far = p ∙ ap some_long (sym (new_more s w m k c.from));
         small = omega (arith, c.small, e.small);
       }
 
@@ -225,12 +202,12 @@ pub record NamesPut (s w : List ℕ) (m : Map) (n to : ℕ) (o o' : List ℕ) (k
   pub from : m.count ≤ k
   pub upto : k ≤ n
   pub few : n ≤ 4294967295
-  pub short : too_long (new_texts s w m n) ≡ false
+  pub short : some_long (new_texts s w m n) ≡ false
   pub room : to + length (bytes_of_each (atom_bytes 2) (new_texts s w m n)) ≤ length o
   pub bytes : o' ≡ store o to (bytes_of_each (atom_bytes 2) (new_texts s w m k))
   pub place : q ≡ to + length (bytes_of_each (atom_bytes 2) (new_texts s w m k))
 
-pub names_start : (s w : List ℕ) (m : Map) (n to : ℕ) (o : List ℕ) → Naming s w m n → too_long (new_texts s w m n) ≡ false
+pub names_start : (s w : List ℕ) (m : Map) (n to : ℕ) (o : List ℕ) → Naming s w m n → some_long (new_texts s w m n) ≡ false
     → to + length (bytes_of_each (atom_bytes 2) (new_texts s w m n)) ≤ length o → NamesPut s w m n to o o m.count to
 unfolding bytes_of_each
 names_start s w m n to o g e h = record {
@@ -251,7 +228,7 @@ module _ (s w : List ℕ) (m : Map) (n to : ℕ) (o o' : List ℕ) (k q : ℕ) (
     pub names_short : length (named_text s w m k) < 65536
     names_short =
         let z : n ≡ k + 1 + (n - (k + 1)) = omega arith in
-        let e : too_long (new_texts s w m (k + 1 + (n - (k + 1)))) ≡ false = ap (λ (i : ℕ). too_long (new_texts s w m i)) (sym z) ∙ c.short in
+        let e : some_long (new_texts s w m (k + 1 + (n - (k + 1)))) ≡ false = ap (λ (i : ℕ). some_long (new_texts s w m i)) (sym z) ∙ c.short in
         omega (arith, new_short s w m k c.from (short_before s w m (k + 1) (n - (k + 1)) (omega (arith, c.from)) e))
 
     pub names_room : q + 3 + length (named_text s w m k) ≤ length o'

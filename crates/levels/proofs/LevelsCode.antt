@@ -16,7 +16,7 @@ use Rattle.parse_tree.specs.Working.Within.{Each}
 use Rattle.laws.specs.Sort.{level_keys, by_levels}
 use Rattle.grades.specs.declared.Ids.{Ids}
 use Rattle.grades.specs.Sort.{keys_at}
-use Rattle.grades.proofs.AscendsMean.{code_of}
+use Rattle.grades.specs.Key.{code_of}
 use Rattle.precedence.proofs.GroupMean.{level_keys_many}
 use Rattle.levels.specs.declared.Room.{Room}
 use Rattle.levels.specs.declared.Written.{Written}
@@ -80,19 +80,19 @@ module _ (s : List ℕ) (m : Map) (room : Room) (wd : ℕ) (ids : Ids) (p e plac
       abbrev then : Written
       then = record { to = r.to; count = r.count }
 
-      step : (four : Bool) (d : Nonterminal) (o : Option (List ℕ)) (vs : List ℕ) → Left s m room wd ids p e places keys n i below now w four d o vs → Stepped s m room wd ids p e places keys n i below now w four d o vs r w1
+      step : (four : Bool) (d : Nonterminal) (o : Option (List ℕ)) (vs : List ℕ) → Left s m room wd ids p e places keys n i below now w four d o vs → Stepped s m room wd ids p e places keys n i now w four d o vs r w1
       unfolding Steps
       step = f
 
       -- that of the nonterminal that is there
-      stepped : Stepped s m room wd ids p e places keys n i below now w g.safe.four g.safe.nonterminal g.safe.lower g.safe.levels r w1
+      stepped : Stepped s m room wd ids p e places keys n i now w g.safe.four g.safe.nonterminal g.safe.lower g.safe.levels r w1
       stepped = step g.safe.four g.safe.nonterminal g.safe.lower g.safe.levels g.safe.left
 
       pub levels-less : i < n → n - r.last < n - i
       levels-less h = omega (arith, stepped.on, stepped.left.below-n)
 
       module _ (four : Bool) (d : Nonterminal) (o : Option (List ℕ)) (vs : List ℕ) (l : Left s m room wd ids p e places keys n i₀ below₀ v₀ w₀ four d o vs) where
-        next_of : (x : Going v₀ w₀ i below now w four d o vs) → Stepped s m room wd ids p e places keys n i below now w four d x.lower x.levels r w1 → Going v₀ w₀ r.last (Some r.name) then w1 four d o vs
+        next_of : (x : Going v₀ w₀ i below now w four d o vs) → Stepped s m room wd ids p e places keys n i now w four d x.lower x.levels r w1 → Going v₀ w₀ r.last (Some r.name) then w1 four d o vs
         next_of x y =
             let one = level_item d x.lower y.level y.above in
             let rest = items_left d (some (level_name d.name y.level y.above)) y.above in

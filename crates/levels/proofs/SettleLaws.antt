@@ -10,6 +10,7 @@ use Rattle.octets.specs.Plain.Runs.{Lies}
 use Rattle.octets.proofs.LiesLaws.{lies_none}
 use Rattle.parse_tree.specs.Plain.Tree.{Text}
 use Rattle.parse_tree.specs.Working.Encode.{atom_bytes}
+use Rattle.texts.specs.Atoms.{some_long}
 use Rattle.texts.specs.declared.Map.{Map}
 use Rattle.texts.specs.Fields.{mark_at}
 use Rattle.texts.specs.Texts.{marked_text, Whole, Behind}
@@ -17,7 +18,7 @@ use Rattle.texts.specs.Table.{texts}
 use Rattle.texts.proofs.TableStays.{le_at-agree, whole_stays, texts-stay}
 use Rattle.precedence.specs.Names.{named_text}
 use Rattle.precedence.proofs.NamesStays.{named-stays}
-use Rattle.levels.specs.Fresh.{too_long, new_texts}
+use Rattle.levels.specs.Fresh.{new_texts}
 use Rattle.levels.specs.Settle.{name_bytes, base_of, NameReady, SettlingNames}
 use Rattle.levels.proofs.FreshCode.{new_bytes_lem, new_size_lem, new_short, short_before}
 
@@ -99,7 +100,7 @@ module _ (s w : List ℕ) (m : Map) (n end : ℕ) (h : SettlingNames s w m n end
       pub going_short : length (named_text s w m j) < 65536
       going_short =
           let z : n ≡ j + 1 + (n - (j + 1)) = omega (arith, x.upto) in
-          let y : too_long (new_texts s w m (j + 1 + (n - (j + 1)))) ≡ false = ap (λ (i : ℕ). too_long (new_texts s w m i)) (sym z) ∙ h.short in
+          let y : some_long (new_texts s w m (j + 1 + (n - (j + 1)))) ≡ false = ap (λ (i : ℕ). some_long (new_texts s w m i)) (sym z) ∙ h.short in
           omega (arith, new_short s w m j new (short_before s w m (j + 1) (n - (j + 1)) (omega arith) y))
 
       pub going_size : length (name_bytes s w m k) ≡ length (name_bytes s w m j) + (3 + length (named_text s w m j))

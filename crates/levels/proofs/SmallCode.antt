@@ -1,13 +1,9 @@
 -- The ways out of name_level, sorted and refused. Assumes nothing.
-use mathlib.Core.Path.{◌≡◌, refl, ap, ◌∙◌}
+use mathlib.Core.Path.{◌≡◌, refl}
 use mathlib.Core.Bool.{Bool, true, false}
 use mathlib.Core.List.{List}
-use Prim.Native.Nat.{ℕ, ◌+◌}
+use Prim.Native.Nat.{ℕ}
 use borrow.Author.Rules.{rules}
-use Rattle.parse_tree.specs.declared.syntax.Span.{Span}
-use Rattle.parse_tree.specs.declared.refusal.Refusal.{Refusal}
-use Rattle.parse_tree.specs.Working.Nodes.{span_in}
-use Rattle.parse_tree.specs.Working.Refusals.{refusal_over}
 use Rattle.texts.specs.declared.Map.{Map}
 use Rattle.grades.specs.Sort.{Sorted}
 use Rattle.precedence.specs.declared.names.LevelName.{LevelName}
@@ -40,9 +36,3 @@ module _ (w : List ℕ) (keys other n : ℕ) (ascending : Bool) where
   sorts_all z r w' h = rw z h
 
 pub ruleset sorting_keys = (rules, sorts_none, sorts_all)
-
--- ---- refused
-pub refused_is : (w : List ℕ) (q at : ℕ) (sp : Span) (r : Refusal) → sp ≡ span_in w (at + 1) → r ≡ refusal_over q sp → r ≡ refusal_over q (span_in w (at + 1))
-refused_is w q at sp r x y = y ∙ ap (refusal_over q) x
-
-pub ruleset refusing = (rules, refused_is)

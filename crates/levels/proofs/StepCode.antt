@@ -71,7 +71,7 @@ module _ (s : List ℕ) (m : Map) (room : Room) (wd : ℕ) (ids : Ids) (p e plac
               → Steps s m room wd ids p e places keys n i below v w (record { last = j; name = x.name; count = x.count; to = to }) w2
           unfolding Steps
           next_steps narrow to w2 t four d o vs L₀ =
-              let T : Type 0 = Stepped s m room wd ids p e places keys n i below v w four d o vs (record { last = j; name = x.name; count = x.count; to = to }) w2 in
+              let T : Type 0 = Stepped s m room wd ids p e places keys n i v w four d o vs (record { last = j; name = x.name; count = x.count; to = to }) w2 in
               with_level four d o vs T h L₀
               (λ v0 above z L.
               let k = step-known s m room wd ids p e places keys n i below v w four d o v0 above L j g x w1 (rw (b, r, q, l) at f) in

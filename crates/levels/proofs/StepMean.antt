@@ -25,12 +25,12 @@ use Rattle.texts.proofs.TableStays.{le_at-agree}
 use Rattle.passes.specs.Grades.{Graded, all, graded}
 use Rattle.passes.specs.Levels.{Group, level_name, of_level}
 use Rattle.laws.specs.Sort.{level_keys, by_levels}
+use Rattle.grades.specs.Key.{code_of}
 use Rattle.replacing.proofs.Growing.{Extends, extends_trans, extends_number, new_extends}
 use Rattle.resolve.proofs.CellsLaws.{lies_agree}
 use Rattle.resolve.proofs.GrammarLaws.{Headed, headed}
 use Rattle.grades.specs.declared.Ids.{Ids}
 use Rattle.grades.specs.Sort.{keys_at, level_at, GroupEnd}
-use Rattle.grades.proofs.AscendsMean.{code_of}
 use Rattle.grades.proofs.AlternativesStored.{places_from}
 use Rattle.precedence.specs.declared.level.Level.{Level}
 use Rattle.precedence.specs.declared.names.LevelName.{LevelName}

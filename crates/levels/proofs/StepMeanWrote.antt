@@ -222,5 +222,5 @@ module _ (s : List ℕ) (m : Map) (room : Room) (wd : ℕ) (ids : Ids) (p e plac
       }
 
   -- theorem: a level whose item is put is written, and those above it are left
-  pub level_steps : Stepped s m room wd ids p e places keys n i below v w four d o (v0 ∷ above) (record { last = j; name = x.name; count = x.count; to = r }) w2
+  pub level_steps : Stepped s m room wd ids p e places keys n i v w four d o (v0 ∷ above) (record { last = j; name = x.name; count = x.count; to = r }) w2
   level_steps = record { level = v0; above = above; first = refl; on = g.behind; left = step_left; wrote = step-wrote }

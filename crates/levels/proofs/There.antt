@@ -11,11 +11,10 @@ use Rattle.parse_tree.specs.Plain.Texts.{is_name, has}
 use Rattle.parse_tree.specs.Plain.References.{texts_of_each, leaf_texts, around_texts, over_texts, sym_texts, syms_texts, action_texts, attribute_texts, condition_texts, alternative_texts, item_texts}
 use Rattle.parse_tree.specs.Working.Within.{Each, Uses, LeafWithin, OverWithin, SymWithin, SymsWithin, ActionWithin, ArgumentWithin, ConditionWithin, AlternativeWithin, NonterminalWithin, ItemWithin}
 use Rattle.parse_tree.specs.declared.syntax.Span.{Span}
-use Rattle.parse_tree.proofs.ReadingLaws.{each_append}
+use Rattle.parse_tree.proofs.ReadingLaws.{each_append, each_map}
 use Rattle.passes.specs.Outcome.{with_symbols}
 use Rattle.passes.specs.Grades.{Side, all, non, left, right, Graded, ceiling}
 use Rattle.passes.specs.Levels.{Group, lower_name, occurs, occurs_in, replace_occurrences, replace_occurrences_in, substitute, fall_through}
-use Rattle.replacing.proofs.SlotsMean.{each_map}
 use Rattle.replacing.proofs.Growing.{Extends, extends_has}
 use Rattle.parse_tree.proofs.NothingNew.{There, leaf_there, around_there}
 use Rattle.levels.proofs.Graded.{GradedWithin}

@@ -23,8 +23,8 @@ use Rattle.passes.specs.Outcome.{Outcome, yes, no, after}
 use Rattle.passes.specs.Grades.{annotated, graded}
 use Rattle.passes.specs.Levels.{grouped, level_items, levelled, check_attributes, check_lowest, check_levels}
 use Rattle.resolve.specs.declared.Grammar.{Grammar}
-use Rattle.resolve.specs.Items.{item_place_in}
-use Rattle.resolve.proofs.GrammarLaws.{Row, row_place, row_same}
+use Rattle.resolve.specs.Items.{item_place_in, Row}
+use Rattle.resolve.proofs.GrammarLaws.{row_place, row_same}
 use Rattle.replacing.proofs.Growing.{Extends}
 use Rattle.grades.specs.declared.Ids.{Ids}
 use Rattle.grades.specs.Ids.{ids_in}
@@ -193,7 +193,7 @@ module _ (s : List ℕ) (m : Map) (t : Grammar) (room : Room) (ids : Ids) (i : �
       rw (plain-check x h) (record { to = r; count = v.count }, refl, rw (plain-levelled x h) c, rest_left s m t room ids i v w four x rest L (record { to = r; count = v.count }) w1 (x ∷ []) c)
 
   stepped_levels : (four : Bool) (d : Nonterminal) (rest : List Item) → ItemsLeft s m t room ids i v w four (item d ∷ rest) → annotated d ≡ true → (p e : ℕ) (o : Outcome (Unit {0})) (r : Result Written Refusal) (w1 : List ℕ)
-      → ExpandedBy s m room t.width.bytes ids p e o d v w r w1 → SteppedBy s m t room ids (after o (λ u. yes tt)) i v w four (item d) rest r w1
+      → ExpandedBy s m room t.width.bytes ids o d v w r w1 → SteppedBy s m t room ids (after o (λ u. yes tt)) i v w four (item d) rest r w1
   unfolding SteppedBy ExpandedBy alternatives_in
   stepped_levels four d rest L h p e (yes u) r w1 g =
       let c = wrote_more s m room t.width.bytes ids w v (length d.alternatives) (level_items d) g.0 w1 (alternatives_in (item d ∷ [])) (omega arith) g.2 in

@@ -70,7 +70,7 @@ module _ (s : List ℕ) (m : Map) (t : Grammar) (room : Room) (w0 : List ℕ) (i
     pub names : ℕ
     pub split : R ≡ done ++ items
     pub left : ItemsLeft s m t room ids i v w four items
-    pub wrote : Wrote s m room t.width.bytes ids w0 (at_first s m t room) names (levelled done) v w
+    pub wrote : Wrote s m room t.width.bytes ids w0 (at_first m room) names (levelled done) v w
     pub few : names + alternatives_in items ≤ alternatives_in R
     pub check : check_levels R ≡ check_levels items
 
@@ -80,7 +80,7 @@ module _ (s : List ℕ) (m : Map) (t : Grammar) (room : Room) (w0 : List ℕ) (i
     pub each : (four : Bool) (R : List Item) → GrammarStands s m t room w0 four R → Doing i v w four R
 
   -- ---- before the first
-  all_left : (four : Bool) (R : List Item) → Identified (texts s w0 m) ids → GrammarStands s m t room w0 four R → ItemsLeft s m t room ids 0 (at_first s m t room) w0 four R
+  all_left : (four : Bool) (R : List Item) → Identified (texts s w0 m) ids → GrammarStands s m t room w0 four R → ItemsLeft s m t room ids 0 (at_first m room) w0 four R
   all_left four R a g =
       let e = named-texts s w0 m in
       let z = ids_are (texts s w0 m) ids g.apart a in
@@ -102,7 +102,7 @@ module _ (s : List ℕ) (m : Map) (t : Grammar) (room : Room) (w0 : List ℕ) (i
       }
 
   -- theorem: at first all are left
-  pub looping_start : Identified (texts s w0 m) ids → SomeGrammar s m t room w0 → Looping 0 (at_first s m t room) w0
+  pub looping_start : Identified (texts s w0 m) ids → SomeGrammar s m t room w0 → Looping 0 (at_first m room) w0
   unfolding levelled
   looping_start a g = record {
     some = g;
@@ -114,7 +114,7 @@ module _ (s : List ℕ) (m : Map) (t : Grammar) (room : Room) (w0 : List ℕ) (i
           names = 0;
           split = refl;
           left = l;
-          wrote = wrote_none s m room t.width.bytes ids w0 (at_first s m t room) l.names l.upto;
+          wrote = wrote_none s m room t.width.bytes ids w0 (at_first m room) l.names l.upto;
           few = omega arith;
           check = refl;
         };
@@ -142,11 +142,11 @@ module _ (s : List ℕ) (m : Map) (t : Grammar) (room : Room) (w0 : List ℕ) (i
       d = g.each four R h
 
       -- one item more is done, where it is fine
-      did_next : (x : Item) (rest done : List Item) (k : ℕ) → R ≡ done ++ (x ∷ rest) → Wrote s m room t.width.bytes ids w0 (at_first s m t room) k (levelled done) v w → k + alternatives_in (x ∷ rest) ≤ alternatives_in R
+      did_next : (x : Item) (rest done : List Item) (k : ℕ) → R ≡ done ++ (x ∷ rest) → Wrote s m room t.width.bytes ids w0 (at_first m room) k (levelled done) v w → k + alternatives_in (x ∷ rest) ≤ alternatives_in R
           → check_levels R ≡ check_levels (x ∷ rest) → check_levels (x ∷ []) ≡ yes tt → (v' : Written) (w' : List ℕ) → Wrote s m room t.width.bytes ids w v (alternatives_in (x ∷ [])) (levelled (x ∷ [])) v' w'
           → ItemsLeft s m t room ids (i + 1) v' w' four rest → Doing (i + 1) v' w' four R
       did_next x rest done k e a f c y v' w' b l =
-          let z = wrote_append s m room t.width.bytes ids w0 (at_first s m t room) k (levelled done) v w (alternatives_in (x ∷ [])) (levelled (x ∷ [])) v' w' (omega arith) (omega (arith, h.laid.ordered)) a b in
+          let z = wrote_append s m room t.width.bytes ids w0 (at_first m room) k (levelled done) v w (alternatives_in (x ∷ [])) (levelled (x ∷ [])) v' w' (omega arith) (omega (arith, h.laid.ordered)) a b in
           record {
             done = done ++ (x ∷ []);
             items = rest;
@@ -158,7 +158,7 @@ module _ (s : List ℕ) (m : Map) (t : Grammar) (room : Room) (w0 : List ℕ) (i
             check = c ∙ check_split x rest ∙ ap (λ (o : Outcome (Unit {0})). after o (λ u. check_levels rest)) y;
           }
 
-      step_by_lem : (x : Item) (rest done : List Item) (k : ℕ) → R ≡ done ++ (x ∷ rest) → Wrote s m room t.width.bytes ids w0 (at_first s m t room) k (levelled done) v w → k + alternatives_in (x ∷ rest) ≤ alternatives_in R
+      step_by_lem : (x : Item) (rest done : List Item) (k : ℕ) → R ≡ done ++ (x ∷ rest) → Wrote s m room t.width.bytes ids w0 (at_first m room) k (levelled done) v w → k + alternatives_in (x ∷ rest) ≤ alternatives_in R
           → check_levels R ≡ check_levels (x ∷ rest) → (r : Result Written Refusal) (w' : List ℕ) (v' : Written) → r ≡ Ok v' → (o : Outcome (Unit {0})) → check_levels (x ∷ []) ≡ o
           → SteppedBy s m t room ids o i v w four x rest r w' → Doing (i + 1) v' w' four R
       unfolding SteppedBy
@@ -201,8 +201,8 @@ module _ (s : List ℕ) (m : Map) (t : Grammar) (room : Room) (w0 : List ℕ) (i
           go [] e l k c =
               let n : ids ≡ ids_in (texts s w0 m) = l.names.ids_table ∙ ap (λ (ts : List Text). ids_in ts) d.wrote.same in
               let j : R ≡ d.done = e ∙ append-nil d.done in
-              let a = wrote_more s m room t.width.bytes ids w0 (at_first s m t room) d.names (levelled d.done) v w (alternatives_in R) (omega (arith, k)) d.wrote in
-              rw c (v, refl, rw (← n) (subst (λ (xs : List Item). Wrote s m room t.width.bytes ids w0 (at_first s m t room) (alternatives_in R) (levelled xs) v w) (sym j) a))
+              let a = wrote_more s m room t.width.bytes ids w0 (at_first m room) d.names (levelled d.done) v w (alternatives_in R) (omega (arith, k)) d.wrote in
+              rw c (v, refl, rw (← n) (subst (λ (xs : List Item). Wrote s m room t.width.bytes ids w0 (at_first m room) (alternatives_in R) (levelled xs) v w) (sym j) a))
           go (x ∷ rest) e l k c = absurd (omega (arith, l.many))
 
     -- theorem: after a fine item the others are left

@@ -21,7 +21,7 @@ use Rattle.laws.specs.Sort.{Ascends, by_levels}
 use Rattle.grades.specs.declared.Ids.{Ids}
 use Rattle.grades.specs.Ids.{ids_in}
 use Rattle.grades.specs.Sort.{keys_at, Sorted}
-use Rattle.grades.proofs.AscendsMean.{code_of}
+use Rattle.grades.specs.Key.{code_of}
 use Rattle.precedence.specs.declared.names.LevelName.{LevelName}
 use Rattle.precedence.specs.Names.{Naming, LevelNamed, named_texts}
 use Rattle.levels.specs.declared.Room.{Room}
@@ -95,7 +95,7 @@ places_of wd ts p (a ∷ rest) = p ∷ places_of wd ts (p + length (alternative_
 abbrev pub alternatives_at : ℕ → List Text → ℕ → Nonterminal → ℕ
 alternatives_at wd ts p d = p + 13 + wd + length (bytes_of_each (argument_bytes wd ts) d.args)
 
--- the next lower level, if there is one, is named o, and b is its number
+-- o is the name of the next lower level, if there is one, and b the number of that text
 abbrev pub LowerIs : List Text → Maybe ℕ → Option Text → Type 0
 LowerIs us b none = b ≡ None
 LowerIs us b (some t) = (has t us ≡ true) × (b ≡ Some (number us t))
@@ -107,6 +107,12 @@ items_left d o vs = map (with_fall_through d) (map (substituted d.name) (groups_
 -- the first of them
 unfoldable pub level_item : Nonterminal → Option Text → ℕ → List ℕ → Item
 level_item d o v vs = with_fall_through d (substituted d.name (record { name = level_name d.name v vs; lower = o; alternatives = of_level v (graded d) }))
+
+module _ (s : List ℕ) (m : Map) (room : Room) (wd : ℕ) (ids : Ids) where
+  -- the levels of d are written, or it is refused
+  unfoldable pub ExpandedBy : Outcome (Unit {0}) → Nonterminal → Written → List ℕ → Result Written Refusal → List ℕ → Type 0
+  ExpandedBy (yes u) d v w r w' = (v' : Written) × (r ≡ Ok v') × Wrote s m room wd ids w v (length d.alternatives) (level_items d) v' w'
+  ExpandedBy (no q sp) d v w r w' = r ≡ Err (refusal_over q sp)
 
 module _ (s : List ℕ) (m : Map) (room : Room) (wd : ℕ) (ids : Ids) (p e : ℕ) where
   module _ (places keys n : ℕ) where
@@ -137,7 +143,7 @@ module _ (s : List ℕ) (m : Map) (room : Room) (wd : ℕ) (ids : Ids) (p e : �
       pub left : Left i below v w four nonterminal lower levels
 
     -- one level was written, and one less is left
-    pub record Stepped (i : ℕ) (below : Maybe ℕ) (v : Written) (w : List ℕ) (four : Bool) (d : Nonterminal) (o : Option Text) (vs : List ℕ) (r : Next) (w' : List ℕ) : Type 0 where
+    pub record Stepped (i : ℕ) (v : Written) (w : List ℕ) (four : Bool) (d : Nonterminal) (o : Option Text) (vs : List ℕ) (r : Next) (w' : List ℕ) : Type 0 where
       pub level : ℕ
       pub above : List ℕ
       pub first : vs ≡ level ∷ above
@@ -146,7 +152,7 @@ module _ (s : List ℕ) (m : Map) (room : Room) (wd : ℕ) (ids : Ids) (p e : �
       pub wrote : Wrote s m room wd ids w v 1 (level_item d o level above ∷ []) (record { to = r.to; count = r.count }) w'
 
     unfoldable pub Steps : ℕ → Maybe ℕ → Written → List ℕ → Next → List ℕ → Type 0
-    Steps i below v w r w' = (four : Bool) (d : Nonterminal) (o : Option Text) (vs : List ℕ) → Left i below v w four d o vs → Stepped i below v w four d o vs r w'
+    Steps i below v w r w' = (four : Bool) (d : Nonterminal) (o : Option Text) (vs : List ℕ) → Left i below v w four d o vs → Stepped i v w four d o vs r w'
 
     -- all levels were written
     unfoldable pub Finishes : ℕ → Maybe ℕ → Written → List ℕ → Written → List ℕ → Type 0
@@ -165,12 +171,7 @@ module _ (s : List ℕ) (m : Map) (room : Room) (wd : ℕ) (ids : Ids) (p e : �
     pub nonterminal : Nonterminal
     pub standing : Expandable v w four nonterminal
 
-  -- its levels are written, or it is refused
-  unfoldable pub ExpandedBy : Outcome (Unit {0}) → Nonterminal → Written → List ℕ → Result Written Refusal → List ℕ → Type 0
-  ExpandedBy (yes u) d v w r w' = (v' : Written) × (r ≡ Ok v') × Wrote s m room wd ids w v (length d.alternatives) (level_items d) v' w'
-  ExpandedBy (no q sp) d v w r w' = r ≡ Err (refusal_over q sp)
-
   -- "level readable? 14. Side one of left, right, none, all? 15. Then: lowest level only `all`? 16"
   unfoldable pub ExpandsOne : Written → List ℕ → Result Written Refusal → List ℕ → Type 0
   ExpandsOne v w r w' = (four : Bool) (d : Nonterminal) → Expandable v w four d
-      → ExpandedBy (after (check_attributes d.alternatives) (λ u. check_lowest (grouped d.name (graded d)))) d v w r w'
+      → ExpandedBy s m room wd ids (after (check_attributes d.alternatives) (λ u. check_lowest (grouped d.name (graded d)))) d v w r w'

@@ -1,17 +1,13 @@
 -- The names of levels, which have no bytes yet: how many bytes they will have, and those written. Assumes nothing: these are definitions.
-use Rattle.std.specs.Prelude.{◌≡◌, Bool, false, ◌||◌, List, [], ◌∷◌, ℕ, ◌+◌, ◌-◌, ◌<◌, ltb, length, Result, Ok, Err}
+use Rattle.std.specs.Prelude.{◌≡◌, List, ℕ, ◌+◌, ◌-◌, ◌<◌, length, Result, Ok, Err}
 use Rattle.octets.specs.Working.Choice.{pick}
 use Rattle.octets.specs.Working.Stores.{store}
 use Rattle.parse_tree.specs.Plain.Tree.{Text}
 use Rattle.parse_tree.specs.Plain.WriteTape.{bytes_of_each}
 use Rattle.parse_tree.specs.Working.Encode.{atom_bytes}
 use Rattle.texts.specs.declared.Map.{Map}
+use Rattle.texts.specs.Atoms.{some_long}
 use Rattle.precedence.specs.Names.{named_text, described_texts}
-
--- whether one of the texts is longer than a text can be
-unfoldable pub too_long : List Text → Bool
-too_long [] = false
-too_long (t ∷ ts) = ltb 65535 (length t) || too_long ts
 
 -- the texts described up to record n
 abbrev pub new_texts : List ℕ → List ℕ → Map → ℕ → List Text
@@ -19,7 +15,7 @@ new_texts s w m n = described_texts s w m (n - m.count)
 
 -- their bytes counted, as an error where one is too long
 unfoldable pub fresh_of : List Text → Result ℕ ℕ
-fresh_of ts = let n = length (bytes_of_each (atom_bytes 2) ts) in pick (too_long ts) (Err n) (Ok n)
+fresh_of ts = let n = length (bytes_of_each (atom_bytes 2) ts) in pick (some_long ts) (Err n) (Ok n)
 
 -- name k is described, and how long it is
 pub record NameLong (s w : List ℕ) (m : Map) (k r : ℕ) : Type 0 where

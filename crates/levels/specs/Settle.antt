@@ -5,12 +5,13 @@ use Rattle.octets.specs.Working.Stores.{store}
 use Rattle.parse_tree.specs.Plain.Tree.{Text}
 use Rattle.parse_tree.specs.Plain.WriteTape.{bytes_of_each}
 use Rattle.parse_tree.specs.Working.Encode.{atom_bytes}
+use Rattle.texts.specs.Atoms.{some_long}
 use Rattle.texts.specs.declared.Map.{Map}
 use Rattle.texts.specs.Fields.{mark_at}
 use Rattle.texts.specs.Texts.{Whole}
 use Rattle.texts.specs.Table.{Table, Above, texts}
 use Rattle.precedence.specs.Names.{Naming, named_text, named_texts}
-use Rattle.levels.specs.Fresh.{too_long, new_texts}
+use Rattle.levels.specs.Fresh.{new_texts}
 
 -- the bytes of the names described up to n, with their commands
 unfoldable pub name_bytes : List ℕ → List ℕ → Map → ℕ → List ℕ
@@ -53,7 +54,7 @@ pub record SettlingNames (s w : List ℕ) (m : Map) (n end : ℕ) : Type 0 where
   pub naming : Naming s w m n
   pub on_tape : (z : ℕ) → Above s w m z
   pub narrower : m.buckets ≤ m.count
-  pub short : too_long (new_texts s w m n) ≡ false
+  pub short : some_long (new_texts s w m n) ≡ false
   pub records : m.base + 24 * n + length (name_bytes s w m n) ≤ end
   pub far : 8 * length s + length (name_bytes s w m n) ≤ end
   pub inside : end ≤ length w
@@ -62,7 +63,7 @@ pub record SettlingNames (s w : List ℕ) (m : Map) (n end : ℕ) : Type 0 where
 abbrev pub with_names : Map → ℕ → Map
 with_names m n = record { base = m.base; count = n; buckets = m.buckets }
 
--- r is where the first stands; the names are texts of the table; nothing else is said to be as it was but what stands outside of the records and of the names
+-- r is where the first stands; the names are texts of the table; what stands outside of the records and the names is as it was
 pub record SettledNames (s w : List ℕ) (m : Map) (n end r : ℕ) (w' : List ℕ) : Type 0 where
   pub long : length w' ≡ length w
   pub table : Table s w' (with_names m n)

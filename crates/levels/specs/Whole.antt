@@ -10,8 +10,7 @@ use Rattle.texts.specs.Table.{Table, Above, texts}
 use Rattle.passes.specs.Outcome.{Outcome, yes, no}
 use Rattle.passes.specs.Levels.{levelled, check_levels}
 use Rattle.resolve.specs.declared.Grammar.{Grammar}
-use Rattle.resolve.specs.Items.{item_place_in}
-use Rattle.resolve.proofs.GrammarLaws.{Row}
+use Rattle.resolve.specs.Items.{item_place_in, Row}
 use Rattle.grades.specs.declared.Ids.{Ids}
 use Rattle.grades.specs.Ids.{ids_in}
 use Rattle.levels.specs.declared.Room.{Room}
@@ -29,6 +28,10 @@ pub record Before (m : Map) (t : Grammar) : Type 0 where
   pub ordered : t.at ≤ t.end
   pub items : t.end ≤ m.base
   pub list : t.list + 8 * t.count ≤ m.base
+
+-- what the pass begins with
+abbrev pub at_first : Map → Room → Written
+at_first m room = record { to = room.at; count = m.count }
 
 module _ (s : List ℕ) (m : Map) (t : Grammar) (room : Room) where
   module _ (ids : Ids) where
@@ -75,13 +78,9 @@ module _ (s : List ℕ) (m : Map) (t : Grammar) (room : Room) where
     pub items : List Item
     pub stands : GrammarStands w four items
 
-  -- what the pass begins with
-  abbrev pub at_first : Written
-  at_first = record { to = room.at; count = m.count }
-
   -- a yes leaves the levels, a no gives the question's number and the span
   unfoldable pub LevelledBy : Outcome (Unit {0}) → List ℕ → List Item → Result Written Refusal → List ℕ → Type 0
-  LevelledBy (yes u) w R r w' = (v' : Written) × (r ≡ Ok v') × Wrote s m room t.width.bytes (ids_in (texts s w m)) w at_first (alternatives_in R) (levelled R) v' w'
+  LevelledBy (yes u) w R r w' = (v' : Written) × (r ≡ Ok v') × Wrote s m room t.width.bytes (ids_in (texts s w m)) w (at_first m room) (alternatives_in R) (levelled R) v' w'
   LevelledBy (no q sp) w R r w' = r ≡ Err (refusal_over q sp)
 
   -- "14, 15, 16" of every tree that stands so, and its levels

@@ -1,5 +1,5 @@
 // One annotated nonterminal: its alternatives graded and sorted, and an item written for each level.
-ghost use Rattle.std.specs.Prelude.{◌≡◌, false, None, ◌+◌, ◌*◌, ◌≤◌, ◌<◌, length};
+ghost use Rattle.std.specs.Prelude.{◌≡◌, false, None, ◌<◌, length};
 ghost use Rattle.grades.specs.Sort.{Arrays};
 ghost use Rattle.precedence.specs.Names.{Describing};
 ghost use Rattle.levels.specs.Expand.{NamesLevel, SortsKeys, SomeLeft, Steps, Finishes, SomeExpandable, ExpandsOne};
@@ -26,7 +26,7 @@ pub struct Plan {
     pub ids: Ids,
 }
 
-// An annotated nonterminal, from p up to e: the places and the sorted keys of its n alternatives are two arrays.
+// An annotated nonterminal, from p up to e (`e` for the clauses alone): the places and the sorted keys of its n alternatives are two arrays.
 #[derive(Clone, Copy)]
 pub struct Annotated {
     pub p: usize,

@@ -6,10 +6,11 @@ ghost use Rattle.parse_tree.specs.Plain.WriteTape.{bytes_of_each};
 ghost use Rattle.parse_tree.specs.Working.Encode.{atom_bytes};
 ghost use Rattle.grades.specs.Grade.{level_digits};
 ghost use Rattle.precedence.specs.Names.{Naming, named_text};
-ghost use Rattle.levels.specs.Fresh.{too_long, new_texts, fresh_of, NameLong, PutsNames};
+ghost use Rattle.texts.specs.Atoms.{some_long};
+ghost use Rattle.levels.specs.Fresh.{new_texts, fresh_of, NameLong, PutsNames};
 
 use grades::grade::put_decimal;
-use precedence::names::{base_text, long, name_mark};
+use precedence::names::{base_text, name_mark, spelt_size};
 use texts::Map;
 use texts::text::put_atom;
 
@@ -20,24 +21,24 @@ fn name_length<'a>(tape: &'a [u8], work: &'a [u8], m: Map, n: usize, k: usize) -
 {
     let x = name_mark(work, m.base, k);
     let t = base_text(tape, work, m, x.base());
-    long(t, Some(x.level()))
+    spelt_size(t, Some(x.level()))
 }
 
-// How many bytes all names described up to n have with their commands; as an error where one is too long for a text: also where a name is too long the bytes are told.
+// How many bytes all names described up to n have with their commands; as an error where one of them is too long for a text.
 pub fn count_bytes<'a>(tape: &'a [u8], work: &'a [u8], m: Map, n: usize) -> Result<usize, usize>
     requires { Naming tape.now work.now m n }
     ensures { result ≡ fresh_of (new_texts tape.now work.now m n) }
 {
     let mut bytes = 0;
-    let mut long = false;
+    let mut too_long = false;
     for k in m.count..n {
         let l = name_length(tape, work, m, n, k);
         bytes += 3 + l;
         if 65535 < l {
-            long = true;
+            too_long = true;
         }
     }
-    if long { Err(bytes) } else { Ok(bytes) }
+    if too_long { Err(bytes) } else { Ok(bytes) }
 }
 
 // A text and a level's digits behind it as an atom, to out from `to` on; says the place behind.
@@ -45,7 +46,7 @@ pub fn put_level(t: &[u8], v: u32, out: &mut [u8], to: usize) -> usize
     requires { (length t.now + length (level_digits v) < 65536) × (to + 3 + (length t.now + length (level_digits v)) ≤ length out.old) }
     ensures { PutsNames out.old to (atom_bytes 2 (t.now ++ level_digits v)) result out.new }
 {
-    put_atom(t, long(t, Some(v)) as u16, out, to);
+    put_atom(t, spelt_size(t, Some(v)) as u16, out, to);
     put_decimal(out, to + 3 + t.len(), v)
 }
 
@@ -76,7 +77,7 @@ pub fn put_names<'a>(
     out: &mut [u8],
     to: usize,
 ) -> usize
-    requires { Naming tape.now work.now m n × (too_long (new_texts tape.now work.now m n) ≡ false) × (to + length (bytes_of_each (atom_bytes 2) (new_texts tape.now work.now m n)) ≤ length out.old) }
+    requires { Naming tape.now work.now m n × (some_long (new_texts tape.now work.now m n) ≡ false) × (to + length (bytes_of_each (atom_bytes 2) (new_texts tape.now work.now m n)) ≤ length out.old) }
     ensures { PutsNames out.old to (bytes_of_each (atom_bytes 2) (new_texts tape.now work.now m n)) result out.new }
 {
     let mut q = to;

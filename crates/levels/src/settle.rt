@@ -3,7 +3,7 @@ ghost use Rattle.precedence.specs.Names.{named_text};
 ghost use Rattle.levels.specs.Settle.{NameReady, NamePut, NameSettled, SettlingNames, SettledNames};
 
 use crate::fresh::put_level;
-use precedence::names::{long, name_mark};
+use precedence::names::{name_mark, spelt_size};
 use texts::Map;
 use texts::fields::{put_mark, text_mark};
 use texts::mark::TextMark;
@@ -18,7 +18,7 @@ fn put_before(tape: &[u8], work: &mut [u8], m: Map, k: usize, q: usize) -> usize
     let y = text_mark(work, m.base, x.base());
     let t = atom(tape, y.tape_place());
     let v = x.level();
-    let to = q - (long(t, Some(v)) + 3);
+    let to = q - (spelt_size(t, Some(v)) + 3);
     put_level(t, v, work, to);
     to
 }

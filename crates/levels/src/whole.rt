@@ -1,5 +1,5 @@
 // The pass: each item copied, or written level by level.
-ghost use Rattle.std.specs.Prelude.{◌≡◌, ◌≤◌, ◌<◌};
+ghost use Rattle.std.specs.Prelude.{◌≡◌, ◌<◌};
 ghost use Rattle.levels.specs.Whole.{SomeItems, ItemSteps, SomeGrammar, Levels};
 
 use crate::expand::{Plan, expand_nonterm};

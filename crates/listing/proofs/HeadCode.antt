@@ -5,7 +5,7 @@ use Prim.Native.Nat.{ℕ, ◌+◌}
 use native.Mathlib.Omega.{arith}
 use borrow.Author.Rules.{rules}
 use borrow.Author.Tests.{ne_eqb}
-use lib.ListN.{length, get_or}
+use lib.ListN.{get_or}
 use Rattle.octets.specs.Working.Choice.{pick}
 use Rattle.octets.specs.Plain.Numbers.{le_at}
 use Rattle.parse_tree.specs.Plain.Tree.{Text}
@@ -13,14 +13,12 @@ use Rattle.parse_tree.specs.Working.Nodes.{span_in, nonterminal_here}
 use Rattle.parse_tree.specs.declared.syntax.NonterminalData.{NonterminalData}
 use Rattle.texts.specs.declared.Map.{Map}
 use Rattle.texts.specs.Table.{texts}
+use Rattle.passes.specs.Levels.{number_digits}
 use Rattle.display.specs.Follow.{word_at}
 use Rattle.precedence.specs.Write.{Puts}
-use Rattle.settling.specs.declared.Source.{Source}
-use Rattle.settling.specs.Put.{source_text, Fixed, PlacedText}
 use Rattle.settling.specs.Print.{Printable}
 use Rattle.settling.proofs.PutLaws.{then, puts_as}
 use Rattle.settling.proofs.PrintLaws.{printable_next}
-use Rattle.listing.specs.Listing.{shown_number}
 use Rattle.listing.specs.Tree.{flags_line, line_text, head_text}
 use Rattle.listing.specs.Walk.{PutsHead}
 
@@ -45,7 +43,7 @@ module _ (f : ℕ) (t : Text) where
 pub ruleset flagging = (rules, flags_none, flags_inline, flags_public, flags_both)
 
 -- ---- put_line
-pub line_put : (w w1 w2 w3 : List ℕ) (from end f lim to x y a b r : ℕ) → x ≡ from → y ≡ end → Puts w lim to (32 ∷ shown_number x) a w1 → Puts w1 lim a (45 ∷ shown_number y) b w2 → Puts w2 lim b (flags_line f) r w3
+pub line_put : (w w1 w2 w3 : List ℕ) (from end f lim to x y a b r : ℕ) → x ≡ from → y ≡ end → Puts w lim to (32 ∷ number_digits x) a w1 → Puts w1 lim a (45 ∷ number_digits y) b w2 → Puts w2 lim b (flags_line f) r w3
     → Puts w lim to (line_text from end f) r w3
 unfolding line_text
 line_put w w1 w2 w3 from end f lim to x y a b r i j p q u = rw (← i, ← j) (then p (then q u))
@@ -53,13 +51,6 @@ line_put w w1 w2 w3 from end f lim to x y a b r i j p q u = rw (← i, ← j) (t
 pub ruleset lining = (rules, line_put)
 
 -- ---- put_word, put_head
-pub text_fixed : (s w : List ℕ) (m : Map) (wd lim to : ℕ) → Printable s w m wd lim to → (t : Text) (p : Source) → PlacedText s w m t p → Fixed (length w) lim p
-text_fixed s w m wd lim to g t p d = d.fixed lim g.above
-
-pub word_put : (s w : List ℕ) (m : Map) (wd at lim to r : ℕ) (w1 : List ℕ) (p : Source) → PlacedText s w m (word_at wd (texts s w m) w at) p
-    → Puts w lim to (source_text w p) r w1 → Puts w lim to (word_at wd (texts s w m) w at) r w1
-word_put s w m wd at lim to r w1 p d u = puts_as d.text u
-
 pub head_put : (s w : List ℕ) (m : Map) (wd at lim to q r : ℕ) (d : NonterminalData) (w1 w2 : List ℕ) → d ≡ nonterminal_here wd w at
     → Puts w lim to (word_at wd (texts s w m) w (at + 9)) q w1 → Puts w1 lim q (line_text d.span.0 d.span.1 d.flags) r w2 → Printable s w m wd lim to → PutsHead s w m wd at lim to r w2
 unfolding head_text span_in
@@ -69,7 +60,5 @@ head_put s w m wd at lim to q r d w1 w2 i u v g =
     ∙ ap (λ (k : ℕ). word_at wd (texts s w m) w (at + 9) ++ line_text (le_at 4 w (at + 1)) (le_at 4 w k) (get_or w (at + 9 + wd) 0)) five in
     let e : Puts w lim to (head_text wd (texts s w m) w at) r w2 = puts_as z (then u v) in
     record { puts = e; printable = printable_next s w m wd lim to g (head_text wd (texts s w m) w at) r w2 e }
-
-pub ruleset wording = (rules, text_fixed, word_put)
 
 pub ruleset heading = (rules, head_put)

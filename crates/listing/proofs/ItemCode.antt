@@ -123,12 +123,3 @@ pub ruleset somewhere = (some_alternatives)
 module _ (s w : List ℕ) (m : Map) (wd at a n : ℕ) (d : NonterminalData) (e : a ≡ first_alternative wd w at) (i : n ≡ d.alternatives) (y : d ≡ nonterminal_here wd w at) where
   many : n ≡ le_at 2 w (at + 11 + wd)
   many = i ∙ ap (λ (k : NonterminalData). k.alternatives) y
-
-  pub rest_some : (z : ℕ) → SomeAll (AlternativeGood wd) (alternative_bytes wd) s w m (le_at 2 w (at + 11 + wd)) (first_alternative wd w at) z → SomeAll (AlternativeGood wd) (alternative_bytes wd) s w m n a z
-  rest_some z h = rw (e, many) h
-
-  pub rest_shown : (lim to : ℕ) (r : Printed) (w1 : List ℕ) → ShowsAll (AlternativeGood wd) (alternative_bytes wd) s w m listed_alternative n a lim to r w1
-      → ShowsAll (AlternativeGood wd) (alternative_bytes wd) s w m listed_alternative (le_at 2 w (at + 11 + wd)) (first_alternative wd w at) lim to r w1
-  rest_shown lim to r w1 h = rw (← e, ← many) h
-
-pub ruleset resting = (rules, rest_some, rest_shown)

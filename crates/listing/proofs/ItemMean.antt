@@ -22,11 +22,12 @@ use Rattle.parse_tree.proofs.SpanLaws.{length_span}
 use Rattle.parse_tree.proofs.TextLaws.{text_number}
 use Rattle.texts.specs.declared.Map.{Map}
 use Rattle.texts.specs.Table.{texts}
+use Rattle.passes.specs.Levels.{number_digits}
 use Rattle.resolve.proofs.GrammarLaws.{headed}
 use Rattle.grades.specs.Annotations.{first_alternative}
 use Rattle.grades.proofs.AlternativesMean.{first_means}
 use Rattle.display.specs.Follow.{word_at}
-use Rattle.listing.specs.Listing.{shown_number, shown_span, shown_flags}
+use Rattle.listing.specs.Listing.{shown_span, shown_flags}
 use Rattle.listing.specs.Tree.{flags_line, line_text, head_text}
 use Rattle.listing.specs.Walk.{OneStands, AllStand, AlternativeGood, ItemGood}
 
@@ -45,8 +46,8 @@ module _ (wd : ℕ) (ts : List Text) (w : List ℕ) (at : ℕ) (d : Nonterminal)
   line_is : line_text d.span.0 d.span.1 (bit d.inline + (bit d.public + bit d.public)) ≡ 0x20 ∷ (shown_span d.span ++ (shown_flags d ++ (0x0a ∷ [])))
   unfolding line_text shown_span shown_flags
   line_is =
-      let N : Text = shown_number d.span.0 in
-      let M : Text = shown_number d.span.1 in
+      let N : Text = number_digits d.span.0 in
+      let M : Text = number_digits d.span.1 in
       let F : Text = (cond d.public (ascii " pub") [] ++ cond d.inline (ascii " inline") []) ++ (0x0a ∷ []) in
       ap (λ (f : Text). 0x20 ∷ (N ++ (0x2d ∷ (M ++ f)))) (flags_are d.inline d.public) ∙ ap (λ (x : Text). 0x20 ∷ x) (sym (append_assoc N (0x2d ∷ M) F))
 

@@ -1,5 +1,4 @@
 -- What the proofs of several functions use: NameCode of code, NameLaws of lists, NameMean of what stands in work.
-mod NumberCode
 mod RefusedCode
 mod HeadCode
 mod ActionCode

@@ -12,7 +12,7 @@ use Rattle.octets.specs.Plain.Runs.{part}
 use Rattle.octets.specs.Working.Stores.{store}
 use Rattle.parse_tree.specs.Plain.Tree.{Text}
 use Rattle.parse_tree.specs.Plain.WriteTape.{bytes_of_each}
-use Rattle.parse_tree.specs.Working.Decode.{decode_by}
+use Rattle.parse_tree.specs.Working.Decode.{decode_by, decode_any}
 use Rattle.parse_tree.specs.Working.Encode.{item_bytes}
 use Rattle.parse_tree.specs.declared.refusal.Refusal.{Refusal}
 use Rattle.texts.specs.Atoms.{atoms_of}
@@ -79,7 +79,7 @@ module _ (s w : List ℕ) (a : Atoms) (at n : ℕ) (v : Valid false 2 s w a at n
     some = record { end = 7 * size + size; elements = v.items; many = sym v.many; stand = stand; below = omega arith }
 
     shown : (r : Printed) (w₂ : List ℕ) → ShowsAll (ItemGood 2) (item_bytes 2) s w₁ a.texts listed_item n (7 * size) (length w₁) (8 * length s) r w₂ → ListsTree s (length w) r.to w₂
-    unfolding ListsTree ListsRead listed
+    unfolding ListsTree ListsRead decode_any listed
     shown r w₂ h =
         let told = (h.each (7 * size + size) v.items (sym v.many) stand (omega arith)).1 in
         let p : PutsFrom (length w) (8 * length s) (bytes_of_each listed_item v.items) r.to w₂ = record { work = w₁; long = long; puts = rw (← long) (puts_as told h.puts) } in
@@ -119,16 +119,11 @@ pub ruleset validated = (rules, layout_fits, copy_inside, copy_room, layout_prin
 -- ---- list_tree: x is what `validate` answered
 module _ (s w : List ℕ) (x : Result Validated Refusal) (i : Validates false 2 s x w) where
   pub tree_refused : (why : Refusal) (k : ℕ) → x ≡ Err why → ListsTree s k (8 * length s) w
-  unfolding Validates ListsTree ListsRead
+  unfolding Validates ListsTree ListsRead decode_any
   tree_refused why k e = let n : Refuses (decode_by false 2 s) why = rw e at i in rw n.is refl
 
   pub tree_valid : (v : Validated) → x ≡ Ok v → Valid false 2 s w v.atoms v.at v.items
   unfolding Validates
   tree_valid v e = rw e at i
 
-pub tree_same : (s : List ℕ) (k n r : ℕ) (w : List ℕ) → ListsTree s k r w → k ≡ n → ListsTree s n r w
-tree_same s k n r w h e = rw (← e) h
-
 pub ruleset trees = (rules, tree_refused, tree_valid)
-
-pub ruleset lasting = (rules, tree_same)

@@ -7,13 +7,13 @@ use native.Mathlib.Omega.{arith}
 use borrow.Author.Rules.{rules}
 use borrow.Author.Tests.{leb-true}
 use lib.ListN.{length, take, drop, get_or, length-append}
-use lib.Seq.{take-append_seam, length-take-le}
+use lib.Seq.{take-append_seam}
 use mir.Val as Bound
 use mir.Syntax.{w8}
 use Rattle.parse_tree.specs.Plain.Tree.{Stage}
 use Rattle.parse_tree.specs.Plain.Reading.{Reading, got}
 use Rattle.parse_tree.specs.Plain.WriteTape.{tape_of}
-use Rattle.parse_tree.specs.Working.Decode.{decode_by}
+use Rattle.parse_tree.specs.Working.Decode.{decode_by, decode_any}
 use Rattle.parse_tree.specs.declared.refusal.Refusal.{Refusal}
 use Rattle.parse_tree.proofs.ReadTapeIs.{read_is}
 use Rattle.passes.specs.Outcome.{Outcome, yes, no}
@@ -37,21 +37,6 @@ unfolding refused_by listed_from
 no_done w why r w₁ p = record { from = refl; puts = record { work = w; long = refl; puts = p } }
 
 pub ruleset listing_no = (rules, no_done)
-
--- ---- `list_yes`: the first n bytes of the output are lent
-pub front_inside : (o w : List ℕ) (n : ℕ) → FrontFits o w n → n ≤ length o
-front_inside o w n f = f.inside
-
-pub front_long : (o w : List ℕ) (n : ℕ) → FrontFits o w n → length (take n o) ≡ n
-front_long o w n f = length-take-le n o f.inside
-
-pub front_room : (o w : List ℕ) (n : ℕ) → FrontFits o w n → 8 * length (take n o) ≤ length w
-front_room o w n f = omega (arith, front_long o w n f, f.room)
-
-pub front_done : (o : List ℕ) (n k to : ℕ) (w' : List ℕ) → ListsTree (take n o) k to w' → ListsFront o n k (record { from = 8 * n; to = to }) w'
-front_done o n k to w' l = record { from = refl; lists = l }
-
-pub ruleset listing_yes = (rules, front_inside, front_long, front_room, front_done)
 
 -- ---- `list`: y is what the call answered, o₁ and w₁ what it left
 module _ (s o w : List ℕ) (y : Result ℕ Refusal) (o₁ w₁ : List ℕ) (c : Called (whole true 2 s 64 (length o) (length w)) s o w y o₁ w₁) where
@@ -99,7 +84,7 @@ module _ (s o w : List ℕ) (y : Result ℕ Refusal) (o₁ w₁ : List ℕ) (c :
         ap (λ (k : ℕ). take k o₁) accepted.2 ∙ ap (take (length t)) tree_is ∙ take-append_seam t (drop (length t) o)
 
     pub list_accepted : ((j : ℕ) → Bound.Fits w8 (get_or s j 0)) → length w₁ ≡ length w → (r : Listed) (w₂ : List ℕ) → ListsFront o₁ n (length w₁) r w₂ → PutsListing (length w) x r w₂
-    unfolding ListsTree ListsRead listed_from
+    unfolding ListsTree ListsRead decode_any listed_from
     list_accepted b l r w₂ d =
         let g = accepted.0 in
         let t = tape_of 2 g in

@@ -1,20 +1,16 @@
 -- The listing of an answer, from document 01's section "Cases". Assumes nothing: these are definitions.
-use Rattle.std.specs.Prelude.{ℕ, cond, [], ◌∷◌, ◌++◌}
+use Rattle.std.specs.Prelude.{cond, [], ◌∷◌, ◌++◌}
 use Rattle.parse_tree.specs.Plain.Tree.{Text, Action, no_action, user, fallible, lookahead_action, lookbehind_action, Alternative, Nonterminal, Item, item, Stage}
 use Rattle.parse_tree.specs.Plain.Texts.{ascii}
 use Rattle.parse_tree.specs.Plain.Display.{shown_all}
 use Rattle.parse_tree.specs.Plain.WriteTape.{bytes_of_each}
 use Rattle.parse_tree.specs.declared.syntax.Span.{Span}
 use Rattle.passes.specs.Outcome.{Outcome, yes, no}
-use Rattle.passes.specs.Levels.{decimal_from}
-
--- a number of 64 bits has at most twenty digits
-unfoldable pub shown_number : ℕ → Text
-shown_number n = decimal_from 20 n []
+use Rattle.passes.specs.Levels.{number_digits}
 
 -- "span as `s-e`"
 unfoldable pub shown_span : Span → Text
-shown_span s = shown_number s.0 ++ (0x2d ∷ shown_number s.1)
+shown_span s = number_digits s.0 ++ (0x2d ∷ number_digits s.1)
 
 -- "`pub`, `inline` where set, one space between"
 unfoldable pub shown_flags : Nonterminal → Text
@@ -40,4 +36,4 @@ listed_item (Item.terminal s o t) = []
 -- "A refusal prints `refused`, number, both place numbers on one line, one space between"
 unfoldable pub listed : Outcome Stage → Text
 listed (yes g) = bytes_of_each listed_item g.items
-listed (no n s) = ascii "refused " ++ (shown_number n ++ (0x20 ∷ (shown_number s.0 ++ (0x20 ∷ (shown_number s.1 ++ (0x0a ∷ []))))))
+listed (no n s) = ascii "refused " ++ (number_digits n ++ (0x20 ∷ (number_digits s.0 ++ (0x20 ∷ (number_digits s.1 ++ (0x0a ∷ []))))))

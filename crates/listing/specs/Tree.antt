@@ -6,8 +6,8 @@ use Rattle.parse_tree.specs.Plain.Tree.{Text, Stage}
 use Rattle.parse_tree.specs.Plain.Texts.{ascii}
 use Rattle.parse_tree.specs.declared.refusal.Refusal.{Refusal}
 use Rattle.passes.specs.Outcome.{Outcome, no}
+use Rattle.passes.specs.Levels.{number_digits}
 use Rattle.display.specs.Follow.{word_at}
-use Rattle.listing.specs.Listing.{shown_number}
 
 -- ---- a refusal
 -- "A refusal prints `refused`, .."
@@ -16,7 +16,7 @@ refused_word = ascii "refused"
 
 -- ".. both place numbers on one line, one space between"
 unfoldable pub places_text : ℕ → ℕ → Text
-places_text from end = (0x20 ∷ shown_number from) ++ ((0x20 ∷ shown_number end) ++ (0x0a ∷ []))
+places_text from end = (0x20 ∷ number_digits from) ++ ((0x20 ∷ number_digits end) ++ (0x0a ∷ []))
 
 -- a refusal as an answer
 unfoldable pub refused_by : Refusal → Outcome Stage
@@ -29,7 +29,7 @@ flags_line f = pick (eqb f 0) (ascii "\n") (pick (eqb f 1) (ascii " inline\n") (
 
 -- what stands behind the name
 unfoldable pub line_text : ℕ → ℕ → ℕ → Text
-line_text from end f = (0x20 ∷ shown_number from) ++ ((0x2d ∷ shown_number end) ++ flags_line f)
+line_text from end f = (0x20 ∷ number_digits from) ++ ((0x2d ∷ number_digits end) ++ flags_line f)
 
 unfoldable pub head_text : ℕ → List Text → List ℕ → ℕ → Text
 head_text wd ts w at = word_at wd ts w (at + 9) ++ line_text (le_at 4 w (at + 1)) (le_at 4 w (at + 5)) (get_or w (at + 9 + wd) 0)

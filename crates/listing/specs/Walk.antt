@@ -5,7 +5,7 @@ use Rattle.octets.specs.Plain.Runs.{Lies}
 use Rattle.parse_tree.specs.Plain.Tree.{Text, Alternative, Item, Stage}
 use Rattle.parse_tree.specs.Plain.Reading.{Reading, got, refused}
 use Rattle.parse_tree.specs.Plain.WriteTape.{bytes_of_each}
-use Rattle.parse_tree.specs.Working.Decode.{decode_by}
+use Rattle.parse_tree.specs.Working.Decode.{decode_any}
 use Rattle.parse_tree.specs.Working.Within.{Each, AlternativeWithin, ItemWithin}
 use Rattle.texts.specs.declared.Map.{Map}
 use Rattle.texts.specs.Table.{texts}
@@ -79,4 +79,4 @@ ListsRead (refused k p) t n r w' = r ≡ 8 * t
 
 -- work has n bytes
 unfoldable pub ListsTree : List ℕ → ℕ → ℕ → List ℕ → Type 0
-ListsTree s n r w' = ListsRead (decode_by false 2 s) (length s) n r w'
+ListsTree s n r w' = ListsRead (decode_any s) (length s) n r w'

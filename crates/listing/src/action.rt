@@ -6,8 +6,9 @@ ghost use Rattle.settling.specs.Print.{Printable};
 ghost use Rattle.display.specs.Follow.{word_at};
 ghost use Rattle.listing.specs.Tree.{action_at};
 
+use precedence::write::put_byte;
 use settling::Page;
-use settling::put::{put_byte, put_slice};
+use settling::put::put_slice;
 use settling::words::{put_text, word_source};
 
 // An arrow, and the text whose number stands at a place. The text is found first: the arrow may be put over that number.

@@ -1,5 +1,5 @@
 // The lines of items that stand in work: those of nonterminals, with their alternatives.
-ghost use Rattle.std.specs.Prelude.{◌≡◌, ◌+◌, ◌≤◌, length};
+ghost use Rattle.std.specs.Prelude.{◌+◌, ◌≤◌, length};
 ghost use Rattle.octets.specs.Plain.Numbers.{le_at};
 ghost use Rattle.parse_tree.specs.Working.Encode.{alternative_bytes, item_bytes};
 ghost use Rattle.grades.specs.Annotations.{first_alternative};

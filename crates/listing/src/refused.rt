@@ -6,7 +6,8 @@ ghost use Rattle.listing.specs.Tree.{refused_word, refused_by, places_text};
 
 use crate::number::put_led;
 use parse_tree::refusal::Refusal;
-use settling::put::{put_byte, put_slice};
+use precedence::write::put_byte;
+use settling::put::put_slice;
 
 fn put_refused(work: &mut [u8], lim: usize, to: usize) -> usize
     requires { lim ≤ length work.old }

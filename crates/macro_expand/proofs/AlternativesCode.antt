@@ -27,18 +27,17 @@ use Rattle.expander.specs.Ground.{top_of, list_place}
 use Rattle.expander.specs.Names.{named_in}
 use Rattle.appending.specs.declared.Appended.{Appended}
 use Rattle.appending.specs.declared.symbols.Copied.{Copied}
-use Rattle.appending.specs.declared.symbols.Coming.{Coming}
 use Rattle.appending.specs.Pieces.{plainly, then_piece, Appends}
 use Rattle.appending.proofs.PiecesLaws.{steady_plainly, appends_then, appends_is, appends_puts}
 use Rattle.appending.proofs.SymbolsStays.{texts-stay}
 use Rattle.macro_expand.specs.declared.arguments.Call.{Call}
-use Rattle.macro_expand.specs.PutIn.{syms_piece, Placed, Framed, Frame, SomeInsides, PutsInAll}
+use Rattle.macro_expand.specs.PutIn.{syms_piece, Placed, Framed, SomeFramed, SomeInsides, PutsInAll}
 use Rattle.macro_expand.specs.Alternatives.{alternative_piece, bare_out, SomeAlternative, OpensAlternative, PutsAlternative}
 use Rattle.macro_expand.proofs.FrameLaws.{placed_stays, frame_stays}
 use Rattle.macro_expand.proofs.PutInPlain.{named-extends}
 use Rattle.macro_expand.proofs.AlternativesTrees.{bare_bytes, Parted, parted, expanded_bytes, expanded_texts, expanded_fits}
 
--- ---- put_bare
+-- ---- put_unconditioned
 module _ (w : List ℕ) (p e span lim to : ℕ) (h : p + 11 ≤ e) (b : e ≤ to) (d : e ≤ length w) (u : to ≤ lim + 1) (q : ℕ) (w1 : List ℕ) (A : Puts w lim to (18 ∷ (le 8 span ++ part (p + 9) (p + 10) w)) q w1)
     (r : ℕ) (w2 : List ℕ) (B : Puts w1 lim q (0 ∷ []) r w2) where
   on : to ≤ q
@@ -135,7 +134,7 @@ module _ (s w : List ℕ) (g : Ground) (n lim : ℕ) (c : Call) (p : ℕ) (v : A
         (expanded_fits four wd ts names (renamed_all args) sp a W)
 
 -- ---- the code
-module _ (s w : List ℕ) (g : Ground) (n lim : ℕ) (c : Call) (p : ℕ) (v : Appended) (K : Frame s w g n lim c v) (I : SomeAlternative s w g c p v) where
+module _ (s w : List ℕ) (g : Ground) (n lim : ℕ) (c : Call) (p : ℕ) (v : Appended) (K : SomeFramed s w g n lim c v) (I : SomeAlternative s w g c p v) where
   ahead : p + 14 + g.width.bytes ≤ conditions_from g.width.bytes w p
   ahead = alternative_head_lem s w g n lim c p v K.places K.names K.args I.four I.end I.alternative K.framed I.within I.placed
 
@@ -194,16 +193,3 @@ module _ (s w : List ℕ) (g : Ground) (n lim : ℕ) (c : Call) (p : ℕ) (v : A
       }
 
 pub ruleset singling = (rules, single_whole, single_head_lem, single_inside, single_cursor, single_ahead, single_before, single_room, single_opens)
-
--- ---- expand_alternative
-module _ (s w : List ℕ) (g : Ground) (n lim : ℕ) (c : Call) (span p : ℕ) (v : Appended) (r : Coming) (w' : List ℕ) (O : OpensAlternative s w g n lim c span p v r w') where
-  pub opened_frame : Frame s w' g n lim c r.run.out
-  opened_frame = O.frame
-
-  pub opened_insides : SomeInsides s w' g 64 r.many r.run
-  opened_insides = O.insides
-
-  pub opened_carry : (t : Copied) (w'' : List ℕ) → PutsInAll s w' g n lim c 64 r.many r.run t w'' → PutsAlternative s w g n lim c span p v t.out w''
-  opened_carry t w'' U = O.carry t w'' U
-
-pub ruleset Opened-one = (rules, opened_frame, opened_insides, opened_carry)

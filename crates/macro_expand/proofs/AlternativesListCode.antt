@@ -15,7 +15,7 @@ use Rattle.parse_tree.specs.Working.Within.{Each, AlternativeWithin}
 use Rattle.parse_tree.specs.declared.syntax.Span.{Span}
 use Rattle.texts.specs.Table.{texts}
 use Rattle.passes.specs.Outcome.{Outcome, yes, no}
-use Rattle.passes.specs.Macros.{evaluate_condition, expand_alternative}
+use Rattle.passes.specs.Macros.{evaluate_cond, expand_alternative}
 use Rattle.grades.specs.Annotations.{alternative_end}
 use Rattle.grades.proofs.AlternativesMean.{end_means}
 use Rattle.replacing.specs.Trees.{renamed_all}
@@ -27,7 +27,7 @@ use Rattle.macro_expand.specs.declared.arguments.Call.{Call}
 use Rattle.macro_expand.specs.declared.arguments.NotLiteral.{NotLiteral}
 use Rattle.std.specs.Prelude.{Result, Ok, Err}
 use Rattle.macro_expand.specs.Arguments.{ReadableCall, holds_at}
-use Rattle.macro_expand.specs.PutIn.{Placed, Framed, Frame}
+use Rattle.macro_expand.specs.PutIn.{Placed, Framed, SomeFramed}
 use Rattle.macro_expand.specs.Alternatives.{alternatives_piece, held, SomeAlternative, PutsAlternative, PutsIf, SomeAlternatives, PutsHolding}
 use Rattle.macro_expand.proofs.FrameLaws.{placed_split, placed_stays, frame_stays, frame_readable}
 use Rattle.macro_expand.proofs.AlternativesTrees.{parted}
@@ -37,7 +37,7 @@ use Rattle.macro_expand.proofs.ConditionsMean.{told_by, holds-means}
 
 -- ---- expand_if
 module _ (s w : List ℕ) (g : Ground) (n lim : ℕ) (c : Call) (span p : ℕ) (v : Appended) where
-  module _ (K : Frame s w g n lim c v) (I : SomeAlternative s w g c p v) where
+  module _ (K : SomeFramed s w g n lim c v) (I : SomeAlternative s w g c p v) where
     pub if_readable : ReadableCall g c w
     if_readable = frame_readable s w g n lim c v K.places K.names K.args K.framed
 
@@ -53,7 +53,7 @@ module _ (s w : List ℕ) (g : Ground) (n lim : ℕ) (c : Call) (span p : ℕ) (
     -- what holds of it
     module _ (ps : List ℕ) (names : List Text) (args : Syms) (four : Bool) (e : ℕ) (a : Alternative) (sp : Span) (F : Framed s w g n lim c v ps names args) (W : AlternativeWithin four g.width.bytes (texts s w g.m) a)
         (P : Placed w g v p e (alternative_bytes g.width.bytes (texts s w g.m) a)) (u : e ≤ c.end) where
-      means : evaluate_condition names (renamed_all args) a.condition ≡ told_by w j
+      means : evaluate_cond names (renamed_all args) a.condition ≡ told_by w j
       means = holds-means s w g n lim c v ps names args F p e a four W (parted four g.width.bytes (texts s w g.m) w p e a W P.lies) u ∙ ap (told_by w) (sym d)
 
       held-is : held sp names (renamed_all args) (a ∷ []) ≡ elim (told_by w j) [ yes b ↦ cond b (expand_alternative sp names (renamed_all args) a ∷ []) [] | no k q ↦ [] ]
@@ -102,14 +102,14 @@ module _ (s w₀ : List ℕ) (g : Ground) (n lim : ℕ) (c : Call) (span k from 
         → Appends s g n lim ps w₀ v (alternatives_piece g.width.bytes (held sp names (renamed_all args) xs)) v' w'
 
   pub record Adding (w : List ℕ) (i p : ℕ) (r : Appended) : Type 0 where
-    pub frame : Frame s w g n lim c r
+    pub frame : SomeFramed s w g n lim c r
     pub some : SomeAlternatives s w g c span i p r
     pub long : length w ≡ length w₀
     pub each : (ps : List ℕ) (names : List Text) (args : Syms) (four : Bool) (e : ℕ) (xs : List Alternative) (sp : Span) → Framed s w₀ g n lim c v ps names args → length xs ≡ k
         → Each (AlternativeWithin four g.width.bytes (texts s w₀ g.m)) xs → Placed w₀ g v from e (bytes_of_each (alternative_bytes g.width.bytes (texts s w₀ g.m)) xs) → e ≤ c.end → le 8 span ≡ span_bytes sp
         → Rest w i p r ps names args four e xs sp
 
-  pub adding_start : Frame s w₀ g n lim c v → SomeAlternatives s w₀ g c span k from v → Adding w₀ k from v
+  pub adding_start : SomeFramed s w₀ g n lim c v → SomeAlternatives s w₀ g c span k from v → Adding w₀ k from v
   adding_start K I = record {
     frame = K;
     some = I;
@@ -118,7 +118,7 @@ module _ (s w₀ : List ℕ) (g : Ground) (n lim : ℕ) (c : Call) (span k from 
   }
 
   module _ (w : List ℕ) (i p : ℕ) (r : Appended) (inv : Adding w i p r) where
-    pub adding_frame : Frame s w g n lim c r
+    pub adding_frame : SomeFramed s w g n lim c r
     adding_frame = inv.frame
 
     pub adding_long : length w ≡ length w₀
@@ -221,13 +221,13 @@ module _ (s w₀ : List ℕ) (g : Ground) (n lim : ℕ) (c : Call) (span k from 
 
         record Next : Type 0 where
           pub alternatives : SomeAlternatives s w' g c span (i - 1) q t
-          pub frame : Frame s w' g n lim c t
+          pub frame : SomeFramed s w' g n lim c t
           pub long : length w' ≡ length w
 
         next-some : (sp : Span) → le 8 span ≡ span_bytes sp → Next
         next-some sp S = go inv.some.alternatives inv.some.many inv.some.within inv.some.placed
           where
-            K : Frame s w g n lim c r
+            K : SomeFramed s w g n lim c r
             K = inv.frame
 
             go : (ys : List Alternative) → length ys ≡ i → Each (AlternativeWithin inv.some.four g.width.bytes (texts s w g.m)) ys → Placed w g r p inv.some.end (bytes_of_each (alternative_bytes g.width.bytes (texts s w g.m)) ys) → Next

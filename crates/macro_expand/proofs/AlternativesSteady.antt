@@ -11,7 +11,7 @@ use Rattle.parse_tree.specs.Working.Encode.{alternative_bytes}
 use Rattle.parse_tree.specs.declared.syntax.Span.{Span}
 use Rattle.passes.specs.Sizes.{each, alternative_fits}
 use Rattle.passes.specs.Outcome.{Outcome, yes, no}
-use Rattle.passes.specs.Macros.{evaluate_condition, expand_alternative}
+use Rattle.passes.specs.Macros.{evaluate_cond, expand_alternative}
 use Rattle.replacing.proofs.ThereBytes.{bytes_known, alternative_known}
 use Rattle.expander.specs.declared.Ground.{Ground}
 use Rattle.appending.specs.declared.Appended.{Appended}
@@ -47,7 +47,7 @@ module _ (s : List ℕ) (g : Ground) (n lim : ℕ) (ps : List ℕ) where
       → Appends s g n lim ps w v (alternatives_piece g.width.bytes (held sp names args (a ∷ []))) v1 w1 → Appends s g n lim ps w1 v1 (alternatives_piece g.width.bytes (held sp names args rest)) v2 w2
       → Appends s g n lim ps w v (alternatives_piece g.width.bytes (held sp names args (a ∷ rest))) v2 w2
   unfolding held texts_of_each bytes_of_each
-  held_then sp names args a rest w v v1 w1 v2 w2 H A B = go (evaluate_condition names args a.condition) (held sp names args rest) A B
+  held_then sp names args a rest w v v1 w1 v2 w2 H A B = go (evaluate_cond names args a.condition) (held sp names args rest) A B
     where
       none_first : (ys : List Alternative) → Appends s g n lim ps w v (alternatives_piece g.width.bytes []) v1 w1 → Appends s g n lim ps w1 v1 (alternatives_piece g.width.bytes ys) v2 w2 → Appends s g n lim ps w v (alternatives_piece g.width.bytes ys) v2 w2
       none_first ys P Q =

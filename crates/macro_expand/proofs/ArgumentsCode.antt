@@ -2,7 +2,7 @@
 use mathlib.Core.Path.{◌≡◌, refl, sym, ap, ◌∙◌}
 use mathlib.Core.Bool.{Bool, true, false, beq}
 use mathlib.Core.List.{List}
-use Prim.Native.Nat.{ℕ, suc, ◌+◌, ◌-◌, ◌*◌, ◌≤◌, ◌<◌}
+use Prim.Native.Nat.{ℕ, suc, ◌+◌, ◌-◌, ◌≤◌, ◌<◌}
 use native.Mathlib.Omega.{arith}
 use native.Mathlib.Nat.{mul-suc}
 use borrow.Author.Rules.{rules}
@@ -16,7 +16,6 @@ use Rattle.parse_tree.specs.Working.Nodes.{alternative_here}
 use Rattle.parse_tree.specs.declared.syntax.Alternative.{Alternative}
 use Rattle.grades.specs.Skip.{skip_out}
 use Rattle.grades.specs.Annotations.{conditions_from, alternative_end}
-use Rattle.grades.proofs.AnnotationsCode.{times-attributes, sum_attributes}
 use Rattle.expander.specs.declared.Ground.{Ground}
 use Rattle.macro_expand.specs.declared.arguments.Call.{Call}
 use Rattle.macro_expand.specs.declared.arguments.NotLiteral.{NotLiteral}
@@ -118,7 +117,7 @@ module _ (g : Ground) (c : Call) (w : List ℕ) (at : ℕ) where
   judge_behind h = cc (le-leb c.end at h)
 
   module _ (h : at < c.end) (k : ℕ) (i : k ≡ le_at g.width.bytes w (at + 9)) (f : Option ℕ) (j : f ≡ argument_for g c w k) where
-    here : judged_at g c w at ≡ judged_by g c w at f
+    here : judged_at g c w at ≡ judged_by g w at f
     unfolding judged_at pick
     here = cc (lt-leb c.end at h)
 
@@ -141,13 +140,6 @@ module _ (g : Ground) (c : Call) (w : List ℕ) (at : ℕ) where
         judge_other z = cc (here, lt-leb g.end p l, ne_eqb (get_or w p 0) 34 z)
 
 pub ruleset judging = (rules, judge_behind, judge_none, judge_past, judge_is, judge_other)
-
--- ---- conditions
-pub conditions-are : (w : List ℕ) (wd p n : ℕ) → n ≡ get_or w (p + 9) 0 → p + (14 + wd) + n * (2 + 3 * wd) ≡ conditions_from wd w p
-unfolding conditions_from
-conditions-are w wd p n z = cc
-
-pub ruleset conditioning = (rules, times-attributes, sum_attributes, conditions-are)
 
 -- ---- holds
 module _ (g : Ground) (c : Call) (w : List ℕ) (p : ℕ) where

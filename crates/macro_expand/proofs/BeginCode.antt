@@ -10,7 +10,7 @@ use borrow.Author.Rules.{rules}
 use lib.ListN.{length, get_or}
 use Rattle.octets.specs.Plain.Numbers.{le_at, le, Bytes}
 use Rattle.octets.proofs.NumbersLaws.{low_bytes}
-use Rattle.parse_tree.specs.Plain.Tree.{Text, Sym}
+use Rattle.parse_tree.specs.Plain.Tree.{Text, Sym, sym_span}
 use Rattle.parse_tree.specs.Plain.Texts.{number}
 use Rattle.parse_tree.specs.Plain.Display.{print}
 use Rattle.precedence.specs.Write.{Puts, alternative_head}
@@ -26,7 +26,7 @@ use Rattle.appending.specs.Pieces.{naming, Appends}
 use Rattle.appending.proofs.BuiltLaws.{number-gives}
 use Rattle.appending.proofs.PiecesLaws.{steady_naming, appends_then, appends_gives}
 use Rattle.macro_expand.specs.declared.begin.Named.{Named}
-use Rattle.macro_expand.specs.Expand.{sym_span, head_bytes, head_piece, Popped, SomePopped, IsAny, NamedBoth, NamesBoth, Begins}
+use Rattle.macro_expand.specs.Expand.{head_bytes, head_piece, Popped, SomePopped, IsAny, NamedBoth, NamesBoth, Begins}
 use Rattle.macro_expand.proofs.PoppedLaws.{popped_here, popped_print, popped_room, popped_named, popped_names_room, popped_span}
 use Rattle.macro_expand.proofs.ItemPieces.{item_head_lem, alternative_head_lem, told, appends_told, appends_has, appends_number}
 

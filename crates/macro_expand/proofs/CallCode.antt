@@ -11,7 +11,7 @@ use Rattle.octets.specs.Plain.Numbers.{le}
 use Rattle.octets.specs.Plain.Runs.{Lies}
 use Rattle.octets.proofs.LiesLaws.{lies_split, lies_first, lies_from}
 use Rattle.octets.proofs.NumbersLaws.{length-le, low_bytes}
-use Rattle.parse_tree.specs.Plain.Tree.{Text, Sym, Syms, ambiguous, bare, quoted, regex, nonterminal, lookahead, lookbehind, error, repeat, choose, name, macro, leaf, around, over, Nonterminal, item}
+use Rattle.parse_tree.specs.Plain.Tree.{Text, Sym, Syms, macro, over, Nonterminal, item}
 use Rattle.parse_tree.specs.Plain.Texts.{number, with_new}
 use Rattle.parse_tree.specs.Plain.Display.{print}
 use Rattle.parse_tree.specs.Plain.WriteTape.{bytes_of_each, bit}
@@ -22,8 +22,6 @@ use Rattle.parse_tree.specs.declared.syntax.Span.{Span}
 use Rattle.parse_tree.proofs.SizeLaws.{length_span}
 use Rattle.texts.specs.Table.{texts}
 use Rattle.laws.specs.Flat.{sym_node, children}
-use Rattle.laws.specs.Keys.{Expands}
-use Rattle.replacing.specs.Trees.{is_key}
 use Rattle.octets.specs.Working.Choice.{pick}
 use Rattle.resolve.proofs.GrammarLaws.{named, Headed, headed}
 use Rattle.precedence.specs.Write.{Puts}
@@ -43,11 +41,12 @@ use Rattle.appending.proofs.PiecesLaws.{steady_naming, appends_then, appends_is,
 use Rattle.appending.proofs.BuiltLaws.{number-gives}
 use Rattle.appending.proofs.BuiltRoom.{names_room}
 use Rattle.appending.proofs.SymbolsTrees.{each-parts}
-use Rattle.macro_expand.specs.declared.call.Macro.{Macro}
+use Rattle.macro_expand.specs.declared.call.MacroCall.{MacroCall}
 use Rattle.macro_expand.specs.Expand.{Popped}
 use Rattle.macro_expand.specs.Call.{Calls, SomeCall}
 use Rattle.macro_expand.specs.PutIn.{Placed, Framed}
 use Rattle.macro_expand.specs.Macro.{ReadsCall, macro_piece, PutsHead}
+use Rattle.macro_expand.proofs.PoppedLaws.{expands_key}
 
 -- ---- what is pushed has a reference of its own
 own-here : (wd : ℕ) (ts : List Text) (P : ℕ → Type 0) (sp : Span) (t : Text) (xs : Syms) (q : ℕ) → Each P (keys_of wd ts (over sp (macro t) xs) q) → Each P (keys_of_all wd ts xs (q + (10 + wd))) × P q
@@ -57,20 +56,6 @@ own-here wd ts P sp t xs q h = let (a, b) = each-parts P (keys_of_all wd ts xs (
 call_long : (wd : ℕ) (ts : List Text) (sp : Span) (t : Text) (xs : Syms) → size_of wd (sym_node ts (over sp (macro t) xs)) ≡ 10 + wd
 unfolding size_of sym_node over_node node_bytes symbol_bytes
 call_long wd ts sp t xs = simp (length-append, length_span, length-le) (omega arith)
-
-expands_key : (y : Sym) → Expands y → is_key y ≡ true
-expands_key (leaf s (ambiguous x)) h = absurd h
-expands_key (leaf s (bare x)) h = absurd h
-expands_key (leaf s (quoted x)) h = absurd h
-expands_key (leaf s (regex x)) h = absurd h
-expands_key (leaf s (nonterminal x)) h = absurd h
-expands_key (leaf s lookahead) h = refl
-expands_key (leaf s lookbehind) h = refl
-expands_key (leaf s error) h = absurd h
-expands_key (around s (repeat o) x) h = refl
-expands_key (around s choose x) h = absurd h
-expands_key (around s (name m y) x) h = absurd h
-expands_key (over s o xs) h = refl
 
 key_here : (s w : List ℕ) (g : Ground) (n lim q : ℕ) (v : Appended) (ps : List ℕ) (four : Bool) (left e : ℕ) (y : Sym) → Popped s w g n lim ps four left q e y v → among q ps ≡ true
 unfolding own_keys pick
@@ -143,13 +128,10 @@ module _ (s w : List ℕ) (g : Ground) (n lim q d : ℕ) (v : Appended) (ps : Li
   wd = g.width.bytes
 
   H : Headed w wd ts d D end
-  H = headed four' w wd ts d D end C.defines.within C.defines.lies
+  H = headed four' w wd ts d D end C.defines.within C.defines.placed.lies
 
   S : Standing s w g.m wd four left (g.from + q) (g.from + e) (over sp (macro t) xs)
   S = standing s w g.m wd four left (g.from + q) (g.from + e) (over sp (macro t) xs) C.popped.stands
-
-  whole : Placed w g v d end (item_bytes wd ts (item D))
-  whole = record { lies = C.defines.lies; off = C.defines.off; before = C.defines.before; behind = C.defines.behind }
 
   pub call_head : d + 13 + wd ≤ end
   call_head = omega (arith, H.arguments.end, H.alternatives.end)
@@ -167,11 +149,11 @@ module _ (s w : List ℕ) (g : Ground) (n lim q d : ℕ) (v : Appended) (ps : Li
       let fs : ℕ = bit D.inline + (bit D.public + bit D.public) in
       let ys : List ℕ = (bit D.inline + (bit D.public + bit D.public)) ∷ length D.args ∷ le 2 (length D.alternatives) in
       let nb : List ℕ = 16 ∷ (span_bytes D.span ++ (le wd (number ts D.name) ++ ((bit D.inline + (bit D.public + bit D.public)) ∷ length D.args ∷ le 2 (length D.alternatives)))) in
-      let b = lies_split w d end nb (bytes_of_each (argument_bytes wd ts) D.args ++ bytes_of_each (alternative_bytes wd ts) D.alternatives) C.defines.lies in
+      let b = lies_split w d end nb (bytes_of_each (argument_bytes wd ts) D.args ++ bytes_of_each (alternative_bytes wd ts) D.alternatives) C.defines.placed.lies in
       let a = named w wd d 16 D.span (number ts D.name) ys (d + length nb) C.defines.within.span C.defines.within.name.1 b.0 in
       (lies_first w (d + 9 + wd) fs (length D.args ∷ le 2 (length D.alternatives)) (d + length nb) a.rest).1
 
-  module _ (r : Macro) (R : ReadsCall w g q d r) where
+  module _ (r : MacroCall) (R : ReadsCall w g q d r) where
     pub call_framed : Framed s w g n lim r.call v ps D.args xs
     unfolding children
     call_framed = record {
@@ -194,7 +176,7 @@ module _ (s w : List ℕ) (g : Ground) (n lim q d : ℕ) (v : Appended) (ps : Li
       upto = d + 13 + wd + length (bytes_of_each (argument_bytes wd ts) D.args);
       uses = C.defines.within.args;
       parameters = subst (λ (i : ℕ). Placed w g v i (d + 13 + wd + length (bytes_of_each (argument_bytes wd ts) D.args)) (bytes_of_each (argument_bytes wd ts) D.args)) (sym R.params)
-          (placed_within w g v d end (item_bytes wd ts (item D)) (d + 13 + wd) (d + 13 + wd + length (bytes_of_each (argument_bytes wd ts) D.args)) (bytes_of_each (argument_bytes wd ts) D.args) whole (omega arith) (omega (arith, H.alternatives.end)) H.arguments);
+          (placed_within w g v d end (item_bytes wd ts (item D)) (d + 13 + wd) (d + 13 + wd + length (bytes_of_each (argument_bytes wd ts) D.args)) (bytes_of_each (argument_bytes wd ts) D.args) C.defines.placed (omega arith) (omega (arith, H.alternatives.end)) H.arguments);
       named = R.many ∙ H.args;
       called = sym C.many ∙ sym H.args ∙ sym R.many;
       definition = omega (arith, R.end);
@@ -209,7 +191,7 @@ module _ (s w : List ℕ) (g : Ground) (n lim q d : ℕ) (v : Appended) (ps : Li
     pub call_placed : Placed w g v r.from end (bytes_of_each (alternative_bytes wd ts) D.alternatives)
     call_placed =
         subst (λ (i : ℕ). Placed w g v i end (bytes_of_each (alternative_bytes wd ts) D.alternatives)) (sym (R.first ∙ first_means four' wd ts w d end D H))
-        (placed_within w g v d end (item_bytes wd ts (item D)) (d + 13 + wd + length (bytes_of_each (argument_bytes wd ts) D.args)) end (bytes_of_each (alternative_bytes wd ts) D.alternatives) whole (omega arith) (omega arith) H.alternatives)
+        (placed_within w g v d end (item_bytes wd ts (item D)) (d + 13 + wd + length (bytes_of_each (argument_bytes wd ts) D.args)) end (bytes_of_each (alternative_bytes wd ts) D.alternatives) C.defines.placed (omega arith) (omega arith) H.alternatives)
 
     pub call_upto : end ≤ r.call.end
-    call_upto = omega (arith, R.end, C.defines.behind)
+    call_upto = omega (arith, R.end, C.defines.placed.behind)

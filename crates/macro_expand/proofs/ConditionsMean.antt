@@ -23,7 +23,7 @@ use Rattle.parse_tree.proofs.FieldLaws.{byte_read, le-read_last}
 use Rattle.std.specs.Prelude.{Option as Maybe, Some, None, Result, Ok, Err}
 use Rattle.texts.specs.Table.{texts}
 use Rattle.passes.specs.Outcome.{Outcome, yes, no}
-use Rattle.passes.specs.Macros.{argument_of, quoted_in, evaluate_condition}
+use Rattle.passes.specs.Macros.{argument_of, quoted_in, evaluate_cond}
 use Rattle.laws.specs.Flat.{sym_node, children}
 use Rattle.laws.proofs.Flat.{sym_bytes_lem, node_size}
 use Rattle.laws.proofs.Rename.{number-tells}
@@ -147,10 +147,10 @@ module _ (s w : List ℕ) (g : Ground) (n lim : ℕ) (c : Call) (v : Appended) (
         let b = subst (λ (l : List ℕ). Lies w p l d) (sym_bytes_lem wd ts x) S.lies in
         code_quoted wd ts w p _ x (lies_split w p d (node_bytes wd (sym_node ts x)) (syms_bytes wd ts (children x)) b).0
 
-    other : (x : Sym) → SymStands s w g.m wd four left p d x → is_quoted x ≡ false → outcome_of (judged_by g c w q (Some p)) k.span ≡ said k (quoted_in (some (renamed x)))
+    other : (x : Sym) → SymStands s w g.m wd four left p d x → is_quoted x ≡ false → outcome_of (judged_by g w q (Some p)) k.span ≡ said k (quoted_in (some (renamed x)))
     unfolding judged_by pick
     other x S e =
-        let b : outcome_of (judged_by g c w q (Some p)) k.span ≡ no 17 k.span = rw (z, code x S, e) refl in
+        let b : outcome_of (judged_by g w q (Some p)) k.span ≡ no 17 k.span = rw (z, code x S, e) refl in
         b ∙ sym (ap (said k) (none_quoted x e))
 
     word : (sp : Span) (t : Text) (l : ℕ) → SymWithin four wd ts (leaf sp (quoted t)) l → Lies w p (sym_bytes wd ts (leaf sp (quoted t))) d → le_at wd w (p + 9) ≡ number ts t
@@ -158,12 +158,12 @@ module _ (s w : List ℕ) (g : Ground) (n lim : ℕ) (c : Call) (v : Appended) (
     word sp t zero W l = absurd W
     word sp t (suc i) W l = (named-last w wd p 34 sp (number ts t) d W.0 W.1.1 l).name
 
-    literal : (sp : Span) (t : Text) → SymStands s w g.m wd four left p d (leaf sp (quoted t)) → outcome_of (judged_by g c w q (Some p)) k.span ≡ said k (quoted_in (some (renamed (leaf sp (quoted t)))))
+    literal : (sp : Span) (t : Text) → SymStands s w g.m wd four left p d (leaf sp (quoted t)) → outcome_of (judged_by g w q (Some p)) k.span ≡ said k (quoted_in (some (renamed (leaf sp (quoted t)))))
     unfolding judged_by pick renamed
     literal sp t S = rw (z, code (leaf sp (quoted t)) S) (ap (λ (b : Bool). yes b) (equal_means wd ts w p q k t A h (word sp t left S.within S.lies)))
 
     -- theorem: what is said of it
-    argument-means : (x : Sym) → SymStands s w g.m wd four left p d x → outcome_of (judged_by g c w q (Some p)) k.span ≡ said k (quoted_in (some (renamed x)))
+    argument-means : (x : Sym) → SymStands s w g.m wd four left p d x → outcome_of (judged_by g w q (Some p)) k.span ≡ said k (quoted_in (some (renamed x)))
     argument-means (leaf sp (ambiguous t)) S = other (leaf sp (ambiguous t)) S refl
     argument-means (leaf sp (bare t)) S = other (leaf sp (bare t)) S refl
     argument-means (leaf sp (quoted t)) S = literal sp t S
@@ -177,7 +177,7 @@ module _ (s w : List ℕ) (g : Ground) (n lim : ℕ) (c : Call) (v : Appended) (
 
   -- by what was found
   found_means : (q : ℕ) (k : Condition) → Asks wd ts w q k → has k.rhs ts ≡ true → (f : Maybe ℕ) (o : Option Sym) → Finds s w g ps F.four F.left f o
-      → outcome_of (judged_by g c w q f) k.span ≡ said k (quoted_in (elim o [ none ↦ none | some x ↦ some (renamed x) ]))
+      → outcome_of (judged_by g w q f) k.span ≡ said k (quoted_in (elim o [ none ↦ none | some x ↦ some (renamed x) ]))
   unfolding judged_by
   found_means q k A h None none N = refl
   found_means q k A h None (some x) N = absurd N
@@ -194,11 +194,11 @@ module _ (s w : List ℕ) (g : Ground) (n lim : ℕ) (c : Call) (v : Appended) (
 
   -- theorem: a condition that stands there
   judged-means : (q d : ℕ) (k : Condition) (four : Bool) → ConditionWithin four wd ts k → Lies w q (condition_bytes wd ts k) d → q < c.end
-      → (evaluate_condition names (renamed_all args) (some k) ≡ outcome_of (judged_at g c w q) (span_in w (q + 1)))
+      → (evaluate_cond names (renamed_all args) (some k) ≡ outcome_of (judged_at g c w q) (span_in w (q + 1)))
   unfolding judged_at pick
   judged-means q d k four W l i =
       let A = asks four wd ts w q d k W l in
-      let r : judged_at g c w q ≡ judged_by g c w q (argument_for g c w (le_at wd w (q + 9))) = rw (lt-leb c.end q i) refl in
+      let r : judged_at g c w q ≡ judged_by g w q (argument_for g c w (le_at wd w (q + 9))) = rw (lt-leb c.end q i) refl in
       ap (λ (o : Option Sym). said k (quoted_in o)) (argument-renamed names args k.lhs)
       ∙ sym (found_means q k A W.rhs.0 (argument_for g c w (le_at wd w (q + 9))) (argument_of names args k.lhs) (frame_finds s w g n lim c v ps names args F k.lhs (le_at wd w (q + 9)) A.lhs))
       ∙ ap (λ (j : Maybe Bool). outcome_of j k.span) (sym r)
@@ -210,12 +210,12 @@ module _ (s w : List ℕ) (g : Ground) (n lim : ℕ) (c : Call) (v : Appended) (
 
   -- theorem: an alternative that stands at p
   pub holds-means : (p e : ℕ) (a : Alternative) (four : Bool) → AlternativeWithin four wd ts a → Parted four wd ts w p e a → e ≤ c.end
-      → evaluate_condition names (renamed_all args) a.condition ≡ told_by w (holds_at g c w p)
+      → evaluate_cond names (renamed_all args) a.condition ≡ told_by w (holds_at g c w p)
   unfolding holds_at pick bytes_of_each
   holds-means p e a four W D u = go a.condition W.condition D.asked D.condition
     where
       go : (o : Option Condition) → Each (ConditionWithin four wd ts) (conditions o) → get_or w (p + 10) 0 ≡ length (conditions o) → Lies w (conditions_from wd w p) (bytes_of_each (condition_bytes wd ts) (conditions o) ++ syms_bytes wd ts a.symbols) e
-          → evaluate_condition names (renamed_all args) o ≡ told_by w (holds_at g c w p)
+          → evaluate_cond names (renamed_all args) o ≡ told_by w (holds_at g c w p)
       go none h i l = rw i refl
       go (some k) h i l =
           let b = lies_split w (conditions_from wd w p) e (condition_bytes wd ts k ++ []) (syms_bytes wd ts a.symbols) l in

@@ -110,16 +110,16 @@ module _ (s : List ℕ) (g : Ground) (n lim : ℕ) (t : Grammar) where
         carried u e r w' h =
             o.carry r w' (subst (λ (z : Outcome (List Item)). DrainedBy s w g n lim x ps z r w') (sym (first ∙ ap (λ (z : Outcome Nonterminal). after z (λ d. after (drain G (pending w₀ j)) (λ ds. yes (item d ∷ ds)))) e)) h)
 
-        told : (r : Result Appended Refusal) (w' : List ℕ) → ExpandsPushed s w g n lim t j x r w' → ExpandsTo s w g n lim (key_at w g j) x ps (expand_symbol G y) r w'
+        told : (r : Result Appended Refusal) (w' : List ℕ) → ExpandsPushed s w g n lim t j x r w' → ExpandsTo s w g n lim x ps (expand_symbol G y) r w'
         unfolding ExpandsPushed
-        told r w' h = subst (λ (z : Pending). ExpandsTo s w g n lim (key_at w g j) x ps (expand_symbol G z) r w') same (h ps four G o.pile)
+        told r w' h = subst (λ (z : Pending). ExpandsTo s w g n lim x ps (expand_symbol G z) r w') same (h ps four G o.pile)
 
         -- it is refused
         refused : (why : Refusal) (w' : List ℕ) → ExpandsPushed s w g n lim t j x (Err why) w' → DrainedBy s w₀ g n lim v ps (drain G (pending w₀ n)) (Err why) w'
         unfolding ExpandsTo DrainedBy
         refused why w' h = go (expand_symbol G y) refl (told (Err why) w' h)
           where
-            go : (u : Outcome Nonterminal) → expand_symbol G y ≡ u → ExpandsTo s w g n lim (key_at w g j) x ps u (Err why) w' → DrainedBy s w₀ g n lim v ps (drain G (pending w₀ n)) (Err why) w'
+            go : (u : Outcome Nonterminal) → expand_symbol G y ≡ u → ExpandsTo s w g n lim x ps u (Err why) w' → DrainedBy s w₀ g n lim v ps (drain G (pending w₀ n)) (Err why) w'
             go (yes d) e (v', z, a) = absurd (other z)
               where
                 other : Err why ≡ Ok v' → ⊥
@@ -131,7 +131,7 @@ module _ (s : List ℕ) (g : Ground) (n lim : ℕ) (t : Grammar) where
         unfolding ExpandsTo
         onward x' w' h = go (expand_symbol G y) refl (told (Ok x') w' h)
           where
-            go : (u : Outcome Nonterminal) → expand_symbol G y ≡ u → ExpandsTo s w g n lim (key_at w g j) x ps u (Ok x') w' → Onward w₀ v w' x' j ps four G
+            go : (u : Outcome Nonterminal) → expand_symbol G y ≡ u → ExpandsTo s w g n lim x ps u (Ok x') w' → Onward w₀ v w' x' j ps four G
             go (no k sp) e z = absurd (other z)
               where
                 other : Ok x' ≡ Err (refusal_over k sp) → ⊥
@@ -152,7 +152,7 @@ module _ (s : List ℕ) (g : Ground) (n lim : ℕ) (t : Grammar) where
     unfolding ExpandsPushed ExpandsTo
     pile_next j x' w' ps four G p h = go (expand_symbol G (inner (symbol_in s w g (key_at w g j)))) (h ps four G p)
       where
-        go : (u : Outcome Nonterminal) → ExpandsTo s w g n lim (key_at w g j) x ps u (Ok x') w' → Pile s w' g n lim t x' ps four G
+        go : (u : Outcome Nonterminal) → ExpandsTo s w g n lim x ps u (Ok x') w' → Pile s w' g n lim t x' ps four G
         go (no k sp) z = absurd (cc)
         go (yes d) (v', z, a) =
             subst (λ (q : Appended). Pile s w' g n lim t q ps four G) (let f : v' ≡ x' = cc in f) (pile_stays s g n lim ps w x p.going (item_piece g.width.bytes (item d)) v' w' a t four G p)

@@ -16,8 +16,8 @@ use Rattle.passes.specs.Outcome.{Tree, yes}
 use Rattle.passes.specs.Views.{Look, ahead, behind}
 use Rattle.passes.specs.Macros.{looking, symbol_of, macro_in, expand_symbol, expand_repeat_symbol, expand_lookaround_symbol, expand_expr_symbol, expand_macro_symbol}
 use Rattle.resolve.specs.declared.Grammar.{Grammar}
-use Rattle.resolve.specs.Items.{item_place_in}
-use Rattle.resolve.proofs.GrammarLaws.{Row, row_below}
+use Rattle.resolve.specs.Items.{item_place_in, Row}
+use Rattle.resolve.proofs.GrammarLaws.{row_below}
 use Rattle.replacing.specs.Trees.{renamed, renamed_all, inner}
 use Rattle.replacing.proofs.TreesMean.{print-inner}
 use Rattle.macro_expand.specs.Drain.{item_of}

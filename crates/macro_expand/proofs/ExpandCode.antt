@@ -21,7 +21,7 @@ use Rattle.appending.specs.declared.symbols.Coming.{Coming}
 use Rattle.appending.specs.Symbols.{PutsCommand}
 use Rattle.macro_expand.specs.declared.arguments.Call.{Call}
 use Rattle.macro_expand.specs.Arguments.{ReadableCall, argument_for}
-use Rattle.macro_expand.specs.PutIn.{Frame, AnyArgument, PutsArgument, parameter_at, SomeInside, SomeInsides, PutsIn, PutsInAll, Opens}
+use Rattle.macro_expand.specs.PutIn.{SomeFramed, AnyArgument, PutsArgument, parameter_at, SomeInside, SomeInsides, PutsIn, PutsInAll, Opens}
 use Rattle.macro_expand.proofs.FrameLaws.{frame_readable}
 use Rattle.macro_expand.proofs.ExpandSymbol.{symbol_deep, symbol_long, symbol_upto, parameter_any, parameter_put, inside-frame, inside-many, inside-within, inside-placed, inside-whole}
 
@@ -38,7 +38,7 @@ module _ (g : Ground) (c : Call) (w : List ℕ) (p : ℕ) where
 pub ruleset parametric = (rules, parameter_named, parameter_not)
 
 -- ---- the code
-module _ (s w : List ℕ) (g : Ground) (n lim : ℕ) (c : Call) (left : ℕ) (x : Copied) (K : Frame s w g n lim c x.out) (I : SomeInside s w g left x) where
+module _ (s w : List ℕ) (g : Ground) (n lim : ℕ) (c : Call) (left : ℕ) (x : Copied) (K : SomeFramed s w g n lim c x.out) (I : SomeInside s w g left x) where
   pub one_readable : ReadableCall g c w
   one_readable = frame_readable s w g n lim c x.out K.places K.names K.args K.framed
 
@@ -110,7 +110,7 @@ module _ (s w : List ℕ) (g : Ground) (n lim : ℕ) (c : Call) (left : ℕ) (x 
   pub opened_falls : (t : ℕ) → 2 * left ≡ t → 2 * (left - 1) + 1 < t
   opened_falls t e = omega (arith, O.deep)
 
-  pub opened_frame : Frame s w' g n lim c r.run.out
+  pub opened_frame : SomeFramed s w' g n lim c r.run.out
   opened_frame = O.frame
 
   pub opened_insides : SomeInsides s w' g (left - 1) r.many r.run

@@ -21,7 +21,7 @@ use Rattle.appending.specs.Pieces.{plainly, then_piece, Steady, Appends}
 use Rattle.appending.proofs.PiecesLaws.{appends-none, appends_then, appends_is}
 use Rattle.appending.proofs.SymbolsStays.{texts-stay}
 use Rattle.macro_expand.specs.declared.arguments.Call.{Call}
-use Rattle.macro_expand.specs.PutIn.{sym_piece, syms_piece, Placed, Framed, Frame, SomeInside, SomeInsides, PutsIn, PutsInAll}
+use Rattle.macro_expand.specs.PutIn.{sym_piece, syms_piece, Placed, Framed, SomeFramed, SomeInside, SomeInsides, PutsIn, PutsInAll}
 use Rattle.macro_expand.proofs.FrameLaws.{placed_split, placed_stays, frame_stays}
 
 pub steady_symbol : (wd : ℕ) (y : Sym) (left : ℕ) → Steady (sym_piece wd y left)
@@ -40,13 +40,13 @@ module _ (s w₀ : List ℕ) (g : Ground) (n lim : ℕ) (c : Call) (left k : ℕ
         → Appends s g n lim ps w₀ x.out (syms_piece g.width.bytes (macro_expand_symbols names (renamed_all args) ys) left) v' w'
 
   pub record Filling (w : List ℕ) (r : Copied) (i : ℕ) : Type 0 where
-    pub frame : Frame s w g n lim c r.out
+    pub frame : SomeFramed s w g n lim c r.out
     pub some : SomeInsides s w g left i r
     pub long : length w ≡ length w₀
     pub each : (ps : List ℕ) (names : List Text) (args : Syms) (four : Bool) (e : ℕ) (ys : Syms) → Framed s w₀ g n lim c x.out ps names args → count ys ≡ k
         → SymsWithin four g.width.bytes (texts s w₀ g.m) ys left → Placed w₀ g x.out x.at e (syms_bytes g.width.bytes (texts s w₀ g.m) ys) → Ahead w r i ps names args four e ys
 
-  pub filling_start : Frame s w₀ g n lim c x.out → SomeInsides s w₀ g left k x → Filling w₀ x k
+  pub filling_start : SomeFramed s w₀ g n lim c x.out → SomeInsides s w₀ g left k x → Filling w₀ x k
   filling_start K I = record {
     frame = K;
     some = I;
@@ -55,7 +55,7 @@ module _ (s w₀ : List ℕ) (g : Ground) (n lim : ℕ) (c : Call) (left k : ℕ
   }
 
   module _ (w : List ℕ) (r : Copied) (i : ℕ) (inv : Filling w r i) where
-    pub filling_frame : Frame s w g n lim c r.out
+    pub filling_frame : SomeFramed s w g n lim c r.out
     filling_frame = inv.frame
 
     pub filling_long : length w ≡ length w₀
@@ -156,14 +156,14 @@ module _ (s w₀ : List ℕ) (g : Ground) (n lim : ℕ) (c : Call) (left k : ℕ
 
         record Some : Type 0 where
           pub insides : SomeInsides s w' g left (i - 1) t
-          pub frame : Frame s w' g n lim c t.out
+          pub frame : SomeFramed s w' g n lim c t.out
           pub long : length w' ≡ length w
 
         next-some : Some
         unfolding count
         next-some = go inv.some.symbols inv.some.many inv.some.within inv.some.placed
           where
-            K : Frame s w g n lim c r.out
+            K : SomeFramed s w g n lim c r.out
             K = inv.frame
 
             go : (ys : Syms) → count ys ≡ i → SymsWithin inv.some.four g.width.bytes (texts s w g.m) ys left → Placed w g r.out r.at inv.some.end (syms_bytes g.width.bytes (texts s w g.m) ys) → Some

@@ -210,7 +210,7 @@ module _ (s w : List ℕ) (g : Ground) (n lim q : ℕ) (v : Appended) (K : SomeP
       expr_refused t why f ps four left e sp xs R =
           let z : has_name (renamed_all xs) ≡ true = renamed_named xs ∙ named_none (has_name xs) (chosen xs) (sym (analyzed ps four left e sp xs R) ∙ t) in
           let y : span_in w (g.from + q + 1) ≡ sp = group_span s w g n lim ps four left q e sp xs v R in
-          subst (λ (u : Outcome Nonterminal). ExpandsTo s w g n lim q v ps u (Err why) w) (sym (ap (λ (c : Bool). cond c (no 19 sp) (yes (made sp (print (over sp group xs)) true (simple sp (group_action (renamed_all xs)) (renamed_all xs) ∷ [])))) z))
+          subst (λ (u : Outcome Nonterminal). ExpandsTo s w g n lim v ps u (Err why) w) (sym (ap (λ (c : Bool). cond c (no 19 sp) (yes (made sp (print (over sp group xs)) true (simple sp (group_action (renamed_all xs)) (renamed_all xs) ∷ [])))) z))
           (ap Err (f ∙ ap (refusal_over 19) y))
 
       module _ (u : ℕ) (t : x ≡ Some u) (i : ℕ) (f : i ≡ group_text u k) where
@@ -223,7 +223,7 @@ module _ (s w : List ℕ) (g : Ground) (n lim q : ℕ) (v : Appended) (K : SomeP
             let (o, d) = named_some (has_name xs) (chosen xs) u (sym (analyzed ps four left e sp xs R) ∙ t) in
             let z : has_name (renamed_all xs) ≡ false = renamed_named xs ∙ o in
             let y : group_action (renamed_all xs) ≡ user (built_text i) = group_action_lem xs ∙ ap (λ (j : ℕ). user (built_text j)) (sym (f ∙ ap (λ (j : ℕ). group_text j k) d ∙ ap (group_text (chosen xs)) (sym (many ps four left e sp xs R)))) in
-            subst (λ (u : Outcome Nonterminal). ExpandsTo s w g n lim q v ps u (Ok r) w')
+            subst (λ (u : Outcome Nonterminal). ExpandsTo s w g n lim v ps u (Ok r) w')
             (sym (ap (λ (b : Bool). cond b (no 19 sp) (yes (made sp (print (over sp group xs)) true (simple sp (group_action (renamed_all xs)) (renamed_all xs) ∷ [])))) z
             ∙ ap (λ (act : _). yes (made sp (print (over sp group xs)) true (simple sp act (renamed_all xs) ∷ []))) y))
             (r, refl, P ps four left e sp xs R)

@@ -18,7 +18,7 @@ use Rattle.parse_tree.specs.Working.Within.{Each, AlternativeWithin}
 use Rattle.parse_tree.specs.declared.syntax.Span.{Span}
 use Rattle.texts.specs.Table.{texts}
 use Rattle.passes.specs.Outcome.{Outcome, yes, no}
-use Rattle.passes.specs.Macros.{evaluate_condition, expand_alternative, expand_alternatives}
+use Rattle.passes.specs.Macros.{evaluate_cond, expand_alternative, expand_alternatives}
 use Rattle.grades.specs.Annotations.{conditions_from, alternative_end}
 use Rattle.grades.proofs.AlternativesMean.{end_means}
 use Rattle.replacing.specs.Trees.{renamed_all}
@@ -51,23 +51,23 @@ module _ (s w : List ℕ) (g : Ground) (n lim : ℕ) (c : Call) (v : Appended) (
 
   -- the first of them
   module _ (a : Alternative) (rest : List Alternative) (k p : ℕ) where
-    held-is : (b : Bool) → evaluate_condition names xs a.condition ≡ yes b → held sp names xs (a ∷ rest) ≡ cond b (expand_alternative sp names xs a ∷ held sp names xs rest) (held sp names xs rest)
+    held-is : (b : Bool) → evaluate_cond names xs a.condition ≡ yes b → held sp names xs (a ∷ rest) ≡ cond b (expand_alternative sp names xs a ∷ held sp names xs rest) (held sp names xs rest)
     unfolding held
     held-is b e = ap (λ (o : Outcome Bool). elim o [ yes t ↦ cond t (expand_alternative sp names xs a ∷ held sp names xs rest) (held sp names xs rest) | no i q ↦ held sp names xs rest ]) e
 
-    all_is : (b : Bool) → evaluate_condition names xs a.condition ≡ yes b → expand_alternatives sp names xs rest ≡ yes (held sp names xs rest) → expand_alternatives sp names xs (a ∷ rest) ≡ yes (held sp names xs (a ∷ rest))
+    all_is : (b : Bool) → evaluate_cond names xs a.condition ≡ yes b → expand_alternatives sp names xs rest ≡ yes (held sp names xs rest) → expand_alternatives sp names xs (a ∷ rest) ≡ yes (held sp names xs (a ∷ rest))
     unfolding expand_alternatives
     all_is b e x =
         let f : expand_alternatives sp names xs (a ∷ rest) ≡ yes (cond b (expand_alternative sp names xs a ∷ held sp names xs rest) (held sp names xs rest)) = rw (e, x) refl in
         f ∙ ap (λ (l : List Alternative). yes l) (sym (held-is b e))
 
-    go_is : (b : Bool) → evaluate_condition names xs a.condition ≡ yes b → (u : Result ℕ NotLiteral) → Tells rest (pick b (k + 1) k) u → Tells (a ∷ rest) k u
+    go_is : (b : Bool) → evaluate_cond names xs a.condition ≡ yes b → (u : Result ℕ NotLiteral) → Tells rest (pick b (k + 1) k) u → Tells (a ∷ rest) k u
     unfolding expand_alternatives pick
     go_is true e (Ok m) (x, y) = (all_is true e x, omega (arith, ap (length {A = Alternative}) (held-is true e)))
     go_is false e (Ok m) (x, y) = (all_is false e x, omega (arith, ap (length {A = Alternative}) (held-is false e)))
     go_is b e (Err q) (x, y) = (rw (e, x) refl, y)
 
-    go_refused : (r : NotLiteral) → evaluate_condition names xs a.condition ≡ no 17 (span_in w (r.at + 1)) → r.at ≤ c.end → Tells (a ∷ rest) k (Err r)
+    go_refused : (r : NotLiteral) → evaluate_cond names xs a.condition ≡ no 17 (span_in w (r.at + 1)) → r.at ≤ c.end → Tells (a ∷ rest) k (Err r)
     unfolding expand_alternatives
     go_refused r e l = (rw e refl, l)
 
@@ -111,7 +111,7 @@ module _ (s w : List ℕ) (g : Ground) (n lim : ℕ) (c : Call) (v : Appended) (
       condition_room : (f : Bool) → Parted f wd ts w p (p + length (alternative_bytes wd ts a)) a → conditions_from wd w p ≤ p + length (alternative_bytes wd ts a)
       condition_room f D = omega (arith, D.condition.end)
 
-      go : (j : Result Bool NotLiteral) → evaluate_condition names xs a.condition ≡ told_by w j → Before j
+      go : (j : Result Bool NotLiteral) → evaluate_cond names xs a.condition ≡ told_by w j → Before j
           → ((i : ℕ) → Tells rest i (hold_from g c w (length rest) (p + length (alternative_bytes wd ts a)) i))
           → Tells (a ∷ rest) k (elim j [
             | Ok b ↦ hold_from g c w (length rest) (p + length (alternative_bytes wd ts a)) (pick b (k + 1) k)
@@ -124,7 +124,7 @@ module _ (s w : List ℕ) (g : Ground) (n lim : ℕ) (c : Call) (v : Appended) (
 pub held-few : (sp : Span) (names : List Text) (args : Syms) (as' : List Alternative) → length (held sp names args as') ≤ length as'
 unfolding held
 held-few sp names args [] = omega arith
-held-few sp names args (a ∷ rest) = go (evaluate_condition names args a.condition) (held-few sp names args rest)
+held-few sp names args (a ∷ rest) = go (evaluate_cond names args a.condition) (held-few sp names args rest)
   where
     go : (o : Outcome Bool) → length (held sp names args rest) ≤ length rest
         → length {A = Alternative} (elim o [ yes b ↦ cond b (expand_alternative sp names args a ∷ held sp names args rest) (held sp names args rest) | no k q ↦ held sp names args rest ]) ≤ suc (length rest)

@@ -1,6 +1,5 @@
 -- A symbol that is expanded, told by the code of its command. Assumes nothing.
 use mathlib.Core.Path.{◌≡◌, refl}
-use mathlib.Core.Bool.{true}
 use mathlib.Core.List.{List}
 use Prim.Native.Nat.{ℕ}
 use native.Mathlib.Omega.{arith}
@@ -12,7 +11,6 @@ use Rattle.parse_tree.specs.Working.Nodes.{node_bytes, symbol_bytes, leaf_code}
 use Rattle.parse_tree.specs.Working.Encode.{sym_bytes, leaf_node, around_node, over_node}
 use Rattle.passes.specs.Views.{ahead, behind}
 use Rattle.laws.specs.Keys.{Expands}
-use Rattle.replacing.specs.Trees.{is_key}
 use Rattle.macro_expand.specs.Expand.{IsLook, IsRepeat, IsGroup, IsMacro}
 
 -- the code of a symbol that is expanded
@@ -34,20 +32,6 @@ abbrev pub key_code : Sym → ℕ
 key_code (leaf s l) = leaf_key l
 key_code (around s a x) = 38
 key_code (over s o xs) = over_key o
-
-pub key_is : (y : Sym) → Expands y → is_key y ≡ true
-key_is (leaf s (ambiguous n)) h = absurd h
-key_is (leaf s (bare n)) h = absurd h
-key_is (leaf s (quoted t)) h = absurd h
-key_is (leaf s (regex t)) h = absurd h
-key_is (leaf s (nonterminal n)) h = absurd h
-key_is (leaf s lookahead) h = refl
-key_is (leaf s lookbehind) h = refl
-key_is (leaf s error) h = absurd h
-key_is (around s (repeat o) x) h = refl
-key_is (around s choose x) h = absurd h
-key_is (around s (name m n) x) h = absurd h
-key_is (over s o xs) h = refl
 
 -- theorem: it stands there
 module _ (wd : ℕ) (ts : List Text) (w : List ℕ) (at e : ℕ) where

@@ -38,11 +38,11 @@ use Rattle.appending.proofs.PiecesLaws.{appends_then, appends_is}
 use Rattle.appending.proofs.SymbolsStays.{texts-stay}
 use Rattle.std.specs.Prelude.{Result, Ok, Err, MatchResult, IsErrAnd}
 use Rattle.macro_expand.specs.declared.arguments.NotLiteral.{NotLiteral}
-use Rattle.macro_expand.specs.declared.call.Macro.{Macro}
+use Rattle.macro_expand.specs.declared.call.MacroCall.{MacroCall}
 use Rattle.macro_expand.specs.Arguments.{ReadableCall, hold_from}
 use Rattle.macro_expand.specs.Expand.{ExpandsTo}
 use Rattle.macro_expand.specs.Call.{Calls, SomeCall, ExpandsMacro}
-use Rattle.macro_expand.specs.PutIn.{Placed, Framed, Frame}
+use Rattle.macro_expand.specs.PutIn.{Placed, Framed, SomeFramed}
 use Rattle.macro_expand.specs.Alternatives.{alternatives_piece, held, SomeAlternatives, PutsHolding}
 use Rattle.macro_expand.specs.Macro.{ReadsCall, macro_piece, PutsHead, expanded_by, PutsMacro}
 use Rattle.macro_expand.proofs.FrameLaws.{placed_stays, frame_stays, frame_readable}
@@ -71,7 +71,7 @@ module _ (s w : List ℕ) (g : Ground) (n lim q d : ℕ) (v : Appended) (ps : Li
       let z = (lies_split w (g.from + q) (g.from + e) node (syms_bytes wd ts xs) C.popped.stands.lies).0 in
       ap (le 8) i ∙ span_there w (g.from + q) (g.from + q + length node) 37 sp (le wd (number ts t) ++ (count xs ∷ [])) (λ j. (b j).fits) z
 
-  module _ (x : Macro) (R : ReadsCall w g q d x) where
+  module _ (x : MacroCall) (R : ReadsCall w g q d x) where
     F : Framed s w g n lim x.call v ps D.args xs
     F = call_framed s w g n lim q d v ps four left e sp t xs four' end D C x R
 
@@ -138,8 +138,8 @@ module _ (s w : List ℕ) (g : Ground) (n lim q d : ℕ) (v : Appended) (ps : Li
 
 -- ---- put_macro
 -- the item's command was appended, and its alternatives are to come
-pub record StartsMacro (s w : List ℕ) (g : Ground) (n lim q d : ℕ) (x : Macro) (m : ℕ) (v r : Appended) (w' : List ℕ) : Type 0 where
-  pub frame : Frame s w' g n lim x.call r
+pub record StartsMacro (s w : List ℕ) (g : Ground) (n lim q d : ℕ) (x : MacroCall) (m : ℕ) (v r : Appended) (w' : List ℕ) : Type 0 where
+  pub frame : SomeFramed s w' g n lim x.call r
   pub some : SomeAlternatives s w' g x.call x.span x.many x.from r
   pub carry : (t : Appended) (w'' : List ℕ) → PutsHolding s w' g n lim x.call x.span x.many x.from r t w'' → PutsMacro s w g n lim q d m v t w''
 
@@ -158,9 +158,9 @@ module _ (s w : List ℕ) (g : Ground) (n lim q d : ℕ) (v : Appended) (K : Som
   ahead = call_head s w g n lim q d v K.places K.four K.left K.end K.span K.name K.arguments K.four' K.behind K.definition C0
 
   pub macro_definition : d + 16 ≤ length w
-  macro_definition = omega (arith, ahead, C0.defines.behind)
+  macro_definition = omega (arith, ahead, C0.defines.placed.behind)
 
-  module _ (x : Macro) (R : ReadsCall w g q d x) where
+  module _ (x : MacroCall) (R : ReadsCall w g q d x) where
     pub macro_readable : ReadableCall g x.call w
     macro_readable = call_readable s w g n lim q d v K.places K.four K.left K.end K.span K.name K.arguments K.four' K.behind K.definition C0 x R
 
@@ -172,7 +172,7 @@ module _ (s w : List ℕ) (g : Ground) (n lim q d : ℕ) (v : Appended) (K : Som
       H : PutsHead s w g n lim q x.span (get_or w (d + 9 + g.width.bytes) 0) m v u w1
       H = subst (λ (f : ℕ). PutsHead s w g n lim q x.span f m v u w1) R.flags G
 
-      macro_frame : Frame s w1 g n lim x.call u
+      macro_frame : SomeFramed s w1 g n lim x.call u
       macro_frame = record {
         places = K.places;
         names = K.definition.args;
@@ -195,7 +195,7 @@ module _ (s w : List ℕ) (g : Ground) (n lim q d : ℕ) (v : Appended) (K : Som
       macro_starts l = record { frame = macro_frame; some = macro_some; carry = λ t w2 U. macro_put l t w2 U }
 
 -- ---- the same of the call and the definition that were read
-module _ (s w : List ℕ) (g : Ground) (n lim q d : ℕ) (v : Appended) (x : Macro) (R : ReadsCall w g q d x) where
+module _ (s w : List ℕ) (g : Ground) (n lim q d : ℕ) (v : Appended) (x : MacroCall) (R : ReadsCall w g q d x) where
   pub macro_some_call : SomeCall s w g n lim q d v → SomeCall s w g n lim x.at x.definition v
   macro_some_call K = rw (R.at, R.definition) K
 
@@ -215,7 +215,7 @@ pub of_err : (u : Result ℕ NotLiteral) (o : Result ℕ Refusal) (Q : NotLitera
 of_err (Ok x) o Q h r z = absurd (subst (λ (q : Result ℕ Refusal). IsErrAnd q (λ e. e ≡ e)) (sym z ∙ h) refl)
 of_err (Err e) o Q h r z = (e, refl, subst (λ (q : Result ℕ Refusal). IsErrAnd q (Q e)) z h)
 
-module _ (s w : List ℕ) (g : Ground) (n lim q d : ℕ) (v : Appended) (K : SomeCall s w g n lim q d v) (x : Macro) (R : ReadsCall w g q d x) (u : Result ℕ NotLiteral) (i : u ≡ hold_from g x.call w x.many x.from 0) where
+module _ (s w : List ℕ) (g : Ground) (n lim q d : ℕ) (v : Appended) (K : SomeCall s w g n lim q d v) (x : MacroCall) (R : ReadsCall w g q d x) (u : Result ℕ NotLiteral) (i : u ≡ hold_from g x.call w x.many x.from 0) where
   tells : Tells s w g n lim x.call v K.places K.definition.args K.arguments (F s w g n lim q d v K.places K.four K.left K.end K.span K.name K.arguments K.four' K.behind K.definition K.calls x R) K.span K.definition.alternatives 0 u
   tells = call_tells s w g n lim q d v K.places K.four K.left K.end K.span K.name K.arguments K.four' K.behind K.definition K.calls x R u i
 
@@ -230,7 +230,7 @@ module _ (s w : List ℕ) (g : Ground) (n lim q d : ℕ) (v : Appended) (K : Som
     unfolding ExpandsMacro ExpandsTo
     expand_refused o k ps four left e sp t xs four' end D C =
         let z = subst (Tells s w g n lim x.call v ps D.args xs (F s w g n lim q d v ps four left e sp t xs four' end D C x R) sp D.alternatives 0) h (call_tells s w g n lim q d v ps four left e sp t xs four' end D C x R u i) in
-        subst (λ (a : Outcome (List Alternative)). ExpandsTo s w g n lim q v ps (after a (λ as'. yes (record { span = sp; name = print (over sp (macro t) xs); inline = D.inline; public = D.public; args = []; alternatives = as' }))) (Err o) w) (sym z.0)
+        subst (λ (a : Outcome (List Alternative)). ExpandsTo s w g n lim v ps (after a (λ as'. yes (record { span = sp; name = print (over sp (macro t) xs); inline = D.inline; public = D.public; args = []; alternatives = as' }))) (Err o) w) (sym z.0)
         (ap (λ (b : Refusal). Err b) k)
 
   -- ---- appended
@@ -244,7 +244,7 @@ module _ (s w : List ℕ) (g : Ground) (n lim q d : ℕ) (v : Appended) (K : Som
     unfolding ExpandsMacro ExpandsTo PutsMacro
     expand_is r w' U ps four left e sp t xs four' end D C =
         let z = subst (Tells s w g n lim x.call v ps D.args xs (F s w g n lim q d v ps four left e sp t xs four' end D C x R) sp D.alternatives 0) h (call_tells s w g n lim q d v ps four left e sp t xs four' end D C x R u i) in
-        subst (λ (a : Outcome (List Alternative)). ExpandsTo s w g n lim q v ps (after a (λ as'. yes (record { span = sp; name = print (over sp (macro t) xs); inline = D.inline; public = D.public; args = []; alternatives = as' }))) (Ok r) w') (sym z.0)
+        subst (λ (a : Outcome (List Alternative)). ExpandsTo s w g n lim v ps (after a (λ as'. yes (record { span = sp; name = print (over sp (macro t) xs); inline = D.inline; public = D.public; args = []; alternatives = as' }))) (Ok r) w') (sym z.0)
         (r, refl, (rw (R.at, R.definition) at U) ps four left e sp t xs four' end D C (omega (arith, z.1)))
 
 pub ruleset expanding_macro = (rules, macro_call, macro_definition, macro_readable, macro_some_call, macro_reads, macro_few, expand_room, expand_refused, expand_few, expand_is)

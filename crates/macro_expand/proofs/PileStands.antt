@@ -3,7 +3,6 @@ use mathlib.Core.Path.{◌≡◌, ap, ◌∙◌, subst}
 use mathlib.Core.Bool.{Bool, false}
 use mathlib.Core.Logic.{◌⊎◌, inl, inr}
 use mathlib.Core.List.{List, [], ◌∷◌}
-use mathlib.Core.Option.{some}
 use Prim.Native.Nat.{ℕ, ◌+◌, ◌%◌, ◌<◌, ◌≤◌}
 use native.Mathlib.Omega.{arith}
 use lib.ListN.{length, get_or}
@@ -29,7 +28,7 @@ use Rattle.expander.specs.Replace.{StandsAt}
 use Rattle.appending.specs.declared.Appended.{Appended}
 use Rattle.macro_expand.specs.Expand.{Popped}
 use Rattle.macro_expand.specs.Call.{Defines, Calls}
-use Rattle.macro_expand.specs.Drain.{item_of, CallsMacro, OnPile, Pile, Definition}
+use Rattle.macro_expand.specs.Drain.{DefinedAt, CallsMacro, OnPile, Pile, Definition}
 use Rattle.macro_expand.proofs.KeyCodes.{key_code, key_code_lem}
 use Rattle.macro_expand.proofs.DrainLaws.{row_at, within_at}
 
@@ -72,10 +71,10 @@ module _ (s w : List ℕ) (g : Ground) (n lim : ℕ) (t : Grammar) (v : Appended
           let h = stands.within in
           named w g.width.bytes (g.from + at) 37 sp nm (count xs ∷ []) _ h.0 h.1.0.1 k.0
 
-      pub found : (i : ℕ) × (item_of G i ≡ some (item D)) × (nm < g.m.count) × (cell_at w g.m.base nm % 2147483648 ≡ i + 1)
+      pub found : DefinedAt (texts s w g.m) g.m w G m D
       found = p.declares.found m D calls.1
 
-      pub defined : Definition s w g t at found.0
+      pub defined : Definition w g t at found.index
       defined =
           let d = p.declares in
           let z : le_at g.width.bytes w (g.from + at + 9) ≡ nm = head.name in
@@ -85,33 +84,35 @@ module _ (s w : List ℕ) (g : Ground) (n lim : ℕ) (t : Grammar) (v : Appended
             narrow = p.going.ground.narrow;
             wide = p.going.ground.wide;
             call = omega (arith, head.rest.end);
-            name = omega (arith, z, found.2);
-            cell = ap (λ (k : ℕ). cell_at w g.m.base k % 2147483648) z ∙ found.3;
+            name = omega (arith, z, found.below);
+            cell = ap (λ (k : ℕ). cell_at w g.m.base k % 2147483648) z ∙ found.cell;
             list = omega (arith, d.list);
-            ordered = let a = row_at t (texts s w g.m) w G 0 t.at found.0 (item D) d.row found.1 in omega (arith, a.from, a.upto, a.lies.end);
+            ordered = let a = row_at t (texts s w g.m) w G 0 t.at found.index (item D) d.row found.there in omega (arith, a.from, a.upto, a.lies.end);
           }
 
       abbrev pub stop : ℕ
-      stop = (row_at t (texts s w g.m) w G 0 t.at found.0 (item D) p.declares.row found.1).end
+      stop = (row_at t (texts s w g.m) w G 0 t.at found.index (item D) p.declares.row found.there).end
 
-      defines : Defines s w g v four (item_place_in t w found.0) stop D
+      defines : Defines s w g v four (item_place_in t w found.index) stop D
       defines =
           let d = p.declares in
-          let a = row_at t (texts s w g.m) w G 0 t.at found.0 (item D) d.row found.1 in
-          let z : 0 + found.0 ≡ found.0 = omega arith in
+          let a = row_at t (texts s w g.m) w G 0 t.at found.index (item D) d.row found.there in
+          let z : 0 + found.index ≡ found.index = omega arith in
           record {
-            within = within_at t (texts s w g.m) w four g.width.bytes (texts s w g.m) G found.0 (item D) d.within found.1;
-            lies = subst (λ (k : ℕ). Lies w (item_place_in t w k) (item_bytes g.width.bytes (texts s w g.m) (item D)) a.end) z (subst (λ (k : ℕ). Lies w (item_place_in t w (0 + found.0)) (item_bytes k (texts s w g.m) (item D)) a.end) d.width a.lies);
-            off = beside d.off (subst (λ (k : ℕ). t.at ≤ item_place_in t w k) z a.from) a.upto;
-            before = omega (arith, d.before, a.upto);
-            behind = omega (arith, d.behind, a.upto);
+            within = within_at t (texts s w g.m) w four g.width.bytes (texts s w g.m) G found.index (item D) d.within found.there;
+            placed = record {
+              lies = subst (λ (k : ℕ). Lies w (item_place_in t w k) (item_bytes g.width.bytes (texts s w g.m) (item D)) a.end) z (subst (λ (k : ℕ). Lies w (item_place_in t w (0 + found.index)) (item_bytes k (texts s w g.m) (item D)) a.end) d.width a.lies);
+              off = beside d.off (subst (λ (k : ℕ). t.at ≤ item_place_in t w k) z a.from) a.upto;
+              before = omega (arith, d.before, a.upto);
+              behind = omega (arith, d.behind, a.upto);
+            };
           }
         where
           beside : {b e : ℕ} → (t.end ≤ list_place g 0) ⊎ ((top_of g ≤ t.at) × (t.end ≤ v.to)) → t.at ≤ b → e ≤ t.end → (e ≤ list_place g 0) ⊎ ((top_of g ≤ b) × (e ≤ v.to))
           beside (inl k) x z = inl (omega arith)
           beside (inr k) x z = inr (omega (arith, k.0), omega (arith, k.1))
 
-      pub calling : Calls s w g n lim at (item_place_in t w found.0) v ps false 64 o.end sp m xs four stop D
+      pub calling : Calls s w g n lim at (item_place_in t w found.index) v ps false 64 o.end sp m xs four stop D
       calling = record {
         popped = subst (λ (z : Sym). Popped s w g n lim ps false 64 at o.end z v) e popped;
         defines = defines;

@@ -16,7 +16,8 @@ use Rattle.texts.specs.Table.{texts}
 use Rattle.texts.proofs.TableStays.{part-agree}
 use Rattle.passes.specs.Outcome.{Tree}
 use Rattle.resolve.specs.declared.Grammar.{Grammar}
-use Rattle.resolve.proofs.GrammarLaws.{Row, row_same}
+use Rattle.resolve.specs.Items.{Row}
+use Rattle.resolve.proofs.GrammarLaws.{row_same}
 use Rattle.replacing.specs.Slots.{among}
 use Rattle.expander.specs.declared.Ground.{Ground}
 use Rattle.expander.specs.Ground.{size_in, stage_in, top_of, key_at, list_place, symbol_in}
@@ -89,7 +90,14 @@ module _ (s : List ℕ) (g : Ground) (n lim : ℕ) (ps : List ℕ) (w : List ℕ
       before = omega (arith, d.before, on);
       behind = rw a.long d.behind;
       list = d.list;
-      found = λ m D e. let (i, z, k, y) = d.found m D e in (i, z, subst (λ (ts : List Text). number ts m < g.m.count) (sym same) k, ap (λ (c : ℕ). c % 2147483648) (cell_same m k) ∙ y);
+      found = λ m D e.
+          let f = d.found m D e in
+          record {
+            index = f.index;
+            there = f.there;
+            below = subst (λ (ts : List Text). number ts m < g.m.count) (sym same) f.below;
+            cell = ap (λ (c : ℕ). c % 2147483648) (cell_same m f.below) ∙ f.cell;
+          };
     }
       where
         cell_same : (m : Text) → number (texts s w g.m) m < g.m.count → cell_at w' g.m.base (number (texts s w' g.m) m) ≡ cell_at w g.m.base (number (texts s w g.m) m)

@@ -7,7 +7,7 @@ use native.Mathlib.Omega.{arith}
 use lib.ListN.{length-append}
 use Rattle.octets.specs.Plain.Numbers.{le_at, le, Bytes}
 use Rattle.octets.specs.Plain.Runs.{Lies}
-use Rattle.parse_tree.specs.Plain.Tree.{Text, Sym, ambiguous, bare, quoted, regex, nonterminal, lookahead, lookbehind, error, repeat, choose, name, macro, group, leaf, around, over, nil}
+use Rattle.parse_tree.specs.Plain.Tree.{Text, Sym, sym_span, ambiguous, bare, quoted, regex, nonterminal, lookahead, lookbehind, error, repeat, choose, name, macro, group, leaf, around, over, nil}
 use Rattle.parse_tree.specs.Plain.WriteTape.{op_code}
 use Rattle.parse_tree.specs.Plain.Display.{print}
 use Rattle.parse_tree.specs.Working.Nodes.{span_bytes, symbol_bytes, node_bytes, leaf_code, leaf_operand}
@@ -26,14 +26,14 @@ use Rattle.expander.proofs.KeysLaws.{stands_print}
 use Rattle.appending.specs.declared.Appended.{Appended}
 use Rattle.appending.proofs.SymbolsTrees.{own_key}
 use Rattle.appending.proofs.BuiltRoom.{names_room}
-use Rattle.macro_expand.specs.Expand.{sym_span, Popped, SomePopped, IsAny}
+use Rattle.macro_expand.specs.Expand.{Popped, SomePopped, IsAny}
 
 -- ---- one of some kind is one of any
 pub popped_any : (P : Sym → Type 0) (s w : List ℕ) (g : Ground) (n lim q : ℕ) (v : Appended) → SomePopped P s w g n lim q v → SomePopped IsAny s w g n lim q v
 popped_any P s w g n lim q v K = record { places = K.places; four = K.four; left = K.left; end = K.end; symbol = K.symbol; popped = K.popped; is = tt }
 
 -- ---- trees
-expands_key : (y : Sym) → Expands y → is_key y ≡ true
+pub expands_key : (y : Sym) → Expands y → is_key y ≡ true
 expands_key (leaf s (ambiguous x)) k = absurd k
 expands_key (leaf s (bare x)) k = absurd k
 expands_key (leaf s (quoted x)) k = absurd k

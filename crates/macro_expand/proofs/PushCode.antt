@@ -23,14 +23,14 @@ use Rattle.appending.specs.declared.Appended.{Appended}
 use Rattle.appending.specs.declared.symbols.Copied.{Copied}
 use Rattle.appending.specs.Built.{built_text, Gives, SomeBuilt, GivesBuilt}
 use Rattle.appending.specs.Commands.{name_head}
-use Rattle.appending.specs.Pieces.{naming, plainly, then_piece, symbols_piece, item_piece, Appending, Appends, SomeAppending}
+use Rattle.appending.specs.Pieces.{all_named, naming, plainly, then_piece, symbols_piece, item_piece, Appending, Appends, SomeAppending}
 use Rattle.appending.specs.Symbols.{SomeReferring, PutsSymbols}
 use Rattle.appending.proofs.PiecesLaws.{steady_naming, steady_then, steady_symbols, appends_then, appends_is, appends_puts, appends_gives}
 use Rattle.appending.proofs.SymbolsStays.{referring_stays, some_stays}
 use Rattle.expander.proofs.GroundLaws.{grounded_around}
 use Rattle.macro_expand.specs.declared.begin.Begun.{Begun}
 use Rattle.macro_expand.specs.declared.plus.Pushing.{Pushing}
-use Rattle.macro_expand.specs.Expand.{head_piece, all_named}
+use Rattle.macro_expand.specs.Expand.{head_piece}
 use Rattle.macro_expand.specs.Repeat.{ExpandsAs, BeginsWith, GoesOn, NamedPush, NamesPush, push_head, push_piece, PutsSecond, PutsPush}
 use Rattle.macro_expand.proofs.ItemPieces.{steady_head, appends_told, appends_has, appends_number}
 use Rattle.macro_expand.proofs.RepeatTrees.{repeat_referring, repeat_fits}

@@ -32,14 +32,14 @@ use Rattle.macro_expand.proofs.DrainLaws.{look_item, repeat_item, group_item, ma
 use Rattle.macro_expand.proofs.PileStands.{popped, code_there, calls, D, found, defined, stop, calling}
 
 -- ---- definition
-module _ (s w : List ℕ) (g : Ground) (t : Grammar) (q : ℕ) (k₀ k c : ℕ) (a₀ : k₀ ≡ le_at g.width.bytes w (g.from + q + 9)) (a : k ≡ k₀) (b : c ≡ cell_at w g.m.base k) where
-  cell_is : (i : ℕ) → Definition s w g t q i → c % 2147483648 ≡ i + 1
+module _ (w : List ℕ) (g : Ground) (t : Grammar) (q : ℕ) (k₀ k c : ℕ) (a₀ : k₀ ≡ le_at g.width.bytes w (g.from + q + 9)) (a : k ≡ k₀) (b : c ≡ cell_at w g.m.base k) where
+  cell_is : (i : ℕ) → Definition w g t q i → c % 2147483648 ≡ i + 1
   cell_is i d = ap (λ (x : ℕ). x % 2147483648) (b ∙ ap (cell_at w g.m.base) (a ∙ a₀)) ∙ d.cell
 
-  pub definition_some : SomeDefinition s w g t q → 1 ≤ c % 2147483648
+  pub definition_some : SomeDefinition w g t q → 1 ≤ c % 2147483648
   definition_some h = omega (arith, cell_is h.index h.definition)
 
-  pub definition_is : (j : ℕ) → j ≡ c % 2147483648 - 1 → (r : ℕ) → r ≡ item_place_in t w j → IsDefinition s w g t q r
+  pub definition_is : (j : ℕ) → j ≡ c % 2147483648 - 1 → (r : ℕ) → r ≡ item_place_in t w j → IsDefinition w g t q r
   unfolding IsDefinition
   definition_is j f r e i d = let z : j ≡ i = omega (arith, cell_is i d, f) in e ∙ ap (item_place_in t w) z
 
@@ -87,26 +87,24 @@ module _ (s w : List ℕ) (g : Ground) (n lim : ℕ) (t : Grammar) (v : Appended
       here : c ≡ key_code (symbol_in s w g (key_at w g j))
       here = code_is P.places P.four P.tree P.pile
 
-      -- what is told of the place is told of the j-th
-      told : (ps : List ℕ) (G : Tree) (u : Outcome Nonterminal) (r : Result Appended Refusal) (w' : List ℕ) → expand_symbol G (inner (symbol_in s w g (key_at w g j))) ≡ u → ExpandsTo s w g n lim q v ps u r w'
-          → ExpandsTo s w g n lim (key_at w g j) v ps (expand_symbol G (inner (symbol_in s w g (key_at w g j)))) r w'
-      told ps G u r w' e h =
-          subst (λ (a : ℕ). ExpandsTo s w g n lim a v ps (expand_symbol G (inner (symbol_in s w g (key_at w g j)))) r w') key_is
-          (subst (λ (x : Outcome Nonterminal). ExpandsTo s w g n lim q v ps x r w') (sym e) h)
+      -- what is told of its outcome is told of the j-th
+      told : (ps : List ℕ) (G : Tree) (u : Outcome Nonterminal) (r : Result Appended Refusal) (w' : List ℕ) → expand_symbol G (inner (symbol_in s w g (key_at w g j))) ≡ u → ExpandsTo s w g n lim v ps u r w'
+          → ExpandsTo s w g n lim v ps (expand_symbol G (inner (symbol_in s w g (key_at w g j)))) r w'
+      told ps G u r w' e h = subst (λ (x : Outcome Nonterminal). ExpandsTo s w g n lim v ps x r w') (sym e) h
 
       -- ---- a macro call
       module _ (z : c ≡ 37) where
         is_macro_lem : IsMacro (symbol_in s w g (key_at w g j))
         is_macro_lem = macro_there (symbol_in s w g (key_at w g j)) first.expands (sym here ∙ z)
 
-        pub definition_asked : SomeDefinition s w g t q
-        definition_asked = let (sp, m, xs, y) = is_macro_lem in subst (SomeDefinition s w g t) (sym key_is) (record { index = _; definition = defined s w g n lim t v j l P.places P.four P.tree P.pile sp m xs y })
+        pub definition_asked : SomeDefinition w g t q
+        definition_asked = let (sp, m, xs, y) = is_macro_lem in subst (SomeDefinition w g t) (sym key_is) (record { index = _; definition = defined s w g n lim t v j l P.places P.four P.tree P.pile sp m xs y })
 
-        module _ (d : ℕ) (i : IsDefinition s w g t q d) where
+        module _ (d : ℕ) (i : IsDefinition w g t q d) where
           place_is : (ps : List ℕ) (four : Bool) (G : Tree) (p : Pile s w g n lim t v ps four G) (sp : Span) (m : Text) (xs : Syms) (y : symbol_in s w g (key_at w g j) ≡ over sp (macro m) xs)
-              → d ≡ item_place_in t w (found s w g n lim t v j l ps four G p sp m xs y).0
+              → d ≡ item_place_in t w (found s w g n lim t v j l ps four G p sp m xs y).index
           unfolding IsDefinition
-          place_is ps four G p sp m xs y = i (found s w g n lim t v j l ps four G p sp m xs y).0 (subst (λ (x : ℕ). Definition s w g t x (found s w g n lim t v j l ps four G p sp m xs y).0) (sym key_is) (defined s w g n lim t v j l ps four G p sp m xs y))
+          place_is ps four G p sp m xs y = i (found s w g n lim t v j l ps four G p sp m xs y).index (subst (λ (x : ℕ). Definition w g t x (found s w g n lim t v j l ps four G p sp m xs y).index) (sym key_is) (defined s w g n lim t v j l ps four G p sp m xs y))
 
           pub macro_asked : SomeCall s w g n lim q d v
           macro_asked =

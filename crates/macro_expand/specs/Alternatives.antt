@@ -12,7 +12,7 @@ use Rattle.parse_tree.specs.declared.syntax.Span.{Span}
 use Rattle.texts.specs.Table.{texts}
 use Rattle.passes.specs.Sizes.{each, alternative_fits}
 use Rattle.passes.specs.Outcome.{yes, no}
-use Rattle.passes.specs.Macros.{evaluate_condition, expand_alternative}
+use Rattle.passes.specs.Macros.{evaluate_cond, expand_alternative}
 use Rattle.replacing.specs.Trees.{renamed_all}
 use Rattle.expander.specs.declared.Ground.{Ground}
 use Rattle.appending.specs.declared.Appended.{Appended}
@@ -20,7 +20,7 @@ use Rattle.appending.specs.Pieces.{Piece, Appends}
 use Rattle.appending.specs.declared.symbols.Copied.{Copied}
 use Rattle.appending.specs.declared.symbols.Coming.{Coming}
 use Rattle.macro_expand.specs.declared.arguments.Call.{Call}
-use Rattle.macro_expand.specs.PutIn.{Placed, Framed, Frame, SomeInsides, PutsInAll}
+use Rattle.macro_expand.specs.PutIn.{Placed, Framed, SomeFramed, SomeInsides, PutsInAll}
 
 abbrev pub alternative_piece : ℕ → Alternative → Piece
 alternative_piece wd a = record { texts = alternative_texts a; bytes = λ ts. alternative_bytes wd ts a; fits = alternative_fits a }
@@ -48,14 +48,14 @@ PutsAlternative s w g n lim c span p v r w' = (ps : List ℕ) (names : List Text
 
 -- its command was appended, and its symbols are to come
 pub record OpensAlternative (s w : List ℕ) (g : Ground) (n lim : ℕ) (c : Call) (span p : ℕ) (v : Appended) (r : Coming) (w' : List ℕ) : Type 0 where
-  pub frame : Frame s w' g n lim c r.run.out
+  pub frame : SomeFramed s w' g n lim c r.run.out
   pub insides : SomeInsides s w' g 64 r.many r.run
   pub carry : (t : Copied) (w'' : List ℕ) → PutsInAll s w' g n lim c 64 r.many r.run t w'' → PutsAlternative s w g n lim c span p v t.out w''
 
 -- those that hold, with the arguments put in
 unfoldable pub held : Span → List Text → Syms → List Alternative → List Alternative
 held sp names args [] = []
-held sp names args (a ∷ rest) = elim (evaluate_condition names args a.condition) [
+held sp names args (a ∷ rest) = elim (evaluate_cond names args a.condition) [
   | yes b ↦ cond b (expand_alternative sp names args a ∷ held sp names args rest) (held sp names args rest)
   | no k q ↦ held sp names args rest
 ]

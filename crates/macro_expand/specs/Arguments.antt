@@ -1,14 +1,12 @@
 -- The arguments of a macro call, and the conditions of the macro's alternatives, as the code reads them. wd is the width of an atom's number in bytes, w is work. Assumes nothing: these are definitions.
-use Rattle.std.specs.Prelude.{Bool, true, false, List, ℕ, zero, suc, ◌+◌, ◌*◌, ◌≤◌, eqb, leb, length, get_or}
+use Rattle.std.specs.Prelude.{Bool, true, false, List, ℕ, zero, suc, ◌+◌, ◌*◌, ◌≤◌, eqb, leb, length, get_or, Option, Some, None, Result, Ok, Err}
 use Rattle.octets.specs.Working.Choice.{pick}
 use Rattle.octets.specs.Plain.Numbers.{le_at}
-use Rattle.std.specs.Prelude.{Option, Some, None}
 use Rattle.grades.specs.Skip.{skip_out}
 use Rattle.grades.specs.Annotations.{conditions_from, alternative_end}
 use Rattle.expander.specs.declared.Ground.{Ground}
 use Rattle.macro_expand.specs.declared.arguments.Call.{Call}
 use Rattle.macro_expand.specs.declared.arguments.NotLiteral.{NotLiteral}
-use Rattle.std.specs.Prelude.{Result, Ok, Err}
 
 -- the bytes of n parameters
 unfoldable pub parameters_long : ℕ → ℕ → ℕ
@@ -31,17 +29,18 @@ pub record ReadableCall (g : Ground) (c : Call) (w : List ℕ) : Type 0 where
 unfoldable pub equal_by : ℕ → List ℕ → ℕ → ℕ → Bool
 equal_by wd w p at = pick (eqb (le_at wd w (p + 9)) (le_at wd w (at + 10 + wd))) (eqb (get_or w (at + 9 + wd) 0) 0) (pick (eqb (get_or w (at + 9 + wd) 0) 0) false true)
 
+-- the condition at a place, whose argument was looked for
+unfoldable pub judged_by : Ground → List ℕ → ℕ → Option ℕ → Option Bool
+judged_by g w at None = None
+judged_by g w at (Some p) = pick (leb g.end p) None (pick (eqb (get_or w p 0) 34) (Some (equal_by g.width.bytes w p at)) None)
+
 module _ (g : Ground) (c : Call) (w : List ℕ) where
   unfoldable pub argument_for : ℕ → Option ℕ
   argument_for k = argument_in g.width.bytes g.end w k c.many c.params c.args
 
-  -- ---- the condition at a place, whose argument was looked for
-  unfoldable pub judged_by : ℕ → Option ℕ → Option Bool
-  judged_by at None = None
-  judged_by at (Some p) = pick (leb g.end p) None (pick (eqb (get_or w p 0) 34) (Some (equal_by g.width.bytes w p at)) None)
-
+  -- the same of any condition
   unfoldable pub judged_at : ℕ → Option Bool
-  judged_at at = pick (leb c.end at) None (judged_by at (argument_for (le_at g.width.bytes w (at + 9))))
+  judged_at at = pick (leb c.end at) None (judged_by g w at (argument_for (le_at g.width.bytes w (at + 9))))
 
   -- ---- whether the alternative at p holds
   unfoldable pub holds_at : ℕ → Result Bool NotLiteral

@@ -1,5 +1,5 @@
 -- The whole pile, last in first out: an item for each symbol on it. s is the tape, w is work; t are the items with the macros' definitions. Assumes nothing: these are definitions.
-use Rattle.std.specs.Prelude.{◌≡◌, Bool, true, false, ◌⊎◌, List, [], ◌∷◌, map, ℕ, zero, suc, ◌+◌, ◌*◌, ◌%◌, ◌≤◌, ◌<◌, length, get_or}
+use Rattle.std.specs.Prelude.{◌≡◌, Bool, true, false, ◌⊎◌, List, [], ◌∷◌, map, ℕ, zero, suc, ◌+◌, ◌*◌, ◌%◌, ◌≤◌, ◌<◌, length, get_or, Result, Ok, Err}
 use Rattle.std.proofs.Math.Option.{Option, none, some}
 use Rattle.octets.specs.Plain.Numbers.{le_at}
 use Rattle.parse_tree.specs.Plain.Tree.{Text, Over, Sym, Syms, count, macro, group, leaf, around, over, Nonterminal, Item, item}
@@ -9,6 +9,7 @@ use Rattle.parse_tree.specs.Plain.WriteTape.{bytes_of_each}
 use Rattle.parse_tree.specs.Working.Encode.{item_bytes}
 use Rattle.parse_tree.specs.Working.Within.{Each, ItemWithin}
 use Rattle.parse_tree.specs.Working.Refusals.{refusal_over}
+use Rattle.texts.specs.declared.Map.{Map}
 use Rattle.texts.specs.Fields.{cell_at}
 use Rattle.texts.specs.Table.{texts}
 use Rattle.passes.specs.Outcome.{Tree, Outcome, yes, no}
@@ -16,8 +17,7 @@ use Rattle.passes.specs.Macros.{macro_in, expand_symbol, drain}
 use Rattle.passes.specs.Sizes.{each, item_fits}
 use Rattle.laws.specs.Keys.{Expands}
 use Rattle.resolve.specs.declared.Grammar.{Grammar}
-use Rattle.resolve.specs.Items.{item_place_in}
-use Rattle.resolve.proofs.GrammarLaws.{Row}
+use Rattle.resolve.specs.Items.{item_place_in, Row}
 use Rattle.replacing.specs.Trees.{inner}
 use Rattle.replacing.specs.Slots.{among}
 use Rattle.expander.specs.declared.Ground.{Ground}
@@ -26,7 +26,6 @@ use Rattle.expander.specs.Held.{down}
 use Rattle.expander.specs.Replace.{keys_of, StandsAt}
 use Rattle.appending.specs.declared.Appended.{Appended}
 use Rattle.appending.specs.Pieces.{Piece, Appending, Appends}
-use Rattle.std.specs.Prelude.{Result, Ok, Err}
 use Rattle.parse_tree.specs.declared.refusal.Refusal.{Refusal}
 use Rattle.macro_expand.specs.Expand.{ExpandsTo}
 
@@ -38,7 +37,14 @@ item_of [] i = none
 item_of (x ∷ xs) zero = some x
 item_of (x ∷ xs) (suc i) = item_of xs i
 
--- the items G stand where nothing is written, and the cell of a macro's name has the index of its definition, and one
+-- the cell of the number of a macro's name n has, but for its highest bit, the index of the definition D, and one
+pub record DefinedAt (ts : List Text) (m : Map) (w : List ℕ) (G : Tree) (n : Text) (D : Nonterminal) : Type 0 where
+  pub index : ℕ
+  pub there : item_of G index ≡ some (item D)
+  pub below : number ts n < m.count
+  pub cell : cell_at w m.base (number ts n) % 2147483648 ≡ index + 1
+
+-- the items G stand where nothing is written, and the cell of each macro's name says where its definition is
 pub record Declares (s w : List ℕ) (g : Ground) (t : Grammar) (v : Appended) (four : Bool) (G : Tree) : Type 0 where
   pub row : Row t (texts s w g.m) w 0 t.at G
   pub within : Each (ItemWithin four g.width.bytes (texts s w g.m)) G
@@ -48,7 +54,7 @@ pub record Declares (s w : List ℕ) (g : Ground) (t : Grammar) (v : Appended) (
   pub before : t.end ≤ v.to
   pub behind : t.end + 16 ≤ length w
   pub list : t.list + 8 * t.count ≤ g.m.base
-  pub found : (m : Text) (D : Nonterminal) → macro_in G m ≡ some D → (i : ℕ) × (item_of G i ≡ some (item D)) × (number (texts s w g.m) m < g.m.count) × (cell_at w g.m.base (number (texts s w g.m) m) % 2147483648 ≡ i + 1)
+  pub found : (m : Text) (D : Nonterminal) → macro_in G m ≡ some D → DefinedAt (texts s w g.m) g.m w G m D
 
 -- ---- what is on the pile
 
@@ -94,7 +100,7 @@ pub record SomeOther (s w : List ℕ) (g : Ground) (n lim : ℕ) (t : Grammar) (
   pub other : c ≡ 37 → ⊥
 
 unfoldable pub ExpandsPushed : List ℕ → List ℕ → Ground → ℕ → ℕ → Grammar → ℕ → Appended → Result Appended Refusal → List ℕ → Type 0
-ExpandsPushed s w g n lim t j v r w' = (ps : List ℕ) (four : Bool) (G : Tree) → Pile s w g n lim t v ps four G → ExpandsTo s w g n lim (key_at w g j) v ps (expand_symbol G (inner (symbol_in s w g (key_at w g j)))) r w'
+ExpandsPushed s w g n lim t j v r w' = (ps : List ℕ) (four : Bool) (G : Tree) → Pile s w g n lim t v ps four G → ExpandsTo s w g n lim v ps (expand_symbol G (inner (symbol_in s w g (key_at w g j)))) r w'
 
 -- ---- all
 abbrev pub items_piece : ℕ → List Item → Piece
@@ -112,7 +118,7 @@ Drains s w g n lim t v r w' = (ps : List ℕ) (four : Bool) (G : Tree) → Pile 
 -- ---- the definition of a macro that is called
 
 -- a call of m stands at q, whose number and cell are such that its definition is the i-th item
-pub record Definition (s w : List ℕ) (g : Ground) (t : Grammar) (q : ℕ) (i : ℕ) : Type 0 where
+pub record Definition (w : List ℕ) (g : Ground) (t : Grammar) (q : ℕ) (i : ℕ) : Type 0 where
   pub narrow : 2 ≤ g.width.bytes
   pub wide : g.width.bytes ≤ 3
   pub call : g.from + q + 9 + g.width.bytes ≤ length w
@@ -121,9 +127,9 @@ pub record Definition (s w : List ℕ) (g : Ground) (t : Grammar) (q : ℕ) (i :
   pub list : t.list + 8 * t.count ≤ length w
   pub ordered : t.at ≤ t.end
 
-pub record SomeDefinition (s w : List ℕ) (g : Ground) (t : Grammar) (q : ℕ) : Type 0 where
+pub record SomeDefinition (w : List ℕ) (g : Ground) (t : Grammar) (q : ℕ) : Type 0 where
   pub index : ℕ
-  pub definition : Definition s w g t q index
+  pub definition : Definition w g t q index
 
-unfoldable pub IsDefinition : List ℕ → List ℕ → Ground → Grammar → ℕ → ℕ → Type 0
-IsDefinition s w g t q r = (i : ℕ) → Definition s w g t q i → r ≡ item_place_in t w i
+unfoldable pub IsDefinition : List ℕ → Ground → Grammar → ℕ → ℕ → Type 0
+IsDefinition w g t q r = (i : ℕ) → Definition w g t q i → r ≡ item_place_in t w i

@@ -1,8 +1,8 @@
 -- The item of a symbol that was taken off the pile. s is the tape, w is work; q is the place where the symbol stands, counted from the first item. Assumes nothing: these are definitions.
-use Rattle.std.specs.Prelude.{◌≡◌, Bool, true, List, [], ◌∷◌, ◌++◌, ℕ, ◌≤◌, eqb, length, get_or}
+use Rattle.std.specs.Prelude.{◌≡◌, Bool, true, List, [], ◌∷◌, ◌++◌, ℕ, ◌≤◌, eqb, length, get_or, Result, Ok, Err}
 use Rattle.octets.specs.Working.Choice.{pick}
 use Rattle.octets.specs.Plain.Numbers.{le}
-use Rattle.parse_tree.specs.Plain.Tree.{Text, Op, Sym, Syms, repeat, macro, group, leaf, around, over, Nonterminal, item}
+use Rattle.parse_tree.specs.Plain.Tree.{Text, Op, Sym, Syms, sym_span, repeat, macro, group, around, over, Nonterminal, item}
 use Rattle.parse_tree.specs.Plain.Texts.{number}
 use Rattle.parse_tree.specs.Plain.Display.{print}
 use Rattle.parse_tree.specs.Working.Nodes.{span_bytes, node_bytes}
@@ -23,17 +23,11 @@ use Rattle.expander.specs.Names.{named_in}
 use Rattle.expander.specs.Replace.{keys_of, StandsAt}
 use Rattle.appending.specs.declared.Appended.{Appended}
 use Rattle.appending.specs.Built.{built_text}
-use Rattle.appending.specs.Pieces.{Piece, item_piece, Appending, Appends}
-use Rattle.std.specs.Prelude.{Result, Ok, Err}
+use Rattle.appending.specs.Pieces.{Piece, all_named, item_piece, Appending, Appends}
 use Rattle.parse_tree.specs.declared.refusal.Refusal.{Refusal}
 use Rattle.macro_expand.specs.declared.begin.Begun.{Begun}
 use Rattle.macro_expand.specs.declared.begin.Named.{Named}
 use Rattle.macro_expand.specs.declared.look.Called.{Called}
-
-abbrev pub sym_span : Sym → Span
-sym_span (leaf s l) = s
-sym_span (around s a x) = s
-sym_span (over s o xs) = s
 
 -- ---- y stands at q, up to e; it is expanded, and with all such symbols inside has a reference
 pub record Popped (s w : List ℕ) (g : Ground) (n lim : ℕ) (ps : List ℕ) (four : Bool) (left q e : ℕ) (y : Sym) (v : Appended) : Type 0 where
@@ -67,6 +61,12 @@ abbrev pub head_piece : ℕ → Span → Text → ℕ → ℕ → Text → ℕ �
 head_piece wd sp key flags alternatives t symbols =
     record { texts = key ∷ t ∷ []; bytes = λ ts. head_bytes wd sp (number ts key) flags alternatives 1 (number ts t) symbols; fits = true }
 
+module _ (s w : List ℕ) (g : Ground) (n lim : ℕ) (v : Appended) where
+  -- d is appended, or refused
+  unfoldable pub ExpandsTo : List ℕ → Outcome Nonterminal → Result Appended Refusal → List ℕ → Type 0
+  ExpandsTo ps (yes d) r w' = (v' : Appended) × (r ≡ Ok v') × Appends s g n lim ps w v (item_piece g.width.bytes (item d)) v' w'
+  ExpandsTo ps (no k sp) r w' = r ≡ Err (refusal_over k sp)
+
 module _ (s w : List ℕ) (g : Ground) (n lim q : ℕ) (v : Appended) where
   -- the action is the i-th built-in text
   unfoldable pub Begins : ℕ → ℕ → ℕ → ℕ → Begun → List ℕ → Type 0
@@ -74,11 +74,6 @@ module _ (s w : List ℕ) (g : Ground) (n lim q : ℕ) (v : Appended) where
       → ((le 8 r.span ≡ span_bytes (sym_span y)) × (r.name.number ≡ number (named_in s w' g r.out.count) (print y))) × Appends s g n lim ps w v (head_piece g.width.bytes (sym_span y) (print y) flags alternatives (built_text i) symbols) r.out w'
 
   -- ---- whole items
-
-  -- d is appended, or refused
-  unfoldable pub ExpandsTo : List ℕ → Outcome Nonterminal → Result Appended Refusal → List ℕ → Type 0
-  ExpandsTo ps (yes d) r w' = (v' : Appended) × (r ≡ Ok v') × Appends s g n lim ps w v (item_piece g.width.bytes (item d)) v' w'
-  ExpandsTo ps (no k sp) r w' = r ≡ Err (refusal_over k sp)
 
   -- `@L` or `@R`
   unfoldable pub ExpandsLook : Appended → List ℕ → Type 0
@@ -93,7 +88,7 @@ module _ (s w : List ℕ) (g : Ground) (n lim q : ℕ) (v : Appended) where
   -- a group
   unfoldable pub ExpandsExpr : Result Appended Refusal → List ℕ → Type 0
   ExpandsExpr r w' = (ps : List ℕ) (four : Bool) (left e : ℕ) (sp : Span) (xs : Syms) → Popped s w g n lim ps four left q e (over sp group xs) v
-      → ExpandsTo ps (expand_expr_symbol sp (print (over sp group xs)) (renamed_all xs)) r w'
+      → ExpandsTo s w g n lim v ps (expand_expr_symbol sp (print (over sp group xs)) (renamed_all xs)) r w'
 
 -- what stands there
 abbrev pub IsLook : Sym → Type 0
@@ -112,10 +107,6 @@ abbrev pub IsAny : Sym → Type 0
 IsAny y = Unit {0}
 
 -- ---- texts that were named, before anything is put
-
--- nothing is written
-abbrev pub all_named : List Text → Piece
-all_named us = record { texts = us; bytes = λ ts. []; fits = true }
 
 -- the print of a symbol at sp and the i-th built-in text have numbers
 pub record NamedBoth (s w : List ℕ) (g : Ground) (n lim : ℕ) (ps : List ℕ) (v : Appended) (sp : Span) (key t : Text) (r : Named) (w' : List ℕ) : Type 0 where

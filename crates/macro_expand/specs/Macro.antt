@@ -11,13 +11,13 @@ use Rattle.expander.specs.declared.Ground.{Ground}
 use Rattle.appending.specs.declared.Appended.{Appended}
 use Rattle.appending.specs.Commands.{item_head}
 use Rattle.appending.specs.Pieces.{Piece, item_piece, Appends}
-use Rattle.macro_expand.specs.declared.call.Macro.{Macro}
+use Rattle.macro_expand.specs.declared.call.MacroCall.{MacroCall}
 use Rattle.macro_expand.specs.Expand.{Popped}
 use Rattle.macro_expand.specs.Call.{Calls}
 use Rattle.macro_expand.specs.Alternatives.{held}
 
 -- the call at q and the definition at d
-pub record ReadsCall (w : List ℕ) (g : Ground) (q d : ℕ) (r : Macro) : Type 0 where
+pub record ReadsCall (w : List ℕ) (g : Ground) (q d : ℕ) (r : MacroCall) : Type 0 where
   pub at : r.at ≡ q
   pub definition : r.definition ≡ d
   pub params : r.call.params ≡ d + 13 + g.width.bytes

@@ -1,5 +1,5 @@
 -- Symbols of a macro's definition with a call's arguments put in. s is the tape, w is work; places in the definition are those in work. Assumes nothing: these are definitions.
-use Rattle.std.specs.Prelude.{◌≡◌, Bool, true, false, ◌⊎◌, List, ℕ, zero, suc, ◌+◌, ◌-◌, ◌≤◌, eqb, leb, length, get_or}
+use Rattle.std.specs.Prelude.{◌≡◌, Bool, true, false, ◌⊎◌, List, ℕ, zero, suc, ◌+◌, ◌-◌, ◌≤◌, eqb, leb, length, get_or, Option, None}
 use Rattle.octets.specs.Working.Choice.{pick}
 use Rattle.octets.specs.Plain.Runs.{Lies}
 use Rattle.parse_tree.specs.Plain.Tree.{Text, Sym, Syms, nil, cons, count}
@@ -11,7 +11,6 @@ use Rattle.parse_tree.specs.Working.Within.{Each, SpanWithin, Uses, SymWithin, S
 use Rattle.parse_tree.specs.declared.syntax.Span.{Span}
 use Rattle.parse_tree.specs.Working.Nodes.{span_bytes, long_of}
 use Rattle.octets.specs.Plain.Numbers.{le_at, le}
-use Rattle.std.specs.Prelude.{Option, None}
 use Rattle.texts.specs.Table.{texts}
 use Rattle.passes.specs.Sizes.{sym_fits, syms_fit}
 use Rattle.passes.specs.Macros.{at, macro_expand_symbol, macro_expand_symbols}
@@ -61,7 +60,7 @@ pub record Framed (s w : List ℕ) (g : Ground) (n lim : ℕ) (c : Call) (v : Ap
   pub definition : c.end + 16 ≤ length w
 
 -- there is one
-pub record Frame (s w : List ℕ) (g : Ground) (n lim : ℕ) (c : Call) (v : Appended) : Type 0 where
+pub record SomeFramed (s w : List ℕ) (g : Ground) (n lim : ℕ) (c : Call) (v : Appended) : Type 0 where
   pub places : List ℕ
   pub names : List Text
   pub args : Syms
@@ -143,6 +142,6 @@ PutsInAll s w g n lim c left k x r w' = (ps : List ℕ) (names : List Text) (arg
 -- a command was appended, and the symbols inside are to come
 pub record Opens (s w : List ℕ) (g : Ground) (n lim : ℕ) (c : Call) (left : ℕ) (x : Copied) (r : Coming) (w' : List ℕ) : Type 0 where
   pub deep : 1 ≤ left
-  pub frame : Frame s w' g n lim c r.run.out
+  pub frame : SomeFramed s w' g n lim c r.run.out
   pub insides : SomeInsides s w' g (left - 1) r.many r.run
   pub carry : (t : Copied) (w'' : List ℕ) → PutsInAll s w' g n lim c (left - 1) r.many r.run t w'' → PutsIn s w g n lim c left x t w''

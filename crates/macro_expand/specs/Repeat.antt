@@ -1,7 +1,7 @@
 -- The items of repeats, made of pieces. s is the tape, w is work; the repeat stands at q, counted from the first item, and the symbol inside it at q + 10. Assumes nothing: these are definitions.
-use Rattle.std.specs.Prelude.{◌≡◌, Bool, true, false, not, List, [], ◌∷◌, ◌++◌, ℕ, ◌+◌, eqb, length}
+use Rattle.std.specs.Prelude.{◌≡◌, Bool, true, not, List, [], ◌∷◌, ◌++◌, ℕ, ◌+◌, length}
 use Rattle.octets.specs.Plain.Numbers.{le}
-use Rattle.parse_tree.specs.Plain.Tree.{Text, Op, star, plus, question, Sym, repeat, around, nil, cons, item}
+use Rattle.parse_tree.specs.Plain.Tree.{Text, Op, Sym, repeat, around, nil, cons, item}
 use Rattle.parse_tree.specs.Plain.Texts.{has, number}
 use Rattle.parse_tree.specs.Plain.Display.{print}
 use Rattle.parse_tree.specs.Working.Nodes.{span_bytes}
@@ -16,15 +16,11 @@ use Rattle.appending.specs.declared.Appended.{Appended}
 use Rattle.appending.specs.Built.{built_text, SomeBuilt, GivesBuilt}
 use Rattle.precedence.specs.Write.{alternative_head}
 use Rattle.appending.specs.Commands.{name_head, plus_head}
-use Rattle.appending.specs.Pieces.{Piece, nested, then_piece, symbols_piece, item_piece, Appending, Appends}
+use Rattle.appending.specs.Pieces.{Piece, all_named, nested, then_piece, symbols_piece, item_piece, Appending, Appends}
 use Rattle.appending.specs.Symbols.{Referring, SomeReferring}
 use Rattle.macro_expand.specs.declared.begin.Begun.{Begun}
 use Rattle.macro_expand.specs.declared.plus.Pushing.{Pushing}
-use Rattle.macro_expand.specs.Expand.{head_piece, Popped, all_named, Begins}
-
--- the operator of a code
-unfoldable pub repeat_of : ℕ → Op
-repeat_of c = elim (eqb c 0) [ true ↦ star | false ↦ elim (eqb c 1) [ true ↦ plus | false ↦ question ] ]
+use Rattle.macro_expand.specs.Expand.{head_piece, Popped, Begins}
 
 module _ (s w : List ℕ) (g : Ground) (n lim q : ℕ) (v : Appended) where
   -- whatever repeat stands there, the item that it has as one of the operator o was appended

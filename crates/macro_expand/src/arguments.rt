@@ -1,10 +1,9 @@
 // The arguments of a macro call, looked up by the names of the macro's parameters; and the conditions of its alternatives.
 ghost use Rattle.std.specs.Prelude.{◌≡◌, ◌+◌, ◌≤◌, ◌<◌, length};
-ghost use Rattle.grades.specs.Annotations.{conditions_from};
 ghost use Rattle.macro_expand.specs.Arguments.{ReadableCall, argument_for, equal_by, judged_at, holds_at, hold_from};
 
 use expander::Ground;
-use grades::annotations::alternative_end;
+use grades::annotations::{alternative_end, conditions};
 use grades::skip::skip;
 use octets::numbers::{Width, atom_at};
 use parse_tree::node::whole_alternative;
@@ -74,7 +73,7 @@ fn is_equal(work: &[u8], width: Width, p: usize, at: usize) -> bool
 }
 
 // Whether the condition at a place holds, if its argument is a quoted literal.
-pub fn evaluate_cond(x: Arguments, at: usize) -> Option<bool>
+fn evaluate_cond(x: Arguments, at: usize) -> Option<bool>
     ensures { result ≡ judged_at x.entry.g x.entry.call x.entry.work.now at }
 {
     if x.call.end <= at {
@@ -86,15 +85,6 @@ pub fn evaluate_cond(x: Arguments, at: usize) -> Option<bool>
     } else {
         None
     }
-}
-
-// Where the conditions of the alternative at p begin. One count, read by its place: a reader of the whole command would ask for more than 11 bytes.
-pub fn conditions(work: &[u8], p: usize, width: Width) -> usize
-    requires { p + 11 ≤ length work.now }
-    ensures { result ≡ conditions_from width.bytes work.now p }
-{
-    let n = usize::from(work[p + 9]);
-    p + (14 + width.bytes) + n * (2 + 3 * width.bytes)
 }
 
 // Whether the alternative at p holds, as `evaluate_cond` says it.

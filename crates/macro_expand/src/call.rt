@@ -15,9 +15,10 @@ use octets::numbers::u64_at;
 use parse_tree::node::whole_nonterminal;
 use parse_tree::refusal::{Question, Refusal};
 
-// A call: where it stands, counted from the first item, and its span; where the definition stands, its flags, how many alternatives it has, and where they begin.
+// A call: where it stands, counted from the first item; where the definition stands (for the clauses alone); where its arguments are looked up; its span; the definition's flags, how many
+// alternatives it has, and where they begin.
 #[derive(Clone, Copy)]
-pub struct Macro {
+pub struct MacroCall {
     pub at: usize,
     pub definition: usize,
     pub call: Call,
@@ -27,7 +28,7 @@ pub struct Macro {
     pub from: usize,
 }
 
-fn read_call(work: &[u8], g: &Ground, q: usize, d: usize) -> Macro
+fn read_call(work: &[u8], g: &Ground, q: usize, d: usize) -> MacroCall
     requires { (d + 16 ≤ length work.now) × (g.now.from + q + 16 ≤ length work.now) }
     ensures { ReadsCall work.now g.now q d result }
 {
@@ -38,7 +39,7 @@ fn read_call(work: &[u8], g: &Ground, q: usize, d: usize) -> Macro
         args: g.from + q + (10 + g.width.bytes),
         end: work.len() - 16,
     };
-    Macro {
+    MacroCall {
         at: q,
         definition: d,
         call: c,
@@ -54,7 +55,7 @@ fn put_named_item(
     tape: &[u8],
     work: &mut [u8],
     round: &Round,
-    x: Macro,
+    x: MacroCall,
     m: u16,
     v: Appended,
 ) -> Appended
@@ -84,7 +85,7 @@ fn put_macro(
     tape: &[u8],
     work: &mut [u8],
     round: &Round,
-    x: Macro,
+    x: MacroCall,
     m: usize,
     v: Appended,
 ) -> Appended

@@ -16,8 +16,8 @@ use texts::fields::mark;
 
 // The place of the definition of the macro that is called at q. `tape` for the clauses alone.
 fn definition(tape: &[u8], work: &[u8], g: &Ground, t: Grammar, q: usize) -> usize
-    requires { SomeDefinition tape.now work.now g.now t q }
-    ensures { IsDefinition tape.now work.now g.now t q result }
+    requires { SomeDefinition work.now g.now t q }
+    ensures { IsDefinition work.now g.now t q result }
 {
     let k = atom_at(work, g.from + q + 9, g.width) as usize;
     let c = text_cell(work, g.m.base, k);

@@ -1,6 +1,6 @@
 // Symbols of a macro's definition, appended with a call's arguments put in. Places in the definition are those in work.
 ghost use Rattle.std.specs.Prelude.{◌≡◌, ◌+◌, ◌≤◌, length};
-ghost use Rattle.macro_expand.specs.PutIn.{parameter_at, Opens, Frame, SomeInside, SomeInsides, PutsIn, PutsInAll};
+ghost use Rattle.macro_expand.specs.PutIn.{parameter_at, Opens, SomeFramed, SomeInside, SomeInsides, PutsIn, PutsInAll};
 
 use crate::arguments::{Arguments, Call, argument};
 use crate::put_in::put_argument;
@@ -9,7 +9,7 @@ use appending::symbols::{Coming, Copied, copy_command};
 use octets::numbers::{atom_at, u64_at};
 use parse_tree::nested::inside_at;
 
-// What stays as it is while a call's definition is put in: the round, the call, and its span. What is known of them (`Frame`) holds of work and of what is appended as well.
+// What stays as it is while a call's definition is put in: the round, the call, and its span. What is known of them (`SomeFramed`) holds of work and of what is appended as well.
 #[derive(Clone, Copy)]
 pub struct Expansion {
     pub round: Round,
@@ -38,7 +38,7 @@ fn put_parameter(
     x: Copied,
     p: usize,
 ) -> Copied
-    requires { Frame tape.now work.old c.now.round.g c.now.round.n c.now.round.lim c.now.call x.out × SomeInside tape.now work.old c.now.round.g left x × (Some p ≡ parameter_at c.now.round.g c.now.call work.old x.at) }
+    requires { SomeFramed tape.now work.old c.now.round.g c.now.round.n c.now.round.lim c.now.call x.out × SomeInside tape.now work.old c.now.round.g left x × (Some p ≡ parameter_at c.now.round.g c.now.call work.old x.at) }
     ensures { PutsIn tape.now work.old c.now.round.g c.now.round.n c.now.round.lim c.now.call left x result work.new }
 {
     let e = x.at + (9 + c.round.g.width.bytes);
@@ -49,7 +49,7 @@ fn put_parameter(
 
 // The command at x.at, which is no parameter, and how many symbols stand straight inside. `tape` and `left` for the clauses alone.
 fn open(tape: &[u8], work: &mut [u8], c: &Expansion, left: usize, x: Copied) -> Coming
-    requires { Frame tape.now work.old c.now.round.g c.now.round.n c.now.round.lim c.now.call x.out × SomeInside tape.now work.old c.now.round.g left x × (None ≡ parameter_at c.now.round.g c.now.call work.old x.at) }
+    requires { SomeFramed tape.now work.old c.now.round.g c.now.round.n c.now.round.lim c.now.call x.out × SomeInside tape.now work.old c.now.round.g left x × (None ≡ parameter_at c.now.round.g c.now.call work.old x.at) }
     ensures { Opens tape.now work.old c.now.round.g c.now.round.n c.now.round.lim c.now.call left x result work.new }
 {
     let width = c.round.g.width;
@@ -61,14 +61,14 @@ fn open(tape: &[u8], work: &mut [u8], c: &Expansion, left: usize, x: Copied) -> 
 
 // The symbol at x.at; `left` levels of nesting are left.
 #[cycle(macro_expand_symbol_macro_expand_symbols)]
-pub fn macro_expand_symbol(
+fn macro_expand_symbol(
     tape: &[u8],
     work: &mut [u8],
     c: &Expansion,
     left: usize,
     x: Copied,
 ) -> Copied
-    requires { Frame tape.now work.old c.now.round.g c.now.round.n c.now.round.lim c.now.call x.out × SomeInside tape.now work.old c.now.round.g left x }
+    requires { SomeFramed tape.now work.old c.now.round.g c.now.round.n c.now.round.lim c.now.call x.out × SomeInside tape.now work.old c.now.round.g left x }
     ensures { PutsIn tape.now work.old c.now.round.g c.now.round.n c.now.round.lim c.now.call left x result work.new }
 {
     let at = x.at;
@@ -91,7 +91,7 @@ pub fn macro_expand_symbols(
     k: usize,
     x: Copied,
 ) -> Copied
-    requires { Frame tape.now work.old c.now.round.g c.now.round.n c.now.round.lim c.now.call x.out × SomeInsides tape.now work.old c.now.round.g left k x }
+    requires { SomeFramed tape.now work.old c.now.round.g c.now.round.n c.now.round.lim c.now.call x.out × SomeInsides tape.now work.old c.now.round.g left k x }
     ensures { PutsInAll tape.now work.old c.now.round.g c.now.round.n c.now.round.lim c.now.call left k x result work.new }
 {
     let mut r = x;

@@ -1,5 +1,4 @@
 // What the Rust's norm_util says of the symbols of an expression: only `analyze_expr`.
-ghost use Rattle.std.specs.Prelude.{◌≡◌, ◌≤◌};
 ghost use Rattle.macro_expand.specs.NormUtil.{SomeDirect, Analyzes};
 
 use expander::Ground;

@@ -49,7 +49,7 @@ fn push_texts(tape: &[u8], work: &mut [u8], round: &Round, c: usize) -> Pushing
     }
 }
 
-// Its commands but the symbol's.
+// The commands of the second alternative of `X+` but the symbol's.
 fn put_push(
     work: &mut [u8],
     span: u64,

@@ -11,7 +11,7 @@ use expander::replace::is_expanded;
 use octets::numbers::Width;
 use parse_tree::nested::inside_at;
 use parse_tree::size::long;
-use precedence::write::{copy_within, put_command};
+use precedence::write::{copy_within, store_command};
 
 // A code, a span, and the bytes from a up to e, if they end at lim or before. Not by `put`: 9 + (e - a) is known to be a number only behind the first test. Nor by `put` and then `put_run`, which
 // asks that e is at its cursor or before: that cursor is lim + 1 where the first did not fit, and e may be behind it.
@@ -33,7 +33,7 @@ pub fn put_spanned(
     if lim - to < 9 + (e - a) {
         return lim + 1;
     }
-    put_command(work, code, span, to);
+    store_command(work, code, span, to);
     copy_within(work, a, e, to + 9);
     to + (9 + (e - a))
 }

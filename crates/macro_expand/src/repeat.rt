@@ -1,9 +1,10 @@
 // The items of repeats, and that of `X?`. The symbol inside a repeat stands ten bytes behind it.
 ghost use Rattle.parse_tree.specs.Plain.Tree.{question};
+ghost use Rattle.parse_tree.specs.Working.Operands.{op_from};
 ghost use Rattle.appending.specs.Built.{number_of, built_text};
 ghost use Rattle.appending.specs.Pieces.{SomeAppending};
 ghost use Rattle.macro_expand.specs.Expand.{IsRepeat, SomePopped, ExpandsRepeat};
-ghost use Rattle.macro_expand.specs.Repeat.{ExpandsAs, repeat_of, bare_head, PutsBy};
+ghost use Rattle.macro_expand.specs.Repeat.{ExpandsAs, bare_head, PutsBy};
 
 use crate::begin::begin_with;
 use crate::plus::expand_plus;
@@ -46,7 +47,7 @@ fn expand_question(tape: &[u8], work: &mut [u8], round: &Round, q: usize, v: App
 // The item that the repeat at q has as one of this operator.
 fn expand_as(tape: &[u8], work: &mut [u8], round: &Round, q: usize, op: u8, v: Appended) -> Appended
     requires { SomePopped IsRepeat tape.now work.old round.now.g round.now.n round.now.lim q v }
-    ensures { ExpandsAs tape.now work.old round.now.g round.now.n round.now.lim q v (repeat_of op) result work.new }
+    ensures { ExpandsAs tape.now work.old round.now.g round.now.n round.now.lim q v (op_from op) result work.new }
 {
     match op {
         0 => expand_star(tape, work, round, q, v),

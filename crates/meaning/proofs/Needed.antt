@@ -8,7 +8,7 @@ use Rattle.octets.specs.Working.Choice.{pick}
 use Rattle.octets.specs.Plain.Numbers.{le, le_at}
 use Rattle.octets.specs.Plain.Runs.{part, same_as}
 use Rattle.parse_tree.specs.Plain.Tree.{Text, Around, Sym, Alternative, Nonterminal, Item, bare, repeat, star, macro, leaf, around, over, user, item, count, syms_of}
-use Rattle.parse_tree.specs.Plain.Texts.{every, starts_name, in_name, name_bytes, is_name, is_literal, is_ascii, has, number, distinct, with_new}
+use Rattle.parse_tree.specs.Plain.Texts.{every, starts_name, in_name, is_identifier, is_name, is_literal, is_ascii, has, number, distinct, with_new}
 use Rattle.parse_tree.specs.Plain.Display.{escaped, shown_leaf, shown_before, shown_behind, opening, shown, print}
 use Rattle.parse_tree.specs.Plain.Reading.{then, times}
 use Rattle.parse_tree.specs.Plain.References.{texts_of_each, leaf_texts, around_texts, over_texts, sym_texts, action_texts, attribute_texts, condition_texts, alternative_texts, item_texts, stage_of}
@@ -112,7 +112,7 @@ sharing_resolved p = (p.symbols _ (Memᴰ.head refl) _ (Memᴰ.head refl)).0
 
 -- theorem: its tape is read as it is, and the call for all makes `shared` of it, with one item for the two repeats
 pub one_item_for_two : (read sharing ≡ yes sharing) × (expand sharing ≡ yes shared)
-unfolding pick same_as count syms_of has distinct escaped shown_leaf shown_before shown_behind opening shown print check_globals validate_symbol validate_alternatives validate_items resolve levels_of of_level groups_of occurs replace_occurrences substituted with_fall_through level_items levelled check_levels levels push replace_symbol replace_alternatives replace_items macro_expand_symbol expand_alternatives expand_symbol drain rounds macro_stages all_stages resolve_stage level_stage stage_of le le_at part every starts_name in_name name_bytes is_name is_literal is_ascii number with_new then times texts_of_each leaf_texts around_texts over_texts sym_texts action_texts attribute_texts condition_texts alternative_texts item_texts bytes_of_each coded atom_tape leaf_tape around_tape over_tape sym_tape action_tape attribute_tape condition_tape alternative_tape item_tape tape_of asked command_at symbol_at argument_at attribute_at condition_at alternative_at item_at items_at atoms_at read_tape stage_fits sizes validate_call whole
+unfolding pick same_as count syms_of has distinct escaped shown_leaf shown_before shown_behind opening shown print check_globals validate_symbol validate_alternatives validate_items resolve levels_of of_level groups_of occurs replace_occurrences substituted with_fall_through level_items levelled check_levels levels push replace_symbol replace_alternatives replace_items macro_expand_symbol expand_alternatives expand_symbol drain rounds macro_stages all_stages resolve_stage level_stage stage_of le le_at part every starts_name in_name is_identifier is_name is_literal is_ascii number with_new then times texts_of_each leaf_texts around_texts over_texts sym_texts action_texts attribute_texts condition_texts alternative_texts item_texts bytes_of_each coded atom_tape leaf_tape around_tape over_tape sym_tape action_tape attribute_tape condition_tape alternative_tape item_tape tape_of asked command_at symbol_at argument_at attribute_at condition_at alternative_at item_at items_at atoms_at read_tape stage_fits sizes validate_call whole
 one_item_for_two = (refl, refl)
 
 -- theorem: T derives "x" in the tree handed in
@@ -172,7 +172,7 @@ catching_macro p = one_argument (p.no_macro _ (Memᴰ.tail (Memᴰ.head refl)) r
 
 -- theorem: its tape is read as it is, and the call for all makes `caught` of it, where the argument has caught the fall-through
 pub fall_through_caught : (read catching ≡ yes catching) × (expand catching ≡ yes caught)
-unfolding pick same_as count syms_of has distinct escaped shown_leaf shown_before shown_behind opening shown print check_globals validate_symbol validate_alternatives validate_items resolve levels_of of_level groups_of occurs replace_occurrences substituted with_fall_through level_items levelled check_levels levels push replace_symbol replace_alternatives replace_items macro_expand_symbol expand_alternatives expand_symbol drain rounds macro_stages all_stages resolve_stage level_stage stage_of le le_at part every starts_name in_name name_bytes is_name is_literal is_ascii number with_new then times texts_of_each leaf_texts around_texts over_texts sym_texts action_texts attribute_texts condition_texts alternative_texts item_texts bytes_of_each coded atom_tape leaf_tape around_tape over_tape sym_tape action_tape attribute_tape condition_tape alternative_tape item_tape tape_of asked command_at symbol_at argument_at attribute_at condition_at alternative_at item_at items_at atoms_at read_tape stage_fits sizes validate_call whole
+unfolding pick same_as count syms_of has distinct escaped shown_leaf shown_before shown_behind opening shown print check_globals validate_symbol validate_alternatives validate_items resolve levels_of of_level groups_of occurs replace_occurrences substituted with_fall_through level_items levelled check_levels levels push replace_symbol replace_alternatives replace_items macro_expand_symbol expand_alternatives expand_symbol drain rounds macro_stages all_stages resolve_stage level_stage stage_of le le_at part every starts_name in_name is_identifier is_name is_literal is_ascii number with_new then times texts_of_each leaf_texts around_texts over_texts sym_texts action_texts attribute_texts condition_texts alternative_texts item_texts bytes_of_each coded atom_tape leaf_tape around_tape over_tape sym_tape action_tape attribute_tape condition_tape alternative_tape item_tape tape_of asked command_at symbol_at argument_at attribute_at condition_at alternative_at item_at items_at atoms_at read_tape stage_fits sizes validate_call whole
 fall_through_caught = (refl, refl)
 
 -- theorem: S derives "n" in the tree handed in

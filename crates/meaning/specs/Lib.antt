@@ -2,3 +2,4 @@
 pub mod Phrases
 pub mod Meaning
 pub mod Premises
+pub mod Spans

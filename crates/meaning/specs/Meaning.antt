@@ -54,7 +54,8 @@ module _ (G : Tree) (ps : List Text) where
     means nil = pnil
     means (cons x xs) = pcons (mean x) (means xs)
 
--- ---- "all arguments put in together": phrases for parameters; nothing can be caught, since a parameter is no reference
+-- ---- "all arguments put in together"; "put in for a parameter, it keeps that ceiling, as every symbol put in keeps the names of the item it was written in": phrases for parameters; nothing
+-- can be caught, since a parameter is no reference
 abbrev pub argument : List Text → Phrases → Text → Phrase
 argument [] xs n = parameter n
 argument (p ∷ ps) pnil n = parameter n
@@ -121,7 +122,7 @@ module _ (E : Text) where
       marks pnil i = pnil
       marks (pcons m ms) i = pcons (mark m i) (marks ms (i + occurrences m))
 
--- "An occurrence derives only by alternatives at or under its ceiling. Elsewhere there is no ceiling"
+-- "An occurrence derives only by alternatives at or under its ceiling .. Elsewhere there is no ceiling"
 abbrev pub Under : Option ℕ → ℕ → Type 0
 Under none v = Unit {0}
 Under (some c) v = v ≤ c

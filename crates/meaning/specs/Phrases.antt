@@ -24,7 +24,7 @@ mutual
     pcons : Phrase → Phrases → Phrases
 
 -- a phrase derives a token string where it is that token, or may be replaced by phrases that derive it one behind another.
--- "A derivation is finite": these are inductive
+-- "A derivation .. is finite": these are inductive
 module _ (Step : Phrase → Phrases → Type 0) where
   mutual
     pub data DerivesFrom : Phrase → List Token → Type 0 where

@@ -1,4 +1,4 @@
--- The premises of demand 3, and what an expanded tree has no more. Assumes nothing: these are definitions.
+-- The premises of demand 3, and what no expanded tree has. Assumes nothing: these are definitions.
 use Rattle.std.specs.Prelude.{◌≡◌, Bool, true, false}
 use mathlib.Core.List.{[], Memᴰ}
 use Rattle.parse_tree.specs.Plain.Tree.{Text, Leaf, Around, Sym, Syms, ambiguous, bare, quoted, regex, nonterminal, lookahead, lookbehind, error, repeat, choose, name, leaf, around, over, nil, cons, Alternative, Nonterminal, item}
@@ -31,7 +31,7 @@ pub record Unmarked (U : Tree) : Type 0 where
   pub symbols : (d : Nonterminal) → Memᴰ (item d) U → (a : Alternative) → Memᴰ a d.alternatives → UnmarkedSyms a.symbols
   pub no_macro : (d : Nonterminal) → Memᴰ (item d) U → annotated d ≡ true → d.args ≡ []
 
--- "every nonterminal N of G without arguments"
+-- demand 3: "every nonterminal N of G without arguments"
 abbrev pub HasItem : Tree → Text → Type 0
 HasItem X n = (d : Nonterminal) × Memᴰ (item d) X × (d.name ≡ n) × (d.args ≡ [])
 

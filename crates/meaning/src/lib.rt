@@ -1,2 +1,2 @@
-// Demand 3 over trees: proofs only, in proofs/. No code.
+// What a tree derives, and demand 3 over trees and on the bytes of the calls: specs and proofs only. No code.
 #![tactic(auto)]

@@ -5,7 +5,7 @@ use mathlib.Core.List.{List}
 use Prim.Native.Nat.{ℕ, ◌+◌, ◌*◌, ◌≤◌, ◌<◌}
 use native.Mathlib.Omega.{arith}
 use borrow.Author.Rules.{rules}
-use borrow.Author.Tests.{leb-true, leb-false, lt-leb, le-leb}
+use borrow.Author.Tests.{lt-leb, le-leb}
 use lib.Dec.{leb}
 use Rattle.parse_tree.specs.Plain.ReadTape.{read_tape}
 use Rattle.std.specs.Prelude.{cond}
@@ -26,16 +26,6 @@ use Rattle.stages.specs.Levelling.{levelled_of}
 use Rattle.stages.specs.Expanding.{expanded_of}
 use Rattle.stages.specs.Whole.{again_stages, whole_of}
 use Rattle.normalize.specs.Calls.{in_room}
-
--- ---- `room`: ok is what `enough` answered
-module _ (t o w : ℕ) (ok : Bool) (i : ok ≡ leb (8 * (t + o)) w) where
-  pub room_is : ok ≡ true → 8 * (t + o) ≤ w
-  room_is e = leb-true (8 * (t + o)) w (sym i ∙ e)
-
-  pub room_not : ok ≡ false → w < 8 * (t + o)
-  room_not e = leb-false (8 * (t + o)) w (sym i ∙ e)
-
-pub ruleset rooming = (rules, room_is, room_not)
 
 -- ---- `call`: x is what the pass leaves
 module _ (s o w : List ℕ) where

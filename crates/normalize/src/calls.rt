@@ -8,6 +8,7 @@ ghost use Rattle.normalize.specs.Calls.{in_room};
 
 use output::room::enough;
 use parse_tree::refusal::{Question, Refusal};
+use stages::clearing::clear;
 use stages::expanding::Expanding;
 use stages::levelling::Levelling;
 use stages::pass::{Pass, run};
@@ -33,7 +34,7 @@ pub fn validate(tape: &[u8], work: &mut [u8]) -> Result<usize, Refusal>
     validate_tape(tape, work)
 }
 
-// A pass of a tape, in a work buffer that may be too short and is zero afterwards.
+// A pass of a tape. Work that is too short (1) stays as it was; any other is zero afterwards.
 fn call<P: Pass + Copy>(
     pass: P,
     tape: &[u8],
@@ -44,7 +45,7 @@ fn call<P: Pass + Copy>(
 {
     room(tape.len(), output.len(), work.len())?;
     let r = run(pass, tape, output, work);
-    work.fill(0);
+    clear(work);
     r
 }
 

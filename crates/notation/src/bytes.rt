@@ -1,4 +1,4 @@
-// Bytes as pairs of hexadecimal digits. What finds no room is counted and not written.
+// Bytes as pairs of hexadecimal digits. What finds no room is not written, and the place is then one behind the end.
 ghost use Rattle.std.specs.Prelude.{◌≤◌};
 
 use crate::words::digit;

@@ -1,7 +1,5 @@
-// How the programs that run cases read and write them: words, bytes in hexadecimal, and buffers filled beforehand. Touches nothing
-// but the slices that it is handed.
+// How cases reads and writes its lines: words, numbers and bytes in hexadecimal. Touches nothing but the slices that it is handed.
 #![tactic(auto)]
 
-pub mod buffers;
 pub mod bytes;
 pub mod words;

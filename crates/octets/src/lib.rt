@@ -1,4 +1,4 @@
-// Bytes in lent slices: little-endian numbers, runs, and a writer that goes on counting where its room ends.
+// Bytes in lent slices: little-endian numbers, runs, and a writer whose cursor stops one behind the end of its room.
 // Touches nothing but the slices that it is handed.
 #![tactic(auto)]
 

@@ -1,9 +1,9 @@
 // Little-endian numbers in a slice of bytes.
-ghost use Rattle.std.specs.Prelude.{◌≡◌, ◌+◌, ◌≤◌, ◌<◌, length, take, drop};
+ghost use Rattle.std.specs.Prelude.{◌≡◌, ◌+◌, ◌≤◌, length, take, drop};
 ghost use Rattle.octets.specs.Plain.Numbers.{le_at, le};
 ghost use Rattle.octets.specs.Working.Stores.{store};
 
-// How many bytes an atom's number has. No methods for the lengths of commands, which are sums with it as document 01 has them: the clauses have the sums, and each caller would cite the method's.
+// How many bytes an atom's number has. The lengths of commands are written out as sums with it: the clauses have these sums, and of a method each caller would have to cite the clause.
 #[derive(Clone, Copy)]
 pub struct Width {
     pub bytes: usize,
@@ -77,7 +77,7 @@ pub fn store64(out: &mut [u8], at: usize, v: u64)
 }
 
 // An atom's number, by bytes: a copy of two or three would be a call of memcpy.
-pub fn put_atom(work: &mut [u8], at: usize, width: Width, v: u32)
+pub fn store_atom(work: &mut [u8], at: usize, width: Width, v: u32)
     requires { at + width.bytes ≤ length work.old }
     ensures { work.new ≡ store work.old at (le width.bytes v) }
 {

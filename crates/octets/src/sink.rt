@@ -1,4 +1,4 @@
-// A writer that never refuses. What would stand at lim or later is counted, not written, and the cursor stops at lim + 1:
+// A writer that never refuses. What would stand at lim or later is not written, and the cursor stops at lim + 1:
 // so it ends at most at lim exactly when everything fitted, and no sum can overflow.
 ghost use Rattle.std.specs.Prelude.{[], ◌∷◌, ◌≤◌, length};
 ghost use Rattle.octets.specs.Working.Sink.{Laid};

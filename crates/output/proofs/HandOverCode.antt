@@ -12,11 +12,12 @@ use Rattle.octets.proofs.PartLaws.{part_length}
 use Rattle.octets.proofs.StoreLaws.{store_is, store-append}
 use Rattle.parse_tree.specs.Plain.WriteTape.{bytes_of_each}
 use Rattle.parse_tree.specs.Working.Encode.{atom_bytes}
+use Rattle.texts.specs.Atoms.{some_long}
 use Rattle.texts.specs.declared.Map.{Map}
 use Rattle.precedence.specs.Names.{Naming}
 use Rattle.levels.specs.declared.Room.{Room}
 use Rattle.levels.specs.declared.Written.{Written}
-use Rattle.levels.specs.Fresh.{too_long, new_texts, PutsNames}
+use Rattle.levels.specs.Fresh.{new_texts, PutsNames}
 use Rattle.output.specs.Working.Handing.{handed, HandsLevels, levels_tree, handed_levels}
 
 module _ (s w o : List ℕ) (at a : ℕ) (h : at ≤ length s) (k : a + (length s - at) ≤ length w) (n : length s ≤ length o) where
@@ -48,7 +49,7 @@ module _ (s w o : List ℕ) (at : ℕ) (m : Map) (room : Room) (v : Written) (h 
   pub names_there : Naming s w m v.count
   names_there = h.naming
 
-  pub names_short : too_long (new_texts s w m v.count) ≡ false
+  pub names_short : some_long (new_texts s w m v.count) ≡ false
   names_short = h.short
 
   pub items_from_lem : room.at ≤ v.to

@@ -1,13 +1,12 @@
 -- The ways out of `enough`, `judge`, `levels_room` and `judge_levels`. Assumes nothing.
 use mathlib.Core.Path.{◌≡◌, refl, sym, ap, ◌∙◌, subst}
 use mathlib.Core.Bool.{Bool, true, false, not}
-use Prim.Native.Nat.{ℕ, ◌+◌, ◌-◌, ◌*◌, ◌/◌, ◌<◌, ◌≤◌}
+use Prim.Native.Nat.{ℕ, ◌+◌, ◌-◌, ◌*◌, ◌/◌, ◌<◌}
 use native.Mathlib.Omega.{arith}
 use mir.Syntax.{w64}
 use mir.Val.{Fits}
 use borrow.Author.Rules.{rules}
-use borrow.Author.Tests.{lt-leb, le-leb, leb-true, leb-false}
-use lib.Dec.{leb, ltb}
+use lib.Dec.{ltb}
 use Rattle.octets.specs.Working.Choice.{pick}
 use Rattle.parse_tree.specs.Working.Refusals.{refusal_at}
 use Rattle.parse_tree.specs.declared.refusal.Refusal.{Refusal}
@@ -16,19 +15,6 @@ use Rattle.levels.specs.declared.Written.{Written}
 use Rattle.std.specs.Prelude.{Option, Some, None, is_some, unwrap_or, IfSome, Result, Ok, Err}
 use Rattle.rounds.specs.Judge.{Verdict, ruled_counts, ruled_length}
 use Rattle.output.specs.Working.Judging.{sized, room_of, sized_levels}
-
--- ---- `enough`
-pub enough_no : (tape output work : ℕ) → work / 8 < tape → false ≡ leb (8 * (tape + output)) work
-enough_no tape output work h = sym (lt-leb (8 * (tape + output)) work (omega arith))
-
-pub enough_is : (tape output work : ℕ) → tape ≤ work / 8 → leb output (work / 8 - tape) ≡ leb (8 * (tape + output)) work
-enough_is tape output work h = go (leb output (work / 8 - tape)) refl
-  where
-    go : (t : Bool) → leb output (work / 8 - tape) ≡ t → t ≡ leb (8 * (tape + output)) work
-    go true e = let x = leb-true output (work / 8 - tape) e in sym (le-leb (8 * (tape + output)) work (omega arith))
-    go false e = let x = leb-false output (work / 8 - tape) e in sym (lt-leb (8 * (tape + output)) work (omega arith))
-
-pub ruleset rooms = (rules, enough_no, enough_is)
 
 -- ---- `judge`
 module _ (atoms n cap : ℕ) (r : Verdict) (i : r ≡ ruled_counts atoms false) where

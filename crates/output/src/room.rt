@@ -1,4 +1,4 @@
-// The sizes that are asked: of the work buffer, and of a finished stage.
+// The sizes that are asked: of the work buffer, and of a finished stage; and where levels are written.
 ghost use Rattle.std.specs.Prelude.{◌≡◌, ◌+◌, ◌*◌, ◌≤◌, ◌<◌, leb, IfSome};
 ghost use Rattle.output.specs.Working.Judging.{sized, room_of, sized_levels};
 

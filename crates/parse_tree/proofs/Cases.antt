@@ -9,8 +9,8 @@ use Rattle.octets.specs.Working.Choice.{pick}
 use Rattle.octets.specs.Plain.Numbers.{le, le_at}
 use Rattle.octets.specs.Plain.Runs.{part, same_as}
 use Rattle.parse_tree.specs.Plain.Tree.{Syms, Alternative, Item, plus, ambiguous, bare, quoted, regex, nonterminal, lookahead, lookbehind, error, repeat, choose, name, macro, group, leaf, around, over, nil, cons, user, item, terminal, extern, match, count, syms_of}
-use Rattle.parse_tree.specs.Plain.Texts.{every, starts_name, in_name, name_bytes, is_name, is_literal, is_ascii, has, number, with_new}
-use Rattle.parse_tree.specs.Working.Nodes.{span_bytes, leaf_code, leaf_operand, symbol_bytes, node_bytes, size_of, if_whole, span_in, named_leaf, bare_leaf, symbol_node_at, text_node, nonterminal_node_at, terminal_node_at, argument_node_at, alternative_node_at, attribute_node_at, condition_node_at, node_by, node_at}
+use Rattle.parse_tree.specs.Plain.Texts.{every, starts_name, in_name, is_identifier, is_name, is_literal, is_ascii, has, number, with_new}
+use Rattle.parse_tree.specs.Working.Nodes.{span_bytes, leaf_code, leaf_operand, symbol_bytes, node_bytes, size_of, if_whole, span_in, named_leaf, word_leaf, symbol_node_at, text_node, nonterminal_node_at, terminal_node_at, argument_node_at, alternative_node_at, attribute_node_at, condition_node_at, node_by, node_at}
 use Rattle.parse_tree.specs.Working.Places.{class_of, table, allowed_at}
 use Rattle.parse_tree.specs.Working.Questions.{leaf_defined, symbol_defined, alternative_defined, attribute_defined, defined, leaf_suits, symbol_suits, suits}
 use Rattle.parse_tree.specs.Plain.Reading.{got, then, times}
@@ -51,6 +51,6 @@ items =
     ∷ terminal (at 1 2) match (98 ∷ [])
     ∷ []
 
-back : decode (encode 2 [] items) ≡ got (stage_of [] items) (length (encode 2 [] items))
-unfolding pick le le_at part same_as count syms_of every starts_name in_name name_bytes is_name is_literal is_ascii has number with_new span_bytes leaf_code leaf_operand symbol_bytes node_bytes size_of if_whole span_in named_leaf bare_leaf symbol_node_at text_node nonterminal_node_at terminal_node_at argument_node_at alternative_node_at attribute_node_at condition_node_at node_by node_at class_of table allowed_at leaf_defined symbol_defined alternative_defined attribute_defined defined leaf_suits symbol_suits suits then times expect_item expect_argument expect_alternative expect_attribute expect_condition expect_symbol op_from inside_of leaf_of around_of over_of action_from attribute_of condition_of alternative_of nonterminal_of terminal_of ask_of ask read_sym read_argument read_attribute read_condition alternative_parts read_alternative nonterminal_parts read_item read_items read_atoms decode_by decode bytes_of_each atom_bytes leaf_node around_node over_node action_text alternative_node attribute_node condition_node nonterminal_node sym_bytes argument_bytes attribute_bytes condition_bytes alternative_bytes item_bytes stage_bytes texts_of_each leaf_texts around_texts over_texts sym_texts action_texts attribute_texts condition_texts alternative_texts item_texts stage_of encode
-back = refl
+every-command : decode (encode 2 [] items) ≡ got (stage_of [] items) (length (encode 2 [] items))
+unfolding pick le le_at part same_as count syms_of every starts_name in_name is_identifier is_name is_literal is_ascii has number with_new span_bytes leaf_code leaf_operand symbol_bytes node_bytes size_of if_whole span_in named_leaf word_leaf symbol_node_at text_node nonterminal_node_at terminal_node_at argument_node_at alternative_node_at attribute_node_at condition_node_at node_by node_at class_of table allowed_at leaf_defined symbol_defined alternative_defined attribute_defined defined leaf_suits symbol_suits suits then times expect_item expect_argument expect_alternative expect_attribute expect_condition expect_symbol op_from inside_of leaf_of around_of over_of action_from attribute_of condition_of alternative_of nonterminal_of terminal_of ask_of ask read_sym read_argument read_attribute read_condition alternative_parts read_alternative nonterminal_parts read_item read_items read_atoms decode_by decode bytes_of_each atom_bytes leaf_node around_node over_node action_text alternative_node attribute_node condition_node nonterminal_node sym_bytes argument_bytes attribute_bytes condition_bytes alternative_bytes item_bytes stage_bytes texts_of_each leaf_texts around_texts over_texts sym_texts action_texts attribute_texts condition_texts alternative_texts item_texts stage_of encode
+every-command = refl

@@ -11,7 +11,7 @@ use Rattle.octets.specs.Working.Choice.{pick}
 use Rattle.octets.specs.Plain.Numbers.{le_at, le}
 use Rattle.octets.specs.Plain.Runs.{Lies}
 use Rattle.octets.proofs.LiesLaws.{lies_first, lies_inside}
-use Rattle.parse_tree.specs.Working.Nodes.{leaf_code, leaf_operand, symbol_bytes, node_bytes, if_whole, span_bytes, span_in, named_leaf, bare_leaf, symbol_node_at, text_node, nonterminal_node_at, terminal_node_at, argument_node_at, alternative_node_at, attribute_node_at, condition_node_at, node_by, node_at}
+use Rattle.parse_tree.specs.Working.Nodes.{leaf_code, leaf_operand, symbol_bytes, node_bytes, if_whole, span_bytes, span_in, named_leaf, word_leaf, symbol_node_at, text_node, nonterminal_node_at, terminal_node_at, argument_node_at, alternative_node_at, attribute_node_at, condition_node_at, node_by, node_at}
 use Rattle.parse_tree.specs.Working.Within.{SpanWithin}
 use Rattle.parse_tree.specs.declared.syntax.Span.{Span}
 use Rattle.parse_tree.specs.declared.syntax.NonterminalString.{NonterminalString}
@@ -125,7 +125,7 @@ module _ (w : ℕ) (s : List ℕ) (a e : ℕ) where
       x0.0 ∙ is_whole (10 + w + w) _ (omega arith) ∙ simp (x1.0, x2.0, x3.0, x4.0)
 
   leaf_back : (sp : Span) (x : Leaf) → SpanWithin sp → LeafFits w x → Lies s a (symbol_bytes w sp (SymbolKind.Leaf x)) e → node_at w s a ≡ Some (Node.Symbol sp (SymbolKind.Leaf x))
-  unfolding symbol_bytes leaf_code leaf_operand node_by pick symbol_node_at named_leaf bare_leaf
+  unfolding symbol_bytes leaf_code leaf_operand node_by pick symbol_node_at named_leaf word_leaf
   leaf_back sp (Leaf.AmbiguousId n) f h l = numbered 32 sp n.0 (λ sp v. Node.Symbol sp (SymbolKind.Leaf (Leaf.AmbiguousId (record { 0 = v })))) refl f h l
   leaf_back sp (Leaf.Bare n) f h l = numbered 33 sp n.0 (λ sp v. Node.Symbol sp (SymbolKind.Leaf (Leaf.Bare (record { 0 = v })))) refl f h l
   leaf_back sp (Leaf.Quoted n) f h l = numbered 34 sp n.0 (λ sp v. Node.Symbol sp (SymbolKind.Leaf (Leaf.Quoted (record { 0 = v })))) refl f h l

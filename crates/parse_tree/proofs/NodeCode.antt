@@ -12,7 +12,7 @@ use Rattle.std.specs.Prelude.{option_map, Option, Some, None}
 use Rattle.octets.specs.Working.Choice.{pick}
 use Rattle.octets.specs.Plain.Numbers.{le_at}
 use Rattle.octets.proofs.ChoiceLaws.{by_pick}
-use Rattle.parse_tree.specs.Working.Nodes.{code_size, if_whole, span_in, named_leaf, bare_leaf, symbol_node_at, text_node, nonterminal_here, nonterminal_node_at, terminal_node_at, argument_node_at, alternative_here, alternative_node_at, attribute_here, attribute_node_at, condition_node_at, node_by, node_at}
+use Rattle.parse_tree.specs.Working.Nodes.{code_size, if_whole, span_in, named_leaf, word_leaf, symbol_node_at, text_node, nonterminal_here, nonterminal_node_at, terminal_node_at, argument_node_at, alternative_here, alternative_node_at, attribute_here, attribute_node_at, condition_node_at, node_by, node_at}
 use Rattle.parse_tree.specs.declared.syntax.Span.{Span}
 use Rattle.parse_tree.specs.declared.syntax.Atom.{Atom}
 use Rattle.parse_tree.specs.declared.syntax.NonterminalString.{NonterminalString}
@@ -99,7 +99,7 @@ module _ (w c : ℕ) (s : List ℕ) (at : ℕ) (g : at + code_size w c ≤ lengt
   unfolding symbol_node_at pick
   kind_group z k e = rw z (whole_is s at 11 (room (size_41 w c z)) (λ i. Node.Symbol (span_in s (at + 1)) (SymbolKind.Over (Over.Group (e i)))))
 
-  pub kind_bare : 42 ≤ c → c < 45 → (l : Leaf) → l ≡ bare_leaf c → Some (Node.Symbol (span_in s (at + 1)) (SymbolKind.Leaf l)) ≡ symbol_node_at w c s at
+  pub kind_bare : 42 ≤ c → c < 45 → (l : Leaf) → l ≡ word_leaf c → Some (Node.Symbol (span_in s (at + 1)) (SymbolKind.Leaf l)) ≡ symbol_node_at w c s at
   unfolding symbol_node_at pick
   kind_bare l h x e =
       simp (le-ltb c 37 (omega arith), ne_eqb c 37 (λ q. absurd (omega arith)), ne_eqb c 38 (λ q. absurd (omega arith)), ne_eqb c 39 (λ q. absurd (omega arith)), ne_eqb c 40 (λ q. absurd (omega arith)), ne_eqb c 41 (λ q. absurd (omega arith)))

@@ -13,7 +13,7 @@ use Rattle.octets.specs.Plain.Numbers.{le_at, le, Bytes}
 use Rattle.octets.specs.Plain.Runs.{Lies}
 use Rattle.octets.proofs.ChoiceLaws.{by_pick}
 use Rattle.octets.proofs.LiesLaws.{lies_none, lies_to, le_at-lt}
-use Rattle.parse_tree.specs.Working.Nodes.{leaf_code, leaf_operand, symbol_bytes, node_bytes, size_of, if_whole, span_in, named_leaf, bare_leaf, symbol_node_at, text_node, nonterminal_node_at, terminal_node_at, argument_node_at, alternative_node_at, attribute_node_at, condition_node_at, node_by, node_at}
+use Rattle.parse_tree.specs.Working.Nodes.{leaf_code, leaf_operand, symbol_bytes, node_bytes, size_of, if_whole, span_in, named_leaf, word_leaf, symbol_node_at, text_node, nonterminal_node_at, terminal_node_at, argument_node_at, alternative_node_at, attribute_node_at, condition_node_at, node_by, node_at}
 use Rattle.parse_tree.specs.declared.syntax.Leaf.{Leaf}
 use Rattle.parse_tree.specs.declared.syntax.Around.{Around}
 use Rattle.parse_tree.specs.declared.syntax.Over.{Over}
@@ -36,8 +36,8 @@ named-says w c v l h f =
     by_pick (LeafSays w c (le w v)) _ (λ p. (sym (eqb-true c 35 p), refl, f)) (λ n5.
     (omega (arith, eqb-false c 32 n2, eqb-false c 33 n3, eqb-false c 34 n4, eqb-false c 35 n5), refl, f)))))
 
-bare_says : (w c : ℕ) → 42 ≤ c → c < 45 → LeafSays w c [] (bare_leaf c)
-unfolding leaf_code leaf_operand bare_leaf
+bare_says : (w c : ℕ) → 42 ≤ c → c < 45 → LeafSays w c [] (word_leaf c)
+unfolding leaf_code leaf_operand word_leaf
 bare_says w c l h =
     by_pick (LeafSays w c []) _ (λ p. (sym (eqb-true c 42 p), refl, tt)) (λ n2.
     by_pick (LeafSays w c []) _ (λ p. (sym (eqb-true c 43 p), refl, tt)) (λ n3.

@@ -12,7 +12,7 @@ use Rattle.octets.specs.Working.Choice.{pick}
 use Rattle.octets.specs.Plain.Numbers.{le_at}
 use Rattle.parse_tree.specs.Plain.Tree.{Text, Sym, syms_of}
 use Rattle.parse_tree.specs.Plain.Tree as Tree
-use Rattle.parse_tree.specs.Working.Nodes.{size_of, if_whole, span_in, named_leaf, bare_leaf, symbol_node_at, node_by, node_at}
+use Rattle.parse_tree.specs.Working.Nodes.{size_of, if_whole, span_in, named_leaf, word_leaf, symbol_node_at, node_by, node_at}
 use Rattle.parse_tree.specs.Working.Places.{class_of, allowed_at, table, symbols_place}
 use Rattle.parse_tree.specs.Working.Questions.{defined, leaf_defined, symbol_defined, suits, leaf_suits, symbol_suits}
 use Rattle.parse_tree.specs.Plain.Reading.{Reading, got, refused, then, times}
@@ -70,7 +70,7 @@ module _ (four : Bool) (w : ℕ) (s : List ℕ) (ts : List Text) (inside : ℕ �
   symbol_asks x m good fits r n g f z k = sym (asks_is four w s ts symbols_place left at behind (Node.Symbol (span_in s (at + 1)) x) m good fits r n refl g f (sym z) k)
 
   pub symbol_by : Plain.symbol_from four w s ts inside left at (Plain.command_at four w s ts at) ≡ then (ask four w s ts symbols_place left at) behind
-  unfolding Plain.command_at expect_symbol node_by pick symbol_node_at named_leaf bare_leaf symbol_defined leaf_defined symbol_suits leaf_suits leaf_of around_of over_of inside_of span_in
+  unfolding Plain.command_at expect_symbol node_by pick symbol_node_at named_leaf word_leaf symbol_defined leaf_defined symbol_suits leaf_suits leaf_of around_of over_of inside_of span_in
   symbol_by =
       by_code (Plain.symbol_from four w s ts inside left at) code 32 _ _ _ (λ e. symbol_asks (SymbolKind.Leaf (Leaf.AmbiguousId (record { 0 = le_at w s (at + 9) }))) (9 + w) _ _ _ (node_by_lem w s at 31 e) refl refl (leaf_size w _ _ _ refl _ w refl (ambiguous_size w _ _ refl)) refl) (λ n32.
       by_code (Plain.symbol_from four w s ts inside left at) code 33 _ _ _ (λ e. symbol_asks (SymbolKind.Leaf (Leaf.Bare (record { 0 = le_at w s (at + 9) }))) (9 + w) _ _ _ (node_by_lem w s at 32 e) refl refl (leaf_size w _ _ _ refl _ w refl (bare_size w _ _ refl)) refl) (λ n33.

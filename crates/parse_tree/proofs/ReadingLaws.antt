@@ -83,6 +83,14 @@ pub each_append : {A : Type 0} (P : A → Type 0) (xs ys : List A) → Each P xs
 each_append P [] ys h k = k
 each_append P (x ∷ xs) ys h k = (h.0, each_append P xs ys h.1 k)
 
+pub each_map : {A : Type 0} {P Q : A → Type 0} → ((a : A) → P a → Q a) → (xs : List A) → Each P xs → Each Q xs
+each_map f [] h = tt
+each_map f (x ∷ xs) h = (f x h.0, each_map f xs h.1)
+
+-- the same where P and Q are told
+pub each_all : {A : Type 0} (P Q : A → Type 0) → ((a : A) → P a → Q a) → (xs : List A) → Each P xs → Each Q xs
+each_all P Q f xs h = each_map f xs h
+
 module _ {A : Type 0} (bytes : A → List ℕ) where
   pub bytes_more : (xs : List A) (y : A) → bytes_of_each bytes (xs ++ (y ∷ [])) ≡ bytes_of_each bytes xs ++ bytes y
   unfolding bytes_of_each

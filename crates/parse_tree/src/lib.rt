@@ -1,4 +1,4 @@
-// One command of a tape, as an enum; which command may stand where; how long a command is.
+// One command of a tape, as an enum; which command may stand where; how long a command is; how many symbols stand in it; why a tape is refused.
 #![tactic(auto)]
 
 pub mod nested;

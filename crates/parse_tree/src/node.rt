@@ -1,9 +1,8 @@
 // One command of a tape, read: the operands stand as in specs/Nodes. That there is one is asked at each call: the place differs from one to the next.
 ghost use Rattle.std.specs.Prelude.{◌≡◌, ◌≢◌, ◌+◌, ◌≤◌, ◌<◌, length, Some, option_map};
-ghost use Rattle.octets.specs.Plain.Numbers.{le_at};
 ghost use Rattle.parse_tree.specs.Working.Nodes.{node_at, node_by, text_node, terminal_node_at, condition_node_at, nonterminal_here, alternative_here, attribute_here};
 ghost use Rattle.parse_tree.specs.declared.syntax.Node.{Node};
-ghost use Rattle.parse_tree.specs.Working.Nodes.{code_size, span_in, symbol_node_at, named_leaf, bare_leaf};
+ghost use Rattle.parse_tree.specs.Working.Nodes.{code_size, span_in, symbol_node_at, named_leaf, word_leaf};
 
 use crate::size::size_by_code;
 use crate::syntax::{
@@ -117,8 +116,8 @@ fn named_leaf(code: u8, atom: u32) -> Leaf
 }
 
 // 2a, 2b, 2c.
-fn bare_leaf(code: u8) -> Leaf
-    ensures { result ≡ bare_leaf code }
+fn word_leaf(code: u8) -> Leaf
+    ensures { result ≡ word_leaf code }
 {
     match code {
         42 => Leaf::Lookahead,
@@ -142,7 +141,7 @@ fn kind_at(tape: &[u8], at: usize, width: Width, code: u8) -> SymbolKind
         39 => SymbolKind::Around(Around::Choose),
         40 => SymbolKind::Around(Around::Name(tape[at + 9], Atom(atom_at(tape, at + 10, width)))),
         41 => SymbolKind::Over(Over::Group(u16_at(tape, at + 9))),
-        _ => SymbolKind::Leaf(bare_leaf(code)),
+        _ => SymbolKind::Leaf(word_leaf(code)),
     }
 }
 

@@ -46,7 +46,7 @@ impl From<Node> for Class {
     }
 }
 
-// Whether a command of the class may stand there.
+// A row for each Place, a column for each Class, in their order.
 const ALLOWED: [[bool; 8]; 7] = [
     // atoms: texts
     [true, false, false, false, false, false, false, false],

@@ -1,4 +1,4 @@
-// Why a tape is refused. The number is a usize so that all fields stand on places of 8 bytes.
+// Why a tape is refused. The number is a usize so that all fields have 8 bytes.
 ghost use Rattle.std.specs.Prelude.{◌≡◌, ◌+◌, ◌≤◌, length};
 ghost use Rattle.parse_tree.specs.Working.Nodes.{span_in};
 ghost use Rattle.parse_tree.specs.Working.Refusals.{number_of, refusal_at, refusal_over};
@@ -43,7 +43,7 @@ pub struct Refusal {
 
 // "2 to 4 the command's offset twice"
 #[tactic(auto, unfolding(crate::specs::Working::Refusals::refusal_at))]
-pub fn at(number: usize, place: usize) -> Refusal
+fn at(number: usize, place: usize) -> Refusal
     ensures { result ≡ refusal_at number place }
 {
     Refusal {
@@ -55,7 +55,7 @@ pub fn at(number: usize, place: usize) -> Refusal
 
 // A span.
 #[tactic(auto, unfolding(crate::specs::Working::Refusals::refusal_over))]
-pub fn over(number: usize, span: Span) -> Refusal
+fn over(number: usize, span: Span) -> Refusal
     ensures { result ≡ refusal_over number span }
 {
     Refusal {

@@ -1,5 +1,5 @@
 // How long a command is.
-ghost use Rattle.std.specs.Prelude.{◌≡◌, ◌+◌, ◌≤◌, ◌<◌, length};
+ghost use Rattle.std.specs.Prelude.{◌≡◌, ◌≤◌, ◌<◌, length};
 ghost use Rattle.parse_tree.specs.Working.Nodes.{code_size, leaf_operand, long_of, size_of};
 
 use crate::syntax::{Around, Leaf, Node, Over, SymbolKind};
@@ -46,7 +46,7 @@ pub fn size(n: Node, width: Width) -> usize
     }
 }
 
-// The same by its code, of a command of an alternative: an alternative, an attribute, a condition or a symbol. One arm for 32 to 36 was tried: five machine instructions more for each command, since no table is made then.
+// The same by its code, of a command of an alternative: an alternative, an attribute, a condition or a symbol. One arm for 32 to 36 would take five machine instructions more for each command: no table is made then.
 pub fn long(code: u8, width: Width) -> usize
     ensures { (result ≡ long_of width.bytes code) × (0 < result) × (result ≤ 17) }
 {

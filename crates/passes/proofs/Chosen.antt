@@ -5,7 +5,7 @@ use mathlib.Core.List.{List, [], ◌∷◌, map}
 use Rattle.octets.specs.Plain.Numbers.{le, le_at}
 use Rattle.octets.specs.Plain.Runs.{part, same_as}
 use Rattle.parse_tree.specs.Plain.Tree.{count, syms_of}
-use Rattle.parse_tree.specs.Plain.Texts.{every, starts_name, in_name, name_bytes, is_name, is_literal, is_ascii, has, number, distinct, with_new}
+use Rattle.parse_tree.specs.Plain.Texts.{every, starts_name, in_name, is_identifier, is_name, is_literal, is_ascii, has, number, distinct, with_new}
 use Rattle.parse_tree.specs.Plain.Display.{escaped, shown_leaf, shown_before, shown_behind, opening, shown, print}
 use Rattle.parse_tree.specs.Plain.Reading.{then, times}
 use Rattle.parse_tree.specs.Plain.References.{texts_of_each, leaf_texts, around_texts, over_texts, sym_texts, action_texts, attribute_texts, condition_texts, alternative_texts, item_texts, stage_of}
@@ -95,5 +95,5 @@ rows =
     ∷ []
 
 chosen : map answered rows ≡ map expected rows
-unfolding le le_at part same_as count syms_of every starts_name in_name name_bytes is_name is_literal is_ascii has number distinct with_new then times texts_of_each leaf_texts around_texts over_texts sym_texts action_texts attribute_texts condition_texts alternative_texts item_texts stage_of bytes_of_each coded atom_tape leaf_tape around_tape over_tape sym_tape action_tape attribute_tape condition_tape alternative_tape item_tape tape_of asked command_at symbol_at argument_at attribute_at condition_at alternative_at item_at items_at atoms_at read_tape check_globals validate_symbol validate_alternatives validate_items resolve levels_of of_level groups_of occurs replace_occurrences substituted with_fall_through level_items levelled check_levels levels stage_fits sizes validate_call resolve_call resolve_stage level_stage levels_call macro_stages all_stages rounds calls.whole push replace_symbol replace_alternatives replace_items macro_expand_symbol expand_alternatives expand_symbol drain escaped shown_leaf shown_before shown_behind opening shown print macros_call answer_words written
+unfolding le le_at part same_as count syms_of every starts_name in_name is_identifier is_name is_literal is_ascii has number distinct with_new then times texts_of_each leaf_texts around_texts over_texts sym_texts action_texts attribute_texts condition_texts alternative_texts item_texts stage_of bytes_of_each coded atom_tape leaf_tape around_tape over_tape sym_tape action_tape attribute_tape condition_tape alternative_tape item_tape tape_of asked command_at symbol_at argument_at attribute_at condition_at alternative_at item_at items_at atoms_at read_tape check_globals validate_symbol validate_alternatives validate_items resolve levels_of of_level groups_of occurs replace_occurrences substituted with_fall_through level_items levelled check_levels levels stage_fits sizes validate_call resolve_call resolve_stage level_stage levels_call macro_stages all_stages rounds calls.whole push replace_symbol replace_alternatives replace_items macro_expand_symbol expand_alternatives expand_symbol drain escaped shown_leaf shown_before shown_behind opening shown print macros_call answer_words written
 chosen = refl

@@ -8,7 +8,7 @@ use Rattle.parse_tree.specs.Plain.Tree.{Text, Syms, Alternative, Nonterminal, It
 use Rattle.parse_tree.specs.Working.Within.{Each}
 use Rattle.parse_tree.specs.declared.syntax.Span.{Span}
 use Rattle.passes.specs.Outcome.{Tree, yes}
-use Rattle.passes.specs.Macros.{expand_alternative, evaluate_condition, expand_alternatives, macro_in, expand_macro_symbol}
+use Rattle.passes.specs.Macros.{expand_alternative, evaluate_cond, expand_alternatives, macro_in, expand_macro_symbol}
 use Rattle.passes.proofs.Outcomes.{no≢yes, after-yes}
 use Rattle.passes.proofs.ResolveKeeps.{yes_as}
 
@@ -32,7 +32,7 @@ module _ (Q : Alternative → Type 0) (s : Span) (xs : Syms) (put : (ps : List T
   unfolding expand_alternatives
   alternatives_put ps [] bs h e = yes_as (Each Q) e tt
   alternatives_put ps (a ∷ rest) bs h e =
-      let (b, _, f) = after-yes (evaluate_condition ps xs a.condition) _ bs e in
+      let (b, _, f) = after-yes (evaluate_cond ps xs a.condition) _ bs e in
       let (cs, g, i) = after-yes (expand_alternatives s ps xs rest) _ bs f in
       yes_as (Each Q) i (go b cs (alternatives_put ps rest cs h.1 g))
     where

@@ -14,7 +14,7 @@ use Rattle.passes.specs.Range.{Between}
 use Rattle.passes.specs.Grades.{Graded, is_given, annotated, graded, level_in, side_in, precedence, assoc, value_of}
 use Rattle.passes.specs.Resolve.{Def, terminal_def, nonterminal_def, argument_def, Global, globals, def_in, kind, met_again, check_globals, lookup, check_condition, validate_nonterminal, rewrite_ambiguous_id, validate_macro, validate_leaf, validate_over, validate_symbol, validate_symbols, validate_alternatives, validate_macro_args, validate_items, resolve}
 use Rattle.passes.specs.Levels.{Group, grouped, is_readable, check_attributes, is_all, all_all, check_lowest, check_nonterminal, check_levels, levels}
-use Rattle.passes.specs.Macros.{Pending, looking, repeating, listing, quoted_in, argument_of, evaluate_condition, expand_alternatives, macro_in, expand_macro_symbol, has_name, expand_symbol, drain}
+use Rattle.passes.specs.Macros.{Pending, looking, repeating, listing, quoted_in, argument_of, evaluate_cond, expand_alternatives, macro_in, expand_macro_symbol, has_name, expand_symbol, drain}
 
 -- ---- one behind another, one of two, and a range in a wider one
 pub after-between : (l h : ℕ) {A B : Type 0} (r : Outcome A) (f : A → Outcome B) → Between l h r → ((a : A) → Between l h (f a)) → Between l h (after r f)
@@ -152,7 +152,7 @@ unfolding levels
 levels-between G = after-between 14 16 (check_levels G) _ (check_between G) (λ u. tt)
 
 -- ---- the symbols taken off the pile: 17 and 19, and 11 where there is no such macro, which a resolved tree rules out
-evaluate_between : (ps : List Text) (xs : Syms) (o : Option Condition) → Between 11 19 (evaluate_condition ps xs o)
+evaluate_between : (ps : List Text) (xs : Syms) (o : Option Condition) → Between 11 19 (evaluate_cond ps xs o)
 evaluate_between ps xs none = tt
 evaluate_between ps xs (some c) = go (quoted_in (argument_of ps xs c.lhs))
   where
@@ -165,7 +165,7 @@ unfolding expand_alternatives
 expand_between s ps xs [] = tt
 expand_between s ps xs (a ∷ rest) =
     let b = expand_between s ps xs rest in
-    after-between 11 19 (evaluate_condition ps xs a.condition) _ (evaluate_between ps xs a.condition) (λ k. after-between 11 19 (expand_alternatives s ps xs rest) _ b (λ bs. tt))
+    after-between 11 19 (evaluate_cond ps xs a.condition) _ (evaluate_between ps xs a.condition) (λ k. after-between 11 19 (expand_alternatives s ps xs rest) _ b (λ bs. tt))
 
 call_between : (s : Span) (key : Text) (xs : Syms) (o : Option Nonterminal) → Between 11 19 (expand_macro_symbol s key xs o)
 call_between s key xs none = omega arith

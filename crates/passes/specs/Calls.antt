@@ -22,7 +22,7 @@ read_as (refused n p) = no n (record { 0 = p; 1 = p })
 unfoldable pub sizes : ℕ → ℕ → Stage → Outcome Stage
 sizes w cap g = cond (stage_fits w g) (cond (leb (length (tape_of w g)) cap) (yes g) (no 21 nowhere)) (no 20 nowhere)
 
--- four says whether question 4 is asked, w is the width of an atom's number in bytes; the entries fix yes and 2
+-- four says whether question 4 is asked, w is the width of an atom's number in bytes; the exported calls fix true and 2
 module _ (four : Bool) (w : ℕ) (tape : List ℕ) where
   -- "Is work at least 8 × (tape + output) bytes? 1", then 2 to 4; without an output this is the call for validating
   unfoldable pub validate_call : ℕ → ℕ → Outcome Stage
@@ -47,11 +47,11 @@ unfoldable pub answer_words : ℕ → Outcome Stage → List ℕ
 answer_words w (yes g) = 1 ∷ length (tape_of w g) ∷ 0 ∷ 0 ∷ 0 ∷ []
 answer_words w (no n s) = 0 ∷ n ∷ s.0 ∷ s.1 ∷ 0 ∷ []
 
--- "the expanded tree from its first byte and its old bytes behind that; after a refusal it holds only its old bytes"
+-- demand 1: "the expanded tree from its first byte and its old bytes behind that; after a refusal it holds only its old bytes"
 unfoldable pub written : ℕ → Outcome Stage → List ℕ → List ℕ
 written w (yes g) old = tape_of w g ++ drop (length (tape_of w g)) old
 written w (no n s) old = old
 
--- "The work buffer is zero after every call that found it long enough"; "1, work untouched"
+-- demand 1: "The work buffer is zero after every call that found it long enough"; document 01: "1, work untouched"
 unfoldable pub work_after : List ℕ → ℕ → List ℕ → List ℕ
 work_after tape cap work = cond (leb (8 * (length tape + cap)) (length work)) (replicate (length work) 0) work

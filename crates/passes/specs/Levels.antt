@@ -32,6 +32,10 @@ decimal_from (suc more) n r = let r' = (0x30 + n % 10) ∷ r in let q = decimal_
 abbrev pub decimal : ℕ → Text
 decimal n = decimal_from 10 n []
 
+-- a number of 64 bits has at most twenty
+unfoldable pub number_digits : ℕ → Text
+number_digits n = decimal_from 20 n []
+
 -- the alternatives of one level, its name and the next lower level's, if it has one
 pub record Group (A : Type 0) : Type 0 where
   pub name : Text
@@ -74,7 +78,7 @@ module _ (E : Text) where
       replace_occurrences_in nil i = nil
       replace_occurrences_in (cons x xs) i = cons (replace_occurrences x i) (replace_occurrences_in xs (i + occurs x))
 
--- the lowest level has only `all`, and no other name
+-- the lowest level has no lower one; it has only `all`, so its own name is never put to use here
 abbrev pub lower_name : {A : Type 0} → Group A → Text
 lower_name g = elim g.lower [ none ↦ g.name | some n ↦ n ]
 

@@ -30,35 +30,35 @@ span_of (repeating s o x) = s
 span_of (listing s o xs) = s
 
 -- the expander: the keys of the symbols met so far, and the pile, its top first
-pub record Expander : Type 0 where
+pub record MacroExpander : Type 0 where
   pub keys : List Text
   pub pile : List Pending
 
 -- a symbol to expand gives way to the nonterminal of its printed form, and is pushed when that is new
-unfoldable pub push : Pending → Expander → Sym × Expander
+unfoldable pub push : Pending → MacroExpander → Sym × MacroExpander
 push p σ = let key = print (symbol_of p) in (leaf (span_of p) (nonterminal key), cond (has key σ.keys) σ (record { keys = key ∷ σ.keys; pile = p ∷ σ.pile }))
 
-abbrev pub replace_around : Span → Around → Sym × Expander → Sym × Expander
+abbrev pub replace_around : Span → Around → Sym × MacroExpander → Sym × MacroExpander
 replace_around s (repeat o) q = push (repeating s o q.0) q.1
 replace_around s choose q = (around s choose q.0, q.1)
 replace_around s (name m n) q = (around s (name m n) q.0, q.1)
 
 -- inner symbols first; of the leaves only `@L` and `@R` are expanded
 unfoldable mutual
-  pub replace_symbol : Sym → Expander → Sym × Expander
+  pub replace_symbol : Sym → MacroExpander → Sym × MacroExpander
   replace_symbol (leaf s l) σ = elim (as_look l) [ none ↦ (leaf s l, σ) | some k ↦ push (looking s k) σ ]
   replace_symbol (around s a x) σ = replace_around s a (replace_symbol x σ)
   replace_symbol (over s o xs) σ = let q = replace_symbols xs σ in push (listing s o q.0) q.1
 
-  pub replace_symbols : Syms → Expander → Syms × Expander
+  pub replace_symbols : Syms → MacroExpander → Syms × MacroExpander
   replace_symbols nil σ = (nil, σ)
   replace_symbols (cons x xs) σ = let q = replace_symbol x σ in let r = replace_symbols xs q.1 in (cons q.0 r.0, r.1)
 
-unfoldable pub replace_alternatives : List Alternative → Expander → List Alternative × Expander
+unfoldable pub replace_alternatives : List Alternative → MacroExpander → List Alternative × MacroExpander
 replace_alternatives [] σ = ([], σ)
 replace_alternatives (a ∷ rest) σ = let q = replace_symbols a.symbols σ in let r = replace_alternatives rest q.1 in (with_symbols a q.0 ∷ r.0, r.1)
 
-unfoldable pub replace_items : List Item → Expander → List Item × Expander
+unfoldable pub replace_items : List Item → MacroExpander → List Item × MacroExpander
 replace_items [] σ = ([], σ)
 replace_items (item d ∷ rest) σ = let q = replace_alternatives d.alternatives σ in let r = replace_items rest q.1 in (item (with_alternatives d q.0) ∷ r.0, r.1)
 replace_items (Item.terminal s o t ∷ rest) σ = let r = replace_items rest σ in (Item.terminal s o t ∷ r.0, r.1)
@@ -99,9 +99,9 @@ abbrev pub quoted_in : Option Sym → Option Text
 quoted_in none = none
 quoted_in (some x) = elim (as_leaf x) [ none ↦ none | some l ↦ as_quoted l ]
 
-abbrev pub evaluate_condition : List Text → Syms → Option Condition → Outcome Bool
-evaluate_condition ps xs none = yes true
-evaluate_condition ps xs (some c) = elim (quoted_in (argument_of ps xs c.lhs)) [ none ↦ no 17 c.span | some t ↦ yes (cond c.equal (same_as t c.rhs) (not (same_as t c.rhs))) ]
+abbrev pub evaluate_cond : List Text → Syms → Option Condition → Outcome Bool
+evaluate_cond ps xs none = yes true
+evaluate_cond ps xs (some c) = elim (quoted_in (argument_of ps xs c.lhs)) [ none ↦ no 17 c.span | some t ↦ yes (cond c.equal (same_as t c.rhs) (not (same_as t c.rhs))) ]
 
 -- an alternative of the macro takes the call's span and drops its condition
 abbrev pub expand_alternative : Span → List Text → Syms → Alternative → Alternative
@@ -110,7 +110,7 @@ expand_alternative s ps xs a = record { span = s; attributes = a.attributes; con
 unfoldable pub expand_alternatives : Span → List Text → Syms → List Alternative → Outcome (List Alternative)
 expand_alternatives s ps xs [] = yes []
 expand_alternatives s ps xs (a ∷ rest) =
-    after (evaluate_condition ps xs a.condition) (λ b. after (expand_alternatives s ps xs rest) (λ as'. yes (cond b (expand_alternative s ps xs a ∷ as') as')))
+    after (evaluate_cond ps xs a.condition) (λ b. after (expand_alternatives s ps xs rest) (λ as'. yes (cond b (expand_alternative s ps xs a ∷ as') as')))
 
 -- the macro of a name among the items
 abbrev pub macro_in : Tree → Text → Option Nonterminal
@@ -118,7 +118,7 @@ macro_in [] n = none
 macro_in (item d ∷ rest) n = cond (same_as d.name n && (elim d.args [ [] ↦ false | p ∷ ps ↦ true ])) (some d) (macro_in rest n)
 macro_in (Item.terminal s o t ∷ rest) n = macro_in rest n
 
--- a resolved tree has it
+-- a resolved tree has the macro, so 11 is never answered here
 abbrev pub expand_macro_symbol : Span → Text → Syms → Option Nonterminal → Outcome Nonterminal
 expand_macro_symbol s key xs none = no 11 s
 expand_macro_symbol s key xs (some d) =

@@ -51,7 +51,7 @@ kind (nonterminal_def zero) = 1
 kind (nonterminal_def (suc k)) = 2
 kind argument_def = 3
 
--- "no name met again? At the first that is, 5 if both are of one kind, else 6; later span"
+-- "no name met again? At the first that is, 5 if both are of one kind .., else 6; later span"
 abbrev pub met_again : Global → Option Def → Outcome (Unit {0}) → Outcome (Unit {0})
 met_again g none k = k
 met_again g (some d) k = cond (eqb (kind g.def) (kind d)) (no 5 g.span) (no 6 g.span)

@@ -5,21 +5,20 @@ use mathlib.Core.Logic.{◌⊎◌, inl, inr}
 use mathlib.Core.List.{List, [], ◌∷◌, ◌++◌}
 use Prim.Native.Nat.{ℕ, zero, suc, ◌+◌, ◌-◌, ◌*◌, ◌/◌, ◌≤◌, ◌<◌}
 use native.Mathlib.Omega.{arith}
-use borrow.Author.Tests.{eq-eqb, ne_eqb, eqb-true, eqb-false}
+use borrow.Author.Tests.{eq-eqb}
 use lib.Dec.{eqb, ltb}
 use lib.ListN.{length, take, drop, length-append}
 use lib.Seq.{take-append_seam, drop-append_seam}
 use Rattle.octets.specs.Plain.Numbers.{le_at}
-use Rattle.octets.specs.Working.Choice.{pick}
 use Rattle.parse_tree.specs.Working.Within.{Each}
 use Rattle.parse_tree.proofs.ReadingLaws.{each_append}
 use Rattle.passes.specs.Grades.{Graded}
 use Rattle.passes.specs.Levels.{insert, levels_of, of_level}
-use Rattle.laws.specs.Sort.{Ascends, often, key_of, level_keys, by_levels}
-use Rattle.laws.proofs.Levels.{levels-hold}
+use Rattle.laws.specs.Sort.{Ascends, key_of, level_keys, by_levels}
 use Rattle.grades.specs.Grade.{assoc_of}
 use Rattle.grades.specs.Sort.{keys_at, level_at, GroupEnd}
-use Rattle.grades.proofs.AscendsMean.{code_of, side_few}
+use Rattle.grades.specs.Key.{code_of}
+use Rattle.grades.proofs.AscendsMean.{side_few}
 use Rattle.grades.proofs.SortLaws.{length-keys, keys_take, keys_drop}
 use Rattle.precedence.proofs.WriteLaws.{fits_or_not}
 
@@ -34,44 +33,6 @@ level_keys_many v i (g ∷ gs) = go (eqb g.level v) (level_keys_many v (suc i) g
         → length (cond c (key_of code_of v i g.side ∷ level_keys code_of v (suc i) gs) (level_keys code_of v (suc i) gs)) ≡ length (cond c (g ∷ of_level v gs) (of_level v gs))
     go true h = omega arith
     go false h = h
-
-turned : (u v : ℕ) → eqb u v ≡ eqb v u
-turned u v = go (eqb v u) refl
-  where
-    go : (c : Bool) → eqb v u ≡ c → eqb u v ≡ c
-    go true e = eq-eqb u v (sym (eqb-true v u e))
-    go false e = ne_eqb u v (λ z. eqb-false v u e (sym z))
-
--- one alternative more has one key more in its level
-level_one : (v i : ℕ) (g : Graded) (gs : List Graded) → length (level_keys code_of v i (g ∷ gs)) ≡ pick (eqb v g.level) 1 0 + length (level_keys code_of v (suc i) gs)
-unfolding level_keys pick
-level_one v i g gs = rw (turned v g.level) (go (eqb g.level v))
-  where
-    go : (c : Bool) → length (cond c (key_of code_of v i g.side ∷ level_keys code_of v (suc i) gs) (level_keys code_of v (suc i) gs)) ≡ pick c 1 0 + length (level_keys code_of v (suc i) gs)
-    go true = omega arith
-    go false = omega arith
-
--- and as many more in all as its level is there
-by_levels_one : (vs : List ℕ) (i : ℕ) (g : Graded) (gs : List Graded) → length (by_levels code_of vs i (g ∷ gs)) ≡ often g.level vs + length (by_levels code_of vs (suc i) gs)
-unfolding by_levels often
-by_levels_one [] i g gs = omega arith
-by_levels_one (v ∷ vs) i g gs =
-    let a = length-append (level_keys code_of v i (g ∷ gs)) (by_levels code_of vs i (g ∷ gs)) in
-    let b = length-append (level_keys code_of v (suc i) gs) (by_levels code_of vs (suc i) gs) in
-    omega (arith, a, b, level_one v i g gs, by_levels_one vs i g gs)
-
-by_levels_none : (vs : List ℕ) (i : ℕ) → length (by_levels code_of vs i []) ≡ 0
-unfolding by_levels level_keys
-by_levels_none [] i = refl
-by_levels_none (v ∷ vs) i = by_levels_none vs i
-
-by_levels_each : (vs : List ℕ) (i : ℕ) (gs : List Graded) → Each (λ (g : Graded). often g.level vs ≡ 1) gs → length (by_levels code_of vs i gs) ≡ length gs
-by_levels_each vs i [] h = by_levels_none vs i
-by_levels_each vs i (g ∷ gs) h = omega (arith, by_levels_one vs i g gs, h.0, by_levels_each vs (suc i) gs h.1)
-
--- theorem: level by level there are as many keys as alternatives
-pub by_levels_many : (gs : List Graded) → length (by_levels code_of (levels_of gs) 0 gs) ≡ length gs
-by_levels_many gs = by_levels_each (levels_of gs) 0 gs (levels-hold gs)
 
 -- ---- each level has an alternative
 abbrev Some : List Graded → ℕ → Type 0

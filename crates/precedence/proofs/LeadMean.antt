@@ -24,19 +24,17 @@ use Rattle.passes.specs.Outcome.{with_attributes}
 use Rattle.passes.specs.Grades.{Side, all, non, left, right, precedence, assoc, value_of, is_given, level_of, side_of, without_first, with_levels, Graded, with_sides}
 use Rattle.passes.specs.Levels.{levels_of, of_level}
 use Rattle.laws.specs.Sort.{key_of, level_keys}
-use Rattle.grades.specs.declared.Assoc.{Assoc}
 use Rattle.grades.specs.Grade.{assoc_of}
 use Rattle.grades.specs.Sort.{keys_at}
-use Rattle.grades.specs.Key.{side_number}
-use Rattle.grades.proofs.AscendsMean.{code_of, side_few}
+use Rattle.grades.proofs.AscendsMean.{side_few}
 use Rattle.grades.proofs.AlternativesLaws.{level_of_small}
 use Rattle.grades.proofs.AlternativesStored.{places_from}
 use Rattle.grades.proofs.LowestMean.{SpanAt}
-use Rattle.grades.specs.Key.{key_side}
+use Rattle.grades.specs.Key.{key_side, code_of}
 use Rattle.precedence.specs.Level.{key_place, key_end}
 use Rattle.precedence.proofs.SubstituteMean.{side_meant}
 use Rattle.precedence.proofs.WriteLaws.{fits_or_not}
-use Rattle.precedence.proofs.LevelKeysMean.{side_code, key_reads, KeyMeans, KeysMean}
+use Rattle.precedence.proofs.LevelKeysMean.{key_reads, KeyMeans, KeysMean}
 use Rattle.precedence.proofs.GroupMean.{each-inserted}
 
 -- ---- lists of keys
@@ -47,13 +45,6 @@ rest_of : (x y : ℕ) (xs ys : List ℕ) → x ∷ xs ≡ y ∷ ys → xs ≡ ys
 rest_of x y xs ys h = cc
 
 -- ---- sides in keys
-same_code : (x : Assoc) → side_number x ≡ side_code x
-unfolding side_number
-same_code Assoc.Left = refl
-same_code Assoc.Right = refl
-same_code Assoc.NonAssoc = refl
-same_code Assoc.FullyAssoc = refl
-
 meant_back : (s : Side) → side_meant (assoc_of s) ≡ s
 meant_back all = refl
 meant_back non = refl
@@ -61,9 +52,7 @@ meant_back left = refl
 meant_back right = refl
 
 key_side_lem : (v j : ℕ) (s : Side) → j < 65536 → side_meant (key_side (key_of code_of v j s)) ≡ s
-key_side_lem v j s h =
-    let z = same_code (assoc_of s) in
-    ap (λ (c : ℕ). side_meant (key_side ((v * 65536 + j) * 4 + c))) z ∙ ap side_meant (key_reads v j (assoc_of s) h).0 ∙ meant_back s
+key_side_lem v j s h = ap side_meant (key_reads v j (assoc_of s) h).0 ∙ meant_back s
 
 key_index : (v j : ℕ) (s : Side) → j < 65536 → key_of code_of v j s / 4 % 65536 ≡ j
 key_index v j s h = omega (arith, side_few (assoc_of s))
@@ -239,11 +228,6 @@ module _ (four : Bool) (wd : ℕ) (ts : List Text) (s : List ℕ) (m : Map) (w :
   -- theorem: the j-th place leads to the j-th alternative
   pub place_means : (j : ℕ) (a : Alternative) → JthIs cs j a → Leads four wd ts w e (places + 8 * j) at a
   place_means j a z = place_leads four wd ts w e s m places stored n cs places at within lies noted j a z
-
-  -- theorem: it lies from its place up to the next, inside the bytes of all
-  pub alternative_lies : (j : ℕ) (a : Alternative) → JthIs cs j a
-      → Lies w (le_at 8 w (places + 8 * j)) (alternative_bytes wd ts a) (le_at 8 w (places + 8 * j + 8)) × (at ≤ le_at 8 w (places + 8 * j)) × (le_at 8 w (places + 8 * j + 8) ≤ e)
-  alternative_lies j a z = let f = place_means j a z in (f.lies, f.from, f.upto)
 
   -- theorem: and its span is read behind its code; it has 16 bytes or more
   pub span_noted : 2 ≤ wd → (j : ℕ) (sp : Span) → SpanAt (with_sides all (with_levels 0 cs)) j sp

@@ -18,15 +18,17 @@ use Rattle.texts.specs.Table.{found_in}
 use Rattle.passes.specs.Outcome.{with_attributes}
 use Rattle.passes.specs.Grades.{precedence, assoc, without_first, Graded}
 use Rattle.passes.specs.Levels.{Group, lower_name, substitute}
+use Rattle.laws.specs.Sort.{key_number}
 use Rattle.laws.proofs.Flat.{syms_fit_lem}
 use Rattle.resolve.specs.Whole.{Apart}
 use Rattle.resolve.proofs.CellsLaws.{lies_agree}
 use Rattle.octets.specs.Working.Choice.{pick}
 use Rattle.grades.specs.declared.Assoc.{Assoc}
-use Rattle.grades.specs.Key.{key_side}
+use Rattle.grades.specs.Key.{key_side, side_number}
 use Rattle.grades.specs.Annotations.{first_with, first_index}
 use Rattle.grades.specs.Ids.{ids_in}
 use Rattle.grades.proofs.AlternativesMean.{alternative_means as read-means}
+use Rattle.grades.proofs.AscendsMean.{side_few}
 use Rattle.precedence.specs.declared.level.Level.{Level}
 use Rattle.precedence.specs.Write.{Puts}
 use Rattle.precedence.specs.Level.{key_entry, key_place, key_end, KeyInside, PutsKey, PutsKeys, KeysInside}
@@ -35,36 +37,23 @@ use Rattle.precedence.proofs.WriteLaws.{fits_or_not, puts_beside, puts_on, puts_
 use Rattle.precedence.proofs.WriteWholeMean.{symbols_upto, alternative_means}
 use Rattle.precedence.proofs.LevelKeysCode.{number-stays, apart_part}
 
--- the number of a side in a key
-abbrev pub side_code : Assoc → ℕ
-side_code Assoc.Left = 0
-side_code Assoc.Right = 1
-side_code Assoc.NonAssoc = 2
-side_code Assoc.FullyAssoc = 3
-
 side_of_rest : (k n : ℕ) → k % 4 ≡ n → n < 4 → key_side k ≡ key_side n
 unfolding key_side
 side_of_rest k n z h = let y : n % 4 ≡ n = omega arith in rw (z, y)
 
-side_of_code : (s : Assoc) → key_side (side_code s) ≡ s
-unfolding key_side pick
-side_of_code Assoc.Left = refl
-side_of_code Assoc.Right = refl
-side_of_code Assoc.NonAssoc = refl
-side_of_code Assoc.FullyAssoc = refl
-
-code_small : (s : Assoc) → side_code s < 4
-code_small Assoc.Left = omega arith
-code_small Assoc.Right = omega arith
-code_small Assoc.NonAssoc = omega arith
-code_small Assoc.FullyAssoc = omega arith
+side_of_number : (s : Assoc) → key_side (side_number s) ≡ s
+unfolding key_side side_number pick
+side_of_number Assoc.Left = refl
+side_of_number Assoc.Right = refl
+side_of_number Assoc.NonAssoc = refl
+side_of_number Assoc.FullyAssoc = refl
 
 -- theorem: of a key of a level, an index and a side these are read
 pub key_reads : (v i : ℕ) (s : Assoc) → i < 65536
-    → (key_side ((v * 65536 + i) * 4 + side_code s) ≡ s) × (((v * 65536 + i) * 4 + side_code s) / 4 % 65536 ≡ i) × (((v * 65536 + i) * 4 + side_code s) / 262144 ≡ v)
+    → (key_side (key_number v i (side_number s)) ≡ s) × (key_number v i (side_number s) / 4 % 65536 ≡ i) × (key_number v i (side_number s) / 262144 ≡ v)
 key_reads v i s h =
-    let c = code_small s in
-    (side_of_rest ((v * 65536 + i) * 4 + side_code s) (side_code s) (omega arith) c ∙ side_of_code s, omega arith, omega arith)
+    let c = side_few s in
+    (side_of_rest (key_number v i (side_number s)) (side_number s) (omega arith) c ∙ side_of_number s, omega arith, omega arith)
 
 module _ (four : Bool) (wd : ℕ) (ts : List Text) (places : ℕ) where
   -- the alternative that a key leads to is the graded one, but for its annotations

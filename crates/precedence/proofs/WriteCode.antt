@@ -147,7 +147,7 @@ module _ (wd lim to : ℕ) (w : List ℕ) (at n : ℕ) (f : Indices) (out : List
 
 pub ruleset keeping = (rules, keeping_start, keeping_place, keeping_small, keeping_stop, keeping_inside, keeping_same, keeping_more, keeping_done)
 
--- ---- put_command, store_named
+-- ---- store_command, store_named
 set_store : (s : List ℕ) (at v : ℕ) → set s at v ≡ store s at (v ∷ [])
 unfolding store
 set_store s at v = refl

@@ -1,6 +1,6 @@
 // The nonterminal of one level, written behind what is written so far, as module write does it.
-ghost use Rattle.std.specs.Prelude.{◌≡◌, ◌+◌, ◌-◌, ◌*◌, ◌≤◌, ◌<◌, length};
-ghost use Rattle.octets.specs.Plain.Numbers.{le_at, le};
+ghost use Rattle.std.specs.Prelude.{◌≡◌, ◌+◌, ◌-◌, ◌≤◌, ◌<◌, length};
+ghost use Rattle.octets.specs.Plain.Numbers.{le};
 ghost use Rattle.grades.specs.Annotations.{first_alternative};
 ghost use Rattle.precedence.specs.Write.{Puts};
 ghost use Rattle.precedence.specs.Level.{named_out, nonterminal_out, KeyInside, PutsKey, KeysInside, PutsAlternatives, level_count, LevelInside, PutsLevel};
@@ -10,7 +10,7 @@ use crate::write::{fall_through, put, put_alternative, put_run};
 use grades::Ids;
 use grades::annotations::{annotations, first_alternative};
 use grades::key::Key;
-use octets::numbers::{Width, put_atom, u64_at};
+use octets::numbers::{Width, store_atom, u64_at};
 use parse_tree::node::{whole_alternative, whole_nonterminal};
 
 // What all levels of a nonterminal are written by: the places and the sorted keys of its alternatives, which are two arrays in work, and the end of the room.
@@ -38,7 +38,7 @@ fn put_number(work: &mut [u8], v: u32, width: Width, lim: usize, to: usize) -> u
     ensures { Puts work.old lim to (le width.bytes v) result work.new }
 {
     put(work, width.bytes, lim, to, move |w| {
-        put_atom(w, to, width, v)
+        store_atom(w, to, width, v)
     })
 }
 

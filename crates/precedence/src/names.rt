@@ -7,7 +7,8 @@ ghost use Rattle.texts.specs.Table.{Finds};
 ghost use Rattle.grades.specs.Grade.{level_digits};
 ghost use Rattle.precedence.specs.Names.{spelt, Naming, Based, Spelled, BaseText, Describing, Described, LevelNamed, level_text, named_text, named_texts};
 
-use grades::grade::{decimal_size, digit};
+use grades::decimal::digit;
+use grades::grade::decimal_size;
 use texts::Map;
 use texts::chain::{put_record, search};
 use texts::fields::{hash, mark, text_mark};
@@ -70,7 +71,7 @@ fn digit_at(v: u32, i: usize) -> u8
 }
 
 // How many bytes a text has, with a level's digits behind it where there is a level.
-pub fn long(t: &[u8], v: Option<u32>) -> usize
+pub fn spelt_size(t: &[u8], v: Option<u32>) -> usize
     ensures { result ≡ length (spelt t.now v) }
 {
     match v {
@@ -100,8 +101,8 @@ fn byte_of(t: &[u8], v: Option<u32>, i: usize) -> u8
 fn same_names(a: &[u8], u: Option<u32>, b: &[u8], v: Option<u32>) -> bool
     ensures { result ≡ same_as (spelt a.now u) (spelt b.now v) }
 {
-    let n = long(b, v);
-    long(a, u) == n && (0..n).all(|i| byte_of(a, u, i) == byte_of(b, v, i))
+    let n = spelt_size(b, v);
+    spelt_size(a, u) == n && (0..n).all(|i| byte_of(a, u, i) == byte_of(b, v, i))
 }
 
 // A text of the table. Apart from texts' `text`, which asks for the whole table. Here and below tape, work and m stay apart: `Based` and `Spelled` say of one text that it can be read, so a type
@@ -121,7 +122,7 @@ fn add_digits(x: u32, v: u32) -> u32
 }
 
 // The hash of a level's name goes on from that of the base. `tape` for the clauses alone.
-pub fn level_hash(tape: &[u8], work: &[u8], m: Map, base: usize, level: u32) -> u32
+fn level_hash(tape: &[u8], work: &[u8], m: Map, base: usize, level: u32) -> u32
     requires { Based tape.now work.now m base }
     ensures { result ≡ hash_of (level_text tape.now work.now m base level) }
 {
@@ -130,7 +131,7 @@ pub fn level_hash(tape: &[u8], work: &[u8], m: Map, base: usize, level: u32) -> 
 
 // Whether text k, of the table or described, is the name of a level. Not inlined: else the closure in `find_name` is too long to be.
 #[inline(never)]
-pub fn is_level_name<'a>(
+fn is_level_name<'a>(
     tape: &'a [u8],
     work: &'a [u8],
     m: Map,
@@ -153,7 +154,7 @@ pub fn is_level_name<'a>(
 }
 
 // The number of a level's name, of those of the table and described.
-pub fn find_name<'a>(
+fn find_name<'a>(
     tape: &'a [u8],
     work: &'a [u8],
     m: Map,

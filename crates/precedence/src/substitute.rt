@@ -6,7 +6,7 @@ ghost use Rattle.grades.specs.Skip.{names_at};
 ghost use Rattle.precedence.specs.Substitute.{marked_at, Replaces, MarksIn, replace_all, substitute_out};
 
 use grades::Assoc;
-use octets::numbers::{Width, atom_at, put_atom};
+use octets::numbers::{Width, atom_at, store_atom};
 use parse_tree::size::long;
 
 // How occurrences of the target are named: `here` is the name of the alternative's level, `below` that of the next lower one.
@@ -51,7 +51,7 @@ fn replace_symbol(work: &mut [u8], p: usize, width: Width, rest: u32, m: Option<
     requires { p + 16 ≤ length work.old }
     ensures { Replaces (store work.old (p + 9) (le width.bytes rest), Some (marked_at p m)) (Some result) work.new }
 {
-    put_atom(work, p + 9, width, rest);
+    store_atom(work, p + 9, width, rest);
     marked(m, p)
 }
 
@@ -88,12 +88,12 @@ pub fn substitute(work: &mut [u8], at: usize, e: usize, width: Width, names: Ren
     match names.side {
         Assoc::Left => {
             if let Some(m) = replace_symbols(work, at, e, width, names.target, names.below) {
-                put_atom(work, m.first + 9, width, names.here);
+                store_atom(work, m.first + 9, width, names.here);
             }
         }
         Assoc::Right => {
             if let Some(m) = replace_symbols(work, at, e, width, names.target, names.below) {
-                put_atom(work, m.last + 9, width, names.here);
+                store_atom(work, m.last + 9, width, names.here);
             }
         }
         Assoc::NonAssoc => {

@@ -1,4 +1,4 @@
-// An alternative of one level, written behind what is written so far. What does not fit before lim is not written, and the cursor stops at lim + 1:
+// Bytes, runs and commands written behind what is written so far, for all later crates, and of them an alternative of one level. What does not fit before lim is not written, and the cursor stops at lim + 1:
 // no Option, since this ends no pass (20 and 21 are asked of the finished stage), so that each writer would take None only to hand it on.
 // lim and cursor are numbers, whose bounds each writer states: a pair of them would have to say at each result too that lim stayed, which is longer than `to ≤ lim + 1`.
 ghost use Rattle.std.specs.Prelude.{◌≡◌, [], ◌∷◌, ◌++◌, ◌+◌, ◌-◌, ◌*◌, ◌≤◌, ◌<◌, length};
@@ -12,7 +12,7 @@ ghost use Rattle.precedence.specs.Write.{Puts, kept_one, kept_bytes, alternative
 use crate::substitute::{Renaming, substitute};
 use grades::Indices;
 use grades::annotations::symbols;
-use octets::numbers::{Width, put_atom, store16, store64, u64_at};
+use octets::numbers::{Width, store_atom, store16, store64, u64_at};
 use parse_tree::node::whole_alternative;
 
 // The n bytes from a on, 8 to 16 of them, to another place: two numbers, which may overlap. By `copy_long` in their place the whole takes up to 7 % more time, though 1 % fewer instructions: so short a run is not worth a call.
@@ -49,7 +49,7 @@ pub fn copy_within(work: &mut [u8], a: usize, e: usize, to: usize)
 }
 
 // The n bytes that `store` writes from `to` on, if they end at lim or before.
-// Two tests with a return each: joined by `&&` they took three machine instructions more.
+// Two tests with a return each: joined by `&&` they would take three machine instructions more.
 #[inline(always)]
 pub fn put<F: FnOnce(&mut [u8])>(
     work: &mut [u8],
@@ -102,7 +102,7 @@ fn put_attribute(
 }
 
 // n attributes but those of the indices.
-pub fn put_attributes(
+fn put_attributes(
     work: &mut [u8],
     at: usize,
     n: usize,
@@ -124,7 +124,7 @@ pub fn put_attributes(
 }
 
 // A code and a span.
-pub fn put_command(work: &mut [u8], code: u8, span: u64, to: usize)
+pub fn store_command(work: &mut [u8], code: u8, span: u64, to: usize)
     requires { to + 9 ≤ length work.old }
     ensures { work.new ≡ store work.old to (code ∷ le 8 span) }
 {
@@ -137,16 +137,16 @@ pub fn store_named(work: &mut [u8], code: u8, span: u64, k: u32, width: Width, t
     requires { to + (9 + width.bytes) ≤ length work.old }
     ensures { work.new ≡ store work.old to (code ∷ (le 8 span ++ le width.bytes k)) }
 {
-    put_command(work, code, span, to);
-    put_atom(work, to + 9, width, k);
+    store_command(work, code, span, to);
+    store_atom(work, to + 9, width, k);
 }
 
-// The nonterminal `below` as a symbol.
-pub fn put_nonterminal(work: &mut [u8], span: u64, below: u32, width: Width, to: usize)
+// The nonterminal of the number k as a symbol.
+pub fn store_nonterminal(work: &mut [u8], span: u64, k: u32, width: Width, to: usize)
     requires { to + (9 + width.bytes) ≤ length work.old }
-    ensures { work.new ≡ store work.old to (36 ∷ (le 8 span ++ le width.bytes below)) }
+    ensures { work.new ≡ store work.old to (36 ∷ (le 8 span ++ le width.bytes k)) }
 {
-    store_named(work, 36, span, below, width, to);
+    store_named(work, 36, span, k, width, to);
 }
 
 // The beginning of an alternative without attributes and condition.
@@ -154,7 +154,7 @@ fn store_action(work: &mut [u8], span: u64, act: u8, to: usize)
     requires { to + 12 ≤ length work.old }
     ensures { work.new ≡ store work.old to (18 ∷ (le 8 span ++ (0 ∷ (0 ∷ (act ∷ []))))) }
 {
-    put_command(work, 18, span, to);
+    store_command(work, 18, span, to);
     work[to + 9] = 0;
     work[to + 10] = 0;
     work[to + 11] = act;
@@ -174,7 +174,7 @@ pub fn store_alternative(
     ensures { work.new ≡ store work.old to (alternative_head width.bytes span act text symbols) }
 {
     store_action(work, span, act, to);
-    put_atom(work, to + 12, width, text);
+    store_atom(work, to + 12, width, text);
     store16(work, to + 12 + width.bytes, symbols);
 }
 
@@ -193,7 +193,7 @@ pub fn fall_through(
     let span = u64_at(work, p + 1);
     put(work, 23 + 2 * width.bytes, lim, to, move |w| {
         store_alternative(w, span, 0, 0, 1, width, to);
-        put_nonterminal(w, span, below, width, to + (14 + width.bytes));
+        store_nonterminal(w, span, below, width, to + (14 + width.bytes));
     })
 }
 

@@ -17,12 +17,12 @@ use Rattle.parse_tree.specs.Working.Within.{Each}
 use Rattle.parse_tree.specs.declared.syntax.Leaf.{Leaf as LeafNode}
 use Rattle.parse_tree.specs.declared.syntax.Around.{Around as AroundNode}
 use Rattle.parse_tree.specs.declared.syntax.SymbolKind.{SymbolKind}
-use Rattle.parse_tree.proofs.ReadingLaws.{never, then-got, got_as, each_append}
+use Rattle.parse_tree.proofs.ReadingLaws.{never, then-got, got_as, each_append, each_map}
 use Rattle.parse_tree.proofs.Expecting.{symbol_wanted}
 use Rattle.parse_tree.specs.declared.syntax.Node.{Node}
 use Rattle.replacing.specs.Slots.{Ref, text, like, Slots, leaf_places, around_places, listed, places, among, first_like, refer, push_text, push_new, note_by, note_as, note, note_all}
 use Rattle.replacing.specs.Sound.{HasRef, AllNoted}
-use Rattle.replacing.proofs.SlotsMean.{each_map, among-here, among_later}
+use Rattle.replacing.proofs.SlotsMean.{among-here, among_later}
 use Rattle.replacing.proofs.PlacesMean.{kind_places}
 
 -- ---- lists of places
@@ -38,10 +38,6 @@ among-left q (x ∷ xs) ys h = go (eqb x q) h (among-left q xs ys)
 pub among-right : (q : ℕ) (xs ys : List ℕ) → among q ys ≡ true → among q (xs ++ ys) ≡ true
 among-right q [] ys h = h
 among-right q (x ∷ xs) ys h = among_later q x (xs ++ ys) (among-right q xs ys h)
-
-each-among : (P : ℕ → Type 0) (xs : List ℕ) → ((q : ℕ) → among q xs ≡ true → P q) → Each P xs
-each-among P [] f = tt
-each-among P (x ∷ xs) f = (f x (among-here x xs), each-among P xs (λ q h. f q (among_later q x xs h)))
 
 pub among-each : (P : ℕ → Type 0) (q : ℕ) (qs : List ℕ) → Each P qs → among q qs ≡ true → P q
 unfolding among
@@ -159,7 +155,7 @@ module _ (w : ℕ) (s : List ℕ) where
     abbrev Adds : ℕ → Slots → Slots → Type 0
     Adds p x y = (r : Ref) × (y.refs ≡ (p, r) ∷ x.refs)
 
-    by_adds : (p : ℕ) (o : Option ℕ) (x : Slots) → Adds p x (note_by same text_at p o x)
+    by_adds : (p : ℕ) (o : Option ℕ) (x : Slots) → Adds p x (note_by p o x)
     unfolding note_by push_new push_text refer
     by_adds p none x = (like p, refl)
     by_adds p (some k) x = go (among k x.marks)
@@ -168,14 +164,14 @@ module _ (w : ℕ) (s : List ℕ) where
         go true = (text k, refl)
         go false = (text k, refl)
 
-    as_adds : (p : ℕ) (o : Option ℕ) (x : Slots) → Adds p x (note_as same text_at p o x)
+    as_adds : (p : ℕ) (o : Option ℕ) (x : Slots) → Adds p x (note_as text_at p o x)
     unfolding note_as refer
     as_adds p none x = by_adds p (text_at p) x
     as_adds p (some q) x = (like q, refl)
 
     note_adds : (p : ℕ) (x : Slots) → Adds p x (note same text_at p x)
     unfolding note
-    note_adds p x = as_adds p (first_like same text_at p x.firsts) x
+    note_adds p x = as_adds p (first_like same p x.firsts) x
 
     note_stays : (p q : ℕ) (x : Slots) → HasRef q x → HasRef q (note same text_at p x)
     note_stays p q x h = let (r, e) = note_adds p x in rw e (among_later q p (map (λ (v : ℕ × Ref). v.0) x.refs) h)

@@ -27,7 +27,7 @@ use Rattle.parse_tree.specs.declared.syntax.Around.{Around as AroundNode}
 use Rattle.parse_tree.specs.declared.syntax.SymbolKind.{SymbolKind}
 use Rattle.parse_tree.specs.declared.syntax.Node.{Node}
 use Rattle.parse_tree.proofs.SizeLaws.{node_positive}
-use Rattle.passes.specs.Macros.{Expander}
+use Rattle.passes.specs.Macros.{MacroExpander}
 use Rattle.replacing.specs.Trees.{expanded, enter_all}
 use Rattle.replacing.specs.Prints.{sym_at}
 use Rattle.replacing.specs.Slots.{Ref, Slots, leaf_places, around_places, listed, places, first_like, among, refer, push_text, push_new, note_by, note_as, note, note_all, numbered}
@@ -55,7 +55,7 @@ module _ (same : ℕ → ℕ → Bool) (text_at : ℕ → Option ℕ) where
   abbrev Keeps : ℕ → Slots → Slots → Type 0
   Keeps p x y = HasRef p y × (y.news ≡ x.news)
 
-  note_by_lem : (p : ℕ) (o : Option ℕ) (x : Slots) → Keeps p x (note_by same text_at p o x)
+  note_by_lem : (p : ℕ) (o : Option ℕ) (x : Slots) → Keeps p x (note_by p o x)
   unfolding note_by push_new push_text refer
   note_by_lem p none x = (noted_here p (Ref.like p) x.refs, refl)
   note_by_lem p (some k) x = go (among k x.marks)
@@ -64,14 +64,14 @@ module _ (same : ℕ → ℕ → Bool) (text_at : ℕ → Option ℕ) where
       go true = (noted_here p (Ref.text k) x.refs, refl)
       go false = (noted_here p (Ref.text k) x.refs, refl)
 
-  note_as_lem : (p : ℕ) (o : Option ℕ) (x : Slots) → Keeps p x (note_as same text_at p o x)
+  note_as_lem : (p : ℕ) (o : Option ℕ) (x : Slots) → Keeps p x (note_as text_at p o x)
   unfolding note_as refer
   note_as_lem p none x = note_by_lem p (text_at p) x
   note_as_lem p (some q) x = (noted_here p (Ref.like q) x.refs, refl)
 
   pub note_keeps : (p : ℕ) (x : Slots) → Keeps p x (note same text_at p x)
   unfolding note
-  note_keeps p x = note_as_lem p (first_like same text_at p x.firsts) x
+  note_keeps p x = note_as_lem p (first_like same p x.firsts) x
 
   pub notes_news : (ps : List ℕ) (x : Slots) → (note_all same text_at ps x).news ≡ x.news
   unfolding note_all
@@ -135,14 +135,14 @@ module _ (four : Bool) (w : ℕ) (s : List ℕ) (ts : List Text) (b : Bytes s) (
   abbrev Here : ℕ → Type 0
   Here p = Firm four w s ts b p
 
-  abbrev pub Fits : Slots → Expander → Type 0
+  abbrev pub Fits : Slots → MacroExpander → Type 0
   Fits x σ = Sound at Here ts d x σ
 
   abbrev pub texts_now : Slots → List Text
   texts_now x = texts_of at Here ts d x
 
   -- from a, with the slots x, the run comes to e: the symbols xs are entered, the texts us numbered, and bytes written by the numbers of these and any later texts
-  pub record Gone (a e : ℕ) (xs : List Sym) (us : List Text) (bytes : List Text → List ℕ) (x : Slots) (σ : Expander) : Type 0 where
+  pub record Gone (a e : ℕ) (xs : List Sym) (us : List Text) (bytes : List Text → List ℕ) (x : Slots) (σ : MacroExpander) : Type 0 where
     pub turns : ℕ
     pub slots : Slots
     pub few : turns + a ≤ e
@@ -152,7 +152,7 @@ module _ (four : Bool) (w : ℕ) (s : List ℕ) (ts : List Text) (b : Bytes s) (
     pub runs : (out : List ℕ) (T : List Text) → Extends (texts_now slots) T → steps same text_at w (length ts) s turns (run a out x) ≡ run e (out ++ bytes T) slots
 
   abbrev pub Goes : ℕ → ℕ → List Sym → List Text → (List Text → List ℕ) → Type 0
-  Goes a e xs us bytes = (x : Slots) (σ : Expander) → Fits x σ → Gone a e xs us bytes x σ
+  Goes a e xs us bytes = (x : Slots) (σ : MacroExpander) → Fits x σ → Gone a e xs us bytes x σ
 
   pub extends_now : (x : Slots) → Extends ts (texts_now x)
   extends_now x = record { more = map (λ p. print (at p)) x.news; is = refl }
@@ -247,11 +247,11 @@ module _ (four : Bool) (w : ℕ) (s : List ℕ) (ts : List Text) (b : Bytes s) (
     after : Slots → Slots
     after x = note_all same text_at listing.at x
 
-    after-fits : (x : Slots) (σ : Expander) → Fits x σ → Fits (after x) (enter_all (expanded y) σ)
+    after-fits : (x : Slots) (σ : MacroExpander) → Fits x σ → Fits (after x) (enter_all (expanded y) σ)
     unfolding after
     after-fits x σ h = rw (← listing.stand) (notes_sound at Here ts d same text_at same_is text_is_lem (firm_key four w s ts b) listing.at x σ listing.firm h)
 
-    numbering : (x : Slots) (σ : Expander) → Fits x σ → Numbers at Here ts d (after x) (enter_all (expanded y) σ) (print y) (numbered (length ts) a (after x))
+    numbering : (x : Slots) (σ : MacroExpander) → Fits x σ → Numbers at Here ts d (after x) (enter_all (expanded y) σ) (print y) (numbered (length ts) a (after x))
     unfolding after
     numbering x σ h =
         subst (λ (t : Text). Numbers at Here ts d (after x) (enter_all (expanded y) σ) t (numbered (length ts) a (after x))) (ap print here)

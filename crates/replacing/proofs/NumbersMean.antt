@@ -2,7 +2,7 @@
 use mathlib.Core.Path.{◌≡◌, refl, sym, ap, ◌∙◌, subst}
 use mathlib.Core.Bool.{Bool, true, false, cond, ◌||◌, not, false≢true}
 use mathlib.Core.List.{List, [], ◌∷◌, ◌++◌, map, append_assoc}
-use mathlib.Core.Option.{Option, some}
+use mathlib.Core.Option.{some}
 use Prim.Native.Nat.{ℕ, suc, ◌+◌}
 use native.Mathlib.Omega.{arith}
 use borrow.Author.Tests.{eqb-true, eq-eqb, not-true}
@@ -15,7 +15,7 @@ use Rattle.parse_tree.specs.Plain.Texts.{has, number, distinct, with_new}
 use Rattle.parse_tree.specs.Plain.Display.{print}
 use Rattle.parse_tree.specs.Working.Within.{Each}
 use Rattle.parse_tree.proofs.TextLaws.{both, has-text, number-text, distinct_more}
-use Rattle.passes.specs.Macros.{Expander}
+use Rattle.passes.specs.Macros.{MacroExpander}
 use Rattle.parse_tree.proofs.AmongLaws.{has_here, has-behind}
 use Rattle.replacing.specs.Slots.{Ref, text, like, Slots, ref_at, among, first_like, place_in, number_new, number_by, numbered}
 use Rattle.replacing.proofs.PlacesMean.{map-append}
@@ -113,15 +113,15 @@ module _ (at : ℕ → Sym) (Here : ℕ → Type 0) (ts : List Text) (d : distin
       go false x j false y f = ap suc (f j)
 
   -- a search in any order: the one that prints so is the first
-  pub first_some : (same : ℕ → ℕ → Bool) (text_at : ℕ → Option ℕ) → ((p q : ℕ) → same p q ≡ same_as (pr p) (pr q)) → (p q : ℕ) (qs : List ℕ) → distinct (map pr qs) ≡ true
-      → among q qs ≡ true → pr q ≡ pr p → first_like same text_at p qs ≡ some q
+  pub first_some : (same : ℕ → ℕ → Bool) → ((p q : ℕ) → same p q ≡ same_as (pr p) (pr q)) → (p q : ℕ) (qs : List ℕ) → distinct (map pr qs) ≡ true
+      → among q qs ≡ true → pr q ≡ pr p → first_like same p qs ≡ some q
   unfolding first_like among distinct
-  first_some same text_at f p q [] u i e = absurd (false≢true i)
-  first_some same text_at f p q (r ∷ qs) u i e =
-      go (eqb r q) refl (same p r) (f p r) (firsts_one r q (r ∷ qs) u (among-here r qs) i) i (first_some same text_at f p q qs (both (not (has (pr r) (map pr qs))) (distinct (map pr qs)) u).1)
+  first_some same f p q [] u i e = absurd (false≢true i)
+  first_some same f p q (r ∷ qs) u i e =
+      go (eqb r q) refl (same p r) (f p r) (firsts_one r q (r ∷ qs) u (among-here r qs) i) i (first_some same f p q qs (both (not (has (pr r) (map pr qs))) (distinct (map pr qs)) u).1)
     where
       go : (a : Bool) → eqb r q ≡ a → (c : Bool) → c ≡ same_as (pr p) (pr r) → (pr r ≡ pr q → r ≡ q) → cond a true (among q qs) ≡ true
-          → (among q qs ≡ true → pr q ≡ pr p → first_like same text_at p qs ≡ some q) → cond c (some r) (first_like same text_at p qs) ≡ some q
+          → (among q qs ≡ true → pr q ≡ pr p → first_like same p qs ≡ some q) → cond c (some r) (first_like same p qs) ≡ some q
       go a x true y one j g = ap some (one (sym (same_as-eq (pr p) (pr r) (sym y)) ∙ sym e))
       go true x false y one j g = absurd (false≢true (y ∙ eq_same_as (pr p) (pr r) (sym e ∙ ap pr (sym (eqb-true r q x)))))
       go false x false y one j g = g j e
@@ -146,17 +146,17 @@ module _ (at : ℕ → Sym) (Here : ℕ → Type 0) (ts : List Text) (d : distin
   texts_of x = ts ++ map pr x.news
 
   -- the number of the text t in x, and the slots afterwards
-  pub record Numbers (x : Slots) (σ : Expander) (t : Text) (r : ℕ × Slots) : Type 0 where
+  pub record Numbers (x : Slots) (σ : MacroExpander) (t : Text) (r : ℕ × Slots) : Type 0 where
     pub sound : Sound at Here ts d r.1 σ
     pub texts : texts_of r.1 ≡ with_new (texts_of x) (t ∷ [])
     pub is : r.0 ≡ number (texts_of r.1) t
     pub there : has t (texts_of r.1) ≡ true
     pub kept : r.1.refs ≡ x.refs
 
-  known_numbers : (x : Slots) (σ : Expander) (t : Text) (k : ℕ) → Sound at Here ts d x σ → has t (texts_of x) ≡ true → k ≡ number (texts_of x) t → Numbers x σ t (k, x)
+  known_numbers : (x : Slots) (σ : MacroExpander) (t : Text) (k : ℕ) → Sound at Here ts d x σ → has t (texts_of x) ≡ true → k ≡ number (texts_of x) t → Numbers x σ t (k, x)
   known_numbers x σ t k h i e = record { sound = h; texts = sym (new_known (texts_of x) t i); is = e; there = i; kept = refl }
 
-  new_numbers : (q : ℕ) (x : Slots) (σ : Expander) → Sound at Here ts d x σ → among q x.firsts ≡ true → has (pr q) (texts_of x) ≡ false
+  new_numbers : (q : ℕ) (x : Slots) (σ : MacroExpander) → Sound at Here ts d x σ → among q x.firsts ≡ true → has (pr q) (texts_of x) ≡ false
       → Numbers x σ (pr q) (length ts + length x.news, number_new q x)
   unfolding number_new has
   new_numbers q x σ h i n =
@@ -186,7 +186,7 @@ module _ (at : ℕ → Sym) (Here : ℕ → Type 0) (ts : List Text) (d : distin
       more [] u = (i, tt)
       more (m ∷ ns) u = (u.0, more ns u.1)
 
-  number_by_lem : (p : ℕ) (x : Slots) (σ : Expander) → Sound at Here ts d x σ → (r : Ref) → Good at Here ts d x.firsts p r → Numbers x σ (pr p) (number_by (length ts) r x)
+  number_by_lem : (p : ℕ) (x : Slots) (σ : MacroExpander) → Sound at Here ts d x σ → (r : Ref) → Good at Here ts d x.firsts p r → Numbers x σ (pr p) (number_by (length ts) r x)
   unfolding number_by
   number_by_lem p x σ h (text k) g =
       let i : has (pr p) ts ≡ true = rw (← g.1) (has-text ts k g.0) in
@@ -204,6 +204,6 @@ module _ (at : ℕ → Sym) (Here : ℕ → Type 0) (ts : List Text) (d : distin
           (sym (number_behind (pr q) ts (map pr x.news) n ∙ ap (λ (v : ℕ). length ts + v) (news_number q x.news x.firsts h.apart h.news g.1 e)))
       go false e = new_numbers q x σ h g.1 (has-append (pr q) ts (map pr x.news) ∙ rw (n, news_out q x.news x.firsts h.apart h.news g.1 e) refl)
 
-  pub numbered-sound : (p : ℕ) (x : Slots) (σ : Expander) → Sound at Here ts d x σ → Noted p x → Numbers x σ (pr p) (numbered (length ts) p x)
+  pub numbered-sound : (p : ℕ) (x : Slots) (σ : MacroExpander) → Sound at Here ts d x σ → Noted p x → Numbers x σ (pr p) (numbered (length ts) p x)
   unfolding numbered
   numbered-sound p x σ h i = number_by_lem p x σ h (ref_at p x.refs) (ref_good x.firsts p x.refs h.refs i)

@@ -8,7 +8,7 @@ use native.Mathlib.Omega.{arith}
 use lib.ListN.{length, get_or}
 use Rattle.octets.specs.Plain.Numbers.{Bytes}
 use Rattle.octets.specs.Plain.Runs.{same_as}
-use Rattle.parse_tree.specs.Plain.Tree.{Text, Around, repeat, choose, name, Sym, Item, Stage, leaf, around, over, syms_of}
+use Rattle.parse_tree.specs.Plain.Tree.{Text, Around, repeat, choose, name, Sym, sym_span, Item, Stage, leaf, around, over, syms_of}
 use Rattle.parse_tree.specs.Plain.Texts.{has, number, distinct, with_new}
 use Rattle.parse_tree.specs.Plain.Display.{print}
 use Rattle.parse_tree.specs.Working.Nodes.{node_at}
@@ -25,7 +25,7 @@ use Rattle.parse_tree.specs.declared.syntax.SymbolKind.{SymbolKind}
 use Rattle.parse_tree.proofs.ReadingLaws.{then-got, got_as}
 use Rattle.parse_tree.proofs.Expecting.{symbol_wanted}
 use Rattle.passes.specs.Outcome.{Outcome, no}
-use Rattle.passes.specs.Macros.{Pending, symbol_of, Expander, replace_items, span_of, drain, without_macros}
+use Rattle.passes.specs.Macros.{Pending, symbol_of, MacroExpander, replace_items, span_of, drain, without_macros}
 use Rattle.passes.specs.Stages.{last_stage}
 use Rattle.replacing.specs.Trees.{renamed, inner_around, inner, enter_all, renamed_items, expanded_items}
 use Rattle.replacing.specs.Prints.{sym_at, print_at, same_print, text_is}
@@ -46,11 +46,6 @@ use Rattle.replacing.proofs.ItemsGo.{items_go}
 map-map : {A B C : Type 0} (f : A → B) (g : B → C) (h : A → C) (P : A → Type 0) → ((a : A) → P a → g (f a) ≡ h a) → (xs : List A) → Each P xs → map g (map f xs) ≡ map h xs
 map-map f g h P e [] i = refl
 map-map f g h P e (x ∷ xs) i = ap (λ y. y ∷ map g (map f xs)) (e x i.0) ∙ ap (λ (l : List _). h x ∷ l) (map-map f g h P e xs i.1)
-
-abbrev sym_span : Sym → Span
-sym_span (leaf s l) = s
-sym_span (around s a x) = s
-sym_span (over s o xs) = s
 
 around_span : (s : Span) (a : Around) (x : Sym) → span_of (inner_around s a x) ≡ s
 around_span s (repeat o) x = refl
@@ -127,7 +122,7 @@ module _ (four : Bool) (w : ℕ) (s : List ℕ) (ts : List Text) (b : Bytes s) (
   unfolding started among
   none_noted ms p h = absurd (false≢true h)
 
-  abbrev Over : List Item → List ℕ → Expander → Type 0
+  abbrev Over : List Item → List ℕ → MacroExpander → Type 0
   Over is ms σ = Gone four w s ts b d (same_print four w s ts) (text_is four w s ts) same_is text_is_lem 0 (length s) (expanded_items is) (texts_of_each item_texts (renamed_items is))
       (λ T. bytes_of_each (item_bytes w T) (renamed_items is)) (started ms) σ
 
@@ -135,7 +130,7 @@ module _ (four : Bool) (w : ℕ) (s : List ℕ) (ts : List Text) (b : Bytes s) (
   now x = texts_now four w s ts b d (same_print four w s ts) (text_is four w s ts) same_is text_is_lem x
 
   -- more turns than it takes change nothing
-  whole : (is : List Item) (ms : List ℕ) (σ : Expander) (g : Over is ms σ) → replaced four w s ts ms ≡ run (length s) (bytes_of_each (item_bytes w (now g.slots)) (renamed_items is)) g.slots
+  whole : (is : List Item) (ms : List ℕ) (σ : MacroExpander) (g : Over is ms σ) → replaced four w s ts ms ≡ run (length s) (bytes_of_each (item_bytes w (now g.slots)) (renamed_items is)) g.slots
   unfolding replaced
   whole is ms σ g =
       let go = steps (same_print four w s ts) (text_is four w s ts) w (length ts) s in
@@ -145,11 +140,11 @@ module _ (four : Bool) (w : ℕ) (s : List ℕ) (ts : List Text) (b : Bytes s) (
       ∙ ap (go (length s - g.turns)) (g.runs [] (now g.slots) (extends_refl (now g.slots)))
       ∙ steps_end (same_print four w s ts) (text_is four w s ts) w (length ts) s (length s - g.turns) _ (omega arith)
 
-  atoms_are : (is : List Item) (ms : List ℕ) (σ : Expander) (g : Over is ms σ) → now g.slots ≡ (stage_of ts (renamed_items is)).atoms
+  atoms_are : (is : List Item) (ms : List ℕ) (σ : MacroExpander) (g : Over is ms σ) → now g.slots ≡ (stage_of ts (renamed_items is)).atoms
   unfolding stage_of started
   atoms_are is ms σ g = g.texts ∙ ap (λ (l : List Text). with_new l (texts_of_each item_texts (renamed_items is))) (append-nil ts)
 
-  finish : (K : List Text) (is : List Item) (ms : List ℕ) (σ : Expander) → Over is ms σ → σ.keys ≡ map (λ p. print (symbol_of p)) σ.pile ++ K
+  finish : (K : List Text) (is : List Item) (ms : List ℕ) (σ : MacroExpander) → Over is ms σ → σ.keys ≡ map (λ p. print (symbol_of p)) σ.pile ++ K
       → Replaced four w s ts K (renamed_items is, enter_all (expanded_items is) σ) (replaced four w s ts ms)
   unfolding print_at
   finish K is ms σ g k =
@@ -176,6 +171,6 @@ module _ (four : Bool) (w : ℕ) (s : List ℕ) (ts : List Text) (b : Bytes s) (
       → (n : ℕ) (is : List Item) → read_items four w s ts n 0 ≡ got is (length s)
       → Replaced four w s ts K (replace_items (without_macros is) (record { keys = K; pile = [] })) (replaced four w s ts ms)
   round_means K ms h l n is p =
-      let σ : Expander = record { keys = K; pile = [] } in
+      let σ : MacroExpander = record { keys = K; pile = [] } in
       rw (replace_items_is (without_macros is) σ)
       (finish K (without_macros is) ms σ (items_go four w s ts b d (same_print four w s ts) (text_is four w s ts) same_is text_is_lem n 0 is (length s) p refl (started ms) σ (starts K ms h l)) refl)

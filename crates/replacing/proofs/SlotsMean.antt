@@ -14,7 +14,8 @@ use Rattle.parse_tree.specs.Plain.Texts.{has, number, distinct}
 use Rattle.parse_tree.specs.Plain.Display.{print}
 use Rattle.parse_tree.specs.Working.Within.{Each}
 use Rattle.parse_tree.proofs.TextLaws.{number-below, text_number, has-text, number-text}
-use Rattle.passes.specs.Macros.{Pending, Expander}
+use Rattle.parse_tree.proofs.ReadingLaws.{each_map}
+use Rattle.passes.specs.Macros.{Pending, MacroExpander}
 use Rattle.replacing.specs.Trees.{inner, enter, enter_all}
 use Rattle.replacing.specs.Sound.{Key, Good as GoodRef, Sound as SoundSlots}
 use Rattle.replacing.specs.Slots.{Ref, text, like, Slots, among, refer, push_text, push_new, first_like, note_by, note_as, note, note_all}
@@ -39,10 +40,6 @@ or_skip false b c = refl
 pub or_assoc : (a b c : Bool) → (a || (b || c)) ≡ ((a || b) || c)
 or_assoc true b c = refl
 or_assoc false b c = refl
-
-pub each_map : {A : Type 0} {P Q : A → Type 0} → ((a : A) → P a → Q a) → (xs : List A) → Each P xs → Each Q xs
-each_map f [] h = tt
-each_map f (x ∷ xs) h = (f x h.0, each_map f xs h.1)
 
 pub among-here : (k : ℕ) (ns : List ℕ) → among k (k ∷ ns) ≡ true
 unfolding among
@@ -108,7 +105,7 @@ module _ (at : ℕ → Sym) (Here : ℕ → Type 0) (ts : List Text) (d : distin
   abbrev pub Good : List ℕ → ℕ → Ref → Type 0
   Good qs p r = GoodRef at Here ts qs p r
 
-  abbrev pub Sound : Slots → Expander → Type 0
+  abbrev pub Sound : Slots → MacroExpander → Type 0
   Sound x σ = SoundSlots at Here ts x σ
 
   -- places with references keep them
@@ -117,7 +114,7 @@ module _ (at : ℕ → Sym) (Here : ℕ → Type 0) (ts : List Text) (d : distin
   piled_later p r rs qs h = each_map (λ q. among_later q p (map (λ (v : ℕ × Ref). v.0) rs)) qs h
 
   -- a reference more, to what is there
-  refer-sound : (p : ℕ) (r : Ref) (x : Slots) (σ : Expander) → Good x.firsts p r → Sound x σ → Sound (refer p r x) σ
+  refer-sound : (p : ℕ) (r : Ref) (x : Slots) (σ : MacroExpander) → Good x.firsts p r → Sound x σ → Sound (refer p r x) σ
   unfolding refer
   refer-sound p r x σ g h = record {
     pile = h.pile;
@@ -133,18 +130,18 @@ module _ (at : ℕ → Sym) (Here : ℕ → Type 0) (ts : List Text) (d : distin
     numbers = h.numbers;
   }
 
-  enter-old : (y : Sym) (σ : Expander) → has (print y) σ.keys ≡ true → enter y σ ≡ σ
+  enter-old : (y : Sym) (σ : MacroExpander) → has (print y) σ.keys ≡ true → enter y σ ≡ σ
   unfolding enter
   enter-old y σ p = rw p refl
 
-  entered : Sym → Expander → Expander
+  entered : Sym → MacroExpander → MacroExpander
   entered y σ = record { keys = print y ∷ σ.keys; pile = inner y ∷ σ.pile }
 
-  enter-new : (y : Sym) (σ : Expander) → has (print y) σ.keys ≡ false → enter y σ ≡ entered y σ
+  enter-new : (y : Sym) (σ : MacroExpander) → has (print y) σ.keys ≡ false → enter y σ ≡ entered y σ
   unfolding enter entered
   enter-new y σ p = rw p refl
 
-  text_sound : (p k : ℕ) (x : Slots) (σ : Expander) → Here p → k < length ts → text_of k ≡ pr p → Sound x σ → Sound (push_text p k x) (entered (at p) σ)
+  text_sound : (p k : ℕ) (x : Slots) (σ : MacroExpander) → Here p → k < length ts → text_of k ≡ pr p → Sound x σ → Sound (push_text p k x) (entered (at p) σ)
   unfolding push_text entered
   text_sound p k x σ i l e h = record {
     pile = ap (λ (l : List Pending). inner (at p) ∷ l) h.pile;
@@ -162,7 +159,7 @@ module _ (at : ℕ → Sym) (Here : ℕ → Type 0) (ts : List Text) (d : distin
     numbers = h.numbers;
   }
 
-  new_sound : (p : ℕ) (x : Slots) (σ : Expander) → Here p → has (pr p) ts ≡ false → has (pr p) (map pr x.firsts) ≡ false → Sound x σ → Sound (push_new p x) (entered (at p) σ)
+  new_sound : (p : ℕ) (x : Slots) (σ : MacroExpander) → Here p → has (pr p) ts ≡ false → has (pr p) (map pr x.firsts) ≡ false → Sound x σ → Sound (push_new p x) (entered (at p) σ)
   unfolding push_new entered distinct
   new_sound p x σ i n f h = record {
     pile = ap (λ (l : List Pending). inner (at p) ∷ l) h.pile;
@@ -193,10 +190,10 @@ module _ (at : ℕ → Sym) (Here : ℕ → Type 0) (ts : List Text) (d : distin
     FirstSays p qs none = has (pr p) (map pr qs) ≡ false
     FirstSays p qs (some q) = (pr q ≡ pr p) × (among q qs ≡ true)
 
-    first_says : (p : ℕ) (qs : List ℕ) → FirstSays p qs (first_like same text_at p qs)
+    first_says : (p : ℕ) (qs : List ℕ) → FirstSays p qs (first_like same p qs)
     unfolding first_like has
     first_says p [] = refl
-    first_says p (q ∷ qs) = go (same p q) (same_is p q) (first_like same text_at p qs) (first_says p qs)
+    first_says p (q ∷ qs) = go (same p q) (same_is p q) (first_like same p qs) (first_says p qs)
       where
         more : (r : Option ℕ) → FirstSays p qs r → same_as (pr q) (pr p) ≡ false → FirstSays p (q ∷ qs) r
         more none h e = has-or (pr p) (pr q) (map pr qs) ∙ rw (e, h) refl
@@ -207,8 +204,8 @@ module _ (at : ℕ → Sym) (Here : ℕ → Type 0) (ts : List Text) (d : distin
         go false e r h = more r h (same_as-sym (pr q) (pr p) ∙ sym e)
 
     -- one place
-    note_by_lem : (p : ℕ) (x : Slots) (σ : Expander) → Here p → has (pr p) (map pr x.firsts) ≡ false → Sound x σ
-        → (b : Bool) → has (pr p) ts ≡ b → Sound (note_by same text_at p (cond b (some (number ts (pr p))) none) x) (enter (at p) σ)
+    note_by_lem : (p : ℕ) (x : Slots) (σ : MacroExpander) → Here p → has (pr p) (map pr x.firsts) ≡ false → Sound x σ
+        → (b : Bool) → has (pr p) ts ≡ b → Sound (note_by p (cond b (some (number ts (pr p))) none) x) (enter (at p) σ)
     unfolding note_by
     note_by_lem p x σ y f h false e =
         let z : has (pr p) σ.keys ≡ false = h.keys (pr p) (key_here p y) ∙ rw (mark_none (pr p) x.marks e h.marks, f) refl in
@@ -234,11 +231,11 @@ module _ (at : ℕ → Sym) (Here : ℕ → Type 0) (ts : List Text) (d : distin
             let z : has (pr p) σ.keys ≡ false = h.keys (pr p) (key_here p y) ∙ rw (m, f) refl in
             rw (enter-new (at p) σ z) (text_sound p k x σ y l t h)
 
-    pub note_sound : (p : ℕ) (x : Slots) (σ : Expander) → Here p → Sound x σ → Sound (note same text_at p x) (enter (at p) σ)
+    pub note_sound : (p : ℕ) (x : Slots) (σ : MacroExpander) → Here p → Sound x σ → Sound (note same text_at p x) (enter (at p) σ)
     unfolding note note_as
-    note_sound p x σ y h = go (first_like same text_at p x.firsts) (first_says p x.firsts)
+    note_sound p x σ y h = go (first_like same p x.firsts) (first_says p x.firsts)
       where
-        go : (r : Option ℕ) → FirstSays p x.firsts r → Sound (note_as same text_at p r x) (enter (at p) σ)
+        go : (r : Option ℕ) → FirstSays p x.firsts r → Sound (note_as text_at p r x) (enter (at p) σ)
         go none f = rw (text_is_lem p) (note_by_lem p x σ y f h (has (pr p) ts) refl)
         go (some q) f =
             let i : has (pr p) (map pr x.firsts) ≡ true = rw (← f.0) (among-has q x.firsts f.1) in
@@ -246,7 +243,7 @@ module _ (at : ℕ → Sym) (Here : ℕ → Type 0) (ts : List Text) (d : distin
             rw (enter-old (at p) σ z) (refer-sound p (like q) x σ f h)
 
     -- and several
-    pub notes_sound : (ps : List ℕ) (x : Slots) (σ : Expander) → Each Here ps → Sound x σ → Sound (note_all same text_at ps x) (enter_all (map at ps) σ)
+    pub notes_sound : (ps : List ℕ) (x : Slots) (σ : MacroExpander) → Each Here ps → Sound x σ → Sound (note_all same text_at ps x) (enter_all (map at ps) σ)
     unfolding note_all enter_all
     notes_sound [] x σ y h = h
     notes_sound (p ∷ ps) x σ y h = notes_sound ps (note same text_at p x) (enter (at p) σ) y.1 (note_sound p x σ y.0 h)
@@ -257,8 +254,8 @@ module _ (at : ℕ → Sym) (Here : ℕ → Type 0) (ts : List Text) (d : distin
     notes_append (p ∷ ps) qs x = notes_append ps qs (note same text_at p x)
 
     -- a search in any order: none prints so
-    pub first-none : (p : ℕ) (qs : List ℕ) → has (pr p) (map pr qs) ≡ false → first_like same text_at p qs ≡ none
-    first-none p qs z = go (first_like same text_at p qs) (first_says p qs)
+    pub first-none : (p : ℕ) (qs : List ℕ) → has (pr p) (map pr qs) ≡ false → first_like same p qs ≡ none
+    first-none p qs z = go (first_like same p qs) (first_says p qs)
       where
         go : (r : Option ℕ) → FirstSays p qs r → r ≡ none
         go none h = refl

@@ -7,13 +7,13 @@ use Rattle.parse_tree.specs.Plain.Texts.{has}
 use Rattle.parse_tree.specs.Plain.Display.{shown_leaf, shown_before, shown_behind, opening, separator, closing, shown, shown_all, shown_more, print}
 use Rattle.parse_tree.specs.declared.syntax.Span.{Span}
 use Rattle.passes.specs.Outcome.{with_symbols, with_alternatives}
-use Rattle.passes.specs.Macros.{listing, symbol_of, span_of, Expander, push, replace_around, replace_symbol, replace_symbols, replace_alternatives, replace_items}
+use Rattle.passes.specs.Macros.{listing, symbol_of, span_of, MacroExpander, push, replace_around, replace_symbol, replace_symbols, replace_alternatives, replace_items}
 use Rattle.parse_tree.specs.Working.Within.{Each}
 use Rattle.parse_tree.proofs.ReadingLaws.{each_append}
 use Rattle.parse_tree.proofs.DisplayLaws.{print-then}
 use Rattle.replacing.specs.Trees.{keyed, renamed_leaf, renamed_around, renamed, renamed_all, inner, is_key, own_leaf, own_around, expanded, expanded_all, enter, enter_all, renamed_alternatives, expanded_alternatives, renamed_item, expanded_item, renamed_items, expanded_items}
 
--- ---- (b) printing is unchanged by replacing
+-- ---- printing is unchanged by replacing
 
 -- the name of a print, shown, is the print
 keyed-shown : (s : Span) (x : Sym) (r : Text) → shown (keyed s x) r ≡ shown x r
@@ -52,11 +52,6 @@ mutual
   renamed_shown_more nil sep r = refl
   renamed_shown_more (cons x xs) sep r = ap (sep ++◌) (renamed_shown x (shown_more (renamed_all xs) sep r) ∙ ap (shown x) (renamed_shown_more xs sep r))
 
--- theorem
-pub print-renamed : (x : Sym) → print (renamed x) ≡ print x
-unfolding print
-print-renamed x = renamed_shown x []
-
 pub print-inner : (x : Sym) → is_key x ≡ true → print (symbol_of (inner x)) ≡ print x
 unfolding print inner shown
 print-inner (leaf s (ambiguous n)) k = absurd (false≢true k)
@@ -73,21 +68,21 @@ print-inner (around s (name m n) x) k = absurd (false≢true k)
 print-inner (over s o xs) k = ap (opening o) (renamed_shown_all xs (separator o) (closing o ∷ []))
 
 -- ---- entering
-pub enter-append : (xs ys : List Sym) (σ : Expander) → enter_all (xs ++ ys) σ ≡ enter_all ys (enter_all xs σ)
+pub enter-append : (xs ys : List Sym) (σ : MacroExpander) → enter_all (xs ++ ys) σ ≡ enter_all ys (enter_all xs σ)
 unfolding enter_all
 enter-append [] ys σ = refl
 enter-append (x ∷ xs) ys σ = enter-append xs ys (enter x σ)
 
-push-inner : (x : Sym) (σ : Expander) → is_key x ≡ true → push (inner x) σ ≡ (keyed (span_of (inner x)) x, enter x σ)
+push-inner : (x : Sym) (σ : MacroExpander) → is_key x ≡ true → push (inner x) σ ≡ (keyed (span_of (inner x)) x, enter x σ)
 unfolding push enter
 push-inner x σ k = rw (print-inner x k) refl
 
 -- a symbol that is expanded, behind what was entered before
-later : (x : Sym) (xs : List Sym) (σ : Expander) → is_key x ≡ true → push (inner x) (enter_all xs σ) ≡ (keyed (span_of (inner x)) x, enter_all (xs ++ (x ∷ [])) σ)
+later : (x : Sym) (xs : List Sym) (σ : MacroExpander) → is_key x ≡ true → push (inner x) (enter_all xs σ) ≡ (keyed (span_of (inner x)) x, enter_all (xs ++ (x ∷ [])) σ)
 unfolding enter_all
-later x xs σ k = push-inner x (enter_all xs σ) k ∙ ap (λ (τ : Expander). (keyed (span_of (inner x)) x, τ)) (sym (enter-append xs (x ∷ []) σ))
+later x xs σ k = push-inner x (enter_all xs σ) k ∙ ap (λ (τ : MacroExpander). (keyed (span_of (inner x)) x, τ)) (sym (enter-append xs (x ∷ []) σ))
 
-leaf_is : (s : Span) (l : Leaf) (σ : Expander) → replace_symbol (leaf s l) σ ≡ (renamed_leaf s l, enter_all (own_leaf s l) σ)
+leaf_is : (s : Span) (l : Leaf) (σ : MacroExpander) → replace_symbol (leaf s l) σ ≡ (renamed_leaf s l, enter_all (own_leaf s l) σ)
 unfolding replace_symbol enter_all inner
 leaf_is s (ambiguous n) σ = refl
 leaf_is s (bare n) σ = refl
@@ -98,7 +93,7 @@ leaf_is s lookahead σ = push-inner (leaf s lookahead) σ refl
 leaf_is s lookbehind σ = push-inner (leaf s lookbehind) σ refl
 leaf_is s error σ = refl
 
-around_is : (s : Span) (a : Around) (x : Sym) (xs : List Sym) (σ : Expander)
+around_is : (s : Span) (a : Around) (x : Sym) (xs : List Sym) (σ : MacroExpander)
     → replace_around s a (renamed x, enter_all xs σ) ≡ (renamed_around s a x (renamed x), enter_all (xs ++ own_around s a x) σ)
 unfolding inner
 around_is s (repeat o) x xs σ = later (around s (repeat o) x) xs σ refl
@@ -108,39 +103,39 @@ around_is s (name m n) x xs σ = rw (append-nil xs) refl
 mutual
   unfolding replace_symbol replace_symbols renamed renamed_all expanded expanded_all enter_all inner
 
-  pub replace_is : (x : Sym) (σ : Expander) → replace_symbol x σ ≡ (renamed x, enter_all (expanded x) σ)
+  pub replace_is : (x : Sym) (σ : MacroExpander) → replace_symbol x σ ≡ (renamed x, enter_all (expanded x) σ)
   replace_is (leaf s l) σ = leaf_is s l σ
   replace_is (around s a x) σ = ap (replace_around s a) (replace_is x σ) ∙ around_is s a x (expanded x) σ
-  replace_is (over s o xs) σ = ap (λ (q : Syms × Expander). push (listing s o q.0) q.1) (replace_all_is xs σ) ∙ later (over s o xs) (expanded_all xs) σ refl
+  replace_is (over s o xs) σ = ap (λ (q : Syms × MacroExpander). push (listing s o q.0) q.1) (replace_all_is xs σ) ∙ later (over s o xs) (expanded_all xs) σ refl
 
-  pub replace_all_is : (xs : Syms) (σ : Expander) → replace_symbols xs σ ≡ (renamed_all xs, enter_all (expanded_all xs) σ)
+  pub replace_all_is : (xs : Syms) (σ : MacroExpander) → replace_symbols xs σ ≡ (renamed_all xs, enter_all (expanded_all xs) σ)
   replace_all_is nil σ = refl
   replace_all_is (cons x xs) σ =
       let τ = enter_all (expanded x) σ in
-      ap (λ (q : Sym × Expander). let r = replace_symbols xs q.1 in (cons q.0 r.0, r.1)) (replace_is x σ)
-      ∙ ap (λ (r : Syms × Expander). (cons (renamed x) r.0, r.1)) (replace_all_is xs τ)
-      ∙ ap (λ (u : Expander). (cons (renamed x) (renamed_all xs), u)) (sym (enter-append (expanded x) (expanded_all xs) σ))
+      ap (λ (q : Sym × MacroExpander). let r = replace_symbols xs q.1 in (cons q.0 r.0, r.1)) (replace_is x σ)
+      ∙ ap (λ (r : Syms × MacroExpander). (cons (renamed x) r.0, r.1)) (replace_all_is xs τ)
+      ∙ ap (λ (u : MacroExpander). (cons (renamed x) (renamed_all xs), u)) (sym (enter-append (expanded x) (expanded_all xs) σ))
 
-pub replace_alternatives_is : (as' : List Alternative) (σ : Expander) → replace_alternatives as' σ ≡ (renamed_alternatives as', enter_all (expanded_alternatives as') σ)
+pub replace_alternatives_is : (as' : List Alternative) (σ : MacroExpander) → replace_alternatives as' σ ≡ (renamed_alternatives as', enter_all (expanded_alternatives as') σ)
 unfolding replace_alternatives renamed_alternatives expanded_alternatives enter_all
 replace_alternatives_is [] σ = refl
 replace_alternatives_is (a ∷ rest) σ =
     let τ = enter_all (expanded_all a.symbols) σ in
-    ap (λ (q : Syms × Expander). let r = replace_alternatives rest q.1 in (with_symbols a q.0 ∷ r.0, r.1)) (replace_all_is a.symbols σ)
-    ∙ ap (λ (r : List Alternative × Expander). (with_symbols a (renamed_all a.symbols) ∷ r.0, r.1)) (replace_alternatives_is rest τ)
-    ∙ ap (λ (u : Expander). (with_symbols a (renamed_all a.symbols) ∷ renamed_alternatives rest, u)) (sym (enter-append (expanded_all a.symbols) (expanded_alternatives rest) σ))
+    ap (λ (q : Syms × MacroExpander). let r = replace_alternatives rest q.1 in (with_symbols a q.0 ∷ r.0, r.1)) (replace_all_is a.symbols σ)
+    ∙ ap (λ (r : List Alternative × MacroExpander). (with_symbols a (renamed_all a.symbols) ∷ r.0, r.1)) (replace_alternatives_is rest τ)
+    ∙ ap (λ (u : MacroExpander). (with_symbols a (renamed_all a.symbols) ∷ renamed_alternatives rest, u)) (sym (enter-append (expanded_all a.symbols) (expanded_alternatives rest) σ))
 
--- (c) on trees: the items are the items renamed, and the state is changed by their symbols that are expanded, in this order
-pub replace_items_is : (is : List Item) (σ : Expander) → replace_items is σ ≡ (renamed_items is, enter_all (expanded_items is) σ)
+-- on trees: the items are the items renamed, and the state is changed by their symbols that are expanded, in this order
+pub replace_items_is : (is : List Item) (σ : MacroExpander) → replace_items is σ ≡ (renamed_items is, enter_all (expanded_items is) σ)
 unfolding replace_items renamed_items expanded_items renamed_item expanded_item enter_all
 replace_items_is [] σ = refl
 replace_items_is (item d ∷ rest) σ =
     let τ = enter_all (expanded_alternatives d.alternatives) σ in
-    ap (λ (q : List Alternative × Expander). let r = replace_items rest q.1 in (item (with_alternatives d q.0) ∷ r.0, r.1)) (replace_alternatives_is d.alternatives σ)
-    ∙ ap (λ (r : List Item × Expander). (item (with_alternatives d (renamed_alternatives d.alternatives)) ∷ r.0, r.1)) (replace_items_is rest τ)
-    ∙ ap (λ (u : Expander). (item (with_alternatives d (renamed_alternatives d.alternatives)) ∷ renamed_items rest, u)) (sym (enter-append (expanded_alternatives d.alternatives) (expanded_items rest) σ))
+    ap (λ (q : List Alternative × MacroExpander). let r = replace_items rest q.1 in (item (with_alternatives d q.0) ∷ r.0, r.1)) (replace_alternatives_is d.alternatives σ)
+    ∙ ap (λ (r : List Item × MacroExpander). (item (with_alternatives d (renamed_alternatives d.alternatives)) ∷ r.0, r.1)) (replace_items_is rest τ)
+    ∙ ap (λ (u : MacroExpander). (item (with_alternatives d (renamed_alternatives d.alternatives)) ∷ renamed_items rest, u)) (sym (enter-append (expanded_alternatives d.alternatives) (expanded_items rest) σ))
 replace_items_is (Item.terminal s o t ∷ rest) σ =
-    ap (λ (r : List Item × Expander). (Item.terminal s o t ∷ r.0, r.1)) (replace_items_is rest σ)
+    ap (λ (r : List Item × MacroExpander). (Item.terminal s o t ∷ r.0, r.1)) (replace_items_is rest σ)
 
 -- ---- the symbols that are expanded are keys
 abbrev pub Keys : List Sym → Type 0
@@ -185,13 +180,13 @@ items_keys (item d ∷ rest) = each_append (λ y. is_key y ≡ true) (expanded_a
 items_keys (Item.terminal s o t ∷ rest) = items_keys rest
 
 -- ---- the keys are the prints of the pile before those of the round's start
-pub enter-keys : (K : List Text) (xs : List Sym) (σ : Expander) → Keys xs → σ.keys ≡ map (λ p. print (symbol_of p)) σ.pile ++ K
+pub enter-keys : (K : List Text) (xs : List Sym) (σ : MacroExpander) → Keys xs → σ.keys ≡ map (λ p. print (symbol_of p)) σ.pile ++ K
     → (enter_all xs σ).keys ≡ map (λ p. print (symbol_of p)) (enter_all xs σ).pile ++ K
 unfolding enter_all enter
 enter-keys K [] σ k h = h
 enter-keys K (x ∷ xs) σ k h = enter-keys K xs (enter x σ) k.1 (go (has (print x) σ.keys))
   where
-    pushed : Expander
+    pushed : MacroExpander
     pushed = record { keys = print x ∷ σ.keys; pile = inner x ∷ σ.pile }
 
     go : (b : Bool) → (cond b σ pushed).keys ≡ map (λ p. print (symbol_of p)) (cond b σ pushed).pile ++ K

@@ -9,7 +9,7 @@ use Rattle.parse_tree.specs.Plain.References.{stage_of}
 use Rattle.parse_tree.specs.declared.syntax.Span.{Span}
 use Rattle.parse_tree.specs.declared.syntax.Node.{Node}
 use Rattle.passes.specs.Outcome.{Tree, Outcome, no}
-use Rattle.passes.specs.Macros.{symbol_of, span_of, Expander, drain}
+use Rattle.passes.specs.Macros.{symbol_of, span_of, MacroExpander, drain}
 use Rattle.passes.specs.Stages.{last_stage}
 use Rattle.replacing.specs.Trees.{inner}
 use Rattle.replacing.specs.Prints.{sym_at, print_at, same_print, text_is}
@@ -40,18 +40,18 @@ module _ (four : Bool) (w : ℕ) (s : List ℕ) (ts : List Text) where
   replaced ms = steps (same_print four w s ts) (text_is four w s ts) w (length ts) s (length s) (record { at = 0; out = []; slots = started ms })
 
   -- r is what replacing makes of items, which gives q; K are the keys before
-  pub record Replaced (K : List Text) (q : List Item × Expander) (r : Run) : Type 0 where
+  pub record Replaced (K : List Text) (q : List Item × MacroExpander) (r : Run) : Type 0 where
     -- all was read
     pub end : r.at ≡ length s
-    -- (c) what was written are the replaced items, by the numbers of the stage's texts, which are those before and then new ones by first reference
+    -- what was written are the replaced items, by the numbers of the stage's texts, which are those before and then new ones by first reference
     pub items : r.out ≡ bytes_of_each (item_bytes w (stage_of ts q.0).atoms) q.0
     pub atoms : ts ++ map (print_at four w s ts) r.slots.news ≡ (stage_of ts q.0).atoms
-    -- (a) the pile: the symbols at its places, as they stand there with their inner symbols replaced
+    -- the pile: the symbols at its places, as they stand there with their inner symbols replaced
     pub pile : map (λ p. inner (sym_at four w s ts p)) r.slots.pile ≡ q.1.pile
-    -- (b) their keys are the prints of the symbols as they stand
+    -- their keys are the prints of the symbols as they stand
     pub prints : map (print_at four w s ts) r.slots.pile ≡ map (λ p. print (symbol_of p)) q.1.pile
     pub keys : q.1.keys ≡ map (print_at four w s ts) r.slots.pile ++ K
-    -- (d) and their spans stand there
+    -- and their spans stand there
     pub spans : map (λ p. node_span (node_at w s p)) r.slots.pile ≡ map span_of q.1.pile
     pub limit : (last : Outcome Stage) → limit_at w s r.slots.pile last ≡ last_stage q.1.pile last
     -- its items

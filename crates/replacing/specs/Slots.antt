@@ -85,24 +85,25 @@ push_text p k x = record { refs = (p, text k) ∷ x.refs; pile = p ∷ x.pile; m
 unfoldable pub push_new : ℕ → Slots → Slots
 push_new p x = record { refs = (p, like p) ∷ x.refs; pile = p ∷ x.pile; marks = x.marks; firsts = p ∷ x.firsts; news = x.news }
 
--- same tells whether the symbols at two places print alike, text_at which text (of those that the round found) is the print of a symbol
+-- where none of this round prints so, by the text that its print is, if it is one
+unfoldable pub note_by : ℕ → Option ℕ → Slots → Slots
+note_by p none x = push_new p x
+note_by p (some k) x = cond (among k x.marks) (refer p (text k) x) (push_text p k x)
+
+-- same tells whether the symbols at two places print alike
+unfoldable pub first_like : (ℕ → ℕ → Bool) → ℕ → List ℕ → Option ℕ
+first_like same p [] = none
+first_like same p (q ∷ qs) = cond (same p q) (some q) (first_like same p qs)
+
+-- text_at tells which text (of those that the round found) is the print of a symbol
+unfoldable pub note_as : (ℕ → Option ℕ) → ℕ → Option ℕ → Slots → Slots
+note_as text_at p none x = note_by p (text_at p) x
+note_as text_at p (some q) x = refer p (like q) x
+
 module _ (same : ℕ → ℕ → Bool) (text_at : ℕ → Option ℕ) where
-  unfoldable pub first_like : ℕ → List ℕ → Option ℕ
-  first_like p [] = none
-  first_like p (q ∷ qs) = cond (same p q) (some q) (first_like p qs)
-
-  -- none of this round prints so
-  unfoldable pub note_by : ℕ → Option ℕ → Slots → Slots
-  note_by p none x = push_new p x
-  note_by p (some k) x = cond (among k x.marks) (refer p (text k) x) (push_text p k x)
-
-  unfoldable pub note_as : ℕ → Option ℕ → Slots → Slots
-  note_as p none x = note_by p (text_at p) x
-  note_as p (some q) x = refer p (like q) x
-
   -- the symbol at a place, whose inner symbols were noted
   unfoldable pub note : ℕ → Slots → Slots
-  note p x = note_as p (first_like p x.firsts) x
+  note p x = note_as text_at p (first_like same p x.firsts) x
 
   unfoldable pub note_all : List ℕ → Slots → Slots
   note_all [] x = x

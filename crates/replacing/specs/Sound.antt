@@ -7,7 +7,7 @@ use Rattle.parse_tree.specs.Working.Nodes.{node_at}
 use Rattle.parse_tree.specs.Plain.Reading.{got}
 use Rattle.parse_tree.specs.Working.Decode.{read_sym}
 use Rattle.parse_tree.specs.Working.Within.{Each}
-use Rattle.passes.specs.Macros.{Expander}
+use Rattle.passes.specs.Macros.{MacroExpander}
 use Rattle.replacing.specs.Trees.{inner, is_key}
 use Rattle.replacing.specs.Prints.{sym_at}
 use Rattle.replacing.specs.Slots.{Ref, text, like, Slots, places, among}
@@ -41,7 +41,7 @@ module _ (at : ℕ → Sym) (Here : ℕ → Type 0) (ts : List Text) where
   Good qs p (like q) = (print (at q) ≡ print (at p)) × (among q qs ≡ true)
 
   -- the slots x stand for the expander σ
-  pub record Sound (x : Slots) (σ : Expander) : Type 0 where
+  pub record Sound (x : Slots) (σ : MacroExpander) : Type 0 where
     -- the pile is that of the symbols at its places, with their inner symbols replaced; symbols stand there, and have references
     pub pile : map (λ p. inner (at p)) x.pile ≡ σ.pile
     pub stands : Each Here x.pile

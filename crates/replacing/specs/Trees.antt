@@ -8,7 +8,7 @@ use Rattle.parse_tree.specs.Plain.Display.{print}
 use Rattle.parse_tree.specs.declared.syntax.Span.{Span}
 use Rattle.passes.specs.Outcome.{with_symbols, with_alternatives}
 use Rattle.passes.specs.Views.{ahead, as_look}
-use Rattle.passes.specs.Macros.{Pending, looking, repeating, listing, Expander}
+use Rattle.passes.specs.Macros.{Pending, looking, repeating, listing, MacroExpander}
 
 -- the nonterminal of a symbol's printed form, at its span
 abbrev pub keyed : Span → Sym → Sym
@@ -94,10 +94,10 @@ unfoldable mutual
   expanded_all (cons x xs) = expanded x ++ expanded_all xs
 
 -- one of them met: pushed when its print is new
-unfoldable pub enter : Sym → Expander → Expander
+unfoldable pub enter : Sym → MacroExpander → MacroExpander
 enter x σ = cond (has (print x) σ.keys) σ (record { keys = print x ∷ σ.keys; pile = inner x ∷ σ.pile })
 
-unfoldable pub enter_all : List Sym → Expander → Expander
+unfoldable pub enter_all : List Sym → MacroExpander → MacroExpander
 enter_all [] σ = σ
 enter_all (x ∷ xs) σ = enter_all xs (enter x σ)
 

@@ -22,11 +22,11 @@ use Rattle.passes.specs.Resolve.{terminal_def, nonterminal_def, Global, nontermi
 use Rattle.resolve.specs.declared.Grammar.{Grammar}
 use Rattle.resolve.specs.Cells.{Room}
 use Rattle.resolve.specs.Commands.{RunEnd, ran, run_then}
-use Rattle.resolve.specs.Items.{item_place_in}
+use Rattle.resolve.specs.Items.{item_place_in, Row}
 use Rattle.resolve.specs.Globals.{declared_at, declare_out, each_out, globals_out}
 use Rattle.resolve.specs.Whole.{Apart}
 use Rattle.resolve.proofs.CellsLaws.{Cellwise, cellwise_same, cellwise_then, off_same, Sound}
-use Rattle.resolve.proofs.GrammarLaws.{Row, row_same, headed, terminal_headed}
+use Rattle.resolve.proofs.GrammarLaws.{row_same, headed, terminal_headed}
 use Rattle.resolve.proofs.GlobalsTable.{code_of, Coded, Proper, declare_by, entered, then_same, then-ran, entered_append, entered_cellwise, entered_sound, Says, says_as, entered_says}
 
 -- ---- the globals of one code

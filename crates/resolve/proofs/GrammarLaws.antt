@@ -24,7 +24,7 @@ use Rattle.parse_tree.proofs.FieldLaws.{le-read_then, span_read}
 use Rattle.parse_tree.proofs.ReadingLaws.{bytes_more}
 use Rattle.texts.proofs.TableStays.{le_at-agree}
 use Rattle.resolve.specs.declared.Grammar.{Grammar}
-use Rattle.resolve.specs.Items.{item_place, item_place_in}
+use Rattle.resolve.specs.Items.{item_place, item_place_in, Row}
 use Rattle.resolve.proofs.CellsLaws.{lies_agree}
 
 -- ---- a command with a span and a name
@@ -50,15 +50,11 @@ module _ (t : Grammar) (ts : List Text) where
   abbrev pub bytes_of : Item → List ℕ
   bytes_of x = item_bytes t.width.bytes ts x
 
-  abbrev pub Row : List ℕ → ℕ → ℕ → List Item → Type 0
-  Row w i p [] = (item_place_in t w i ≡ p) × (p ≡ t.end)
-  Row w i p (x ∷ xs) = (item_place_in t w i ≡ p) × Lies w p (bytes_of x) (p + length (bytes_of x)) × Row w (i + 1) (p + length (bytes_of x)) xs
-
-  pub row_place : (w : List ℕ) (i p : ℕ) (xs : List Item) → Row w i p xs → item_place_in t w i ≡ p
+  pub row_place : (w : List ℕ) (i p : ℕ) (xs : List Item) → Row t ts w i p xs → item_place_in t w i ≡ p
   row_place w i p [] h = h.0
   row_place w i p (x ∷ xs) h = h.0
 
-  pub row_below : (w : List ℕ) (i p : ℕ) (xs : List Item) → Row w i p xs → p ≤ t.end
+  pub row_below : (w : List ℕ) (i p : ℕ) (xs : List Item) → Row t ts w i p xs → p ≤ t.end
   row_below w i p [] h = omega (arith, h.1)
   row_below w i p (x ∷ xs) h = let z = row_below w (i + 1) (p + length (bytes_of x)) xs h.2 in omega arith
 
@@ -76,7 +72,7 @@ module _ (t : Grammar) (ts : List Text) where
     abbrev size : List Item → ℕ
     size xs = length (bytes_of_each (item_bytes t.width.bytes ts) xs)
 
-    rows : (front rest : List Item) → is ≡ front ++ rest → (p : ℕ) → p ≡ t.at + size front → Lies w p (bytes_of_each (item_bytes t.width.bytes ts) rest) t.end → Row w (length front) p rest
+    rows : (front rest : List Item) → is ≡ front ++ rest → (p : ℕ) → p ≡ t.at + size front → Lies w p (bytes_of_each (item_bytes t.width.bytes ts) rest) t.end → Row t ts w (length front) p rest
     unfolding bytes_of_each
     rows front [] e p z l =
         let n : List Item = [] in
@@ -94,7 +90,7 @@ module _ (t : Grammar) (ts : List Text) where
           rw (← q) (rows (front ++ (x ∷ [])) rest (e ∙ sym (append_assoc front (x ∷ []) rest)) (p + length (bytes_of x)) o s.1),
         )
 
-    pub row_start : Lies w t.at (bytes_of_each (item_bytes t.width.bytes ts) is) t.end → Row w 0 t.at is
+    pub row_start : Lies w t.at (bytes_of_each (item_bytes t.width.bytes ts) is) t.end → Row t ts w 0 t.at is
     unfolding bytes_of_each
     row_start l = rows [] is refl t.at (omega arith) l
 
@@ -112,7 +108,7 @@ module _ (t : Grammar) (ts : List Text) where
             let h = leb-false t.count i e in
             ap (λ (v : ℕ). pick (ltb (t.end - t.at) v) t.end (t.at + v)) (le_at-agree 8 w w' (t.list + 8 * i) (λ j k l. list j (omega arith) (omega arith)))
 
-    pub row_same : (i p : ℕ) (xs : List Item) → ((j : ℕ) → p ≤ j → j < t.end → get_or w' j 0 ≡ get_or w j 0) → Row w i p xs → Row w' i p xs
+    pub row_same : (i p : ℕ) (xs : List Item) → ((j : ℕ) → p ≤ j → j < t.end → get_or w' j 0 ≡ get_or w j 0) → Row t ts w i p xs → Row t ts w' i p xs
     row_same i p [] f h = (place_same i ∙ h.0, h.1)
     row_same i p (x ∷ xs) f h =
         let e = p + length (bytes_of x) in

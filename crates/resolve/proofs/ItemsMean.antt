@@ -27,10 +27,10 @@ use Rattle.passes.proofs.ResolveKeeps.{alternatives_kept}
 use Rattle.resolve.specs.declared.Grammar.{Grammar}
 use Rattle.resolve.specs.Cells.{Room, known_at}
 use Rattle.resolve.specs.Commands.{RunEnd, ran, stopped, run_then, run_out}
-use Rattle.resolve.specs.Items.{item_place_in, Marking, marked, marked_then, unmarks_out, parts_out, item_out, items_out}
+use Rattle.resolve.specs.Items.{item_place_in, Marking, marked, marked_then, unmarks_out, parts_out, item_out, items_out, Row}
 use Rattle.resolve.specs.Whole.{Apart}
 use Rattle.resolve.proofs.CellsLaws.{part_apart, Sound, store-sound, known_off, lies_agree, Cellwise, off_lies}
-use Rattle.resolve.proofs.GrammarLaws.{Row, row_place, row_same, row_below, Headed, headed, terminal_headed}
+use Rattle.resolve.proofs.GrammarLaws.{row_place, row_same, row_below, Headed, headed, terminal_headed}
 use Rattle.resolve.proofs.GlobalsTable.{Coded, Proper}
 use Rattle.resolve.proofs.ArgumentsMean.{marks_for, marks_are, unmarks_are, Marks, marks_mean, marks_cellwise, marks_gone, unmarks_store}
 use Rattle.resolve.proofs.ScopeMean.{known_small, looked_up}

@@ -19,12 +19,12 @@ use Rattle.passes.specs.Outcome.{Outcome, yes, no, after}
 use Rattle.passes.specs.Resolve.{globals, check_globals, validate_items, resolve}
 use Rattle.resolve.specs.declared.Grammar.{Grammar}
 use Rattle.resolve.specs.Commands.{ran, stopped, Runs}
-use Rattle.resolve.specs.Items.{Standing, items_out}
+use Rattle.resolve.specs.Items.{Standing, items_out, Row}
 use Rattle.resolve.specs.Globals.{globals_out}
 use Rattle.resolve.specs.Whole.{Holds, Became, Answers, Resolves}
 use Rattle.resolve.proofs.CommandsCode.{fine_not}
 use Rattle.resolve.proofs.CellsLaws.{known_is, bytes_sound, Cellwise, off_same}
-use Rattle.resolve.proofs.GrammarLaws.{Row, row_start, row_same}
+use Rattle.resolve.proofs.GrammarLaws.{row_start, row_same}
 use Rattle.resolve.proofs.GlobalsTable.{Coded, Says}
 use Rattle.resolve.proofs.GlobalsMean.{globals-proper, globals-cellwise, globals-sound, globals-mean}
 use Rattle.resolve.proofs.GlobalsCode.{standing_as}

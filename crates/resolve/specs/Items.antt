@@ -1,8 +1,11 @@
 -- Items that stand in work, each resolved where it stands. Assumes nothing: these are definitions.
-use Rattle.std.specs.Prelude.{◌≡◌, Bool, true, false, List, ℕ, zero, suc, ◌+◌, ◌-◌, ◌*◌, ◌%◌, ◌≤◌, ◌<◌, leb, ltb, eqb, get_or}
+use Rattle.std.specs.Prelude.{◌≡◌, Bool, true, false, List, [], ◌∷◌, ℕ, zero, suc, ◌+◌, ◌-◌, ◌*◌, ◌%◌, ◌≤◌, ◌<◌, leb, ltb, eqb, length, get_or}
 use Rattle.octets.specs.Working.Choice.{pick}
 use Rattle.octets.specs.Plain.Numbers.{le_at}
+use Rattle.octets.specs.Plain.Runs.{Lies}
+use Rattle.parse_tree.specs.Plain.Tree.{Text, Item}
 use Rattle.parse_tree.specs.Working.Nodes.{span_in}
+use Rattle.parse_tree.specs.Working.Encode.{item_bytes}
 use Rattle.texts.specs.declared.Map.{Map}
 use Rattle.resolve.specs.declared.Grammar.{Grammar}
 use Rattle.resolve.specs.Cells.{Room, known_at, define_at}
@@ -17,12 +20,19 @@ pub record Standing (m : Map) (t : Grammar) (n : ℕ) : Type 0 where
   pub narrow : 2 ≤ t.width.bytes
   pub wide : t.width.bytes ≤ 3
 
--- the place of the i-th of n items from `at` up to `end`, the end for the last and for any place behind it
+-- the place of the i-th of n items from `at` up to `end`; the end where i is n or more, or the listed place is behind the end
 unfoldable pub item_place : (list n at end : ℕ) → List ℕ → ℕ → ℕ
 item_place list n at end w i = pick (leb n i) end (pick (ltb (end - at) (le_at 8 w (list + 8 * i))) end (at + le_at 8 w (list + 8 * i)))
 
 abbrev pub item_place_in : Grammar → List ℕ → ℕ → ℕ
 item_place_in t w i = item_place t.list t.count t.at t.end w i
+
+-- items stand from p up to the end, each at its listed place, the first as the i-th; ts are the atoms
+module _ (t : Grammar) (ts : List Text) where
+  abbrev pub Row : List ℕ → ℕ → ℕ → List Item → Type 0
+  Row w i p [] = (item_place_in t w i ≡ p) × (p ≡ t.end)
+  Row w i p (x ∷ xs) =
+      (item_place_in t w i ≡ p) × Lies w p (item_bytes t.width.bytes ts x) (p + length (item_bytes t.width.bytes ts x)) × Row w (i + 1) (p + length (item_bytes t.width.bytes ts x)) xs
 
 -- ---- arguments: work with each marked, or one that was marked before
 pub data Marking : Type 0 where

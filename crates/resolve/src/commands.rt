@@ -1,5 +1,5 @@
 // The commands of an item behind its arguments, one behind another: alternatives, attributes, conditions, and symbols outermost first.
-ghost use Rattle.std.specs.Prelude.{◌≡◌, ◌+◌, ◌≤◌, ◌<◌, length};
+ghost use Rattle.std.specs.Prelude.{◌≡◌, ◌+◌, ◌≤◌, length};
 ghost use Rattle.octets.specs.Plain.Numbers.{le_at};
 ghost use Rattle.resolve.specs.Cells.{Room, known_at, found_by};
 ghost use Rattle.resolve.specs.Commands.{asked_at, run_out, Runs};
@@ -9,7 +9,7 @@ use crate::names::{
     rewrite_ambiguous_id, validate_condition, validate_macro, validate_nonterminal,
 };
 use crate::{Definition, Scope};
-use octets::numbers::{Width, atom_at};
+use octets::numbers::atom_at;
 use parse_tree::refusal::{Question, Refusal};
 use parse_tree::size::long;
 

@@ -32,7 +32,7 @@ pub struct Scope {
 }
 
 // What a scope says of a name that is defined: a terminal, a nonterminal or macro with so many arguments, or an argument of the item at
-// hand, which hides the global that the number says, as its cell has it: nobody asks which, but `def` tells it and may not tell less.
+// hand, which hides a global; the number is that global's cell. No code reads it: it is what `def` promises.
 #[derive(Clone, Copy, PartialEq, Eq)]
 pub enum Definition {
     Terminal,

@@ -12,7 +12,7 @@ use Rattle.parse_tree.specs.Working.Within.{Each}
 use Rattle.parse_tree.specs.declared.syntax.Span.{Span}
 use Rattle.passes.specs.Outcome.{Tree, yes, no, simple}
 use Rattle.passes.specs.Views.{Look, ahead, behind}
-use Rattle.passes.specs.Macros.{Pending, looking, repeating, listing, Expander, at, argument_of, or_name, macro_expand_symbol, macro_expand_symbols, macro_in, made, has_name, group_action, expand_expr_symbol, expand_repeat_symbol, expand_lookaround_symbol, expand_symbol, drain}
+use Rattle.passes.specs.Macros.{Pending, looking, repeating, listing, MacroExpander, at, argument_of, or_name, macro_expand_symbol, macro_expand_symbols, macro_in, made, has_name, group_action, expand_expr_symbol, expand_repeat_symbol, expand_lookaround_symbol, expand_symbol, drain}
 use Rattle.passes.proofs.Outcomes.{after-yes, no≢yes}
 use Rattle.passes.proofs.ResolveKeeps.{yes_as}
 use Rattle.passes.proofs.MacrosKeep.{macro_found, call_keeps}
@@ -55,7 +55,7 @@ module _ (G : Tree) where
   inner-calls (over s o xs) = renamed_all_calls xs
 
   -- theorem: the pile
-  pub pile_calls : (xs : List Sym) (σ : Expander) → Each (PendingCalls G) σ.pile → Each (PendingCalls G) (enter_all xs σ).pile
+  pub pile_calls : (xs : List Sym) (σ : MacroExpander) → Each (PendingCalls G) σ.pile → Each (PendingCalls G) (enter_all xs σ).pile
   unfolding enter_all enter
   pile_calls [] σ h = h
   pile_calls (x ∷ xs) σ h = pile_calls xs (enter x σ) (one (has (print x) σ.keys) refl)

@@ -1,35 +1,22 @@
 -- Cells written one after another, and the ways out of the function that makes them all 0. Assumes nothing.
 use mathlib.Core.Path.{◌≡◌, refl, ap, ◌∙◌}
 use mathlib.Core.Bool.{Bool, true, false}
-use mathlib.Core.Logic.{◌⊎◌, inl, inr}
 use mathlib.Core.List.{List}
 use Prim.Native.Nat.{ℕ, ◌+◌, ◌*◌, ◌≤◌, ◌<◌}
 use native.Mathlib.Omega.{arith}
 use borrow.Author.Rules.{rules}
 use borrow.Author.Tests.{eqb-true, eqb-false}
 use lib.Dec.{eqb}
-use lib.ListN.{length, get_or}
+use lib.ListN.{length}
 use Rattle.octets.specs.Plain.Numbers.{le}
 use Rattle.octets.specs.Working.Stores.{store}
 use Rattle.octets.proofs.StoreLaws.{length_store}
 use Rattle.texts.specs.declared.Map.{Map}
 use Rattle.texts.specs.Fields.{mark_at, cell_at}
 use Rattle.texts.specs.Texts.{Behind}
-use Rattle.texts.specs.Table.{Celled}
-use Rattle.texts.proofs.TableStays.{celled}
-use Rattle.rounds.specs.Define.{Cells, Recelled, Forgot}
-
-pub recelled_same : (s w : List ℕ) (m : Map) → Cells s w m → Recelled s w m w
-recelled_same s w m h = record { long = refl; table = h.table; same = refl; marks = λ k l. refl; others = λ i d. refl }
-
-pub recelled_trans : (s w w' w'' : List ℕ) (m : Map) → Recelled s w m w' → Recelled s w' m w'' → Recelled s w m w''
-recelled_trans s w w' w'' m p q = record {
-  long = q.long ∙ p.long;
-  table = q.table;
-  same = q.same ∙ p.same;
-  marks = λ k l. q.marks k l ∙ p.marks k l;
-  others = λ i d. q.others i d ∙ p.others i d;
-}
+use Rattle.texts.specs.Table.{Celled, Recelled}
+use Rattle.texts.proofs.TableStays.{celled, recelled_same, recelled_trans, recelled_celled}
+use Rattle.rounds.specs.Define.{Cells, Forgot}
 
 -- no text comes to stand in the records
 pub cells_stay : (s w w' : List ℕ) (m : Map) → Cells s w m → Recelled s w m w' → Cells s w' m
@@ -44,19 +31,7 @@ module _ (s w w' : List ℕ) (m : Map) (h : Cells s w m) (k v : ℕ) (l : k < m.
   celled_one = celled s w w' m (m.base + 24 * m.count) k v h.table h.above (omega arith) l f o
 
   pub recelled_one : Recelled s w m w'
-  recelled_one =
-      let c = celled_one in
-      record {
-        long = ap length o ∙ length_store w (m.base + 24 * k + 20) (le 4 v);
-        table = c.table;
-        same = c.same;
-        marks = c.marks;
-        others = λ i d. go c i d;
-      }
-    where
-      go : Celled s w m k v w' → (i : ℕ) → (i < m.base) ⊎ (m.base + 24 * m.count ≤ i) → get_or w' i 0 ≡ get_or w i 0
-      go c i (inl x) = c.before i (omega arith)
-      go c i (inr x) = c.after i (omega arith)
+  recelled_one = recelled_celled s w m k v w' (ap length o ∙ length_store w (m.base + 24 * k + 20) (le 4 v)) l celled_one
 
 -- ---- forget: the first k cells are 0
 pub record Forgetting (s w : List ℕ) (m : Map) (w' : List ℕ) (k : ℕ) : Type 0 where
@@ -66,7 +41,7 @@ pub record Forgetting (s w : List ℕ) (m : Map) (w' : List ℕ) (k : ℕ) : Typ
   pub none : (j : ℕ) → j < k → cell_at w' m.base j ≡ 0
 
 pub forgetting_start : (s w : List ℕ) (m : Map) → Cells s w m → Forgetting s w m w 0
-forgetting_start s w m h = record { ask = h; upto = omega arith; kept = recelled_same s w m h; none = λ j l. absurd (omega (arith, l)) }
+forgetting_start s w m h = record { ask = h; upto = omega arith; kept = recelled_same s w m h.table; none = λ j l. absurd (omega (arith, l)) }
 
 module _ (s w w' : List ℕ) (m : Map) (k : ℕ) (g : Forgetting s w m w' k) where
   pub forgetting_same : length w' ≡ length w

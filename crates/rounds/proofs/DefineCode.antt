@@ -17,14 +17,15 @@ use Rattle.parse_tree.specs.Plain.Texts.{has, number}
 use Rattle.parse_tree.proofs.TextLaws.{text_number}
 use Rattle.texts.specs.declared.Map.{Map}
 use Rattle.texts.specs.Fields.{cell_at}
-use Rattle.texts.specs.Table.{Celled, texts}
+use Rattle.texts.specs.Table.{Celled, Recelled, texts}
+use Rattle.texts.proofs.TableStays.{recelled_same, recelled_trans}
 use Rattle.passes.specs.Outcome.{Tree}
 use Rattle.passes.specs.Macros.{macro_in}
 use Rattle.resolve.specs.declared.Grammar.{Grammar}
 use Rattle.resolve.specs.Items.{item_place_in}
 use Rattle.macro_expand.specs.Drain.{item_of}
-use Rattle.rounds.specs.Define.{Cells, Recelled, Forgot, Items, SomeDeclared, FoundAt, Defined, Definable, Headable, defined_at}
-use Rattle.rounds.proofs.DefineCells.{recelled_same, recelled_trans, celled_one, recelled_one}
+use Rattle.rounds.specs.Define.{Cells, Forgot, Items, SomeDeclared, FoundAt, Defined, Definable, Headable, defined_at}
+use Rattle.rounds.proofs.DefineCells.{celled_one, recelled_one}
 use Rattle.rounds.proofs.DefineMacro.{items_stay, item_there, some_is, macro_name, item_within, items_headable, Plain, Told, told}
 
 -- the macros among the items from the i-th on are told
@@ -44,7 +45,7 @@ module _ (s w : List ℕ) (m : Map) (t : Grammar) (i : ℕ) (l : i < t.count) (w
     told_cell x d = celled_one s w w' m h.cells (number ts d.def.name) (i + 1) d.below number-few d.stored
 
     step-cells : (x : Item) → Plain s w m t four G h i w' o x ⊎ Told s w m t four G h i w' o x → Recelled s w m w'
-    step-cells x (inl a) = subst (Recelled s w m) (sym a.same) (recelled_same s w m h.cells)
+    step-cells x (inl a) = subst (Recelled s w m) (sym a.same) (recelled_same s w m h.cells.table)
     step-cells x (inr d) = recelled_one s w w' m h.cells (number ts d.def.name) (i + 1) d.below number-few d.stored
 
     step-low : (x : Item) → Plain s w m t four G h i w' o x ⊎ Told s w m t four G h i w' o x → (k : ℕ) → cell_at w m.base k < 2147483648 → cell_at w' m.base k < 2147483648
@@ -116,7 +117,7 @@ pub defining_start : (s w : List ℕ) (m : Map) (t : Grammar) → Definable s w 
 defining_start s w m t h = record {
   some_items = h.some;
   upto = omega arith;
-  cells = recelled_same s w m h.some.items.cells;
+  cells = recelled_same s w m h.some.items.cells.table;
   low = h.low;
   found = λ four G g n D e. absurd (none≢some D (sym (ap (λ (r : Tree). macro_in r n) (drop_of_length-le G {i = t.count} (omega (arith, g.many)))) ∙ e));
 }

@@ -20,16 +20,16 @@ use Rattle.parse_tree.specs.Working.Within.{Each, ItemWithin, NonterminalWithin}
 use Rattle.parse_tree.specs.declared.syntax.Span.{Span}
 use Rattle.parse_tree.proofs.TextLaws.{number-below}
 use Rattle.texts.specs.declared.Map.{Map}
-use Rattle.texts.specs.Table.{texts}
+use Rattle.texts.specs.Table.{Recelled, texts}
 use Rattle.texts.proofs.TextCode.{length_texts}
 use Rattle.passes.specs.Outcome.{Tree}
 use Rattle.passes.specs.Macros.{macro_in}
 use Rattle.resolve.specs.declared.Grammar.{Grammar}
-use Rattle.resolve.specs.Items.{item_place_in}
-use Rattle.resolve.proofs.GrammarLaws.{Row, row_same, row_below, Headed, headed, terminal_headed}
+use Rattle.resolve.specs.Items.{item_place_in, Row}
+use Rattle.resolve.proofs.GrammarLaws.{row_same, row_below, Headed, headed, terminal_headed}
 use Rattle.macro_expand.specs.Drain.{item_of}
 use Rattle.macro_expand.proofs.DrainLaws.{RowAt, row_at, within_at}
-use Rattle.rounds.specs.Define.{Recelled, Items, Headable, told_at, defined_at}
+use Rattle.rounds.specs.Define.{Items, Headable, told_at, defined_at}
 use Rattle.rounds.proofs.DefineCells.{cells_stay}
 
 -- ---- the items stay where only cells are written

@@ -12,15 +12,15 @@ use Rattle.parse_tree.specs.Plain.Tree.{Text, Leaf, Around, Over, Sym, Syms, Act
 use Rattle.parse_tree.specs.Plain.Texts.{is_name, is_literal, is_ascii, has, number}
 use Rattle.parse_tree.specs.Working.Encode.{item_bytes}
 use Rattle.parse_tree.specs.Working.Within.{Each, Uses, LeafWithin, AroundWithin, OverWithin, SymWithin, SymsWithin, ActionWithin, ArgumentWithin, ConditionWithin, AlternativeWithin, ItemWithin}
+use Rattle.parse_tree.proofs.ReadingLaws.{each_map}
 use Rattle.texts.specs.declared.Map.{Map}
 use Rattle.texts.specs.Fields.{cell_at}
 use Rattle.texts.specs.Table.{texts}
 use Rattle.texts.proofs.TableStays.{le_at-agree}
 use Rattle.passes.specs.Outcome.{Tree}
 use Rattle.resolve.specs.declared.Grammar.{Grammar}
-use Rattle.resolve.specs.Items.{item_place_in}
-use Rattle.resolve.proofs.GrammarLaws.{Row, row_same}
-use Rattle.replacing.proofs.SlotsMean.{each_map}
+use Rattle.resolve.specs.Items.{item_place_in, Row}
+use Rattle.resolve.proofs.GrammarLaws.{row_same}
 use Rattle.replacing.proofs.NumbersMean.{number_behind}
 use Rattle.replacing.proofs.Growing.{Extends, extends_has, extends_number}
 use Rattle.replacing.proofs.ThereBytes.{there_bytes}
@@ -93,12 +93,13 @@ module _ (s w w' : List ℕ) (room : Room) (t : Grammar) (z : State) (T : RoundT
     behind = omega (arith, end_below, wrote.long);
     list = omega (arith, S.defines.list, base_is);
     found = λ n D q.
-        let (i, x, k, y) = S.defines.found n D q in (
-          i,
-          x,
-          subst (λ (l : List Text). number l n < g.m.count) (sym same) (rw count-is k),
-          subst (λ (l : List Text). cell_at w' g.m.base (number l n) % 2147483648 ≡ i + 1) (sym same) (ap (λ (c : ℕ). c % 2147483648) (cell_same (number ts n) k) ∙ y),
-        );
+        let f = S.defines.found n D q in
+        record {
+          index = f.index;
+          there = f.there;
+          below = subst (λ (l : List Text). number l n < g.m.count) (sym same) (rw count-is f.below);
+          cell = subst (λ (l : List Text). cell_at w' g.m.base (number l n) % 2147483648 ≡ f.index + 1) (sym same) (ap (λ (c : ℕ). c % 2147483648) (cell_same (number ts n) f.below) ∙ f.cell);
+        };
   }
 
 -- ---- where more texts are known
@@ -236,6 +237,7 @@ module _ (w w' : List ℕ) (room : Room) (t : Grammar) (m m' : Map) (ts us : Lis
     off = rw base D.off;
     list = rw base D.list;
     found = λ n d q.
-        let (i, x, k, y) = D.found n d q in
-        (i, x, rw (number-next n k) (omega arith), rw (base, number-next n k) (cells (number ts n) k ∙ y));
+        let f = D.found n d q in
+        let e = number-next n f.below in
+        record { index = f.index; there = f.there; below = rw e (omega (arith, f.below)); cell = rw (base, e) (cells (number ts n) f.below ∙ f.cell) };
   }

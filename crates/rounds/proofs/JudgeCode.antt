@@ -14,10 +14,11 @@ use Rattle.octets.specs.Working.Choice.{pick}
 use lib.ListN.{length}
 use Rattle.parse_tree.specs.Working.Refusals.{refusal_at}
 use Rattle.parse_tree.specs.declared.refusal.Refusal.{Refusal}
+use Rattle.texts.specs.Atoms.{some_long}
 use Rattle.expander.specs.declared.Ground.{Ground}
 use Rattle.expander.specs.Names.{listed_texts}
 use Rattle.expander.proofs.GroundLaws.{keys_slots, slots_top}
-use Rattle.settling.specs.Settle.{new_bytes, some_long, SomeNew, Counts}
+use Rattle.settling.specs.Settle.{new_bytes, SomeNew, Counts}
 use Rattle.settling.proofs.NewLaws.{bytes_none, size_next, new_rest, each-short}
 use Rattle.rounds.specs.Judge.{Verdict, ruled_counts, ruled_length, verdict, SomeStageSize}
 
@@ -99,7 +100,7 @@ module _ (s w : List ℕ) (g : Ground) where
         pub sizes-new : SomeNew s w g n c
         sizes-new = record { places = h.places; ground = h.ground; names = h.names; few = omega (arith, few_atoms, e) }
 
-        module _ (f : Option ℕ) (d : Counts s w g n c f) (q : Refusal) (y : Result ℕ Refusal) (z : y ≡ ok_or f q) where
+        module _ (f : Option ℕ) (d : Counts s w g c f) (q : Refusal) (y : Result ℕ Refusal) (z : y ≡ ok_or f q) where
           counted : (b : Bool) → some_long (listed_texts s w g c) ≡ b → f ≡ cond b None (Some (length (new_bytes s w g c)))
           unfolding Counts
           counted b j = d ∙ ap (λ (x : Bool). cond x None (Some (length (new_bytes s w g c)))) j

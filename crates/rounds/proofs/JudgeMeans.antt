@@ -14,11 +14,11 @@ use Rattle.parse_tree.specs.Plain.WriteTape.{bytes_of_each, tape_of}
 use Rattle.parse_tree.specs.Working.Encode.{atom_bytes, item_bytes, stage_bytes}
 use Rattle.parse_tree.specs.Working.Refusals.{refusal_at}
 use Rattle.parse_tree.proofs.WriteTapeIs.{tape_is}
+use Rattle.texts.specs.Atoms.{some_long}
 use Rattle.passes.specs.Outcome.{yes, no}
 use Rattle.passes.specs.Sizes.{each, item_fits, stage_fits}
 use Rattle.passes.specs.Calls.{nowhere, sizes}
 use Rattle.replacing.proofs.ThereBytes.{bytes_both}
-use Rattle.settling.specs.Settle.{some_long}
 use Rattle.rounds.specs.Judge.{verdict, admitted}
 
 -- ---- lists
@@ -30,7 +30,7 @@ each_two f (x ∷ xs) ys = go (f x) (each_two f xs ys)
     go true e = e
     go false e = refl
 
-abbrev short : Text → Bool
+abbrev pub short : Text → Bool
 short t = ltb (length t) 65536
 
 short_not : (t : Text) → short t ≡ not (ltb 65535 (length t))
@@ -40,7 +40,7 @@ short_not t = go (ltb 65535 (length t)) refl
     go true e = let z = ltb-true 65535 (length t) e in le-ltb (length t) 65536 (omega arith)
     go false e = let z = ltb-false 65535 (length t) e in lt-ltb (length t) 65536 (omega arith)
 
-none_long : (ts : List Text) → each short ts ≡ not (some_long ts)
+pub none_long : (ts : List Text) → each short ts ≡ not (some_long ts)
 unfolding some_long
 none_long [] = refl
 none_long (t ∷ ts) = ap (λ (b : Bool). b && each short ts) (short_not t) ∙ go (ltb 65535 (length t)) (none_long ts)

@@ -9,7 +9,7 @@ use Rattle.parse_tree.specs.Plain.Tree.{Text, Leaf, Sym, Syms, ambiguous, bare, 
 use Rattle.parse_tree.specs.Working.Within.{Each, ItemWithin, AlternativeWithin}
 use Rattle.parse_tree.specs.declared.syntax.Span.{Span}
 use Rattle.passes.specs.Sizes.{sym_fits, syms_fit, alternative_fits, item_fits, each}
-use Rattle.passes.specs.Macros.{Expander, replace_items}
+use Rattle.passes.specs.Macros.{MacroExpander, replace_items}
 use Rattle.laws.specs.Keys.{AlternativeSound, ItemSound}
 use Rattle.laws.proofs.Keys.{within_all_sound}
 use Rattle.replacing.specs.Trees.{renamed, renamed_all, renamed_alternatives, renamed_item, renamed_items}
@@ -76,7 +76,7 @@ items_kept (item d ∷ rest) e =
 items_kept (Item.terminal s o t ∷ rest) e = items_kept rest e
 
 -- theorem: replaced items are within bounds if the items are
-pub replaced_fit : (is : List Item) (σ : Expander) → each item_fits is ≡ true → each item_fits (replace_items is σ).0 ≡ true
+pub replaced_fit : (is : List Item) (σ : MacroExpander) → each item_fits is ≡ true → each item_fits (replace_items is σ).0 ≡ true
 replaced_fit is σ e = rw (replace_items_is is σ) (items_kept is e)
 
 -- ---- items that passed question 4 are sound

@@ -7,7 +7,7 @@ use Prim.Native.Nat.{ℕ, suc, ◌+◌}
 use lib.Dec.{eqb}
 use Rattle.octets.specs.Plain.Runs.{same_as}
 use Rattle.parse_tree.specs.Plain.Tree.{Text, Leaf, Sym, Syms, ambiguous, bare, quoted, regex, nonterminal, lookahead, lookbehind, error, leaf, around, over, nil, cons, Alternative, Nonterminal, Item, item}
-use Rattle.parse_tree.specs.Plain.Texts.{name_bytes}
+use Rattle.parse_tree.specs.Plain.Texts.{is_identifier}
 use Rattle.parse_tree.specs.Working.Within.{Each}
 use Rattle.parse_tree.specs.declared.syntax.Span.{Span}
 use Rattle.parse_tree.proofs.ReadingLaws.{each_append}
@@ -109,11 +109,11 @@ unfolding substituted with_fall_through
 group_sound d group a b h =
     each_append AlternativeSound (map (substitute d.name group) group.alternatives) (fall_through d.span group.lower) (substitute-sound d.name group group.alternatives a b h) (fall_sound d.span group.lower b)
 
-name_sound : (E : Text) (v : ℕ) (vs : List ℕ) → name_bytes E ≡ true → SoundText (level_name E v vs)
+name_sound : (E : Text) (v : ℕ) (vs : List ℕ) → is_identifier E ≡ true → SoundText (level_name E v vs)
 name_sound E v [] h = subst SoundText (append-nil E) (level_sound E [] h)
 name_sound E v (u ∷ us) h = level_sound E (decimal v) h
 
-groups_sound : (d : Nonterminal) (gs : List Graded) (lower : Option Text) (vs : List ℕ) → name_bytes d.name ≡ true → LowerSound lower → Each GradedSound gs
+groups_sound : (d : Nonterminal) (gs : List Graded) (lower : Option Text) (vs : List ℕ) → is_identifier d.name ≡ true → LowerSound lower → Each GradedSound gs
     → Each ItemSound (map (with_fall_through d) (map (substituted d.name) (groups_of d.name gs lower vs)))
 unfolding groups_of
 groups_sound d gs lower [] n l h = tt
@@ -123,7 +123,7 @@ groups_sound d gs lower (v ∷ vs) n l h =
 
 -- ---- a tree whose nonterminals have identifiers for names
 abbrev pub NamedItem : Item → Type 0
-NamedItem (item d) = name_bytes d.name ≡ true
+NamedItem (item d) = is_identifier d.name ≡ true
 NamedItem (Item.terminal s o t) = Unit {0}
 
 -- theorem

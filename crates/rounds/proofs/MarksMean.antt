@@ -257,7 +257,7 @@ module _ (s w : List ℕ) (g : Ground) (n c : ℕ) (ps : List ℕ) (N : Names s 
       ∙ sym (has-append (text_at k) prints K)
 
   list_same : (i : ℕ) → list_at w1 g i ≡ list_at w g i
-  list_same i = le_at-agree 8 w w1 (list_place g i) (λ a x y. M.others a (inr (omega arith)))
+  list_same i = le_at-agree 8 w w1 (list_place g i) (λ a x y. M.cells.others a (inr (omega arith)))
 
   entry_next : (i : ℕ) → i < c → leb 2147483648 (new_cell (list_at w g i)) ≡ has (described_by s w g (list_at w g i)) (prints ++ K)
   entry_next i l = go (eqb (list_at w g i % 2) 0) refl

@@ -10,7 +10,7 @@ use Rattle.parse_tree.specs.Working.Within.{Each}
 use Rattle.parse_tree.specs.declared.syntax.Span.{Span}
 use Rattle.parse_tree.proofs.ReadingLaws.{each_append}
 use Rattle.passes.specs.Outcome.{Tree, yes, no, after, simple}
-use Rattle.passes.specs.Macros.{Pending, looking, repeating, listing, at, argument_of, or_name, macro_expand_symbol, macro_expand_symbols, evaluate_condition, expand_alternative, expand_alternatives, macro_in, expand_macro_symbol, expand_expr_symbol, expand_repeat_symbol, expand_lookaround_symbol, expand_symbol, drain, has_name, group_action, made}
+use Rattle.passes.specs.Macros.{Pending, looking, repeating, listing, at, argument_of, or_name, macro_expand_symbol, macro_expand_symbols, evaluate_cond, expand_alternative, expand_alternatives, macro_in, expand_macro_symbol, expand_expr_symbol, expand_repeat_symbol, expand_lookaround_symbol, expand_symbol, drain, has_name, group_action, made}
 use Rattle.passes.specs.Views.{Look, ahead, behind}
 use Rattle.passes.proofs.Outcomes.{no≢yes, after-yes}
 use Rattle.passes.proofs.ResolveKeeps.{yes_as}
@@ -79,7 +79,7 @@ module _ (P : Text → Type 0) where
     unfolding expand_alternatives texts_of_each
     alternatives_put s [] bs h e = yes_as (λ (cs : List Alternative). Each P (texts_of_each alternative_texts cs)) e tt
     alternatives_put s (a ∷ rest) bs h e =
-        let (b, _, f) = after-yes (evaluate_condition ps args a.condition) (λ b. after (expand_alternatives s ps args rest) (λ cs. yes (cond b (expand_alternative s ps args a ∷ cs) cs))) bs e in
+        let (b, _, f) = after-yes (evaluate_cond ps args a.condition) (λ b. after (expand_alternatives s ps args rest) (λ cs. yes (cond b (expand_alternative s ps args a ∷ cs) cs))) bs e in
         let (cs, g, i) = after-yes (expand_alternatives s ps args rest) (λ cs. yes (cond b (expand_alternative s ps args a ∷ cs) cs)) bs f in
         let (l, m) = each-parts P (alternative_texts a) (texts_of_each alternative_texts rest) h in
         yes_as (λ (ds : List Alternative). Each P (texts_of_each alternative_texts ds)) i (go l b cs (alternatives_put s rest cs m g))

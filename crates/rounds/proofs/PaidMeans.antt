@@ -5,24 +5,20 @@ use mathlib.Core.Logic.{◌⊎◌, inl, inr}
 use mathlib.Core.List.{List, [], ◌∷◌, ◌++◌, map}
 use Prim.Native.Nat.{ℕ, ◌+◌, ◌*◌, ◌≤◌}
 use native.Mathlib.Omega.{arith}
-use lib.ListN.{length}
 use Rattle.parse_tree.specs.Plain.Tree.{Text, star, plus, question, macro, group, count, Item}
-use Rattle.parse_tree.specs.Plain.Texts.{has, with_new}
+use Rattle.parse_tree.specs.Plain.Texts.{has}
 use Rattle.parse_tree.specs.Plain.References.{texts_of_each, item_texts}
-use Rattle.parse_tree.specs.Plain.WriteTape.{bytes_of_each}
-use Rattle.parse_tree.specs.Working.Encode.{atom_bytes}
 use Rattle.parse_tree.specs.Working.Within.{Each}
 use Rattle.parse_tree.proofs.AmongLaws.{has_here, has-later, has-cases, has-before, has-behind}
+use Rattle.parse_tree.proofs.ReadingLaws.{each_all}
 use Rattle.passes.specs.Outcome.{Tree, yes}
 use Rattle.passes.specs.Macros.{Pending, looking, repeating, listing, expand_symbol, drain}
 use Rattle.passes.proofs.Outcomes.{after-yes}
 use Rattle.laws.specs.Counts.{heads, over_items}
 use Rattle.rounds.specs.Paid.{weigh, cost24, cost20, pending_key, inside_texts, own_texts, Known, PileKnown, TreeKnown}
-use Rattle.rounds.proofs.PaidTexts.{new_weighs, records_24, records_20}
 use Rattle.passes.proofs.ResolveKeeps.{yes_as}
 use Rattle.rounds.proofs.PaidItems.{drain-texts}
 use Rattle.rounds.proofs.PaidCosts.{expand_pays}
-use Rattle.rounds.proofs.PaidPile.{each_all}
 
 weigh-append : (f : Text → ℕ) (xs ys : List Text) → weigh f (xs ++ ys) ≡ weigh f xs + weigh f ys
 unfolding weigh
@@ -97,13 +93,3 @@ module _ (ts : List Text) (xs : List Pending) where
       (each_all (λ x. Each (λ (t : Text). has t (texts_of_each own_texts xs) ≡ true) (own_texts x)) (λ x. Each Told (own_texts x))
       (λ x k. each_all (λ (t : Text). has t (texts_of_each own_texts xs) ≡ true) Told (λ t j. inr j) (own_texts x) k) xs (own-among xs))
       e
-
--- theorem: us are the texts that the items of the pile bring to ts
-pub drain-pays : (G : Tree) (xs : List Pending) (is : List Item) (ts us : List Text) → drain G xs ≡ yes is → TreeKnown ts G → PileKnown ts xs → with_new ts (texts_of_each item_texts is) ≡ ts ++ us
-    → (24 * length us ≤ heads is + 4 * length (bytes_of_each (atom_bytes 2) us)) × (20 * length us ≤ heads is + 9 * over_items count is + length (bytes_of_each (atom_bytes 2) us))
-drain-pays G xs is ts us e g h w =
-    let k = all_known ts xs G is g h e in
-    let (a, b) = own-paid G xs is e in
-    let i = new_weighs cost24 ts (texts_of_each item_texts is) (texts_of_each own_texts xs) us k w in
-    let j = new_weighs cost20 ts (texts_of_each item_texts is) (texts_of_each own_texts xs) us k w in
-    (omega (arith, a, i, records_24 us), omega (arith, b, j, records_20 us))

@@ -9,18 +9,14 @@ use Rattle.parse_tree.specs.Plain.References.{texts_of_each, leaf_texts, around_
 use Rattle.parse_tree.specs.Plain.Display.{print}
 use Rattle.parse_tree.specs.Working.Within.{Each}
 use Rattle.parse_tree.specs.declared.syntax.Span.{Span}
-use Rattle.parse_tree.proofs.ReadingLaws.{each_append}
+use Rattle.parse_tree.proofs.ReadingLaws.{each_append, each_all}
 use Rattle.parse_tree.proofs.AmongLaws.{has_here, has-later}
-use Rattle.passes.specs.Macros.{Pending, Expander, replace_items}
+use Rattle.passes.specs.Macros.{Pending, MacroExpander, replace_items}
 use Rattle.replacing.specs.Trees.{renamed_leaf, renamed_around, renamed, renamed_all, inner, own_leaf, own_around, expanded, expanded_all, enter, enter_all, renamed_alternatives, expanded_alternatives, renamed_item, expanded_item, renamed_items, expanded_items}
 use Rattle.replacing.proofs.TreesMean.{Keys, items_keys, enter-keys, replace_items_is}
 use Rattle.replacing.proofs.NumbersMean.{has-append}
 use Rattle.appending.proofs.SymbolsTrees.{each-parts}
 use Rattle.rounds.specs.Paid.{pending_key, inside_texts, Known, PileKnown, TreeKnown, KeysKnown}
-
-pub each_all : {A : Type 0} (P Q : A → Type 0) → ((a : A) → P a → Q a) → (xs : List A) → Each P xs → Each Q xs
-each_all P Q f [] h = tt
-each_all P Q f (x ∷ xs) h = (f x h.0, each_all P Q f xs h.1)
 
 -- ---- P holds of the texts of symbols, and of the prints of those that are expanded
 module _ (P : Text → Type 0) where
@@ -144,7 +140,7 @@ module _ (P : Text → Type 0) where
   items_known (Item.terminal s o t ∷ rest) h k = let (y, z) = items_known rest h.1 k in ((h.0, y), z)
 
 -- ---- what was entered
-keys_stay : (t : Text) (xs : List Sym) (σ : Expander) → has t σ.keys ≡ true → has t (enter_all xs σ).keys ≡ true
+keys_stay : (t : Text) (xs : List Sym) (σ : MacroExpander) → has t σ.keys ≡ true → has t (enter_all xs σ).keys ≡ true
 unfolding enter_all enter
 keys_stay t [] σ h = h
 keys_stay t (x ∷ xs) σ h = keys_stay t xs (enter x σ) (go (has (print x) σ.keys))
@@ -153,7 +149,7 @@ keys_stay t (x ∷ xs) σ h = keys_stay t xs (enter x σ) (go (has (print x) σ.
     go true = h
     go false = has-later t (print x) σ.keys h
 
-enter-has : (xs : List Sym) (σ : Expander) → Each (λ x. has (print x) (enter_all xs σ).keys ≡ true) xs
+enter-has : (xs : List Sym) (σ : MacroExpander) → Each (λ x. has (print x) (enter_all xs σ).keys ≡ true) xs
 unfolding enter_all enter
 enter-has [] σ = tt
 enter-has (x ∷ xs) σ = (keys_stay (print x) xs (enter x σ) (go (has (print x) σ.keys) refl), enter-has xs (enter x σ))
@@ -162,7 +158,7 @@ enter-has (x ∷ xs) σ = (keys_stay (print x) xs (enter x σ) (go (has (print x
     go true e = e
     go false e = has_here (print x) σ.keys
 
-enter-pile : (Q : Pending → Type 0) (xs : List Sym) (σ : Expander) → Each (λ x. Q (inner x)) xs → Each Q σ.pile → Each Q (enter_all xs σ).pile
+enter-pile : (Q : Pending → Type 0) (xs : List Sym) (σ : MacroExpander) → Each (λ x. Q (inner x)) xs → Each Q σ.pile → Each Q (enter_all xs σ).pile
 unfolding enter_all enter
 enter-pile Q [] σ h p = p
 enter-pile Q (x ∷ xs) σ h p = enter-pile Q xs (enter x σ) h.1 (go (has (print x) σ.keys))
@@ -180,10 +176,10 @@ has_either t xs ys h = go (has t xs) refl (sym (has-append t xs ys) ∙ h)
 
 -- ---- replacing, where the keys of the round's start are K
 module _ (is : List Item) (K ts : List Text) (f : KeysKnown ts K) where
-  abbrev σ : Expander
+  abbrev σ : MacroExpander
   σ = record { keys = K; pile = [] }
 
-  abbrev τ : Expander
+  abbrev τ : MacroExpander
   τ = enter_all (expanded_items is) σ
 
   keys_are : τ.keys ≡ map pending_key τ.pile ++ K
@@ -198,7 +194,7 @@ module _ (is : List Item) (K ts : List Text) (f : KeysKnown ts K) where
       go (inr e) = inl (f (print x) (record { symbol = x; own = k.0; is = refl }) e)
 
   -- q are the replaced items and the expander
-  abbrev Leaves : List Item × Expander → Type 0
+  abbrev Leaves : List Item × MacroExpander → Type 0
   Leaves q = Each (λ i. Each (Known ts (map pending_key q.1.pile)) (item_texts i)) q.0 × PileKnown ts q.1.pile × (q.1.keys ≡ map pending_key q.1.pile ++ K)
 
   -- theorem

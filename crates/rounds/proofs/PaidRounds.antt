@@ -14,10 +14,10 @@ use Rattle.parse_tree.specs.Plain.WriteTape.{bytes_of_each}
 use Rattle.parse_tree.specs.Working.Encode.{atom_bytes}
 use Rattle.parse_tree.specs.Working.Within.{Each}
 use Rattle.parse_tree.specs.declared.syntax.Span.{Span}
-use Rattle.parse_tree.proofs.ReadingLaws.{each_append}
+use Rattle.parse_tree.proofs.ReadingLaws.{each_append, each_all}
 use Rattle.parse_tree.proofs.AmongLaws.{has_here, has-cases, has-before, has-behind}
 use Rattle.passes.specs.Outcome.{Tree, yes, no, simple}
-use Rattle.passes.specs.Macros.{Pending, looking, repeating, listing, Expander, replace_items, expand_alternatives, macro_in, expand_macro_symbol, expand_expr_symbol, expand_symbol, drain, has_name, group_action, made}
+use Rattle.passes.specs.Macros.{Pending, looking, repeating, listing, MacroExpander, replace_items, expand_alternatives, macro_in, expand_macro_symbol, expand_expr_symbol, expand_symbol, drain, has_name, group_action, made}
 use Rattle.passes.specs.Views.{ahead, behind}
 use Rattle.passes.proofs.Outcomes.{no≢yes, after-yes}
 use Rattle.laws.specs.Counts.{heads, over_items}
@@ -27,7 +27,7 @@ use Rattle.appending.proofs.SymbolsTrees.{each-parts}
 use Rattle.rounds.specs.Paid.{cost24, cost20, pending_key, own_texts, Known, TreeKnown, KeysKnown}
 use Rattle.rounds.proofs.PaidTexts.{new_weighs, records_24, records_20}
 use Rattle.passes.proofs.ResolveKeeps.{yes_as}
-use Rattle.rounds.proofs.PaidPile.{each_all, has_either, replaced_known}
+use Rattle.rounds.proofs.PaidPile.{has_either, replaced_known}
 use Rattle.rounds.proofs.PaidMeans.{own-paid, Told, known_own, all_known}
 
 -- ---- texts of items, one by one and together
@@ -94,7 +94,7 @@ drain-names G (x ∷ xs) is t e h =
 
 -- ---- a round: G has the macros, ts are the former stage's texts, `old` the items already replaced, `fresh` those added since, K the keys met so far, `new` what the pile gives
 module _ (G : Tree) (old fresh new : List Item) (K ts : List Text) where
-  abbrev q : List Item × Expander
+  abbrev q : List Item × MacroExpander
   q = replace_items fresh (record { keys = K; pile = [] })
 
   abbrev pile : List Pending

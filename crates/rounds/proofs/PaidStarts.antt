@@ -14,7 +14,7 @@ use Rattle.parse_tree.specs.Plain.Display.{print}
 use Rattle.parse_tree.specs.Plain.WriteTape.{bytes_of_each}
 use Rattle.parse_tree.specs.Working.Encode.{item_bytes}
 use Rattle.parse_tree.specs.declared.syntax.Span.{Span}
-use Rattle.passes.specs.Macros.{Expander, replace_items, without_macros}
+use Rattle.passes.specs.Macros.{MacroExpander, replace_items, without_macros}
 use Rattle.laws.specs.Counts.{looks_leaf, count_expanded, count_expanded_all, heads_in, heads, over_alternatives, over_items}
 use Rattle.laws.proofs.Counts.{expanded_fit}
 use Rattle.replacing.specs.Trees.{inner, own_leaf, own_around, expanded, expanded_all, enter, enter_all, expanded_alternatives, expanded_item, expanded_items}
@@ -64,7 +64,7 @@ items_count (item d ∷ is) = omega (arith, alternatives_count d.alternatives, i
 items_count (Item.terminal s o t ∷ is) = items_count is
 
 -- ---- those pushed are among them
-enter-few : (xs : List Sym) (σ : Expander) → length (enter_all xs σ).pile ≤ length xs + length σ.pile
+enter-few : (xs : List Sym) (σ : MacroExpander) → length (enter_all xs σ).pile ≤ length xs + length σ.pile
 unfolding enter_all enter
 enter-few [] σ = omega arith
 enter-few (x ∷ xs) σ = omega (arith, enter-few xs (enter x σ), go (has (print x) σ.keys))
@@ -110,8 +110,8 @@ module _ (is : List Item) (K : List Text) where
   -- theorem: it has at most as many symbols as are expanded
   pub pile_few : pile ≤ over_items count_expanded_all is
   pile_few =
-      let σ : Expander = record { keys = K; pile = [] } in
-      subst (λ (q : List Item × Expander). length q.1.pile ≤ over_items count_expanded_all is) (sym (replace_items_is is σ)) (omega (arith, enter-few (expanded_items is) σ, items_count is))
+      let σ : MacroExpander = record { keys = K; pile = [] } in
+      subst (λ (q : List Item × MacroExpander). length q.1.pile ≤ over_items count_expanded_all is) (sym (replace_items_is is σ)) (omega (arith, enter-few (expanded_items is) σ, items_count is))
 
   -- theorem: an item has an alternative
   pub pile_heads : 1 ≤ pile → 31 ≤ heads is

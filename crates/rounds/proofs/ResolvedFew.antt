@@ -13,6 +13,7 @@ use Rattle.parse_tree.specs.Plain.Texts.{has, number, distinct}
 use Rattle.parse_tree.specs.Working.Within.{Each, ItemWithin, StageWithin}
 use Rattle.parse_tree.proofs.ReadingLaws.{each_append}
 use Rattle.parse_tree.proofs.TextLaws.{number-below, text_number, number-text, and_both}
+use Rattle.parse_tree.proofs.NothingNew.{There}
 use Rattle.passes.specs.Outcome.{Tree, yes}
 use Rattle.passes.specs.Resolve.{Global, nonterminals, externs, matches, globals, def_in, check_globals, resolve}
 use Rattle.passes.proofs.Outcomes.{after-yes}
@@ -21,9 +22,6 @@ use Rattle.meaning.proofs.Resolving.Globals.{Distinct, check_distinct}
 use Rattle.appending.proofs.BuiltRoom.{different_few}
 
 -- ---- different texts, all among ts, are at most as many
-abbrev There : List Text → List Text → Type 0
-There ts xs = Each (λ (x : Text). has x ts ≡ true) xs
-
 there_at : (ts xs : List Text) → There ts xs → (i : ℕ) → i < length xs → has (get_or xs i []) ts ≡ true
 there_at ts [] h i l = absurd (omega arith)
 there_at ts (x ∷ xs) h zero l = h.0

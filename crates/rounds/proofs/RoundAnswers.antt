@@ -9,12 +9,13 @@ use Rattle.parse_tree.specs.Plain.Tree.{Item, Stage}
 use Rattle.parse_tree.specs.Working.Refusals.{refusal_over}
 use Rattle.parse_tree.specs.declared.refusal.Refusal.{Refusal}
 use Rattle.parse_tree.specs.declared.syntax.Span.{Span}
+use Rattle.texts.specs.Atoms.{some_long}
 use Rattle.passes.specs.Outcome.{Outcome, yes, no, after}
 use Rattle.passes.specs.Macros.{Pending, drain}
 use Rattle.passes.specs.Calls.{sizes}
 use Rattle.resolve.specs.declared.Grammar.{Grammar}
 use Rattle.expander.specs.Names.{listed_texts}
-use Rattle.settling.specs.Settle.{new_bytes, some_long}
+use Rattle.settling.specs.Settle.{new_bytes}
 use Rattle.appending.specs.declared.Appended.{Appended}
 use Rattle.std.specs.Prelude.{Result, Ok, Err}
 use Rattle.std.specs.declared.ops.ControlFlow.TheVariants.{Continue, Break}

@@ -16,6 +16,7 @@ use Rattle.parse_tree.specs.Plain.References.{texts_of_each, item_texts, stage_o
 use Rattle.parse_tree.specs.Plain.WriteTape.{bytes_of_each}
 use Rattle.parse_tree.specs.Working.Encode.{atom_bytes, item_bytes, stage_bytes}
 use Rattle.parse_tree.specs.Working.Within.{Each}
+use Rattle.texts.specs.Atoms.{some_long}
 use Rattle.texts.specs.Table.{Above, texts}
 use Rattle.texts.proofs.TableStays.{above_stays}
 use Rattle.passes.specs.Outcome.{yes}
@@ -28,7 +29,7 @@ use Rattle.replacing.proofs.ThereBytes.{there_bytes_each, new_all}
 use Rattle.expander.specs.declared.Ground.{Ground}
 use Rattle.expander.specs.declared.stage.Replaced.{Replaced}
 use Rattle.expander.specs.Names.{listed_texts, named_in, Names}
-use Rattle.settling.specs.Settle.{new_bytes, some_long, SomePushed, Settling}
+use Rattle.settling.specs.Settle.{new_bytes, SomePushed, Settling}
 use Rattle.appending.specs.declared.Appended.{Appended}
 use Rattle.appending.proofs.SymbolsStays.{table_stays, texts-stay}
 use Rattle.macro_expand.specs.Drain.{Pile}

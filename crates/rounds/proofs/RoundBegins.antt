@@ -9,14 +9,14 @@ use Rattle.parse_tree.specs.Plain.Tree.{Text, Item, Stage}
 use Rattle.parse_tree.specs.Plain.Texts.{distinct, has}
 use Rattle.parse_tree.specs.Plain.References.{texts_of_each, item_texts, stage_of}
 use Rattle.parse_tree.specs.Working.Within.{Each, SpanWithin, ItemWithin, StageWithin}
-use Rattle.parse_tree.proofs.ReadingLaws.{each_append}
+use Rattle.parse_tree.proofs.ReadingLaws.{each_append, each_all}
 use Rattle.passes.specs.Outcome.{Tree, yes}
-use Rattle.passes.specs.Macros.{Expander, replace_items, drain, without_macros}
+use Rattle.passes.specs.Macros.{MacroExpander, replace_items, drain, without_macros}
 use Rattle.passes.specs.Resolve.{resolve}
 use Rattle.passes.specs.Stages.{stage}
 use Rattle.passes.specs.Calls.{sizes}
 use Rattle.passes.proofs.ResolveWithin.{resolve-alike}
-use Rattle.meaning.proofs.Calls.Spans.{ItemSpans}
+use Rattle.meaning.specs.Spans.{ItemSpans}
 use Rattle.meaning.proofs.Calls.RoundSpans.{replace_items-spans, drain-spans}
 use Rattle.meaning.proofs.Calls.Atoms.{with_new_distinct, stage_stocked}
 use Rattle.meaning.proofs.Calls.Output.{item_spans, stage_within}
@@ -28,7 +28,6 @@ use Rattle.rounds.specs.Begins.{piled_of, BeginsRound}
 use Rattle.rounds.specs.Calls.{ItemCalls, PendingCalls}
 use Rattle.rounds.specs.Paid.{TreeKnown}
 use Rattle.rounds.proofs.CallsMean.{pile_calls, drain-calls}
-use Rattle.rounds.proofs.PaidPile.{each_all}
 use Rattle.rounds.proofs.PaidRounds.{apart, after-round, round_known}
 use Rattle.rounds.proofs.PaidKeeps.{texts-both, round_keeps, keys_none, without_each}
 use Rattle.rounds.proofs.PaidStarts.{paid_start}
@@ -40,10 +39,10 @@ module _ (w cap : ℕ) (G : Tree) (old fresh new : List Item) (K ts past us : Li
     (a : stage (sizes w cap) (stage_of ts (old ++ (replace_items fresh (record { keys = K; pile = [] })).0)).atoms (old ++ (replace_items fresh (record { keys = K; pile = [] })).0 ++ new)
     ≡ yes (stage_of (stage_of ts (old ++ (replace_items fresh (record { keys = K; pile = [] })).0)).atoms (old ++ (replace_items fresh (record { keys = K; pile = [] })).0 ++ new)))
     (u : after-round G old fresh new K ts ≡ ts ++ us) where
-  abbrev σ : Expander
+  abbrev σ : MacroExpander
   σ = record { keys = K; pile = [] }
 
-  abbrev q : List Item × Expander
+  abbrev q : List Item × MacroExpander
   q = replace_items fresh σ
 
   replaced_apart : distinct (stage_of ts (old ++ q.0)).atoms ≡ true
@@ -60,7 +59,7 @@ module _ (w cap : ℕ) (G : Tree) (old fresh new : List Item) (K ts past us : Li
   piled_next = (replace_items_sound fresh σ h.fresh_sound h.piled).1
 
   pile_call : Each (PendingCalls G) q.1.pile
-  pile_call = subst (λ (x : List Item × Expander). Each (PendingCalls G) x.1.pile) (sym (replace_items_is fresh σ)) (pile_calls G (expanded_items fresh) σ tt)
+  pile_call = subst (λ (x : List Item × MacroExpander). Each (PendingCalls G) x.1.pile) (sym (replace_items_is fresh σ)) (pile_calls G (expanded_items fresh) σ tt)
 
   within_next : Each (ItemWithin false w (after-round G old fresh new K ts)) (old ++ q.0 ++ new)
   unfolding stage_of

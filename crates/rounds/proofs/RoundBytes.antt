@@ -101,17 +101,17 @@ module _ (s w : List ℕ) (room : Room) (t : Grammar) (z : State) (T : RoundTree
   settled_same : (i : ℕ) → room.x ≤ i → i < q.at → get_or w5 i 0 ≡ get_or w''' i 0
   settled_same i a b =
       Z.others i (inr (inl (omega (arith, keys_x), b)))
-      ∙ M.others i (inr (omega (arith, list_keys, keys_x, grounds.base_is s w room t z T S g H.middle H.grounds, grounds.count-is s w room t z T S g H.middle H.grounds)))
+      ∙ M.cells.others i (inr (omega (arith, list_keys, keys_x, grounds.base_is s w room t z T S g H.middle H.grounds, grounds.count-is s w room t z T S g H.middle H.grounds)))
 
   pub long_settled : length w5 ≡ length w
-  long_settled = Z.long ∙ M.long ∙ D.appends.long ∙ (piles.wrote s w room t z T S h w' H pushed F D.middle D.cleared).long
+  long_settled = Z.long ∙ M.cells.long ∙ D.appends.long ∙ (piles.wrote s w room t z T S h w' H pushed F D.middle D.cleared).long
 
   inside : q.at + new_size ≤ length w
   inside = omega (arith, low_now, places.low-is s w room t z T S, S.map.inside)
 
   items_settled : Lies w5 r.to new_items v.to
   items_settled =
-      lies_agree w''' w5 r.to v.to new_items (Z.long ∙ M.long)
+      lies_agree w''' w5 r.to v.to new_items (Z.long ∙ M.cells.long)
       (omega (arith, to_at, inside, D.appends.long, (piles.wrote s w room t z T S h w' H pushed F D.middle D.cleared).long))
       (λ i a b. settled_same i (omega (arith, to_y, y_x)) (omega (arith, to_at))) (appended.new_lie s w room t z T S h w' H pushed F new v w''' D d E)
 
@@ -160,7 +160,7 @@ module _ (s w : List ℕ) (room : Room) (t : Grammar) (z : State) (T : RoundTree
     pub below : (i : ℕ) → i < z.m.base → get_or w6 i 0 ≡ get_or w i 0
     below i a =
         ap (λ (u : List ℕ). get_or u i 0) moved_is ∙ get_d_store_before w5 room.x new_items i (omega (arith, list_keys, keys_x))
-        ∙ Z.others i (inl (omega (arith, grounds.base_is s w room t z T S g H.middle H.grounds))) ∙ M.others i (inl (omega (arith, grounds.base_is s w room t z T S g H.middle H.grounds))) ∙ low_same i (omega (arith, list_0))
+        ∙ Z.others i (inl (omega (arith, grounds.base_is s w room t z T S g H.middle H.grounds))) ∙ M.cells.others i (inl (omega (arith, grounds.base_is s w room t z T S g H.middle H.grounds))) ∙ low_same i (omega (arith, list_0))
 
     pub cell_before : (k : ℕ) → k < z.m.count → cell_at w''' z.m.base k ≡ cell_at w z.m.base k
     unfolding cell_at

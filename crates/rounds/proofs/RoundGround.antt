@@ -20,9 +20,9 @@ use Rattle.resolve.specs.Whole.{Apart}
 use Rattle.resolve.proofs.CellsLaws.{lies_agree}
 use Rattle.replacing.specs.Trees.{expanded_items}
 use Rattle.expander.specs.declared.Ground.{Ground}
-use Rattle.expander.specs.Ground.{size_in, stage_in, top_of, list_place, Grounded}
+use Rattle.expander.specs.Ground.{size_in, stage_in, top_of, list_place, Grounded, Around}
 use Rattle.expander.specs.Stage.{Writable, SomeStage}
-use Rattle.expander.proofs.GroundLaws.{Around, list_keys, slots_top, grounded_around, table-around}
+use Rattle.expander.proofs.GroundLaws.{list_keys, slots_top, grounded_around, table-around}
 use Rattle.rounds.specs.declared.Room.{Room}
 use Rattle.rounds.specs.declared.State.{State}
 use Rattle.rounds.specs.Grounds.{Grounds}

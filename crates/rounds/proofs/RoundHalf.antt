@@ -17,7 +17,7 @@ use Rattle.parse_tree.specs.Working.Encode.{item_bytes}
 use Rattle.texts.specs.declared.Map.{Map}
 use Rattle.texts.specs.Fields.{cell_at}
 use Rattle.texts.specs.Table.{texts}
-use Rattle.passes.specs.Macros.{Expander}
+use Rattle.passes.specs.Macros.{MacroExpander}
 use Rattle.resolve.specs.declared.Grammar.{Grammar}
 use Rattle.resolve.proofs.CellsLaws.{lies_agree}
 use Rattle.replacing.specs.Sound.{Key}
@@ -136,7 +136,7 @@ module _ (s w : List ℕ) (room : Room) (t : Grammar) (z : State) (T : RoundTree
 
   pub to_low : r.to ≤ z.low
   to_low =
-      let σ : Expander = record { keys = T.keys; pile = [] } in
+      let σ : MacroExpander = record { keys = T.keys; pile = [] } in
       omega (
         arith,
         to_is,

@@ -10,8 +10,9 @@ use Rattle.parse_tree.specs.Plain.Tree.{Text, Item, item}
 use Rattle.parse_tree.specs.Plain.References.{stage_of}
 use Rattle.parse_tree.specs.Plain.WriteTape.{bytes_of_each}
 use Rattle.parse_tree.specs.Working.Encode.{atom_bytes, item_bytes}
+use Rattle.texts.specs.Atoms.{some_long}
 use Rattle.texts.specs.Table.{Table, texts}
-use Rattle.passes.specs.Macros.{Expander, without_macros}
+use Rattle.passes.specs.Macros.{MacroExpander, without_macros}
 use Rattle.passes.specs.Sizes.{each, item_fits}
 use Rattle.passes.specs.Calls.{sizes}
 use Rattle.resolve.specs.declared.Grammar.{Grammar}
@@ -19,7 +20,7 @@ use Rattle.expander.specs.declared.Ground.{Ground}
 use Rattle.expander.specs.declared.stage.Replaced.{Replaced}
 use Rattle.expander.specs.Ground.{list_at}
 use Rattle.expander.specs.Names.{described_by, listed_texts}
-use Rattle.settling.specs.Settle.{new_bytes, some_long}
+use Rattle.settling.specs.Settle.{new_bytes}
 use Rattle.rounds.specs.declared.Room.{Room}
 use Rattle.rounds.specs.declared.State.{State}
 use Rattle.rounds.specs.declared.round.Half.{Half}
@@ -80,7 +81,7 @@ module _ (s w : List ℕ) (room : Room) (t : Grammar) (z : State) (T : RoundTree
 
   pub old_fits : each item_fits (T.old ++ replaced_of T) ≡ true
   old_fits =
-      let σ : Expander = record { keys = T.keys; pile = [] } in
+      let σ : MacroExpander = record { keys = T.keys; pile = [] } in
       let (a, b) = each-parts item_fits T.old T.items (fits_parts (stage_before T) S.grown.fits).2 in
       each-joined item_fits T.old (replaced_of T) a (replaced_fit (without_macros T.items) σ (without_fit T.items b))
 
@@ -138,7 +139,7 @@ module _ (s w : List ℕ) (room : Room) (t : Grammar) (z : State) (T : RoundTree
         atoms = a;
         table = subst (Table s w') H.grounds.map H.stages.ground.table;
         texts-are = ap (texts s w') (sym H.grounds.map) ∙ halves.texts-then s w room t z T S h w' H ∙ sym a;
-        past_size_lem = S.stored.past_size_lem;
+        past_fills = S.stored.past_fills;
         items_lie = halves.items_lie s w room t z T S h w' H;
         fits = f;
       }

@@ -10,9 +10,9 @@ use Rattle.passes.specs.Outcome.{Tree}
 use Rattle.replacing.specs.Prints.{print_at}
 use Rattle.expander.specs.declared.Ground.{Ground}
 use Rattle.expander.specs.declared.stage.Replaced.{Replaced}
-use Rattle.expander.specs.Ground.{size_in, stage_in, key_at, printed_at}
+use Rattle.expander.specs.Ground.{size_in, stage_in, key_at, printed_at, Around}
 use Rattle.expander.specs.Held.{down}
-use Rattle.expander.proofs.GroundLaws.{Around, stage_around, texts-around}
+use Rattle.expander.proofs.GroundLaws.{stage_around, texts-around}
 use Rattle.appending.specs.declared.Appended.{Appended}
 use Rattle.appending.specs.Pieces.{Piece, Appending, Appends}
 use Rattle.appending.proofs.SymbolsStays.{texts-stay, item_stays}

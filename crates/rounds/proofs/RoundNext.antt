@@ -151,7 +151,7 @@ module _ (s w : List ℕ) (room : Room) (t : Grammar) (z : State) (T : RoundTree
 
   none_built : Each (λ (u : Text). has u built_ins ≡ false) (prints ++ T.keys)
   none_built =
-      let σ : macros.Expander = record { keys = T.keys; pile = [] } in
+      let σ : macros.MacroExpander = record { keys = T.keys; pile = [] } in
       subst (Each (λ (u : Text). has u built_ins ≡ false)) keys_next (replace_items_sound (without_macros T.items) σ S.grown.begins.fresh_sound S.grown.begins.piled).1.keys
 
   marks_before : (k : ℕ) → k < g.m.count → Key (get_or (texts s w''' g.m) k []) → leb 2147483648 (cell_at w''' g.m.base k) ≡ has (get_or (texts s w''' g.m) k []) T.keys
@@ -238,7 +238,7 @@ module _ (s w : List ℕ) (room : Room) (t : Grammar) (z : State) (T : RoundTree
       grown = grown_next;
       tabled = tabled_next;
       defines = defines_then;
-      stored = record { old_lie = old_next; past_size_lem = past_next };
+      stored = record { old_lie = old_next; past_fills = past_next };
       items_lie = items_next;
       long = omega (arith, nine, end_is);
       off = inr (omega arith, omega (arith, end_is, bytes.items_short s w room t z T S h w' H pushed F new v w''' D d E w4 M q w5 Z, S.map.y_is));

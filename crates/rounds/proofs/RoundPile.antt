@@ -16,10 +16,10 @@ use Rattle.passes.specs.Macros.{drain}
 use Rattle.resolve.specs.declared.Grammar.{Grammar}
 use Rattle.expander.specs.declared.Ground.{Ground}
 use Rattle.expander.specs.declared.stage.Replaced.{Replaced}
-use Rattle.expander.specs.Ground.{size_in, list_place}
+use Rattle.expander.specs.Ground.{size_in, list_place, Around}
 use Rattle.expander.specs.Stage.{WroteOnly}
 use Rattle.expander.specs.Names.{listed_texts}
-use Rattle.expander.proofs.GroundLaws.{Around, table-around, texts-around}
+use Rattle.expander.proofs.GroundLaws.{table-around, texts-around}
 use Rattle.expander.proofs.HeldStays.{around_wrote, wrote_same, above_wrote}
 use Rattle.settling.specs.Settle.{new_bytes}
 use Rattle.appending.specs.Pieces.{Appends}

@@ -58,7 +58,7 @@ module _ (s w : List ℕ) (room : Room) (t : Grammar) (z : State) (T : RoundTree
   done_is = S.stored.old_lie.end
 
   pub low-is : room.end ≡ z.low + past_size
-  low-is = S.stored.past_size_lem
+  low-is = S.stored.past_fills
 
   -- ---- places
   pub base_first : z.m.base + 8 * room.first ≡ 8 * length s

@@ -6,7 +6,7 @@ use lib.ListN.{length, length-append}
 use Rattle.parse_tree.specs.Plain.Tree.{Text, Item, item}
 use Rattle.parse_tree.specs.Plain.WriteTape.{bytes_of_each}
 use Rattle.parse_tree.specs.Working.Encode.{item_bytes}
-use Rattle.passes.specs.Macros.{Expander, replace_items, without_macros}
+use Rattle.passes.specs.Macros.{MacroExpander, replace_items, without_macros}
 use Rattle.laws.specs.Flat.{nodes_all}
 use Rattle.laws.specs.Counts.{looks_all}
 use Rattle.laws.proofs.Counts.{looks_all_few, items_few, over_items_less}
@@ -31,7 +31,7 @@ without_fewer ts (Item.terminal s o t ∷ is) =
     )
 
 -- theorem: ts are the texts before, us those after
-pub replaced_longer : (ts us : List Text) (is : List Item) (σ : Expander)
+pub replaced_longer : (ts us : List Text) (is : List Item) (σ : MacroExpander)
     → length (bytes_of_each (item_bytes 2 us) (replace_items (without_macros is) σ).0) ≤ length (bytes_of_each (item_bytes 2 ts) is) + 2 * (length (bytes_of_each (item_bytes 2 ts) is) / 9)
 replaced_longer ts us is σ =
     omega (arith, items_size_lem ts us (without_macros is) σ, without_fewer ts is, items_few ts (without_macros is), over_items_less looks_all nodes_all looks_all_few (without_macros is))

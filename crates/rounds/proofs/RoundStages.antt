@@ -21,6 +21,7 @@ use Rattle.parse_tree.specs.declared.refusal.Refusal.{Refusal}
 use Rattle.parse_tree.specs.declared.syntax.Span.{Span}
 use Rattle.parse_tree.proofs.TextLaws.{both}
 use Rattle.parse_tree.proofs.WriteTapeIs.{tape_is}
+use Rattle.texts.specs.Atoms.{some_long}
 use Rattle.passes.specs.Outcome.{Tree, yes, no, simple}
 use Rattle.passes.specs.Views.{ahead, behind}
 use Rattle.passes.specs.Macros.{Pending, looking, repeating, listing, expand_alternatives, macro_in, expand_macro_symbol, expand_expr_symbol, expand_symbol, drain, has_name, group_action, made, without_macros}
@@ -31,7 +32,6 @@ use Rattle.passes.proofs.ResolveKeeps.{yes_as}
 use Rattle.meaning.proofs.Calls.Staged.{admitted as passed}
 use Rattle.replacing.proofs.Growing.{extends_refl, new_append, new_there}
 use Rattle.replacing.proofs.ThereBytes.{new_all}
-use Rattle.settling.specs.Settle.{some_long}
 use Rattle.rounds.specs.Judge.{Verdict, verdict, admitted}
 use Rattle.rounds.specs.Paid.{TreeKnown}
 use Rattle.rounds.proofs.JudgeMeans.{bytes_in, judge_means}

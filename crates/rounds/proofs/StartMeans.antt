@@ -12,6 +12,7 @@ use Rattle.parse_tree.specs.Plain.Tree.{Text, Item}
 use Rattle.parse_tree.specs.Plain.Texts.{has}
 use Rattle.parse_tree.specs.Plain.References.{stage_of}
 use Rattle.parse_tree.specs.Working.Within.{Each}
+use Rattle.parse_tree.proofs.ReadingLaws.{each_map}
 use Rattle.texts.specs.Table.{texts}
 use Rattle.texts.proofs.TextCode.{length_texts}
 use Rattle.passes.specs.Outcome.{Tree}
@@ -23,15 +24,14 @@ use Rattle.replacing.specs.Prints.{sym_at, print_at}
 use Rattle.replacing.specs.Slots.{Ref, Slots}
 use Rattle.replacing.specs.Sound.{AllNoted}
 use Rattle.replacing.specs.Round.{replaced, Replaced as RoundReplaced}
-use Rattle.replacing.proofs.SlotsMean.{each_map}
 use Rattle.replacing.proofs.RoundMeans.{round_means}
 use Rattle.expander.specs.declared.Ground.{Ground}
 use Rattle.expander.specs.declared.stage.Replaced.{Replaced}
-use Rattle.expander.specs.Ground.{stage_in, key_at, list_at, symbol_in, printed_at, Grounded}
+use Rattle.expander.specs.Ground.{stage_in, key_at, list_at, symbol_in, printed_at, Grounded, Around}
 use Rattle.expander.specs.Held.{down, Held}
 use Rattle.expander.specs.Stage.{WroteOnly}
 use Rattle.expander.specs.Names.{named_in, Names}
-use Rattle.expander.proofs.GroundLaws.{Around, stage_around, texts-around, grounded_around}
+use Rattle.expander.proofs.GroundLaws.{stage_around, texts-around, grounded_around}
 use Rattle.expander.proofs.HeldStays.{stage_wrote, texts-wrote}
 use Rattle.expander.proofs.NamedTexts.{new_prints}
 use Rattle.expander.proofs.NamesLaws.{held-names}

@@ -7,10 +7,10 @@ use native.Mathlib.Omega.{arith}
 use lib.ListN.{get_or}
 use Rattle.texts.proofs.TableStays.{le_at-agree}
 use Rattle.expander.specs.declared.Ground.{Ground}
-use Rattle.expander.specs.Ground.{size_in, top_of, slot_place, slot_at, key_at, list_place, list_at, printed_at, Grounded}
+use Rattle.expander.specs.Ground.{size_in, top_of, slot_place, slot_at, key_at, list_place, list_at, printed_at, Grounded, Around}
 use Rattle.expander.specs.Held.{down}
 use Rattle.expander.specs.Names.{named_in, Names}
-use Rattle.expander.proofs.GroundLaws.{Around, list_keys, slots_top, stage_around, texts-around, printed_around}
+use Rattle.expander.proofs.GroundLaws.{list_keys, slots_top, stage_around, texts-around, printed_around}
 use Rattle.expander.proofs.HeldLists.{down-same}
 use Rattle.expander.proofs.NamesStay.{named_stay, names_stay}
 use Rattle.appending.proofs.BuiltGround.{key_kept, records_kept}

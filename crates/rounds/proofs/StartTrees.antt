@@ -10,7 +10,7 @@ use Rattle.parse_tree.specs.Working.Within.{Each}
 use Rattle.parse_tree.specs.declared.syntax.Span.{Span}
 use Rattle.parse_tree.proofs.ReadingLaws.{each_append}
 use Rattle.passes.specs.Outcome.{Tree}
-use Rattle.passes.specs.Macros.{Pending, symbol_of, Expander, replace_items}
+use Rattle.passes.specs.Macros.{Pending, symbol_of, MacroExpander, replace_items}
 use Rattle.laws.specs.Keys.{built_ins, Expands, SymSound, SymsSound, AlternativeSound, ItemSound}
 use Rattle.laws.proofs.Prints.{print-built}
 use Rattle.replacing.specs.Trees.{renamed_all, inner, is_key, own_leaf, own_around, expanded, expanded_all, enter, enter_all, expanded_alternatives, expanded_item, expanded_items}
@@ -121,7 +121,7 @@ module _ (G : Tree) where
   items_fine (Item.terminal s o t ∷ rest) h c = items_fine rest h.1 c.1
 
   -- what is on the pile was there, or is one of them
-  enter-fine : (xs : List Sym) (σ : Expander) → AllFine xs → Each Fine σ.pile → Each Fine (enter_all xs σ).pile
+  enter-fine : (xs : List Sym) (σ : MacroExpander) → AllFine xs → Each Fine σ.pile → Each Fine (enter_all xs σ).pile
   unfolding enter_all enter
   enter-fine [] σ h p = p
   enter-fine (x ∷ xs) σ h p = enter-fine xs (enter x σ) h.1 (go (has (print x) σ.keys))
@@ -133,5 +133,5 @@ module _ (G : Tree) where
   -- theorem: all that is pushed of the items
   pub pushed-fine : (is : List Item) (K : List Text) → Each ItemSound is → Each (ItemCalls G) is → Each Fine (replace_items is (record { keys = K; pile = [] })).1.pile
   pushed-fine is K h c =
-      let σ : Expander = record { keys = K; pile = [] } in
-      subst (λ (q : List Item × Expander). Each Fine q.1.pile) (sym (replace_items_is is σ)) (enter-fine (expanded_items is) σ (items_fine is h c) tt)
+      let σ : MacroExpander = record { keys = K; pile = [] } in
+      subst (λ (q : List Item × MacroExpander). Each Fine q.1.pile) (sym (replace_items_is is σ)) (enter-fine (expanded_items is) σ (items_fine is h c) tt)

@@ -4,7 +4,7 @@ use mathlib.Core.List.{List, [], ◌∷◌, ◌++◌}
 use Prim.Native.Nat.{ℕ, zero, suc}
 use Rattle.parse_tree.specs.Plain.Tree.{Item, Stage}
 use Rattle.passes.specs.Outcome.{Tree, Outcome, yes, no, after}
-use Rattle.passes.specs.Macros.{Pending, Expander, replace_items, drain}
+use Rattle.passes.specs.Macros.{Pending, MacroExpander, replace_items, drain}
 use Rattle.passes.specs.Stages.{or_more, last_stage, stage, rounds}
 use Rattle.rounds.specs.Step.{RoundInput, RoundOutput, done, more, append_items, pending_round, one_round}
 
@@ -27,18 +27,18 @@ module _ (admit : Stage → Outcome Stage) (G : Tree) where
   unfolding rounds one_round
   rounds_next limit p = let q = replace_items p.fresh (record { keys = p.keys; pile = [] }) in go q q.1.pile (stage admit p.atoms (p.old ++ q.0))
     where
-      second : (q : List Item × Expander) (new : List Item) (r : Outcome Stage)
+      second : (q : List Item × MacroExpander) (new : List Item) (r : Outcome Stage)
           → after r (λ h. rounds admit G limit h.atoms (p.old ++ q.0) new q.1.keys) ≡ after (after r (λ h. yes (more (record { atoms = h.atoms; old = p.old ++ q.0; fresh = new; keys = q.1.keys })))) (go_on limit)
       second q new (yes h) = refl
       second q new (no n s) = refl
 
-      first : (q : List Item × Expander) (g : Stage) (d : Outcome (List Item))
+      first : (q : List Item × MacroExpander) (g : Stage) (d : Outcome (List Item))
           → after d (λ new. after (stage admit g.atoms (p.old ++ q.0 ++ new)) (λ h. rounds admit G limit h.atoms (p.old ++ q.0) new q.1.keys))
           ≡ after (after d (λ new. after (stage admit g.atoms (p.old ++ q.0 ++ new)) (λ h. yes (more (record { atoms = h.atoms; old = p.old ++ q.0; fresh = new; keys = q.1.keys }))))) (go_on limit)
       first q g (yes new) = second q new (stage admit g.atoms (p.old ++ q.0 ++ new))
       first q g (no n s) = refl
 
-      go : (q : List Item × Expander) (xs : List Pending) (r : Outcome Stage)
+      go : (q : List Item × MacroExpander) (xs : List Pending) (r : Outcome Stage)
           → or_more xs r (after r (λ g. after (drain G q.1.pile) (λ new. after (stage admit g.atoms (p.old ++ q.0 ++ new)) (λ h. rounds admit G limit h.atoms (p.old ++ q.0) new q.1.keys))))
           ≡ after (pending_round xs r (append_items admit G p.old q)) (go_on limit)
       go q [] (yes g) = refl

@@ -31,7 +31,7 @@ use Rattle.rounds.proofs.RoundHalf as halves
 -- ---- items counted
 
 -- replacing symbols keeps the items
-replaced_many : (is : List Item) (σ : macros.Expander) → length (replace_items is σ).0 ≡ length is
+replaced_many : (is : List Item) (σ : macros.MacroExpander) → length (replace_items is σ).0 ≡ length is
 unfolding replace_items
 replaced_many [] σ = refl
 replaced_many (item d ∷ is) σ = let h = replaced_many is (replace_alternatives d.alternatives σ).1 in omega (arith, h)

@@ -7,7 +7,7 @@ use Rattle.parse_tree.specs.Working.Encode.{atom_bytes}
 use Rattle.parse_tree.specs.Working.Within.{Each, SpanWithin, ItemWithin}
 use Rattle.passes.specs.Outcome.{Tree}
 use Rattle.passes.specs.Macros.{Pending, replace_items}
-use Rattle.meaning.proofs.Calls.Spans.{ItemSpans}
+use Rattle.meaning.specs.Spans.{ItemSpans}
 use Rattle.laws.specs.Counts.{heads}
 use Rattle.laws.specs.Keys.{ItemSound, Piled}
 use Rattle.rounds.specs.Calls.{ItemCalls}

@@ -1,5 +1,5 @@
 -- The cells of the texts' records before the rounds: for the name of a macro the index of its definition, and one. s is the tape, w is work; t are the items. Assumes nothing: these are definitions.
-use Rattle.std.specs.Prelude.{◌≡◌, Bool, ◌⊎◌, List, ℕ, ◌+◌, ◌*◌, ◌≤◌, ◌<◌, eqb, length, get_or}
+use Rattle.std.specs.Prelude.{◌≡◌, Bool, List, ℕ, ◌+◌, ◌*◌, ◌≤◌, ◌<◌, eqb, length, get_or}
 use Rattle.std.proofs.Math.Option.{some}
 use Rattle.octets.specs.Working.Choice.{pick}
 use Rattle.octets.specs.Plain.Numbers.{le_at, le}
@@ -8,14 +8,13 @@ use Rattle.parse_tree.specs.Plain.Tree.{Text, Nonterminal, item}
 use Rattle.parse_tree.specs.Plain.Texts.{number}
 use Rattle.parse_tree.specs.Working.Within.{Each, ItemWithin}
 use Rattle.texts.specs.declared.Map.{Map}
-use Rattle.texts.specs.Fields.{mark_at, cell_at}
-use Rattle.texts.specs.Table.{Table, Above, texts}
+use Rattle.texts.specs.Fields.{cell_at}
+use Rattle.texts.specs.Table.{Table, Above, Recelled, texts}
 use Rattle.passes.specs.Outcome.{Tree}
 use Rattle.passes.specs.Macros.{macro_in}
 use Rattle.resolve.specs.declared.Grammar.{Grammar}
-use Rattle.resolve.specs.Items.{item_place_in}
+use Rattle.resolve.specs.Items.{item_place_in, Row}
 use Rattle.resolve.specs.Whole.{Apart}
-use Rattle.resolve.proofs.GrammarLaws.{Row}
 use Rattle.macro_expand.specs.Drain.{item_of}
 
 -- ---- cells written
@@ -24,14 +23,6 @@ use Rattle.macro_expand.specs.Drain.{item_of}
 pub record Cells (s w : List ℕ) (m : Map) : Type 0 where
   pub table : Table s w m
   pub above : Above s w m (m.base + 24 * m.count)
-
--- from w to w' nothing changed but cells
-pub record Recelled (s w : List ℕ) (m : Map) (w' : List ℕ) : Type 0 where
-  pub long : length w' ≡ length w
-  pub table : Table s w' m
-  pub same : texts s w' m ≡ texts s w m
-  pub marks : (k : ℕ) → k < m.count → mark_at w' m.base k ≡ mark_at w m.base k
-  pub others : (i : ℕ) → (i < m.base) ⊎ (m.base + 24 * m.count ≤ i) → get_or w' i 0 ≡ get_or w i 0
 
 -- what `forget` does
 pub record Forgot (s w : List ℕ) (m : Map) (w' : List ℕ) : Type 0 where
@@ -71,7 +62,7 @@ pub record Defined (s w : List ℕ) (m : Map) (t : Grammar) (w' : List ℕ) : Ty
   pub low : (k : ℕ) → k < m.count → cell_at w' m.base k < 2147483648
   pub found : (four : Bool) (G : Tree) → Items s w m t four G → (n : Text) (D : Nonterminal) → macro_in G n ≡ some D → FoundAt (texts s w m) m w' G n D
 
--- what is asked where the cells are low already
+-- what `define_items` asks: every cell is below 2^31
 pub record Definable (s w : List ℕ) (m : Map) (t : Grammar) : Type 0 where
   pub some : SomeDeclared s w m t
   pub low : (k : ℕ) → k < m.count → cell_at w m.base k < 2147483648

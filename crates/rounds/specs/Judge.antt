@@ -1,6 +1,5 @@
 -- Questions 20 and 21 of a stage by its numbers. Assumes nothing: these are definitions.
-use Rattle.std.specs.Prelude.{ℕ, ◌<◌, Bool, List, ltb}
-use Rattle.std.specs.Prelude.{Result, Ok, Err}
+use Rattle.std.specs.Prelude.{ℕ, ◌<◌, Bool, List, ltb, Result, Ok, Err}
 use Rattle.octets.specs.Working.Choice.{pick}
 use Rattle.parse_tree.specs.Plain.Tree.{Stage}
 use Rattle.parse_tree.specs.Working.Refusals.{refusal_at}

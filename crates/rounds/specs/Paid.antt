@@ -17,7 +17,7 @@ unfoldable pub weigh : (Text → ℕ) → List Text → ℕ
 weigh f [] = 0
 weigh f (t ∷ ts) = f t + weigh f ts
 
--- what a record of 24 needs beside four times the 3 + length bytes of its text, and what 20 need beside these bytes once
+-- a text of n bytes has an atom of 3 + n: what 24 exceeds four times that by, and what 20 exceeds it by
 abbrev pub cost24 : Text → ℕ
 cost24 t = 12 - 4 * length t
 

@@ -1,5 +1,5 @@
 -- One round in work, and all: what its steps leave. s is the tape, w is work before and w' after. Assumes nothing: these are definitions.
-use Rattle.std.specs.Prelude.{◌≡◌, false, List, ◌++◌, ℕ, ◌+◌, ◌-◌, ◌*◌, ◌^◌, ◌≤◌, ◌<◌, length}
+use Rattle.std.specs.Prelude.{◌≡◌, false, List, ◌++◌, ℕ, ◌+◌, ◌-◌, ◌*◌, ◌^◌, ◌≤◌, ◌<◌, length, Result, Ok, Err}
 use Rattle.octets.specs.Plain.Numbers.{Bytes}
 use Rattle.octets.specs.Plain.Runs.{Lies}
 use Rattle.parse_tree.specs.Plain.Tree.{Text, Item, Stage}
@@ -7,6 +7,7 @@ use Rattle.parse_tree.specs.Plain.References.{stage_of}
 use Rattle.parse_tree.specs.Plain.WriteTape.{bytes_of_each}
 use Rattle.parse_tree.specs.Working.Encode.{atom_bytes, item_bytes}
 use Rattle.parse_tree.specs.Working.Refusals.{refusal_over}
+use Rattle.texts.specs.Atoms.{some_long}
 use Rattle.texts.specs.Table.{Table, texts}
 use Rattle.passes.specs.Outcome.{Outcome, yes, no, after}
 use Rattle.passes.specs.Macros.{Pending, drain, without_macros}
@@ -18,10 +19,9 @@ use Rattle.expander.specs.Ground.{stage_in, key_at}
 use Rattle.expander.specs.Stage.{Stages}
 use Rattle.expander.specs.Names.{listed_texts}
 use Rattle.settling.specs.declared.settle.Settled.{Settled}
-use Rattle.settling.specs.Settle.{new_bytes, some_long, MarkedPushed, Settles}
+use Rattle.settling.specs.Settle.{new_bytes, MarkedPushed, Settles}
 use Rattle.appending.specs.declared.Appended.{Appended}
 use Rattle.appending.specs.Pieces.{Appends}
-use Rattle.std.specs.Prelude.{Result, Ok, Err}
 use Rattle.std.specs.declared.ops.ControlFlow.{ControlFlow}
 use Rattle.std.specs.declared.ops.ControlFlow.TheVariants.{Continue, Break}
 use Rattle.parse_tree.specs.declared.refusal.Refusal.{Refusal}
@@ -171,7 +171,7 @@ pub record Finished (s w : List ℕ) (room : Room) (z : State) (first : List Tex
   pub atoms : g.atoms ≡ first ++ past
   pub table : Table s w z.m
   pub texts-are : texts s w z.m ≡ g.atoms
-  pub past_size_lem : room.end ≡ z.low + length (bytes_of_each (atom_bytes 2) past)
+  pub past_fills : room.end ≡ z.low + length (bytes_of_each (atom_bytes 2) past)
   pub items_lie : Lies w room.y (bytes_of_each (item_bytes 2 g.atoms) g.items) z.done
   pub fits : sizes 2 room.cap g ≡ yes g
 

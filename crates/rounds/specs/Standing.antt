@@ -1,9 +1,9 @@
 -- What stands in work where a round begins. s is the tape, w is work. Assumes nothing: these are definitions.
-use Rattle.std.specs.Prelude.{◌≡◌, true, false, ◌⊎◌, List, [], ◌++◌, ℕ, ◌+◌, ◌-◌, ◌*◌, ◌/◌, ◌%◌, ◌^◌, ◌≤◌, ◌<◌, leb, length, get_or}
+use Rattle.std.specs.Prelude.{◌≡◌, true, false, ◌⊎◌, List, [], ◌++◌, ℕ, ◌+◌, ◌-◌, ◌*◌, ◌/◌, ◌^◌, ◌≤◌, ◌<◌, leb, length, get_or}
 use Rattle.std.proofs.Math.Option.{some}
 use Rattle.octets.specs.Plain.Runs.{Lies}
-use Rattle.parse_tree.specs.Plain.Tree.{Text, Nonterminal, Item, item, Stage}
-use Rattle.parse_tree.specs.Plain.Texts.{has, number}
+use Rattle.parse_tree.specs.Plain.Tree.{Text, Nonterminal, Item, Stage}
+use Rattle.parse_tree.specs.Plain.Texts.{has}
 use Rattle.parse_tree.specs.Plain.WriteTape.{bytes_of_each}
 use Rattle.parse_tree.specs.Working.Encode.{atom_bytes, item_bytes, stage_bytes}
 use Rattle.parse_tree.specs.Working.Within.{Each, ItemWithin}
@@ -14,9 +14,9 @@ use Rattle.passes.specs.Outcome.{Tree}
 use Rattle.passes.specs.Macros.{macro_in, without_macros}
 use Rattle.passes.specs.Sizes.{stage_fits}
 use Rattle.resolve.specs.declared.Grammar.{Grammar}
-use Rattle.resolve.proofs.GrammarLaws.{Row}
+use Rattle.resolve.specs.Items.{Row}
 use Rattle.replacing.specs.Sound.{Key}
-use Rattle.macro_expand.specs.Drain.{item_of}
+use Rattle.macro_expand.specs.Drain.{DefinedAt}
 use Rattle.rounds.specs.declared.Expander.{Expander}
 use Rattle.rounds.specs.declared.Room.{Room}
 use Rattle.rounds.specs.declared.State.{State}
@@ -79,7 +79,7 @@ pub record DefinesMacros (w : List ℕ) (room : Room) (t : Grammar) (m : Map) (t
   pub width : t.width.bytes ≡ 2
   pub off : (t.end ≤ m.base) ⊎ ((room.x + room.cap ≤ t.at) × (t.end ≤ room.y))
   pub list : t.list + 8 * t.count ≤ m.base
-  pub found : (n : Text) (D : Nonterminal) → macro_in G n ≡ some D → (i : ℕ) × (item_of G i ≡ some (item D)) × (number ts n < m.count) × (cell_at w m.base (number ts n) % 2147483648 ≡ i + 1)
+  pub found : (n : Text) (D : Nonterminal) → macro_in G n ≡ some D → DefinedAt ts m w G n D
 
 -- the texts of a stage, with the keys K met so far
 pub record Tabled (s w : List ℕ) (m : Map) (low : ℕ) (ts K : List Text) : Type 0 where
@@ -94,7 +94,7 @@ pub record Tabled (s w : List ℕ) (m : Map) (low : ℕ) (ts K : List Text) : Ty
 -- items already replaced stand from y on; new texts, the last first, fill the bytes up to the end
 pub record Stored (w : List ℕ) (room : Room) (z : State) (ts past : List Text) (old : List Item) : Type 0 where
   pub old_lie : Lies w room.y (bytes_of_each (item_bytes 2 ts) old) z.done
-  pub past_size_lem : room.end ≡ z.low + length (bytes_of_each (atom_bytes 2) past)
+  pub past_fills : room.end ≡ z.low + length (bytes_of_each (atom_bytes 2) past)
 
 -- the expander's numbers: nothing is pending; the items are those that the rounds began with, the definitions of macros among them, and those appended
 pub record Tallied (e : Expander) (T : RoundTrees) : Type 0 where

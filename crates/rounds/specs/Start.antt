@@ -9,7 +9,7 @@ use Rattle.parse_tree.specs.Working.Decode.{read_items}
 use Rattle.parse_tree.specs.Working.Within.{Each}
 use Rattle.texts.specs.Table.{Above, texts}
 use Rattle.passes.specs.Outcome.{Tree}
-use Rattle.passes.specs.Macros.{Expander, replace_items, without_macros}
+use Rattle.passes.specs.Macros.{MacroExpander, replace_items, without_macros}
 use Rattle.laws.specs.Keys.{ItemSound}
 use Rattle.resolve.specs.declared.Grammar.{Grammar}
 use Rattle.replacing.specs.Trees.{inner}
@@ -63,7 +63,7 @@ abbrev pub at_start : Replaced → Appended
 at_start r = record { to = r.to; count = r.count; deep = false }
 
 -- what replacing comes to
-abbrev pub replaced_by : List Item → List Text → List Item × Expander
+abbrev pub replaced_by : List Item → List Text → List Item × MacroExpander
 replaced_by is K = replace_items (without_macros is) (record { keys = K; pile = [] })
 
 -- the pile stands in w'', and is that of the definitions; the texts by number are those of the stage

@@ -2,7 +2,7 @@
 use Rattle.std.specs.Prelude.{List, [], ◌∷◌, ◌++◌}
 use Rattle.parse_tree.specs.Plain.Tree.{Text, Item, Stage}
 use Rattle.passes.specs.Outcome.{Tree, Outcome, yes, after}
-use Rattle.passes.specs.Macros.{Pending, Expander, replace_items, drain}
+use Rattle.passes.specs.Macros.{Pending, MacroExpander, replace_items, drain}
 use Rattle.passes.specs.Stages.{stage}
 
 -- the texts so far, the items already replaced, those added since, the keys met so far
@@ -17,7 +17,7 @@ pub data RoundOutput : Type 0 where
   more : RoundInput → RoundOutput
 
 -- the round's second half: q is what replacing gave
-abbrev pub append_items : (Stage → Outcome Stage) → Tree → List Item → List Item × Expander → Stage → Outcome RoundOutput
+abbrev pub append_items : (Stage → Outcome Stage) → Tree → List Item → List Item × MacroExpander → Stage → Outcome RoundOutput
 append_items admit G old q g =
     after (drain G q.1.pile) (λ new. after (stage admit g.atoms (old ++ q.0 ++ new)) (λ h. yes (more (record { atoms = h.atoms; old = old ++ q.0; fresh = new; keys = q.1.keys }))))
 

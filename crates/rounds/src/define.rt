@@ -1,5 +1,5 @@
 // Before the rounds: the cell of each macro's name has the index of its definition, and one; any other cell is 0.
-ghost use Rattle.std.specs.Prelude.{◌≡◌, ◌+◌, ◌*◌, ◌≤◌, ◌<◌, length};
+ghost use Rattle.std.specs.Prelude.{◌≡◌};
 ghost use Rattle.resolve.specs.Items.{item_place_in};
 ghost use Rattle.rounds.specs.Define.{Cells, Forgot, SomeDeclared, Definable, Defined, HeadAt, Headable, told_at, defined_at};
 

@@ -1,6 +1,5 @@
 // What a round begins with: the records of pushed symbols and the slots, below a place, as many as the items can need.
-ghost use Rattle.std.specs.Prelude.{◌≡◌, ◌+◌, ◌*◌, ◌/◌, ◌≤◌, ◌<◌, length};
-ghost use Rattle.expander.specs.Ground.{Grounded};
+ghost use Rattle.std.specs.Prelude.{◌≡◌, ◌≤◌, length};
 ghost use Rattle.rounds.specs.Start.{Cleared};
 ghost use Rattle.rounds.specs.Grounds.{buckets_of, Groundable, Grounds};
 

@@ -1,7 +1,8 @@
 // Questions 20 and 21 of a stage.
 ghost use Rattle.std.specs.Prelude.{◌≡◌, ◌+◌, length};
+ghost use Rattle.texts.specs.Atoms.{some_long};
 ghost use Rattle.expander.specs.Names.{listed_texts};
-ghost use Rattle.settling.specs.Settle.{new_bytes, some_long};
+ghost use Rattle.settling.specs.Settle.{new_bytes};
 ghost use Rattle.rounds.specs.Judge.{ruled_counts, ruled_length, verdict, SomeStageSize};
 
 use expander::Ground;
@@ -30,7 +31,7 @@ pub fn judge_length(bytes: usize, cap: usize) -> Result<(), Refusal>
     }
 }
 
-// Of a stage with c new texts, which has so many bytes but for these; n symbols were pushed.
+// 20 and 21 of a stage with c new texts, which has so many bytes but for these; n symbols were pushed.
 pub fn sizes(
     tape: &[u8],
     work: &[u8],

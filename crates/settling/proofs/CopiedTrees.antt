@@ -16,7 +16,7 @@ use Rattle.laws.specs.Flat.{sym_node, children}
 use Rattle.laws.proofs.Flat.{node_size}
 use Rattle.replacing.specs.Trees.{is_key}
 use Rattle.display.specs.Follow.{before_by, behind_by}
-use Rattle.display.proofs.StandsLaws.{Standing, before_text, between_text, behind_text, standing}
+use Rattle.display.proofs.StandsLaws.{Standing, before_text, between_text, behind_text, standing, print-whole}
 use Rattle.precedence.specs.Write.{Puts}
 use Rattle.precedence.proofs.WriteLaws.{puts_beside}
 use Rattle.expander.specs.declared.Ground.{Ground}
@@ -29,7 +29,6 @@ use Rattle.settling.specs.declared.Printed.{Printed}
 use Rattle.settling.specs.Print.{Closing, OneBelow, PrintsSymbol}
 use Rattle.settling.specs.Copied.{Said, Copying, SaidSymbol, SaidSymbols}
 use Rattle.settling.proofs.PutLaws.{then, puts_as}
-use Rattle.settling.proofs.PrintTexts.{print-whole}
 use Rattle.settling.proofs.CopiedStays.{copied_on, copying_next, stands_next, stand_next, symbols_said}
 
 -- ---- a symbol that stands at p of the stage

@@ -14,15 +14,17 @@ use Rattle.std.specs.Prelude.{Some, None}
 use Rattle.octets.proofs.ChoiceLaws.{by_pick}
 use Rattle.parse_tree.specs.Plain.Tree.{Text}
 use Rattle.parse_tree.specs.Plain.WriteTape.{bytes_of_each}
+use Rattle.texts.specs.Atoms.{some_long}
+use Rattle.texts.proofs.AtomsLaws.{long_no}
 use Rattle.texts.specs.Forms.{stop}
 use Rattle.expander.specs.declared.Ground.{Ground}
 use Rattle.expander.specs.Ground.{list_place, list_at, Grounded}
 use Rattle.expander.specs.Names.{described_by, listed_texts}
 use Rattle.expander.proofs.GroundLaws.{keys_slots, slots_top}
 use Rattle.settling.specs.One.{Entry}
-use Rattle.settling.specs.Settle.{new_bytes, some_long, SomeNew, Counts}
+use Rattle.settling.specs.Settle.{new_bytes, SomeNew, Counts}
 use Rattle.settling.proofs.OneCode.{stop-less, stop-full}
-use Rattle.settling.proofs.NewLaws.{long_no, new_more, size_next, each-short, names_entry}
+use Rattle.settling.proofs.NewLaws.{new_more, size_next, each-short, names_entry}
 
 -- ---- a length that is stopped
 stop-most : (n : ℕ) → stop n ≤ 65536
@@ -82,7 +84,7 @@ module _ (s w : List ℕ) (g : Ground) (n c : ℕ) (h : SomeNew s w g n c) (i by
     count_fits = record { fits = omega (arith, k.small, h.few, l_is, stop-most (length t)) }
 
     -- one that is too long
-    pub count_long : 65535 < l → Counts s w g n c None
+    pub count_long : 65535 < l → Counts s w g c None
     unfolding Counts
     count_long z = go (some_long (listed_texts s w g c)) refl
       where
@@ -104,7 +106,7 @@ module _ (s w : List ℕ) (g : Ground) (n c : ℕ) (h : SomeNew s w g n c) (i by
           small = omega (arith, k.small, l_is, stop-most (length t));
         }
 
-  pub count-done : c ≤ i → Counts s w g n c (Some bytes)
+  pub count-done : c ≤ i → Counts s w g c (Some bytes)
   unfolding Counts
   count-done a =
       let z : i ≡ c = omega (arith, k.upto) in

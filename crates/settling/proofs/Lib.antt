@@ -8,7 +8,6 @@ mod PrintCode
 mod PrintTexts
 mod PrintListCode
 mod PrintSymbolCode
-pub mod PrintMean
 mod CopiedStays
 mod CopiedCode
 mod CopiedTrees

@@ -1,45 +1,21 @@
 -- The new texts of a round one by one: their entries, their bytes, and whether one is too long. Assumes nothing.
 use mathlib.Core.Path.{◌≡◌, refl, sym, ap, ◌∙◌}
-use mathlib.Core.Bool.{Bool, true, false, ◌||◌, true≢false}
+use mathlib.Core.Bool.{false}
 use mathlib.Core.List.{List, [], ◌∷◌, ◌++◌}
 use Prim.Native.Nat.{ℕ, zero, suc, ◌+◌, ◌/◌, ◌<◌, ◌≤◌}
 use native.Mathlib.Omega.{arith}
-use borrow.Author.Tests.{ltb-true, ltb-false, lt-ltb, le-ltb}
-use lib.Dec.{ltb}
 use lib.ListN.{length, length-append}
-use Rattle.parse_tree.specs.Plain.Tree.{Text}
 use Rattle.parse_tree.specs.Plain.WriteTape.{bytes_of_each}
 use Rattle.parse_tree.specs.Working.Encode.{atom_bytes}
 use Rattle.parse_tree.proofs.ReadingLaws.{bytes_more}
 use Rattle.parse_tree.proofs.ReadBack.{atom_size}
+use Rattle.texts.specs.Atoms.{some_long}
+use Rattle.texts.proofs.AtomsLaws.{long_no, long_last}
 use Rattle.expander.specs.declared.Ground.{Ground}
 use Rattle.expander.specs.Ground.{list_at}
 use Rattle.expander.specs.Names.{described_by, listed_texts, Names}
 use Rattle.settling.specs.One.{Entry}
-use Rattle.settling.specs.Settle.{new_bytes, some_long}
-
--- ---- whether a text is too long, with one text more
-pub long_yes : (ts : List Text) (t : Text) → 65535 < length t → some_long (ts ++ (t ∷ [])) ≡ true
-unfolding some_long
-long_yes [] t h = rw (lt-ltb 65535 (length t) h) refl
-long_yes (u ∷ ts) t h = go (ltb 65535 (length u)) (long_yes ts t h)
-  where
-    go : (b : Bool) → some_long (ts ++ (t ∷ [])) ≡ true → b || some_long (ts ++ (t ∷ [])) ≡ true
-    go true e = refl
-    go false e = e
-
-pub long_no : (ts : List Text) (t : Text) → length t ≤ 65535 → some_long (ts ++ (t ∷ [])) ≡ some_long ts
-unfolding some_long
-long_no [] t h = rw (le-ltb 65535 (length t) h) refl
-long_no (u ∷ ts) t h = ap (λ (b : Bool). ltb 65535 (length u) || b) (long_no ts t h)
-
--- a text of texts that aren't too long
-long_last : (ts : List Text) (t : Text) → some_long (ts ++ (t ∷ [])) ≡ false → length t ≤ 65535
-long_last ts t e = go (ltb 65535 (length t)) refl
-  where
-    go : (b : Bool) → ltb 65535 (length t) ≡ b → length t ≤ 65535
-    go true p = absurd (true≢false (sym (long_yes ts t (ltb-true 65535 (length t) p)) ∙ e))
-    go false p = ltb-false 65535 (length t) p
+use Rattle.settling.specs.Settle.{new_bytes}
 
 -- ---- one new text more
 module _ (s w : List ℕ) (g : Ground) where
@@ -65,11 +41,6 @@ module _ (s w : List ℕ) (g : Ground) where
 
   pub new_rest : (i : ℕ) → some_long (listed_texts s w g (i + 1)) ≡ false → some_long (listed_texts s w g i) ≡ false
   new_rest i e = sym (long_no (listed_texts s w g i) (described_by s w g (list_at w g i)) (new_short i e)) ∙ ap some_long (sym (new_more i)) ∙ e
-
-  -- theorem: the first of the texts have no more bytes than all
-  pub size_grows : (i d : ℕ) → length (new_bytes s w g i) ≤ length (new_bytes s w g (i + d))
-  size_grows i zero = let z : i + 0 ≡ i = omega arith in rw z (omega arith)
-  size_grows i (suc d) = let z : i + suc d ≡ i + d + 1 = omega arith in rw z (omega (arith, size_grows i d, size_next (i + d)))
 
   short_first : (i d : ℕ) → some_long (listed_texts s w g (i + d)) ≡ false → some_long (listed_texts s w g i) ≡ false
   short_first i zero e = let z : i + 0 ≡ i = omega arith in rw z at e

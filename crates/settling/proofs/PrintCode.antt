@@ -88,8 +88,6 @@ pub named_put : (s w : List ℕ) (m : Map) (wd at lim to r : ℕ) (w1 : List ℕ
     → Puts w lim to (name_text (get_or w (at + 9) 0) (source_text w p)) r w1 → Puts w lim to (name_text (get_or w (at + 9) 0) (word_at wd (texts s w m) w (at + 10))) r w1
 named_put s w m wd at lim to r w1 p d a = puts_as (ap (name_text (get_or w (at + 9) 0)) d.text) a
 
-pub ruleset naming = (rules, print-worded, print-inside, print-stop, print-fixed, named_put)
-
 -- ---- put_before
 module _ (s w : List ℕ) (m : Map) (wd at c lim to r : ℕ) (w1 : List ℕ) where
   pub before-named : (p : Source) → c < 37 → PlacedText s w m (word_at wd (texts s w m) w (at + 9)) p → Puts w lim to (leaf_text c (source_text w p)) r w1 → Puts w lim to (before_by wd (texts s w m) w at c) r w1
@@ -128,7 +126,7 @@ module _ (s w : List ℕ) (m : Map) (wd at lim to : ℕ) (g : Printable s w m wd
   open_fits l k f = let z = h.within in omega arith
 
   pub open_put : (o l n r : ℕ) (w1 : List ℕ) → o ≡ get_or w at 0 → l ≡ long_of wd o → 0 < l → n ≡ inside_by wd w at o → Puts w lim to (before_by wd (texts s w m) w at o) r w1
-      → OpensPrint s w m wd at lim to (record { code = o; end = at + l; inside = n; to = r }) w1
+      → OpensPrint s w m wd at lim to (record { code = o; at = at + l; inside = n; to = r }) w1
   open_put o l n r w1 e d p i b = record { code = e; end = ap (λ (v : ℕ). at + v) d; long = omega arith; room = omega (arith, h.room, ap (long_of wd) e); inside = i; before = b }
 
 pub open_room : (w w1 : List ℕ) (wd at o : ℕ) → Opening w wd at → o ≡ get_or w at 0 → length w1 ≡ length w → at + long_of wd o ≤ length w1

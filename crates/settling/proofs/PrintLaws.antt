@@ -12,8 +12,8 @@ use Rattle.parse_tree.specs.Plain.Tree.{Sym, Syms}
 use Rattle.parse_tree.specs.Working.Encode.{sym_bytes, syms_bytes}
 use Rattle.texts.specs.declared.Map.{Map}
 use Rattle.texts.specs.Fields.{mark_at}
-use Rattle.texts.specs.Table.{Table, Stays, texts}
-use Rattle.texts.proofs.TableStays.{le_at-agree, whole_stays, texts-stay, stays, above_lower}
+use Rattle.texts.specs.Table.{texts}
+use Rattle.texts.proofs.TableStays.{le_at-agree, whole_stays, texts-stay}
 use Rattle.resolve.proofs.CellsLaws.{lies_agree}
 use Rattle.display.specs.Standing.{SymStands, SymsStand}
 use Rattle.precedence.specs.Write.{Puts}
@@ -24,10 +24,6 @@ use Rattle.settling.specs.Print.{Printable}
 -- theorem: what is put lies from `to` up to lim
 pub puts_between : (w : List ℕ) (lim to : ℕ) (xs : List ℕ) (r : ℕ) (w1 : List ℕ) → Puts w lim to xs r w1 → Between to lim w w1
 puts_between w lim to xs r w1 p = record { long = p.long; others = λ i h. puts_beside w w1 lim to xs r p i h }
-
--- theorem: the limit may be lower, and the cursor too
-pub printable_lower : (s w : List ℕ) (m : Map) (wd lim to l t : ℕ) → Printable s w m wd lim to → l ≤ lim → m.base + 24 * m.count ≤ t → t ≤ l + 1 → Printable s w m wd l t
-printable_lower s w m wd lim to l t g h k n = record { readable = g.readable; above = above_lower s w m lim l h g.above; records = k; inside = omega (arith, g.inside); stop = n }
 
 -- ---- where bytes from `to` up to lim were written
 module _ (s w : List ℕ) (m : Map) (wd lim to : ℕ) (g : Printable s w m wd lim to) (w1 : List ℕ) (b : Between to lim w w1) where
@@ -42,12 +38,6 @@ module _ (s w : List ℕ) (m : Map) (wd lim to : ℕ) (g : Printable s w m wd li
   pub between-texts : texts s w1 m ≡ texts s w m
   unfolding texts
   between-texts = texts-stay s w w1 m.base m.count lim g.readable.worded.whole g.above.above b.long far marks m.count (omega arith)
-
-  -- theorem: and the table
-  pub between-table : Table s w m → m.base + 24 * m.buckets ≤ to → Stays s w m w1 m
-  between-table t h =
-      stays s w w1 m lim t g.above b.long (record { agree = far }) (record { agree = λ i x y. b.others i (inl (omega (arith, g.records))) })
-      (record { agree = λ i x y. b.others i (inl (omega arith)) })
 
   -- theorem: one may print on from r
   pub between-printable : (r : ℕ) → to ≤ r → r ≤ lim + 1 → Printable s w1 m wd lim r

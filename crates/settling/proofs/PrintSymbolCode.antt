@@ -16,14 +16,13 @@ use Rattle.texts.specs.Table.{texts}
 use Rattle.laws.specs.Flat.{children}
 use Rattle.display.specs.Standing.{SymStands, SymsStand}
 use Rattle.display.specs.Follow.{before_by, behind_by, between_by}
-use Rattle.display.proofs.StandsLaws.{Standing, before_text, between_text, behind_text, standing}
+use Rattle.display.proofs.StandsLaws.{Standing, before_text, between_text, behind_text, standing, print-whole}
 use Rattle.precedence.specs.Write.{Puts}
 use Rattle.precedence.proofs.WriteLaws.{puts_beside}
 use Rattle.settling.specs.declared.Printed.{Printed}
 use Rattle.settling.specs.declared.print.Opened.{Opened}
 use Rattle.settling.specs.Print.{Printable, Opening, Closing, OpensPrint, OneBelow, SomeBelow, PrintsList, PrintsSymbol}
 use Rattle.settling.proofs.PutLaws.{then}
-use Rattle.settling.proofs.PrintTexts.{print-whole}
 use Rattle.settling.proofs.PrintLaws.{next_on, printable_next, symbol_next}
 
 -- theorem: symbols end where they begin or behind
@@ -31,7 +30,7 @@ pub syms_end : (s w : List ℕ) (m : Map) (wd : ℕ) (four : Bool) (left at e : 
 syms_end s w m wd four left at e xs h = omega (arith, h.lies.end)
 
 -- ---- what is asked behind the symbols inside
-pub closing-next : (s w w2 w3 : List ℕ) (m : Map) (wd left p lim q : ℕ) (f : Opened) (z : Printed) → OpensPrint s w m wd p lim q f w2 → PrintsList s w2 m wd f.inside left f.end f.code lim f.to z w3 → Closing w3 wd p f.code lim z.to
+pub closing-next : (s w w2 w3 : List ℕ) (m : Map) (wd left p lim q : ℕ) (f : Opened) (z : Printed) → OpensPrint s w m wd p lim q f w2 → PrintsList s w2 m wd f.inside left f.at f.code lim f.to z w3 → Closing w3 wd p f.code lim z.to
 closing-next s w w2 w3 m wd left p lim q f z front printed = record { room = omega (arith, front.room, front.end, printed.puts.long, front.before.long); inside = printed.printable.inside; stop = printed.printable.stop }
 
 module _ (s w : List ℕ) (m : Map) (wd left p lim q : ℕ) (g : Printable s w m wd lim q) (b : OneBelow s w m wd left p q) where
@@ -58,7 +57,7 @@ module _ (s w : List ℕ) (m : Map) (wd left p lim q : ℕ) (g : Printable s w m
     on : q ≤ f.to
     on = next_on s w m wd lim q g (before_by wd (texts s w m) w p f.code) f.to w2 front.before
 
-    place_is : (o : ℕ) → o ≡ f.code → f.end ≡ p + long_of wd o
+    place_is : (o : ℕ) → o ≡ f.code → f.at ≡ p + long_of wd o
     place_is o e = front.end ∙ ap (λ (v : ℕ). p + long_of wd v) (sym e)
 
     -- a symbol that ends at q or before stays
@@ -85,12 +84,12 @@ module _ (s w : List ℕ) (m : Map) (wd left p lim q : ℕ) (g : Printable s w m
       between_is : between_by f.code 1 ≡ between_text y
       between_is = ap (λ (v : ℕ). between_by v 1) front.code ∙ here.reads.between 0
 
-      inside-stands : SymsStand s w2 m wd four (left - 1) f.end e (children y)
+      inside-stands : SymsStand s w2 m wd four (left - 1) f.at e (children y)
       inside-stands =
-          let z : f.end ≡ p + long_of wd (get_or w2 p 0) = place_is (get_or w2 p 0) code_stays in
+          let z : f.at ≡ p + long_of wd (get_or w2 p 0) = place_is (get_or w2 p 0) code_stays in
           rw z (standing s w2 m wd four left p e y stays).inside
 
-    pub one_inside : SomeBelow s w2 m wd f.inside (left - 1) f.end f.to
+    pub one_inside : SomeBelow s w2 m wd f.inside (left - 1) f.at f.to
     one_inside = record {
       four = b.four;
       end = b.end;
@@ -100,7 +99,7 @@ module _ (s w : List ℕ) (m : Map) (wd left p lim q : ℕ) (g : Printable s w m
       below = omega (arith, b.below, on);
     }
 
-    module _ (z : Printed) (w3 : List ℕ) (printed : PrintsList s w2 m wd f.inside (left - 1) f.end f.code lim f.to z w3) (r : ℕ) (w4 : List ℕ) (behind : Puts w3 lim z.to (behind_by w3 p f.code) r w4) where
+    module _ (z : Printed) (w3 : List ℕ) (printed : PrintsList s w2 m wd f.inside (left - 1) f.at f.code lim f.to z w3) (r : ℕ) (w4 : List ℕ) (behind : Puts w3 lim z.to (behind_by w3 p f.code) r w4) where
       pieces : List ℕ
       pieces = before_by wd (texts s w m) w p f.code ++ (printed.bytes ++ behind_by w3 p f.code)
 

@@ -8,10 +8,9 @@ use lib.Dec.{eqb}
 use Rattle.octets.specs.Working.Choice.{pick}
 use Rattle.parse_tree.specs.Plain.Tree.{Text, Sym, Syms, nil, cons}
 use Rattle.parse_tree.specs.Plain.Display.{shown, shown_all, shown_more, print}
-use Rattle.parse_tree.proofs.DisplayLaws.{shown_all_app, print-then}
-use Rattle.laws.specs.Flat.{children}
+use Rattle.parse_tree.proofs.DisplayLaws.{print-then}
 use Rattle.display.specs.Follow.{between_by}
-use Rattle.display.proofs.StandsLaws.{before_text, between_text, behind_text, print-parts, more}
+use Rattle.display.proofs.StandsLaws.{more}
 
 -- the symbols that are left, with a separator before the first of them if others stand before: d is not 0
 unfoldable pub rest_text : ℕ → Syms → Text → Text
@@ -35,18 +34,9 @@ rest_first c (suc d) x xs =
     let y : rest_text (suc d) (cons x xs) (between_by c 1) ≡ between_by c 1 ++ shown x (shown_more xs (between_by c 1) []) = cc (ne_eqb (suc d) 0 (λ q. absurd (omega (arith, q)))) in
     ap (λ (u : Text). u ++ (print x ++ shown_more xs (between_by c 1) [])) z ∙ ap (λ (u : Text). between_by c 1 ++ u) (print-then x (shown_more xs (between_by c 1) [])) ∙ sym y
 
--- theorem: a printed form is what stands before, inside and behind
-pub print-whole : (x : Sym) → print x ≡ before_text x ++ (shown_all (children x) (between_text x) [] ++ behind_text x)
-print-whole x = print-parts x ∙ ap (λ (y : Text). before_text x ++ y) (sym (shown_all_app (children x) (between_text x) [] (behind_text x)))
-
 -- theorem: what was put, then a separator and a symbol, then the others
 pub rest_one : (bytes : List ℕ) (c d : ℕ) (x : Sym) (xs : Syms) (b : List ℕ) → b ≡ print x → (bytes ++ (between_by c d ++ b)) ++ rest_text (d + 1) xs (between_by c 1) ≡ bytes ++ rest_text d (cons x xs) (between_by c 1)
 rest_one bytes c d x xs b z =
     let r = shown_more xs (between_by c 1) [] in
     ap (λ (u : Text). (bytes ++ (between_by c d ++ b)) ++ u) (rest_more d xs (between_by c 1)) ∙ ap (λ (u : Text). (bytes ++ (between_by c d ++ u)) ++ r) z ∙ append_assoc bytes (between_by c d ++ print x) r
     ∙ ap (λ (u : Text). bytes ++ u) (append_assoc (between_by c d) (print x) r ∙ rest_first c d x xs)
-
--- theorem: the symbol by its parts
-pub rest_step : (bytes : List ℕ) (c d : ℕ) (x : Sym) (xs : Syms) (a b e : List ℕ) → a ≡ before_text x → b ≡ shown_all (children x) (between_text x) [] → e ≡ behind_text x
-    → (bytes ++ (between_by c d ++ (a ++ (b ++ e)))) ++ rest_text (d + 1) xs (between_by c 1) ≡ bytes ++ rest_text d (cons x xs) (between_by c 1)
-rest_step bytes c d x xs a b e i j k = rest_one bytes c d x xs (a ++ (b ++ e)) (cc (i, j, k, print-whole x))

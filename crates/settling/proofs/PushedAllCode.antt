@@ -11,7 +11,7 @@ use lib.Dec.{eqb, ltb}
 use lib.ListN.{length}
 use Rattle.octets.specs.Working.Choice.{pick}
 use Rattle.texts.specs.Fields.{mark_at}
-use Rattle.texts.proofs.TableStays.{le_at-agree}
+use Rattle.texts.proofs.TableStays.{le_at-agree, recelled_same, recelled_trans}
 use Rattle.expander.specs.declared.Ground.{Ground}
 use Rattle.expander.specs.Ground.{size_in, top_of, slot_place, slot_at, key_at, pushed_text}
 use Rattle.expander.specs.Held.{down, any_of, followed, ref_by, ref_in, is_text}
@@ -59,19 +59,15 @@ module _ (s w : List ℕ) (g : Ground) (n : ℕ) (h : SomePushed s w g n) where
   marking_start = record {
     upto = omega arith;
     marked = record {
-      long = refl;
+      cells = recelled_same s w g.m h.ground.table;
       pushed = λ k l. sym (or-false (pushed_text w g k));
       rest = λ k l. refl;
-      table = h.ground.table;
-      same = refl;
-      marks = λ k l. refl;
-      others = λ i l. refl;
     };
   }
 
   module _ (j : ℕ) (w1 : List ℕ) (x : Marking s w g n j w1) where
     pub marking_same : length w1 ≡ length w
-    marking_same = x.marked.long
+    marking_same = x.marked.cells.long
 
     module _ (l : j < n) where
       abbrev at_j : ℕ
@@ -82,7 +78,7 @@ module _ (s w : List ℕ) (g : Ground) (n : ℕ) (h : SomePushed s w g n) where
 
       key_same : key_at w1 g j ≡ at_j
       unfolding key_at mark_at
-      key_same = le_at-agree 8 w w1 (g.keys + 24 * j) (λ i a b. x.marked.others i (inr (omega (arith, h.ground.records))))
+      key_same = le_at-agree 8 w w1 (g.keys + 24 * j) (λ i a b. x.marked.cells.others i (inr (omega (arith, h.ground.records))))
 
       key_inside : at_j + 9 ≤ size_in g
       key_inside = h.names.inside at_j (h.names.pushed j l)
@@ -94,14 +90,14 @@ module _ (s w : List ℕ) (g : Ground) (n : ℕ) (h : SomePushed s w g n) where
       slot_same : slot_at w1 g (key_at w1 g j) ≡ slot_at w g at_j
       slot_same =
           ap (slot_at w1 g) key_same
-          ∙ le_at-agree 8 w w1 (slot_place g at_j) (λ i a b. x.marked.others i (inr (omega (arith, h.ground.records, keys_slots s w g h.ground))))
+          ∙ le_at-agree 8 w w1 (slot_place g at_j) (λ i a b. x.marked.cells.others i (inr (omega (arith, h.ground.records, keys_slots s w g h.ground))))
 
       pub marking_one : Markable s w1 g j
       unfolding top_of
       marking_one = record {
         ground = marked_ground s w g j w1 h.ground x.marked;
-        record_room = omega (arith, fewer, h.ground.fits, h.ground.top, x.marked.long);
-        slot_room = rw key_same (omega (arith, slot_inside, h.ground.top, x.marked.long));
+        record_room = omega (arith, fewer, h.ground.fits, h.ground.top, x.marked.cells.long);
+        slot_room = rw key_same (omega (arith, slot_inside, h.ground.top, x.marked.cells.long));
       }
 
       module _ (w2 : List ℕ) (y : MarksOne s w1 g j w2) where
@@ -121,13 +117,9 @@ module _ (s w : List ℕ) (g : Ground) (n : ℕ) (h : SomePushed s w g n) where
         marking_next = record {
           upto = omega arith;
           marked = record {
-            long = y.long ∙ x.marked.long;
+            cells = recelled_trans s w w1 w2 g.m x.marked.cells y.cells;
             pushed = next_pushed;
             rest = λ k d. y.rest k d ∙ x.marked.rest k d;
-            table = y.table;
-            same = y.same ∙ x.marked.same;
-            marks = λ k d. y.marks k d ∙ x.marked.marks k d;
-            others = λ i d. y.others i d ∙ x.marked.others i d;
           };
         }
 

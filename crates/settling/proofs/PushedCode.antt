@@ -1,33 +1,25 @@
 -- The ways out of mark_text and mark_one. Assumes nothing.
 use mathlib.Core.Path.{◌≡◌, refl, sym, ap, ◌∙◌}
 use mathlib.Core.Bool.{Bool, true, false, ◌||◌, or-true, or-false}
-use mathlib.Core.Logic.{◌⊎◌, inl, inr}
 use mathlib.Core.List.{List}
 use Prim.Native.Nat.{ℕ, ◌+◌, ◌*◌, ◌/◌, ◌%◌, ◌<◌, ◌≤◌}
 use native.Mathlib.Omega.{arith}
 use borrow.Author.Rules.{rules}
 use borrow.Author.Tests.{eqb-true, eqb-false, eq-eqb, ne_eqb, lt-ltb, le-ltb, le-leb}
 use lib.Dec.{eqb, leb}
-use lib.ListN.{length, get_or}
+use lib.ListN.{length}
 use Rattle.octets.specs.Plain.Numbers.{le}
 use Rattle.octets.specs.Working.Choice.{pick}
 use Rattle.octets.specs.Working.Stores.{store}
 use Rattle.octets.proofs.StoreLaws.{length_store}
 use Rattle.texts.specs.Fields.{mark_at, cell_at}
 use Rattle.texts.specs.Table.{Celled}
-use Rattle.texts.proofs.TableStays.{celled}
+use Rattle.texts.proofs.TableStays.{celled, recelled_same, recelled_celled}
 use Rattle.expander.specs.declared.Ground.{Ground}
 use Rattle.expander.specs.declared.slots.Noted.{Noted}
 use Rattle.expander.specs.Ground.{top_of, slot_code, slot_place, slot_at, key_at, pushed_text}
 use Rattle.expander.proofs.GroundLaws.{keys_slots, slots_top}
 use Rattle.settling.specs.Pushed.{slot_text, Markable, MarksOne}
-
--- ---- mark_text
-pub text_marked : (w w1 : List ℕ) (base k v x : ℕ) → v ≡ cell_at w base k → x ≡ v % 2147483648 + 2147483648 → w1 ≡ store w (base + 24 * k + 20) (le 4 x)
-    → w1 ≡ store w (base + 24 * k + 20) (le 4 (cell_at w base k % 2147483648 + 2147483648))
-text_marked w w1 base k v x e d f = f ∙ ap (λ (y : ℕ). store w (base + 24 * k + 20) (le 4 y)) (d ∙ ap (λ (y : ℕ). y % 2147483648 + 2147483648) e)
-
-pub ruleset text_marking = (rules, text_marked)
 
 -- ---- the text of a slot
 module _ (m v : ℕ) where
@@ -56,13 +48,9 @@ module _ (s w : List ℕ) (g : Ground) (j : ℕ) (h : Markable s w g j) (p : ℕ
 
     none_marked : ((k : ℕ) → slot_text g.m.count v k ≡ false) → MarksOne s w g j w
     none_marked d = record {
-      long = refl;
+      cells = recelled_same s w g.m h.ground.table;
       pushed = λ k l. sym (or-false (pushed_text w g k)) ∙ ap (λ (b : Bool). pushed_text w g k || b) (sym (d k) ∙ ap (λ (x : ℕ). slot_text g.m.count x k) slot_is);
       rest = λ k l. refl;
-      table = h.ground.table;
-      same = refl;
-      marks = λ k l. refl;
-      others = λ i l. refl;
     }
 
     odd_marked : (v % 2 ≡ 0 → ⊥) → MarksOne s w g j w
@@ -103,19 +91,11 @@ module _ (s w : List ℕ) (g : Ground) (j : ℕ) (h : Markable s w g j) (p : ℕ
               ap (λ (i : ℕ). cell_at w1 g.m.base i % 2147483648) (sym y) ∙ ap (λ (i : ℕ). i % 2147483648) wrote.cell ∙ q ∙ ap (λ (i : ℕ). cell_at w g.m.base i % 2147483648) y
           go false z = let y = eqb-false (v / 2) k z in ap (λ (i : ℕ). i % 2147483648) (wrote.cells k (λ q. y (sym q)))
 
-      one_others : (i : ℕ) → (i < g.m.base) ⊎ (g.m.base + 24 * g.m.count ≤ i) → get_or w1 i 0 ≡ get_or w i 0
-      one_others i (inl q) = wrote.before i (omega arith)
-      one_others i (inr q) = wrote.after i (omega arith)
-
       text_done : MarksOne s w g j w1
       text_done = record {
-        long = ap length o ∙ length_store w (g.m.base + 24 * (v / 2) + 20) (le 4 new);
+        cells = recelled_celled s w g.m (v / 2) new w1 (ap length o ∙ length_store w (g.m.base + 24 * (v / 2) + 20) (le 4 new)) l wrote;
         pushed = λ k q. one_pushed k ∙ ap (λ (b : Bool). pushed_text w g k || b) (sym (slot_text_lem g.m.count v d l k) ∙ ap (λ (x : ℕ). slot_text g.m.count x k) slot_is);
         rest = λ k q. one_rest k;
-        table = wrote.table;
-        same = wrote.same;
-        marks = wrote.marks;
-        others = one_others;
       }
 
   -- by what the slot tells

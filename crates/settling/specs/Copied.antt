@@ -1,6 +1,5 @@
 -- Printed forms of pushed symbols, in which the texts of inner symbols are copied that stand already. s is the tape, w is work before and w' after. Assumes nothing: these are definitions.
-use Rattle.std.specs.Prelude.{◌≡◌, Bool, ◌⊎◌, List, [], ℕ, ◌+◌, ◌*◌, ◌/◌, ◌%◌, ◌≤◌, ◌<◌, length, get_or}
-use Rattle.std.specs.Prelude.{Option, Some}
+use Rattle.std.specs.Prelude.{◌≡◌, Bool, ◌⊎◌, List, [], ℕ, ◌+◌, ◌*◌, ◌/◌, ◌%◌, ◌≤◌, ◌<◌, length, get_or, Option, Some}
 use Rattle.parse_tree.specs.Plain.Tree.{Sym, Syms, count}
 use Rattle.parse_tree.specs.Plain.Display.{shown_all}
 use Rattle.parse_tree.specs.Working.Within.{Each}

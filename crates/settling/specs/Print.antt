@@ -54,9 +54,9 @@ module _ (s w : List ℕ) (m : Map) (wd : ℕ) where
   -- what the symbol at a place begins with is put
   pub record OpensPrint (at lim to : ℕ) (r : Opened) (w' : List ℕ) : Type 0 where
     pub code : r.code ≡ get_or w at 0
-    pub end : r.end ≡ at + long_of wd r.code
-    pub long : at < r.end
-    pub room : r.end ≤ length w
+    pub end : r.at ≡ at + long_of wd r.code
+    pub long : at < r.at
+    pub room : r.at ≤ length w
     pub inside : r.inside ≡ inside_by wd w at r.code
     pub before : Puts w lim to (before_by wd (texts s w m) w at r.code) r.to w'
 

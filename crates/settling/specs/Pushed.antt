@@ -1,8 +1,8 @@
 -- One pushed symbol whose text is of the table: that text counts as pushed. s is the tape, w is work before and w' after. Assumes nothing: these are definitions.
-use Rattle.std.specs.Prelude.{◌≡◌, Bool, false, ◌||◌, ◌⊎◌, List, ℕ, ◌+◌, ◌*◌, ◌/◌, ◌%◌, ◌≤◌, ◌<◌, eqb, ltb, length, get_or}
+use Rattle.std.specs.Prelude.{◌≡◌, Bool, false, ◌||◌, List, ℕ, ◌+◌, ◌*◌, ◌/◌, ◌%◌, ◌≤◌, ◌<◌, eqb, ltb, length}
 use Rattle.octets.specs.Working.Choice.{pick}
-use Rattle.texts.specs.Fields.{mark_at, cell_at}
-use Rattle.texts.specs.Table.{Table, texts}
+use Rattle.texts.specs.Fields.{cell_at}
+use Rattle.texts.specs.Table.{Recelled}
 use Rattle.expander.specs.declared.Ground.{Ground}
 use Rattle.expander.specs.Ground.{slot_place, slot_at, key_at, pushed_text, Grounded}
 
@@ -18,10 +18,6 @@ pub record Markable (s w : List ℕ) (g : Ground) (j : ℕ) : Type 0 where
 
 -- its text counts as pushed; nothing else changed
 pub record MarksOne (s w : List ℕ) (g : Ground) (j : ℕ) (w' : List ℕ) : Type 0 where
-  pub long : length w' ≡ length w
+  pub cells : Recelled s w g.m w'
   pub pushed : (k : ℕ) → k < g.m.count → pushed_text w' g k ≡ (pushed_text w g k || slot_text g.m.count (slot_at w g (key_at w g j)) k)
   pub rest : (k : ℕ) → k < g.m.count → cell_at w' g.m.base k % 2147483648 ≡ cell_at w g.m.base k % 2147483648
-  pub table : Table s w' g.m
-  pub same : texts s w' g.m ≡ texts s w g.m
-  pub marks : (k : ℕ) → k < g.m.count → mark_at w' g.m.base k ≡ mark_at w g.m.base k
-  pub others : (i : ℕ) → (i < g.m.base) ⊎ (g.m.base + 24 * g.m.count ≤ i) → get_or w' i 0 ≡ get_or w i 0

@@ -1,14 +1,14 @@
 -- The new texts of a round, once their stage is admitted: how many bytes they have, their atoms written behind one another up to a place, and their records. s is the tape, w is work; n symbols
 -- were pushed, c texts are new. Assumes nothing: these are definitions.
-use Rattle.std.specs.Prelude.{◌≡◌, Bool, true, false, cond, ◌||◌, ◌⊎◌, List, [], ◌∷◌, ℕ, ◌+◌, ◌-◌, ◌*◌, ◌%◌, ◌≤◌, ◌<◌, ltb, length, get_or}
+use Rattle.std.specs.Prelude.{◌≡◌, true, false, cond, ◌||◌, ◌⊎◌, List, ℕ, ◌+◌, ◌-◌, ◌*◌, ◌%◌, ◌≤◌, ◌<◌, length, get_or, Option, Some, None}
 use Rattle.octets.specs.Plain.Runs.{Lies}
-use Rattle.parse_tree.specs.Plain.Tree.{Text}
 use Rattle.parse_tree.specs.Plain.WriteTape.{bytes_of_each}
 use Rattle.parse_tree.specs.Working.Encode.{atom_bytes}
 use Rattle.parse_tree.specs.Working.Within.{Each}
-use Rattle.texts.specs.Fields.{mark_at, cell_at}
+use Rattle.texts.specs.Atoms.{some_long}
+use Rattle.texts.specs.Fields.{cell_at}
 use Rattle.texts.specs.declared.Map.{Map}
-use Rattle.texts.specs.Table.{Table, Above, Stays, texts}
+use Rattle.texts.specs.Table.{Table, Above, Stays, Recelled, texts}
 use Rattle.replacing.specs.Slots.{among}
 use Rattle.expander.specs.declared.Ground.{Ground}
 use Rattle.expander.specs.Ground.{top_of, list_at, key_at, symbol_in, pushed_text, Grounded}
@@ -16,17 +16,11 @@ use Rattle.expander.specs.Held.{down, any_of, ref_in, is_text}
 use Rattle.expander.specs.Replace.{keys_of}
 use Rattle.expander.specs.Names.{listed_texts, named_in, Names}
 use Rattle.settling.specs.One.{new_cell}
-use Rattle.std.specs.Prelude.{Option, Some, None}
 use Rattle.settling.specs.declared.settle.Settled.{Settled}
 
 -- the bytes of the new texts with their commands
 unfoldable pub new_bytes : List ℕ → List ℕ → Ground → ℕ → List ℕ
 new_bytes s w g c = bytes_of_each (atom_bytes 2) (listed_texts s w g c)
-
--- whether one of them is longer than a text can be
-unfoldable pub some_long : List Text → Bool
-some_long [] = false
-some_long (t ∷ ts) = ltb 65535 (length t) || some_long ts
 
 -- ---- counted
 pub record SomeNew (s w : List ℕ) (g : Ground) (n c : ℕ) : Type 0 where
@@ -35,8 +29,8 @@ pub record SomeNew (s w : List ℕ) (g : Ground) (n c : ℕ) : Type 0 where
   pub names : Names s w g n c places
   pub few : c ≤ 65536
 
-unfoldable pub Counts : List ℕ → List ℕ → Ground → ℕ → ℕ → Option ℕ → Type 0
-Counts s w g n c r = r ≡ cond (some_long (listed_texts s w g c)) None (Some (length (new_bytes s w g c)))
+unfoldable pub Counts : List ℕ → List ℕ → Ground → ℕ → Option ℕ → Type 0
+Counts s w g c r = r ≡ cond (some_long (listed_texts s w g c)) None (Some (length (new_bytes s w g c)))
 
 -- ---- written and entered
 
@@ -93,10 +87,6 @@ pub record SomePushed (s w : List ℕ) (g : Ground) (n : ℕ) : Type 0 where
   pub names : Names s w g n count places
 
 pub record MarkedPushed (s w : List ℕ) (g : Ground) (n : ℕ) (w' : List ℕ) : Type 0 where
-  pub long : length w' ≡ length w
+  pub cells : Recelled s w g.m w'
   pub pushed : (k : ℕ) → k < g.m.count → pushed_text w' g k ≡ (pushed_text w g k || any_of (λ q. is_text k (ref_in w g q)) (down (key_at w g) n))
   pub rest : (k : ℕ) → k < g.m.count → cell_at w' g.m.base k % 2147483648 ≡ cell_at w g.m.base k % 2147483648
-  pub table : Table s w' g.m
-  pub same : texts s w' g.m ≡ texts s w g.m
-  pub marks : (k : ℕ) → k < g.m.count → mark_at w' g.m.base k ≡ mark_at w g.m.base k
-  pub others : (i : ℕ) → (i < g.m.base) ⊎ (g.m.base + 24 * g.m.count ≤ i) → get_or w' i 0 ≡ get_or w i 0

@@ -1,5 +1,4 @@
 // The printed form of a pushed symbol: the texts of inner symbols are copied where they stand already, and only the others are walked through.
-ghost use Rattle.std.specs.Prelude.{◌≡◌, ◌+◌, ◌≤◌, length};
 ghost use Rattle.texts.specs.Fields.{mark_at};
 ghost use Rattle.texts.specs.Texts.{marked_text};
 ghost use Rattle.precedence.specs.Write.{Puts};
@@ -9,11 +8,11 @@ ghost use Rattle.settling.specs.Copied.{TextStands, Said, Copying, SaidSymbol, S
 use crate::Page;
 use crate::print::{print_symbol, put_before, put_behind, put_between};
 use crate::words::{mark_source, put_text};
-use display::follow::inside;
 use expander::Ground;
 use expander::meet::symbol_end;
 use expander::replace::is_expanded;
 use expander::slots::{Noted, reference};
+use parse_tree::nested::inside;
 use parse_tree::size::long;
 use texts::fields::text_mark;
 
@@ -90,7 +89,7 @@ fn put_one(tape: &[u8], work: &mut [u8], x: &Print, left: usize, p: usize, to: u
     }
 }
 
-// Of one around one other, which has no text itself but whose inner one may have.
+// The printed form of the choose or name at p, of the code c: it has no text itself, but its inner symbol may have one.
 fn put_around(
     tape: &[u8],
     work: &mut [u8],
@@ -116,7 +115,7 @@ fn put_around(
     put_behind(work, x.g.width.bytes, at, c, x.lim, z)
 }
 
-// The printed form of any symbol at p: its own text is copied if that stands, or else the inner one's, if it is around one other.
+// The printed form of any symbol at p: its own text is copied if that stands, or else the inner one's, of a choose or a name.
 fn put_part(tape: &[u8], work: &mut [u8], x: &Print, left: usize, p: usize, to: usize) -> usize
     requires { Copying tape.now work.old x.now to × SaidSymbol tape.now work.old x.now left p }
     ensures { Puts work.old x.now.lim to (printed_at tape.now work.old x.now.g p) result work.new }
@@ -129,7 +128,7 @@ fn put_part(tape: &[u8], work: &mut [u8], x: &Print, left: usize, p: usize, to: 
     }
 }
 
-// The place behind the symbol at p, if more than one is to come. `tape` and `left` for the clauses alone.
+// The place behind the symbol at p, if more than one is to come, else p. `tape` and `left` for the clauses alone.
 fn behind(tape: &[u8], work: &[u8], x: &Print, left: usize, p: usize, k: usize) -> usize
     requires { SaidSymbol tape.now work.now x.now left p }
     ensures { Behinds tape.now work.now x.now left p k result }

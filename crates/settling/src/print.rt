@@ -6,24 +6,25 @@ ghost use Rattle.display.specs.Follow.{word_at, name_text, before_by, behind_by,
 ghost use Rattle.precedence.specs.Write.{Puts};
 ghost use Rattle.settling.specs.Print.{Printable, Closing, Opening, OpensPrint, OneBelow, SomeBelow, PrintsList, PrintsSymbol};
 
-use crate::put::{put_byte, put_slice};
+use crate::put::put_slice;
 use crate::words::{put_leaf, put_mark, put_name, put_open, word_source};
 use crate::{Page, Printed};
-use display::follow::{inside, op_byte};
-use octets::numbers::Width;
+use display::follow::op_byte;
+use parse_tree::nested::inside;
 use parse_tree::size::long;
+use precedence::write::put_byte;
 
 // What is read of a symbol's command: its code, where the symbols straight inside stand, and how many; and where to write on.
 #[derive(Clone, Copy)]
 pub struct Opened {
     pub code: u8,
-    pub end: usize,
+    pub at: usize,
     pub inside: usize,
     pub to: usize,
 }
 
 // What stands before the k-th of the symbols straight inside that of the code c.
-// Tried: a sink that holds `&mut work` and its cursor is proved, but only this could be that of crate display, and the sink is longer than the two branches here.
+// Not by display's `between`: a sink over `&mut work` and its cursor would be longer than these two branches, and of use here alone.
 pub fn put_between(work: &mut [u8], c: u8, k: usize, lim: usize, to: usize) -> usize
     requires { (lim ≤ length work.old) × (to ≤ lim + 1) }
     ensures { Puts work.old lim to (between_by c k) result work.new }
@@ -98,7 +99,7 @@ fn open(page: Page, work: &mut [u8], at: usize, to: usize) -> Opened
     let q = put_before(page, work, at, o, to);
     Opened {
         code: o,
-        end,
+        at: end,
         inside: n,
         to: q,
     }
@@ -111,7 +112,7 @@ pub fn print_symbol(page: Page, work: &mut [u8], left: usize, at: usize, to: usi
     ensures { PrintsSymbol page.entry.tape.now work.old page.entry.m page.entry.width.bytes left at page.entry.lim to result work.new }
 {
     let f = open(page, work, at, to);
-    let z = print_list(page, work, left - 1, f.end, f.inside, f.code, f.to);
+    let z = print_list(page, work, left - 1, f.at, f.inside, f.code, f.to);
     let q = put_behind(work, page.width.bytes, at, f.code, page.lim, z.to);
     Printed { at: z.at, to: q }
 }

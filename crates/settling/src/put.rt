@@ -1,5 +1,5 @@
 // Bytes written behind what is written so far. What does not fit before lim is not written, and the cursor stops at lim + 1.
-ghost use Rattle.std.specs.Prelude.{◌≡◌, List, ℕ, [], ◌∷◌, ◌+◌, ◌-◌, ◌≤◌, ◌<◌, length, get_or};
+ghost use Rattle.std.specs.Prelude.{◌≡◌, List, ℕ, [], ◌∷◌, ◌+◌, ◌≤◌, length};
 ghost use Rattle.octets.specs.Plain.Runs.{part};
 ghost use Rattle.octets.specs.Working.Stores.{store};
 ghost use Rattle.parse_tree.specs.Plain.Display.{escaped};
@@ -7,8 +7,7 @@ ghost use Rattle.precedence.specs.Write.{Puts};
 ghost use Rattle.settling.specs.Escape.{Tellable, Tells};
 
 use octets::runs::copy;
-use precedence::write::put;
-pub use precedence::write::put_byte;
+use precedence::write::{put, put_byte};
 
 // The bytes from a up to e, to a place before them: there the slice's own method goes forward.
 pub fn copy_down(work: &mut [u8], a: usize, e: usize, to: usize)

@@ -1,4 +1,4 @@
-// The new texts of a round, once their stage is admitted: counted, then written and entered in the table, the last first.
+// The new texts of a round, once their stage is admitted: counted, written, the last first, and entered in the table.
 ghost use Rattle.texts.specs.Table.{Spreading};
 ghost use Rattle.settling.specs.Settle.{SomeNew, Counts, Settling, Widens, Settles};
 
@@ -18,7 +18,7 @@ pub struct Settled {
 // How many bytes c new texts have with their commands, if none is too long for a text; n symbols were pushed. `n` for the clauses alone.
 pub fn count_texts(tape: &[u8], work: &[u8], g: &Ground, n: usize, c: usize) -> Option<usize>
     requires { SomeNew tape.now work.now g.now n c }
-    ensures { Counts tape.now work.now g.now n c result }
+    ensures { Counts tape.now work.now g.now c result }
 {
     let mut bytes = 0;
     for i in 0..c {
@@ -32,7 +32,7 @@ pub fn count_texts(tape: &[u8], work: &[u8], g: &Ground, n: usize, c: usize) -> 
     Some(bytes)
 }
 
-// The same texts, with a bucket for each where two or more would share one: so chains stay short, however few texts the tape has.
+// The same texts, with a bucket for each where there are more than two for a bucket: so chains stay short, however few texts the tape has.
 fn widen(tape: &[u8], work: &mut [u8], m: Map) -> Map
     requires { Spreading tape.now work.old m }
     ensures { Widens tape.now work.old m result work.new }

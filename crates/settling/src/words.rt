@@ -8,10 +8,10 @@ ghost use Rattle.display.specs.Follow.{quoted_text, word_at, leaf_text, mark_tex
 ghost use Rattle.precedence.specs.Write.{Puts};
 ghost use Rattle.settling.specs.Put.{source_text, Fixed, Marked, PlacedText};
 
-use crate::put::{copy_down, escape, put_byte, put_slice};
+use crate::put::{copy_down, escape, put_slice};
 use crate::{Page, Source};
 use octets::numbers::{atom_at, u16_at};
-use precedence::write::put;
+use precedence::write::{put, put_byte};
 use texts::fields::text_mark;
 use texts::mark::{Stand, TextMark};
 use texts::text::atom;

@@ -3,15 +3,14 @@ use mathlib.Core.Path.{◌≡◌, refl, sym, ◌∙◌, subst}
 use mathlib.Core.Bool.{Bool}
 use mathlib.Core.Logic.{◌⊎◌, inl, inr}
 use mathlib.Core.List.{List, [], ◌∷◌, ◌++◌}
-use mathlib.Core.Option.{some}
-use Prim.Native.Nat.{ℕ, ◌+◌, ◌*◌, ◌%◌, ◌≤◌, ◌<◌}
+use Prim.Native.Nat.{ℕ, ◌+◌, ◌*◌, ◌≤◌, ◌<◌}
 use native.Mathlib.Omega.{arith}
 use borrow.Author.Tests.{lt-leb}
 use lib.ListN.{length, length-append}
 use Rattle.octets.specs.Plain.Runs.{Lies}
 use Rattle.octets.proofs.LiesLaws.{lies_none, lies_append, lies_to}
-use Rattle.parse_tree.specs.Plain.Tree.{Text, Item, item}
-use Rattle.parse_tree.specs.Plain.Texts.{has, number}
+use Rattle.parse_tree.specs.Plain.Tree.{Text, Item}
+use Rattle.parse_tree.specs.Plain.Texts.{has}
 use Rattle.parse_tree.specs.Plain.WriteTape.{bytes_of_each}
 use Rattle.parse_tree.specs.Working.Encode.{item_bytes}
 use Rattle.texts.specs.declared.Map.{Map}
@@ -20,8 +19,8 @@ use Rattle.texts.specs.Table.{Above, texts}
 use Rattle.validate.proofs.NotesCode.{item_long}
 use Rattle.passes.specs.Outcome.{Tree}
 use Rattle.resolve.specs.declared.Grammar.{Grammar}
-use Rattle.resolve.proofs.GrammarLaws.{Row}
-use Rattle.macro_expand.specs.Drain.{item_of}
+use Rattle.resolve.specs.Items.{Row}
+use Rattle.macro_expand.specs.Drain.{DefinedAt}
 use Rattle.rounds.specs.declared.Room.{Room}
 use Rattle.rounds.specs.Define.{Items, SomeDeclared, Defined}
 use Rattle.rounds.specs.Steps.{numbers_at_start}
@@ -77,7 +76,7 @@ module _ (s w : List ℕ) (m : Map) (t : Grammar) (room : Room) (low : ℕ) (fou
       width = F.width;
       off = F.off;
       list = F.items.list;
-      found = λ n D e. subst (λ (us : List Text). (i : ℕ) × (item_of G i ≡ some (item D)) × (number us n < m.count) × (cell_at w' m.base (number us n) % 2147483648 ≡ i + 1)) texts-now (defined-found s w m t w' d four G F.items n D e);
+      found = λ n D e. subst (λ (us : List Text). DefinedAt us m w' G n D) texts-now (defined-found s w m t w' d four G F.items n D e);
     }
 
     items_lie : Lies w' t.at (bytes_of_each (item_bytes 2 (first ++ past)) G) t.end
@@ -100,7 +99,7 @@ module _ (s w : List ℕ) (m : Map) (t : Grammar) (room : Room) (low : ℕ) (fou
       grown = F.grown;
       tabled = tabled;
       defines = defines;
-      stored = record { old_lie = lies_none w' room.y; past_size_lem = F.past_size_lem };
+      stored = record { old_lie = lies_none w' room.y; past_fills = F.past_fills };
       items_lie = items_lie;
       long = omega (arith, items_lie.end, eleven (first ++ past) G F.some);
       off = off_now;

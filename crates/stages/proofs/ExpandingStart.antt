@@ -9,27 +9,27 @@ use lib.ListN.{length}
 use Rattle.octets.specs.Working.Choice.{pick}
 use Rattle.octets.proofs.PartLaws.{part_length}
 use Rattle.parse_tree.specs.Plain.Tree.{Text, Item, item, Stage}
-use Rattle.parse_tree.specs.Plain.Texts.{has, is_name, name_bytes}
+use Rattle.parse_tree.specs.Plain.Texts.{has, is_name, is_identifier}
 use Rattle.parse_tree.specs.Plain.References.{stage_of}
 use Rattle.parse_tree.specs.Plain.WriteTape.{bytes_of_each}
 use Rattle.parse_tree.specs.Working.Encode.{atom_bytes, stage_bytes}
 use Rattle.parse_tree.specs.Working.Within.{Each, SpanWithin, ItemWithin, StageWithin}
 use Rattle.parse_tree.proofs.NothingNew.{none_new}
+use Rattle.parse_tree.proofs.ReadingLaws.{each_all}
 use Rattle.texts.specs.declared.Map.{Map}
 use Rattle.passes.specs.Outcome.{Tree, yes}
 use Rattle.passes.specs.Macros.{without_macros}
 use Rattle.passes.specs.Sizes.{stage_fits}
 use Rattle.passes.specs.Calls.{sizes}
-use Rattle.meaning.proofs.Calls.Spans.{ItemSpans}
+use Rattle.meaning.specs.Spans.{ItemSpans}
 use Rattle.meaning.proofs.Calls.Atoms.{stage_stocked}
 use Rattle.meaning.proofs.Calls.Output.{item_spans, stage_within}
 use Rattle.resolve.specs.declared.Grammar.{Grammar}
-use Rattle.resolve.proofs.GrammarLaws.{Row}
+use Rattle.resolve.specs.Items.{Row}
 use Rattle.rounds.specs.declared.Room.{Room}
 use Rattle.rounds.specs.Begins.{BeginsRound}
 use Rattle.rounds.specs.Define.{Items}
 use Rattle.rounds.specs.Standing.{RoundTrees, round_atoms, Mapped, GrownTrees}
-use Rattle.rounds.proofs.PaidPile.{each_all}
 use Rattle.rounds.proofs.RoundBegins.{macros-begin}
 use Rattle.rounds.proofs.RoundStages.{fine_parts}
 use Rattle.rounds.proofs.ResolvedFew.{resolved-few}
@@ -40,7 +40,7 @@ use Rattle.stages.proofs.LevellingMeanStage.{admitted-is}
 
 -- ---- a name is among the texts
 name_long : (x : Text) → is_name x ≡ true → 1 ≤ length x
-unfolding is_name name_bytes
+unfolding is_name is_identifier
 name_long [] e = absurd (false≢true e)
 name_long (b ∷ bs) e = omega arith
 
@@ -181,7 +181,7 @@ module _ (s : List ℕ) (m : Map) (t : Grammar) (room : Room) (w : List ℕ) (A 
         narrower = l.narrower;
         texts-are = l.texts-are ∙ sym all_atoms;
         above = l.on_tape room.end;
-        past_size_lem = omega arith;
+        past_fills = omega arith;
         width = l.width;
         some = some_items;
         off = inl (l.before A.some).items;

@@ -25,7 +25,7 @@ use Rattle.output.specs.Working.Handing.{Staged, HandsLevels, handed_levels}
 use Rattle.stages.specs.declared.levelling.Levelled.{Levelled}
 use Rattle.stages.specs.Levelling.{levelled_of, SomeAdmitted, SomeLevels, SomeFitting, LevelsTo}
 use Rattle.stages.proofs.LevellingMeanStage.{some_grammar, levels-refused, levels-written}
-use Rattle.stages.proofs.LevellingMeanSize.{levels-naming, levels-from, levels-sum, levels-no, levels-fitting, levels-size}
+use Rattle.stages.proofs.LevellingMeanSize.{levels-naming, levels-from, levels-no, levels-fitting, levels-size}
 use Rattle.stages.proofs.LevellingMeanFits.{fitting_hands, fitting_yes}
 
 -- ---- `level`

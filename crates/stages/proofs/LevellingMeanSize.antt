@@ -20,6 +20,7 @@ use Rattle.parse_tree.specs.Working.Within.{Each}
 use Rattle.parse_tree.specs.Working.Refusals.{refusal_at}
 use Rattle.parse_tree.specs.declared.refusal.Refusal.{Refusal}
 use Rattle.parse_tree.proofs.WriteTapeIs.{tape_is}
+use Rattle.texts.specs.Atoms.{some_long}
 use Rattle.texts.specs.declared.Map.{Map}
 use Rattle.texts.specs.Table.{texts}
 use Rattle.passes.specs.Outcome.{Tree}
@@ -31,7 +32,7 @@ use Rattle.precedence.specs.Names.{Naming, named_texts}
 use Rattle.precedence.proofs.NamesMean.{named-texts, named-split}
 use Rattle.levels.specs.declared.Room.{Room}
 use Rattle.levels.specs.declared.Written.{Written}
-use Rattle.levels.specs.Fresh.{too_long, new_texts, fresh_of}
+use Rattle.levels.specs.Fresh.{new_texts, fresh_of}
 use Rattle.levels.proofs.Fits.{levelled-fits}
 use Rattle.output.specs.Plain.Answers.{answer_of}
 use Rattle.std.specs.Prelude.{Option, Some, None, Result, Ok, Err, IfSome}
@@ -90,10 +91,10 @@ module _ (s : List ℕ) (cap : ℕ) (m : Map) (at : ℕ) (room : Room) (v : Writ
   levelled-said = rw (L.admitted, L.fine) (ap (sizes 2 cap) stage_is)
 
   -- ---- 20
-  pub fits_is : stage_fits 2 stage_for ≡ (leb v.count 65536 && (not (too_long news) && true))
+  pub fits_is : stage_fits 2 stage_for ≡ (leb v.count 65536 && (not (some_long news) && true))
   unfolding stage_fits
   fits_is =
-      let x : each (λ (t : Text). ltb (length t) 65536) us ≡ not (too_long news) = ap (λ (ts : List Text). each (λ (t : Text). ltb (length t) 65536) ts) split ∙ all_short L.tape.atoms news L.within.short in
+      let x : each (λ (t : Text). ltb (length t) 65536) us ≡ not (some_long news) = ap (λ (ts : List Text). each (λ (t : Text). ltb (length t) 65536) ts) split ∙ all_short L.tape.atoms news L.within.short in
       rw (many_texts, x, levelled-fits true 2 L.tape.atoms L.tree L.tree_within) refl
 
   -- ---- its bytes
@@ -140,15 +141,15 @@ module _ (s : List ℕ) (cap : ℕ) (m : Map) (at : ℕ) (room : Room) (v : Writ
 
   -- ---- what `judge_levels` asks: f is what `count_bytes` answered, without the bytes where a name is too long
   module _ (f : Option ℕ) (c : f ≡ result_ok (fresh_of (new_texts s w m v.count))) where
-    counted : (long_in f ≡ too_long news) × (long_in f ≡ false → bytes_in f ≡ N)
+    counted : (long_in f ≡ some_long news) × (long_in f ≡ false → bytes_in f ≡ N)
     unfolding fresh_of pick
-    counted = rw c (go (too_long news))
+    counted = rw c (go (some_long news))
       where
         go : (b : Bool) → (long_in (result_ok (pick b (Err N) (Ok N))) ≡ b) × (long_in (result_ok (pick b (Err N) (Ok N))) ≡ false → bytes_in (result_ok (pick b (Err N) (Ok N))) ≡ N)
         go true = (refl, λ h. absurd (true≢false h))
         go false = (refl, λ _. refl)
 
-    long_is : long_in f ≡ too_long news
+    long_is : long_in f ≡ some_long news
     long_is = counted.0
 
     bytes_is : long_in f ≡ false → bytes_in f ≡ N

@@ -1,11 +1,11 @@
 -- The texts and the items of a levelled tree: how long they are, and how many. Assumes nothing.
 use mathlib.Core.Path.{◌≡◌, refl, sym, ap, ◌∙◌}
-use mathlib.Core.Bool.{Bool, true, false, not, cond, ◌&&◌, ◌||◌}
+use mathlib.Core.Bool.{Bool, true, false, not, cond}
 use mathlib.Core.List.{List, [], ◌∷◌, ◌++◌, map, append_assoc}
 use mathlib.Core.Option.{none}
 use Prim.Native.Nat.{ℕ, zero, suc, ◌+◌, ◌*◌, ◌/◌, ◌%◌, ◌≤◌, ◌<◌}
 use native.Mathlib.Omega.{arith}
-use borrow.Author.Tests.{lt-ltb, le-ltb, ltb-true, ltb-false}
+use borrow.Author.Tests.{lt-ltb}
 use lib.Dec.{ltb}
 use lib.ListN.{length, get_or, length-append, length-map}
 use Rattle.parse_tree.specs.Plain.Tree.{Text, Alternative, Nonterminal, Item, item, terminal}
@@ -16,6 +16,7 @@ use Rattle.parse_tree.specs.Working.Within.{Each}
 use Rattle.parse_tree.specs.declared.syntax.Node.{Node}
 use Rattle.parse_tree.proofs.SizeLaws.{text_size}
 use Rattle.parse_tree.proofs.ReadingLaws.{bytes_more}
+use Rattle.texts.specs.Atoms.{some_long}
 use Rattle.texts.specs.declared.Map.{Map}
 use Rattle.texts.specs.Fields.{mark_at}
 use Rattle.texts.specs.Table.{texts}
@@ -24,9 +25,9 @@ use Rattle.passes.specs.Levels.{decimal_from, Group, groups_of, levels_of, subst
 use Rattle.passes.specs.Sizes.{each}
 use Rattle.grades.specs.Grade.{level_digits}
 use Rattle.precedence.specs.Names.{level_text, described_text, described_texts}
-use Rattle.levels.specs.Fresh.{too_long}
 use Rattle.levels.specs.Names.{group_names}
 use Rattle.levels.proofs.Few.{group_names_head}
+use Rattle.rounds.proofs.JudgeMeans.{short, each_two, none_long}
 
 -- ---- bytes of two lists
 pub bytes_both : {A : Type 0} (f : A → List ℕ) (xs ys : List A) → bytes_of_each f (xs ++ ys) ≡ bytes_of_each f xs ++ bytes_of_each f ys
@@ -35,40 +36,13 @@ bytes_both f [] ys = refl
 bytes_both f (x ∷ xs) ys = ap (λ (l : List ℕ). f x ++ l) (bytes_both f xs ys) ∙ sym (append_assoc (f x) (bytes_of_each f xs) (bytes_of_each f ys))
 
 -- ---- texts that are short
-abbrev pub is_short : Text → Bool
-is_short t = ltb (length t) 65536
-
-each_both : (xs ys : List Text) → each is_short (xs ++ ys) ≡ (each is_short xs && each is_short ys)
-each_both [] ys = refl
-each_both (x ∷ xs) ys = go (is_short x) (each_both xs ys)
-  where
-    go : (b : Bool) → each is_short (xs ++ ys) ≡ (each is_short xs && each is_short ys) → (b && each is_short (xs ++ ys)) ≡ ((b && each is_short xs) && each is_short ys)
-    go true e = e
-    go false e = refl
-
-short_is : (n : ℕ) → ltb n 65536 ≡ not (ltb 65535 n)
-short_is n = go (ltb 65535 n) refl
-  where
-    go : (b : Bool) → ltb 65535 n ≡ b → ltb n 65536 ≡ not b
-    go true e = let z = ltb-true 65535 n e in le-ltb n 65536 (omega arith)
-    go false e = let z = ltb-false 65535 n e in lt-ltb n 65536 (omega arith)
-
-new_short : (ts : List Text) → each is_short ts ≡ not (too_long ts)
-unfolding too_long
-new_short [] = refl
-new_short (t ∷ ts) = rw (short_is (length t)) (go (ltb 65535 (length t)) (new_short ts))
-  where
-    go : (b : Bool) → each is_short ts ≡ not (too_long ts) → (not b && each is_short ts) ≡ not (b || too_long ts)
-    go true e = refl
-    go false e = e
-
-old_short : (ts : List Text) → Each (λ (t : Text). length t < 65536) ts → each is_short ts ≡ true
+old_short : (ts : List Text) → Each (λ (t : Text). length t < 65536) ts → each short ts ≡ true
 old_short [] h = refl
 old_short (t ∷ ts) h = rw (lt-ltb (length t) 65536 h.0) (old_short ts h.1)
 
 -- theorem: whether short texts and others are all short
-pub all_short : (ts us : List Text) → Each (λ (t : Text). length t < 65536) ts → each is_short (ts ++ us) ≡ not (too_long us)
-all_short ts us h = each_both ts us ∙ rw (old_short ts h) (new_short us)
+pub all_short : (ts us : List Text) → Each (λ (t : Text). length t < 65536) ts → each short (ts ++ us) ≡ not (some_long us)
+all_short ts us h = each_two short ts us ∙ rw (old_short ts h) (none_long us)
 
 -- ---- described texts
 decimal-few : (k n : ℕ) (r : Text) → length (decimal_from k n r) ≤ k + length r

@@ -93,9 +93,6 @@ module _ (s : List ℕ) (cap : ℕ) (m : Map) (at : ℕ) (room : Room) (v : Writ
   within = subst (λ (g : Stage). Each (ItemWithin false 2 g.atoms) tree) (stage_is s cap m at room v w L) (levels-within L.tape L.tree L.within L.is L.fine cap stage_fine)
 
   -- ---- numbers
-  abbrev own : rounds-room.Room
-  own = macros_room (length s) at cap
-
   abbrev x : ℕ
   x = 8 * length s + (5 * cap - 2 * (cap / 9))
 

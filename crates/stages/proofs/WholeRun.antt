@@ -17,7 +17,7 @@ use Rattle.parse_tree.specs.Working.Refusals.{refusal_over}
 use Rattle.parse_tree.specs.declared.refusal.Refusal.{Refusal}
 use Rattle.parse_tree.proofs.TextLaws.{both, and_both}
 use Rattle.texts.specs.declared.Map.{Map}
-use Rattle.texts.specs.Table.{Above, texts}
+use Rattle.texts.specs.Table.{Above}
 use Rattle.passes.specs.Outcome.{Tree, Outcome, yes, no, after}
 use Rattle.passes.specs.Resolve.{globals, check_globals, resolve}
 use Rattle.passes.specs.Levels.{levelled}
@@ -193,7 +193,7 @@ module _ (s : List ℕ) (cap : ℕ) (m : Map) (at : ℕ) (room : Room) (v : Writ
           narrower = omega (arith, L.narrower, L.wrote.least);
           texts-are = ready.same ∙ (texts-now s cap m at room v w F narrow low w₁ q) ∙ split s cap m at room v w L;
           above = above_now;
-          past_size_lem = sym (low-is s cap m at room v w F narrow low w₁ q);
+          past_fills = sym (low-is s cap m at room v w F narrow low w₁ q);
           width = ready.width;
           some = some_levels;
           off = inr (omega (arith, ready.from, room_at s cap m at room v w F narrow), omega (arith, ready.upto, room_to s cap m at room v w F narrow));

@@ -1,5 +1,5 @@
 -- A stage on its way through the rounds of macro expansion. Assumes nothing: these are definitions.
-use Rattle.std.specs.Prelude.{◌≡◌, Bool, ◌⊎◌, List, [], ◌++◌, ℕ, ◌+◌, ◌-◌, ◌*◌, ◌/◌, ◌≤◌, ◌<◌, length}
+use Rattle.std.specs.Prelude.{◌≡◌, Bool, ◌⊎◌, List, [], ◌++◌, ℕ, ◌+◌, ◌-◌, ◌*◌, ◌/◌, ◌≤◌, ◌<◌, length, Result}
 use Rattle.octets.specs.Plain.Runs.{part}
 use Rattle.parse_tree.specs.Plain.Tree.{Text, Stage}
 use Rattle.parse_tree.specs.Plain.WriteTape.{bytes_of_each}
@@ -15,7 +15,6 @@ use Rattle.rounds.specs.declared.State.{State}
 use Rattle.rounds.specs.Define.{Items}
 use Rattle.rounds.specs.Standing.{RoundTrees, Mapped, GrownTrees}
 use Rattle.rounds.specs.Round.{RoundsTo}
-use Rattle.std.specs.Prelude.{Result}
 use Rattle.parse_tree.specs.declared.refusal.Refusal.{Refusal}
 use Rattle.output.specs.Working.Handing.{Staged}
 use Rattle.stages.specs.declared.Resolved.{Resolved}
@@ -47,7 +46,7 @@ pub record FirstStands (s w : List ℕ) (m : Map) (t : Grammar) (room : Room) (l
   pub narrower : m.buckets ≤ m.count
   pub texts-are : texts s w m ≡ first ++ past
   pub above : Above s w m low
-  pub past_size_lem : room.end ≡ low + length (bytes_of_each (atom_bytes 2) past)
+  pub past_fills : room.end ≡ low + length (bytes_of_each (atom_bytes 2) past)
   pub width : t.width.bytes ≡ 2
   pub some : 0 < length G
   pub off : (t.end ≤ m.base) ⊎ ((room.x + room.cap ≤ t.at) × (t.end ≤ room.y))

@@ -1,4 +1,4 @@
--- Each pass comes behind resolving, and leaves a grammar without items as it is. Assumes nothing.
+-- Each pass comes behind resolving, and leaves a grammar without items as it is. They stand here since the passes' ghost field `follows` (src/pass.rt) cites them. Assumes nothing.
 use mathlib.Core.Path.{◌≡◌, refl, subst}
 use mathlib.Core.Bool.{Bool, true, false, cond}
 use mathlib.Core.List.{List, []}

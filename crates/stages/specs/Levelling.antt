@@ -1,5 +1,5 @@
 -- A stage on its way through levels. Assumes nothing: these are definitions.
-use Rattle.std.specs.Prelude.{◌≡◌, true, false, List, ℕ, ◌+◌, ◌-◌, ◌*◌, ◌≤◌, ◌<◌, length}
+use Rattle.std.specs.Prelude.{◌≡◌, true, false, List, ℕ, ◌+◌, ◌-◌, ◌*◌, ◌≤◌, ◌<◌, length, Result, Ok, Err}
 use Rattle.octets.specs.Plain.Runs.{part}
 use Rattle.parse_tree.specs.Plain.Tree.{Stage}
 use Rattle.parse_tree.specs.Plain.Reading.{got}
@@ -7,6 +7,7 @@ use Rattle.parse_tree.specs.Plain.WriteTape.{bytes_of_each}
 use Rattle.parse_tree.specs.Working.Decode.{decode}
 use Rattle.parse_tree.specs.Working.Encode.{atom_bytes, item_bytes}
 use Rattle.parse_tree.specs.Working.Within.{Each, ItemWithin, StageWithin}
+use Rattle.texts.specs.Atoms.{some_long}
 use Rattle.texts.specs.declared.Map.{Map}
 use Rattle.texts.specs.Table.{Above, texts}
 use Rattle.passes.specs.Outcome.{Tree, Outcome, yes, after}
@@ -20,10 +21,9 @@ use Rattle.levels.specs.declared.Room.{Room}
 use Rattle.levels.specs.declared.Written.{Written}
 use Rattle.levels.specs.Expand.{Wrote}
 use Rattle.levels.specs.Whole.{alternatives_in}
-use Rattle.levels.specs.Fresh.{too_long, new_texts}
+use Rattle.levels.specs.Fresh.{new_texts}
 use Rattle.output.specs.Working.Judging.{room_of}
 use Rattle.output.specs.Plain.Answers.{answer_of}
-use Rattle.std.specs.Prelude.{Result, Ok, Err}
 use Rattle.parse_tree.specs.declared.refusal.Refusal.{Refusal}
 use Rattle.stages.specs.declared.levelling.Levelled.{Levelled}
 use Rattle.stages.specs.Stages.{Levelable, resolved}
@@ -82,7 +82,7 @@ pub record SomeLevels (s : List ℕ) (cap : ℕ) (m : Map) (at : ℕ) (room : Ro
 -- and their stage is admitted
 pub record SomeFitting (s : List ℕ) (cap : ℕ) (m : Map) (at : ℕ) (room : Room) (v : Written) (w : List ℕ) : Type 0 where
   pub levels : SomeLevels s cap m at room v w
-  pub short : too_long (new_texts s w m v.count) ≡ false
+  pub short : some_long (new_texts s w m v.count) ≡ false
   pub upto : v.to ≤ room.lim
   pub few : v.count ≤ 65536
   pub fits : at + length (bytes_of_each (atom_bytes 2) (new_texts s w m v.count)) + (v.to - room.at) ≤ cap

@@ -1,5 +1,5 @@
 -- A stage in work, and what is answered to it. Assumes nothing: these are definitions.
-use Rattle.std.specs.Prelude.{◌≡◌, true, List, ℕ, ◌+◌, ◌-◌, ◌*◌, ◌≤◌, ◌<◌, length, replicate}
+use Rattle.std.specs.Prelude.{◌≡◌, true, List, ℕ, ◌+◌, ◌-◌, ◌*◌, ◌≤◌, ◌<◌, length, replicate, Result, Ok, Err}
 use Rattle.octets.specs.Plain.Runs.{part}
 use Rattle.parse_tree.specs.Plain.Tree.{Text, Stage}
 use Rattle.parse_tree.specs.Plain.Reading.{Reading, got, refused}
@@ -16,10 +16,9 @@ use Rattle.passes.specs.Resolve.{resolve}
 use Rattle.passes.specs.Stages.{resolve_stage}
 use Rattle.passes.specs.Calls.{read_as, sizes}
 use Rattle.resolve.specs.declared.Grammar.{Grammar}
-use Rattle.resolve.proofs.GrammarLaws.{Row}
+use Rattle.resolve.specs.Items.{Row}
 use Rattle.levels.specs.Whole.{Before}
 use Rattle.output.specs.Plain.Answers.{answer_of}
-use Rattle.std.specs.Prelude.{Result, Ok, Err}
 use Rattle.parse_tree.specs.declared.refusal.Refusal.{Refusal}
 use Rattle.stages.specs.declared.Resolved.{Resolved}
 

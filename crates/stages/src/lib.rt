@@ -4,6 +4,7 @@
 use resolve::Grammar;
 use texts::Map;
 
+pub mod clearing;
 pub mod expanding;
 pub mod levelling;
 pub mod pass;

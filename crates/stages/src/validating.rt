@@ -2,6 +2,7 @@
 ghost use Rattle.std.specs.Prelude.{◌*◌, ◌≤◌, length};
 ghost use Rattle.stages.specs.Stages.{Judged};
 
+use crate::clearing::clear;
 use octets::numbers::Width;
 use parse_tree::refusal::Refusal;
 use validate::entry::validate;
@@ -12,7 +13,7 @@ pub fn validate_tape(tape: &[u8], work: &mut [u8]) -> Result<usize, Refusal>
     ensures { Judged tape.now work.old result work.new }
 {
     let v = validate(tape, work, Width { bytes: 2 }, true);
-    work.fill(0);
+    clear(work);
     v?;
     Ok(tape.len())
 }

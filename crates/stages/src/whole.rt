@@ -1,4 +1,5 @@
-// Questions 5 to 13 again, then 17 to 21, of a tape whose levels stand in work: their names settled, the levels resolved again, then the rounds of macro expansion.
+// Questions 14 to 16, and 20 and 21 of the levels, then 5 to 13 again, then 17 to 21, of a tape whose grammar stands in work resolved: the levels' names settled, the levels resolved again,
+// then the rounds of macro expansion.
 ghost use Rattle.std.specs.Prelude.{length};
 ghost use Rattle.output.specs.Working.Handing.{Staged};
 ghost use Rattle.stages.specs.Whole.{whole_of, SomeSettled};

@@ -66,7 +66,7 @@ pub buckets_same : (w w1 : List ℕ) (b n : ℕ) → ((i : ℕ) → hash_at w1 b
 unfolding bucket_at
 buckets_same w w1 b n e i = ap (λ (h : ℕ). bucket_of h n) (e i)
 
--- ---- `link`
+-- ---- `put_in_bucket`
 pub link_bucket : (h n y : ℕ) → h < 4294967296 → 0 < n → y ≡ bucket_of h n → y < n
 link_bucket h n y l m e = rw e (bucket_small h n l m)
 

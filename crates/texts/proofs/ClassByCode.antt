@@ -17,7 +17,7 @@ use Rattle.octets.specs.Plain.Runs.{part, same_as}
 use Rattle.octets.proofs.SameLaws.{same_as-eq, eq_same_as}
 use Rattle.octets.proofs.PartLaws.{part_none, part-one}
 use Rattle.parse_tree.specs.Plain.Tree.{Text}
-use Rattle.parse_tree.specs.Plain.Texts.{every, between, starts_name, in_name, name_bytes, is_name, is_literal, is_ascii, mut_text, error_text}
+use Rattle.parse_tree.specs.Plain.Texts.{every, between, starts_name, in_name, is_identifier, is_name, is_literal, is_ascii, mut_text, error_text}
 use Rattle.texts.specs.Classes.{text_class, byte_class, least, class_number}
 use Rattle.texts.specs.contracts.class.TextClassPartialOrd.TheImpl.{partial_cmp-value}
 use Rattle.texts.specs.declared.class.TextClass.{TextClass}
@@ -100,7 +100,7 @@ module _ (t : Text) where
   least-name = least-leb 3 3 t ∙ every-same (λ b. leb 3 (byte_class b)) in_name byte_3 t
 
 name_every : (t : Text) → every in_name t ≡ false → is_name t ≡ false
-unfolding is_name name_bytes every in_name
+unfolding is_name is_identifier every in_name
 name_every [] e = refl
 name_every (b ∷ bs) e = go (starts_name b) refl (every in_name bs) refl
   where
@@ -167,7 +167,7 @@ module _ (t : Text) where
 
   reserved_no_name : Reserved ≡ true → is_name t ≡ false
   unfolding is_name
-  reserved_no_name = go (name_bytes t) (same_as t mut_text) (same_as t error_text)
+  reserved_no_name = go (is_identifier t) (same_as t mut_text) (same_as t error_text)
     where
       go : (x y z : Bool) → y || z ≡ true → x && (not y && not z) ≡ false
       go false y z h = refl
@@ -179,7 +179,7 @@ pub ruleset reserving = (says_mut, says_error, other_length, no_mut, no_error)
 
 -- a text of name bytes that starts as a name and is neither `mut` nor `error`
 is_name_lem : (b : ℕ) (bs : Text) → starts_name b ≡ true → every in_name (b ∷ bs) ≡ true → Reserved (b ∷ bs) ≡ false → 3 ≡ text_class (b ∷ bs)
-unfolding text_class is_name name_bytes every pick
+unfolding text_class is_name is_identifier every pick
 is_name_lem b bs x y = go (same_as (b ∷ bs) mut_text) refl (same_as (b ∷ bs) error_text) refl
   where
     go : (u : Bool) → same_as (b ∷ bs) mut_text ≡ u → (v : Bool) → same_as (b ∷ bs) error_text ≡ v → u || v ≡ false → 3 ≡ text_class (b ∷ bs)
@@ -199,11 +199,11 @@ module _ (s : List ℕ) (a e : ℕ) (m : TextClass) (p : class_number m ≡ leas
     most = ltb-false (class_number m) 3 (sym (less_number m TextClass.Name) ∙ sym lq ∙ lf)
 
     pub class_empty : e ≤ a → class_number TextClass.Literal ≡ text_class (part a e s)
-    unfolding is_name name_bytes class_number
+    unfolding is_name is_identifier class_number
     class_empty k = no_name (part a e s) (class_number m) p most (rw (part_none a e s k))
 
     pub class_digit : (x : Bool) → a < e → e ≤ length s → x ≡ starts_name (get_or s a 0) → not x ≡ true → class_number TextClass.Literal ≡ text_class (part a e s)
-    unfolding is_name name_bytes class_number
+    unfolding is_name is_identifier class_number
     class_digit x k n q r = no_name (part a e s) (class_number m) p most (rw (part-one a e s k n) (simp (sym q ∙ not-true x r)))
 
     pub class_reserved : (r : Bool) → r ≡ Reserved (take (e - a) (drop a s)) → r ≡ true → class_number TextClass.Literal ≡ text_class (part a e s)

@@ -2,15 +2,15 @@
 use mathlib.Core.Path.{◌≡◌, refl, sym, ap, ◌∙◌}
 use mathlib.Core.Bool.{Bool, true, false}
 use mathlib.Core.List.{List, [], ◌∷◌, ◌++◌}
-use Prim.Native.Nat.{ℕ, zero, suc, ◌+◌, ◌*◌, ◌/◌, ◌%◌, ◌^◌, ◌<◌, ◌≤◌}
+use Prim.Native.Nat.{ℕ, zero, suc, ◌+◌, ◌*◌, ◌/◌, ◌%◌, ◌<◌, ◌≤◌}
 use native.Mathlib.Omega.{arith}
-use native.Mathlib.Nat.{mod-lt, mod-mod, div-add-mod, mul-le-mul}
+use native.Mathlib.Nat.{mod-lt, mod-mod, div-add-mod}
 use borrow.Author.Tests.{lt-ltb, le-ltb, ltb-true, ltb-false}
 use lib.Dec.{ltb}
 use lib.ListN.{length, length-append}
 use Rattle.octets.specs.Working.Choice.{pick}
 use Rattle.texts.specs.Hash.{hash_by, power_by}
-use Rattle.texts.specs.Forms.{stop, form_of, join, more}
+use Rattle.texts.specs.Forms.{stop, form_of, more}
 
 -- ---- numbers modulo 2^32
 
@@ -34,11 +34,6 @@ module _ (B : ℕ) where
   unfolding hash_by
   hash_from-small h [] l = l
   hash_from-small h (b ∷ bs) l = hash_from-small ((h + b) * B % 4294967296) bs (mod-lt ((h + b) * B) (omega arith))
-
-  -- theorem
-  pub hash_small : (t : List ℕ) → hash_by B 0 t < 4294967296
-  unfolding hash_by
-  hash_small t = hash_from-small 0 t (omega arith)
 
   pub power_small : (n : ℕ) → power_by B n < 4294967296
   unfolding power_by
@@ -120,24 +115,7 @@ module _ (B : ℕ) where
       go (less l e) (full k f) = stop-full (m + n) (omega arith) ∙ sym (stop-full (stop m + stop n) (omega arith))
       go (full l e) y = stop-full (m + n) (omega arith) ∙ sym (stop-full (stop m + stop n) (omega arith))
 
-  -- theorem: a length below the stop is the length
-  pub stop-exact : (n : ℕ) → stop n < 65536 → stop n ≡ n
-  stop-exact n h = go (stops n)
-    where
-      go : Stops n → stop n ≡ n
-      go (less l e) = e
-      go (full l e) = absurd (omega arith)
-
   -- ---- forms: what `join`, `snoc` and `one` of the code answer
-  pub form_append : (xs ys : List ℕ) → form_of B (xs ++ ys) ≡ join B (form_of B xs) (form_of B ys)
-  unfolding form_of join
-  form_append xs ys = cc (length-append xs ys, hash_append xs ys, power-add (length xs) (length ys), stop-add (length xs) (length ys))
-
-  -- theorem
-  pub form_none : form_of B [] ≡ record { hash = 0; power = 1; len = 0 }
-  unfolding form_of hash_by power_by stop pick
-  form_none = refl
-
   pub form_more : (xs : List ℕ) (b : ℕ) → form_of B (xs ++ (b ∷ [])) ≡ more B (form_of B xs) b
   unfolding form_of more hash_by power_by
   form_more xs b =
@@ -146,19 +124,6 @@ module _ (B : ℕ) where
       let o : stop 1 ≡ 1 = stop-less 1 (omega arith) in
       cc (n, z, o, hash_from-append 0 xs (b ∷ []), stop-add (length xs) 1)
 
-  -- ---- nothing wraps
-  -- theorem
-  pub join_fits : (h p k : ℕ) → h < 4294967296 → p < 4294967296 → k < 4294967296 → (h * p < 2 ^ 64) × (h * p + k < 2 ^ 64)
-  join_fits h p k a b c = let m = mul-le-mul {n₁ = h} {m₁ = p} {n₂ = 4294967295} {m₂ = 4294967295} (omega arith) (omega arith) in (omega arith, omega arith)
-
-  -- theorem: a byte more: B is at most 2^32 - 255
-  pub more_fits : (h b : ℕ) → h < 4294967296 → b < 256 → B ≤ 4294967041 → (h + b) * B < 2 ^ 64
-  more_fits h b l k c = let m = mul-le-mul {n₁ = h + b} {m₁ = B} {n₂ = 4294967550} {m₂ = 4294967041} (omega arith) c in omega arith
-
-  -- theorem
-  pub bucket_fits : (h n : ℕ) → h < 4294967296 → n ≤ 4294967296 → h * n < 2 ^ 64
-  bucket_fits h n l k = let m = mul-le-mul {n₁ = h} {m₁ = n} {n₂ = 4294967295} {m₂ = 4294967296} (omega arith) k in omega arith
-
 -- ---- powers by two tables of 256
 pub power-times : (B m k : ℕ) → power_by (power_by B m) k ≡ power_by B (k * m)
 unfolding power_by
@@ -166,9 +131,3 @@ power-times B m zero = let z : 0 * m ≡ 0 = omega arith in rw z refl
 power-times B m (suc k) =
     let z : suc k * m ≡ k * m + m = omega arith in
     rw (power-times B m k, z) (sym (power-add B (k * m) m))
-
--- theorem
-pub power-tables : (B n : ℕ) → power_by B n ≡ power_by B (n % 256) * power_by (power_by B 256) (n / 256) % 4294967296
-power-tables B n =
-    let z : n ≡ n % 256 + n / 256 * 256 = omega arith in
-    ap (power_by B) z ∙ power-add B (n % 256) (n / 256 * 256) ∙ ap (λ (x : ℕ). power_by B (n % 256) * x % 4294967296) (sym (power-times B 256 (n / 256)))

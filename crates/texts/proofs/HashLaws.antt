@@ -3,7 +3,7 @@ use mathlib.Core.Path.{◌≡◌, refl}
 use mathlib.Core.List.{[], ◌∷◌}
 use Prim.Native.Nat.{ℕ, ◌+◌, ◌*◌, ◌%◌, ◌<◌}
 use native.Mathlib.Omega.{arith}
-use native.Mathlib.Nat.{mod-lt, mul_comm, mul-lt-mul_of_pos_left, div-lt_iff_lt-mul}
+use native.Mathlib.Nat.{mul_comm, mul-lt-mul_of_pos_left, div-lt_iff_lt-mul}
 use Rattle.std.specs.List.{fold}
 use Rattle.std.proofs.lemmas.Nat.{mul-mod_first}
 use Rattle.parse_tree.specs.Plain.Tree.{Text}
@@ -14,10 +14,6 @@ pub step_wraps : (h b : ℕ) → (h + b) % 4294967296 * 2654435761 % 4294967296 
 unfolding hash_step
 step_wraps h b = mul-mod_first (h + b) 2654435761 4294967296
 
-pub step_small : (h b : ℕ) → hash_step h b < 4294967296
-unfolding hash_step
-step_small h b = mod-lt _ (omega arith)
-
 -- the hash goes on byte by byte
 pub from_none : (h : ℕ) → hash_from h [] ≡ h
 unfolding hash_from hash_by
@@ -26,14 +22,6 @@ from_none h = refl
 pub from_more : (h b : ℕ) (t : Text) → hash_from h (b ∷ t) ≡ hash_from (hash_step h b) t
 unfolding hash_from hash_by hash_step
 from_more h b t = refl
-
-from_small : (h : ℕ) (t : Text) → h < 4294967296 → hash_from h t < 4294967296
-from_small h [] l = rw (from_none h) l
-from_small h (b ∷ bs) l = rw (from_more h b bs) (from_small (hash_step h b) bs (step_small h b))
-
-pub hash_small : (t : Text) → hash_of t < 4294967296
-unfolding hash_of
-hash_small t = from_small 0 t (omega arith)
 
 -- it is a fold
 pub fold_is : (h : ℕ) (t : Text) → fold hash_step h t ≡ hash_from h t

@@ -1,9 +1,8 @@
 -- The mark of a text: what it tells, and that making it and taking it apart undo each other. Assumes nothing.
 use mathlib.Core.Path.{◌≡◌, refl, sym, ap, ◌∙◌}
 use mathlib.Core.Bool.{Bool, true, false}
-use Prim.Native.Nat.{ℕ, ◌+◌, ◌*◌, ◌-◌, ◌/◌, ◌%◌, ◌<◌, ◌≤◌}
+use Prim.Native.Nat.{ℕ, ◌+◌, ◌*◌, ◌/◌, ◌<◌, ◌≤◌}
 use native.Mathlib.Omega.{arith}
-use borrow.Author.Rules.{rules}
 use borrow.Author.Tests.{lt-ltb, le-ltb, ltb-true, ltb-false}
 use lib.Dec.{ltb}
 use Rattle.octets.specs.Working.Choice.{pick}
@@ -49,18 +48,3 @@ stands_tape n x h = sym (stand_tape n x (omega arith))
 
 pub stands_work : (n x : ℕ) → n ≤ x / 4 → Stand.Work (x + 4 * n) ≡ stand_of n x
 stands_work n x h = sym (stand_work n x (omega arith))
-
-pub ruleset standing = (rules, stands_tape, stands_work)
-
--- ---- marks made and taken apart
--- theorem: the mark of a text on the tape tells its place
-pub tape_place_back : (n at class : ℕ) → at < n → class < 4 → stand_of n (4 * at + class) ≡ Stand.Tape at
-tape_place_back n at class h k = stand_tape n (4 * at + class) (omega arith) ∙ ap Stand.Tape (omega arith)
-
--- theorem: and its class
-pub class_back : (at class : ℕ) → class < 4 → (4 * at + class) % 4 ≡ class
-class_back at class k = omega arith
-
--- theorem: that of a text in work tells its place
-pub work_place_back : (n at : ℕ) → 8 * n ≤ at → stand_of n (at - 4 * n) ≡ Stand.Work at
-work_place_back n at h = stand_work n (at - 4 * n) (omega arith) ∙ ap Stand.Work (omega arith)

@@ -100,7 +100,7 @@ module _ (s w : List ℕ) (m : Map) (x h : ℕ) (g : Entering s w m x h) where
         let q = texts-stay s w w2 m.base m.count g.low g.table.whole g.above.above long_then far marks_then m.count (omega arith) in
         rw (add-one m.count) (cc (q, text_then))
 
-    pub entered : Entered s w m x h c (record { base = m.base; count = m.count + 1; buckets = m.buckets }) w2
+    pub entered : Entered s w m x c (record { base = m.base; count = m.count + 1; buckets = m.buckets }) w2
     unfolding texts
     entered = record {
       base = refl;

@@ -1,7 +1,7 @@
 -- The table stays where neither its records nor its texts are written. Assumes nothing.
 use mathlib.Core.Path.{◌≡◌, refl, sym, ap, ◌∙◌}
 use mathlib.Core.Bool.{Bool, true, false}
-use mathlib.Core.Logic.{inl, inr}
+use mathlib.Core.Logic.{◌⊎◌, inl, inr}
 use mathlib.Core.List.{List}
 use Prim.Native.Nat.{ℕ, zero, suc, ◌+◌, ◌*◌, ◌-◌, ◌<◌, ◌≤◌}
 use native.Mathlib.Omega.{arith}
@@ -20,7 +20,7 @@ use Rattle.texts.specs.Hash.{hash_of}
 use Rattle.texts.specs.Fields.{mark_at, hash_at, link_at, head_at, cell_at}
 use Rattle.texts.specs.Atoms.{atom_end, atom_text}
 use Rattle.texts.specs.Texts.{holder, place_at, marked_text, Whole, Behind, texts_of}
-use Rattle.texts.specs.Table.{Table, Above, Agree, Stays, Celled, texts, linked}
+use Rattle.texts.specs.Table.{Table, Above, Agree, Stays, Celled, Recelled, texts, linked}
 use Rattle.texts.proofs.FieldsCode.{Beside, beside}
 use Rattle.texts.proofs.ChainCode.{chained_same}
 use Rattle.texts.proofs.TextCode.{on_tape, in_work, work_place}
@@ -200,13 +200,23 @@ module _ (s w w1 : List ℕ) (m : Map) (z k v : ℕ) (g : Table s w m) (a : Abov
         after = λ i x. d.after i x;
       }
 
--- theorem: one after another
-pub stays_trans : (s w : List ℕ) (m : Map) (w1 : List ℕ) (m1 : Map) (w2 : List ℕ) (m2 : Map) → Stays s w m w1 m1 → Stays s w1 m1 w2 m2 → Stays s w m w2 m2
-stays_trans s w m w1 m1 w2 m2 p q = record {
-  base = q.base ∙ p.base;
-  count = q.count ∙ p.count;
+-- ---- nothing changed but cells
+pub recelled_same : (s w : List ℕ) (m : Map) → Table s w m → Recelled s w m w
+recelled_same s w m h = record { long = refl; table = h; same = refl; marks = λ k l. refl; others = λ i d. refl }
+
+pub recelled_trans : (s w w' w'' : List ℕ) (m : Map) → Recelled s w m w' → Recelled s w' m w'' → Recelled s w m w''
+recelled_trans s w w' w'' m p q = record {
+  long = q.long ∙ p.long;
   table = q.table;
   same = q.same ∙ p.same;
-  marks = λ i h. ap (λ (b : ℕ). mark_at w2 b i) (sym p.base) ∙ q.marks i (rw p.count h) ∙ ap (λ (b : ℕ). mark_at w1 b i) p.base ∙ p.marks i h;
-  cells = λ i h. ap (λ (b : ℕ). cell_at w2 b i) (sym p.base) ∙ q.cells i (rw p.count h) ∙ ap (λ (b : ℕ). cell_at w1 b i) p.base ∙ p.cells i h;
+  marks = λ k l. q.marks k l ∙ p.marks k l;
+  others = λ i d. q.others i d ∙ p.others i d;
 }
+
+-- one cell more
+pub recelled_celled : (s w : List ℕ) (m : Map) (k v : ℕ) (w' : List ℕ) → length w' ≡ length w → k < m.count → Celled s w m k v w' → Recelled s w m w'
+recelled_celled s w m k v w' o l c = record { long = o; table = c.table; same = c.same; marks = c.marks; others = others }
+  where
+    others : (i : ℕ) → (i < m.base) ⊎ (m.base + 24 * m.count ≤ i) → get_or w' i 0 ≡ get_or w i 0
+    others i (inl x) = c.before i (omega arith)
+    others i (inr x) = c.after i (omega arith)

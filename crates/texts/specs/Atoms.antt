@@ -1,5 +1,5 @@
 -- The atoms at the front of a tape, by number. Assumes nothing: these are definitions.
-use Rattle.std.specs.Prelude.{ℕ, zero, suc, ◌+◌, List, [], ◌∷◌, ◌++◌}
+use Rattle.std.specs.Prelude.{Bool, false, ◌||◌, ℕ, zero, suc, ◌+◌, List, [], ◌∷◌, ◌++◌, ltb, length}
 use Rattle.octets.specs.Plain.Numbers.{le_at}
 use Rattle.octets.specs.Plain.Runs.{part}
 use Rattle.parse_tree.specs.Plain.Tree.{Text}
@@ -21,3 +21,8 @@ place_of s (suc k) = atom_end s (place_of s k)
 unfoldable pub atoms_of : List ℕ → ℕ → List Text
 atoms_of s zero = []
 atoms_of s (suc k) = atoms_of s k ++ (atom_text s (place_of s k) ∷ [])
+
+-- whether one of the texts is longer than an atom's can be
+unfoldable pub some_long : List Text → Bool
+some_long [] = false
+some_long (t ∷ ts) = ltb 65535 (length t) || some_long ts

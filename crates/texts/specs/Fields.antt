@@ -60,7 +60,7 @@ pub record Relinked (w w' : List ℕ) (b k n : ℕ) : Type 0 where
   pub kept : RecordsKept w w' b k n
   pub chained : Chained w' b n k
 
--- what `link` does: the k-th record comes before the others of bucket y
+-- what `put_in_bucket` does: the k-th record comes before the others of bucket y
 pub record Linked (w : List ℕ) (b n k y : ℕ) (w' : List ℕ) : Type 0 where
   pub kept : RecordsKept w w' b (k + 1) n
   pub link : link_at w' b k ≡ head_at w b y

@@ -1,10 +1,9 @@
 -- The table of texts in work w over the tape s, and what its functions do. Assumes nothing: these are definitions.
-use Rattle.std.specs.Prelude.{◌≡◌, false, List, [], ◌∷◌, ◌++◌, ℕ, ◌+◌, ◌*◌, ◌≤◌, ◌<◌, min, length, get_or}
+use Rattle.std.specs.Prelude.{◌≡◌, false, ◌⊎◌, List, [], ◌∷◌, ◌++◌, ℕ, ◌+◌, ◌*◌, ◌≤◌, ◌<◌, min, length, get_or, Option, Some, None}
 use Rattle.octets.specs.Working.Choice.{pick}
 use Rattle.parse_tree.specs.Plain.Tree.{Text}
 use Rattle.parse_tree.specs.Plain.Texts.{has, number}
 use Rattle.texts.specs.declared.Map.{Map}
-use Rattle.std.specs.Prelude.{Option, Some, None}
 use Rattle.texts.specs.Hash.{hash_of}
 use Rattle.texts.specs.Fields.{mark_at, hash_at, cell_at, Chained, RecordsKept, RecordWritten}
 use Rattle.texts.specs.Texts.{marked_text, Whole, Behind, texts_of}
@@ -60,6 +59,14 @@ pub record Celled (s w : List ℕ) (m : Map) (k v : ℕ) (w' : List ℕ) : Type 
   pub before : (i : ℕ) → i < m.base + 24 * k → get_or w' i 0 ≡ get_or w i 0
   pub after : (i : ℕ) → m.base + 24 * k + 24 ≤ i → get_or w' i 0 ≡ get_or w i 0
 
+-- from w to w' nothing changed but cells
+pub record Recelled (s w : List ℕ) (m : Map) (w' : List ℕ) : Type 0 where
+  pub long : length w' ≡ length w
+  pub table : Table s w' m
+  pub same : texts s w' m ≡ texts s w m
+  pub marks : (k : ℕ) → k < m.count → mark_at w' m.base k ≡ mark_at w m.base k
+  pub others : (i : ℕ) → (i < m.base) ⊎ (m.base + 24 * m.count ≤ i) → get_or w' i 0 ≡ get_or w i 0
+
 -- ---- `find`
 pub record Is (ts : List Text) (t : Text) (k : ℕ) : Type 0 where
   pub below : k < length ts
@@ -87,7 +94,7 @@ pub record Entering (s w : List ℕ) (m : Map) (x h : ℕ) : Type 0 where
   pub hash : h ≡ hash_of (marked_text s w x)
 
 -- and what it leaves
-pub record Entered (s w : List ℕ) (m : Map) (x h c : ℕ) (m' : Map) (w' : List ℕ) : Type 0 where
+pub record Entered (s w : List ℕ) (m : Map) (x c : ℕ) (m' : Map) (w' : List ℕ) : Type 0 where
   pub base : m'.base ≡ m.base
   pub count : m'.count ≡ m.count + 1
   pub buckets : m'.buckets ≡ m.buckets

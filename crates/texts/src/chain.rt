@@ -13,7 +13,7 @@ use crate::{Map, fields};
 pub const LINKED: usize = 4294967295;
 
 // Puts record m.count, of this hash, before the others of its bucket.
-pub fn link(work: &mut [u8], m: Map, h: u32)
+fn put_in_bucket(work: &mut [u8], m: Map, h: u32)
     requires { (m.base + 24 * m.count + 24 ≤ length work.old) × (m.base + 24 * m.buckets ≤ length work.old) × (0 < m.buckets) × (m.buckets ≤ 4294967295) × (m.count < 4294967295) }
     ensures { Linked work.old m.base m.buckets m.count (bucket_of h m.buckets) work.new }
 {
@@ -30,7 +30,7 @@ pub fn put_record(work: &mut [u8], m: Map, mark: usize, h: u32, c: u32)
 {
     write(work, m.base, m.count, mark, h, c);
     if m.count < LINKED {
-        link(work, m, h);
+        put_in_bucket(work, m, h);
     }
 }
 
@@ -51,11 +51,11 @@ pub fn relink(work: &mut [u8], m: Map, e: usize)
 {
     for i in m.count..e {
         let h = hash(work, m.base, i);
-        link(work, Map { count: i, ..m }, h);
+        put_in_bucket(work, Map { count: i, ..m }, h);
     }
 }
 
-// Of the records whose hash is h one that is the one looked for, among those in no chain.
+// The record looked for, among those in no chain whose hash is h.
 fn rest<F: Fn(usize) -> bool>(work: &[u8], m: Map, h: u32, is: &F) -> Option<usize>
     requires room { m.base + 24 * m.count ≤ length work.now }
     requires asks { (i : ℕ) → i < m.count → hash_at work.now m.base i ≡ h → F.pre is.now i }

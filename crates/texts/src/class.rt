@@ -1,5 +1,5 @@
 // The class of a text, and of a byte.
-ghost use Rattle.std.specs.Prelude.{◌≡◌, ◌≤◌, ◌<◌, ◌||◌, length};
+ghost use Rattle.std.specs.Prelude.{◌≡◌, ◌≤◌, ◌||◌, length};
 ghost use Rattle.octets.specs.Plain.Runs.{part, same_as};
 ghost use Rattle.parse_tree.specs.Plain.Texts.{starts_name, mut_text, error_text};
 ghost use Rattle.texts.specs.Classes.{text_class, byte_class, least, class_number};

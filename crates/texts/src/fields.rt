@@ -1,6 +1,6 @@
 // The fields of the k-th record, the records standing from base on. That it lies in work is asked at each call: base and k differ from one to the next.
 // One function for each field: of one over a const parameter the clause would say `le_at 4` of a place where these say `link_at`, and each caller `word::<LINK>` for `link`.
-ghost use Rattle.std.specs.Prelude.{◌≡◌, ◌+◌, ◌*◌, ◌≤◌, ◌<◌, length};
+ghost use Rattle.std.specs.Prelude.{◌≡◌, ◌+◌, ◌*◌, ◌≤◌, length};
 ghost use Rattle.octets.specs.Plain.Numbers.{le};
 ghost use Rattle.octets.specs.Working.Stores.{store};
 ghost use Rattle.texts.specs.Classes.{class_number};

@@ -1,5 +1,4 @@
 // Hash and least class of a text, in one run over its bytes.
-ghost use Rattle.std.specs.Prelude.{◌≡◌};
 ghost use Rattle.texts.specs.Classes.{class_number};
 ghost use Rattle.texts.specs.Scan.{Scans};
 
@@ -13,7 +12,6 @@ pub struct Scanned {
     pub least: TextClass,
 }
 
-// Both of a text, in one run over its bytes.
 pub fn scan(t: &[u8]) -> Scanned
     ensures { Scans t.now result.hash (class_number result.least) }
 {

@@ -19,7 +19,7 @@ pub fn find<'a>(tape: &'a [u8], work: &'a [u8], m: Map, t: &[u8], h: u32) -> Opt
 // The text of a mark, with its hash and its cell, as the next one.
 pub fn enter(tape: &[u8], work: &mut [u8], m: Map, x: TextMark, h: u32, c: u32) -> Map
     requires { Entering tape.now work.old m x.number h }
-    ensures { Entered tape.now work.old m x.number h c result work.new }
+    ensures { Entered tape.now work.old m x.number c result work.new }
 {
     put_record(work, m, x.number, h, c);
     Map {

@@ -90,7 +90,7 @@ module _ (s w : List ℕ) (m : Map) (at end n : ℕ) (g : Going s w m at end n) 
     pub next_hash : (v c : ℕ) → Scans t v c → v ≡ hash_of t
     next_hash v c q = q.hash
 
-    pub next_known : (r : Option ℕ) (k : ℕ) → Finds (texts s w m) t r → r ≡ Some k → Nexts s m at end n None w
+    pub next_known : (r : Option ℕ) (k : ℕ) → Finds (texts s w m) t r → r ≡ Some k → Nexts s at end n None w
     unfolding Nexts
     next_known r k a p = record {
       before = m.count;
@@ -138,7 +138,7 @@ module _ (s w : List ℕ) (m : Map) (at end n : ℕ) (g : Going s w m at end n) 
             hash = p ∙ ap hash_of (e ∙ sym mark-text);
           }
 
-      module _ (v : ℕ) (m1 : Map) (w1 : List ℕ) (x : Entered s w m (4 * at + c) v 0 m1 w1) where
+      module _ (m1 : Map) (w1 : List ℕ) (x : Entered s w m (4 * at + c) 0 m1 w1) where
         count-then : m1.count ≡ suc m.count
         count-then = x.count ∙ add-one m.count
 
@@ -175,7 +175,7 @@ module _ (s w : List ℕ) (m : Map) (at end n : ℕ) (g : Going s w m at end n) 
         none_known None a p = answer_none (texts s w m) t a
         none_known (Some k) a p = absurd (false≢true (sym p))
 
-        next_more : (r : Option ℕ) → Finds (texts s w m) t r → (b : Bool) → b ≡ is_some r → b ≡ false → length w1 ≡ length w → Nexts s m at end n (Some (m1, at + 3 + length t)) w1
+        next_more : (r : Option ℕ) → Finds (texts s w m) t r → (b : Bool) → b ≡ is_some r → b ≡ false → length w1 ≡ length w → Nexts s at end n (Some (m1, at + 3 + length t)) w1
         unfolding Nexts
         next_more r a b o p l =
             let none = none_known r a (sym o ∙ p) in
@@ -183,7 +183,7 @@ module _ (s w : List ℕ) (m : Map) (at end n : ℕ) (g : Going s w m at end n) 
               going = record {
                 starts = record { here = g.starts.here; inside = g.starts.inside; small = rw l g.starts.small };
                 table = x.table;
-                above = rw l (above_entered s w m (4 * at + c) v 0 m1 w1 (length w) x (tape_mark_behind s w at c class_few next_whole (length w)) g.above);
+                above = rw l (above_entered s w m (4 * at + c) 0 m1 w1 (length w) x (tape_mark_behind s w at c class_few next_whole (length w)) g.above);
                 base = x.base ∙ g.base;
                 buckets = x.buckets ∙ g.buckets;
                 upto = omega (arith, x.count, below);
@@ -201,9 +201,9 @@ module _ (s w : List ℕ) (m : Map) (at end n : ℕ) (g : Going s w m at end n) 
         pub marked_entering : (v : ℕ) → v ≡ hash_of t → Entering s w m x v
         marked_entering v p = rw d (next_entering v p)
 
-        pub marked_more : (v : ℕ) (m1 : Map) (w1 : List ℕ) → Entered s w m x v 0 m1 w1 → (r : Option ℕ) → Finds (texts s w m) t r → (b : Bool) → b ≡ is_some r → b ≡ false → length w1 ≡ length w
-            → Nexts s m at end n (Some (m1, at + 3 + length t)) w1
-        marked_more v m1 w1 a = next_more v m1 w1 (rw d at a)
+        pub marked_more : (m1 : Map) (w1 : List ℕ) → Entered s w m x 0 m1 w1 → (r : Option ℕ) → Finds (texts s w m) t r → (b : Bool) → b ≡ is_some r → b ≡ false → length w1 ≡ length w
+            → Nexts s at end n (Some (m1, at + 3 + length t)) w1
+        marked_more m1 w1 a = next_more m1 w1 (rw d at a)
 
 pub ruleset entering_at = (rules, next_whole, next-some, next_inside, next_least, next_hash, next_known, mark_small, marked_entering, marked_more)
 
@@ -244,15 +244,15 @@ module _ (s w : List ℕ) (end n : ℕ) (g : Starts s w end n) where
   }
 
 module _ (s w : List ℕ) (m : Map) (at end n : ℕ) (g : Going s w m at end n) where
-  pub going_next : (r : Option (Map × ℕ)) (m1 : Map) (e : ℕ) (w1 : List ℕ) → Nexts s m at end n r w1 → r ≡ Some (m1, e) → Going s w1 m1 e end n
+  pub going_next : (r : Option (Map × ℕ)) (m1 : Map) (e : ℕ) (w1 : List ℕ) → Nexts s at end n r w1 → r ≡ Some (m1, e) → Going s w1 m1 e end n
   unfolding Nexts
   going_next r m1 e w1 a p = let b : More s w1 m1 at end n e = rw p at a in b.going
 
-  pub going_less : (r : Option (Map × ℕ)) (m1 : Map) (e : ℕ) (w1 : List ℕ) → at < end → Nexts s m at end n r w1 → r ≡ Some (m1, e) → end - e < end - at
+  pub going_less : (r : Option (Map × ℕ)) (m1 : Map) (e : ℕ) (w1 : List ℕ) → at < end → Nexts s at end n r w1 → r ≡ Some (m1, e) → end - e < end - at
   unfolding Nexts
   going_less r m1 e w1 h a p = let b : More s w1 m1 at end n e = rw p at a in omega (arith, b.on)
 
-  pub going_again : (r : Option (Map × ℕ)) (w1 : List ℕ) → Nexts s m at end n r w1 → r ≡ None → (z : Refusal) → z ≡ refusal_at 3 at → Fronted s end n (Err z) w1
+  pub going_again : (r : Option (Map × ℕ)) (w1 : List ℕ) → Nexts s at end n r w1 → r ≡ None → (z : Refusal) → z ≡ refusal_at 3 at → Fronted s end n (Err z) w1
   unfolding Nexts Fronted
   going_again r w1 a p z e = record { place = at; is = e; again = rw p at a }
 

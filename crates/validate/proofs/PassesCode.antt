@@ -13,8 +13,8 @@ use Rattle.octets.specs.Plain.Numbers.{le_at, le}
 use Rattle.octets.proofs.ChoiceLaws.{by_pick, pick_same}
 use Rattle.octets.proofs.NumbersLaws.{length-le}
 use Rattle.parse_tree.specs.Plain.Texts.{is_name, is_literal}
-use Rattle.parse_tree.specs.Working.Nodes.{symbol_node_at, if_whole, span_in, named_leaf, bare_leaf, leaf_operand, size_of}
-use Rattle.parse_tree.specs.Working.Questions.{defined, leaf_defined, leaf_suits, symbol_defined, symbol_suits}
+use Rattle.parse_tree.specs.Working.Nodes.{symbol_node_at, if_whole, span_in, named_leaf, word_leaf, leaf_operand, size_of}
+use Rattle.parse_tree.specs.Working.Questions.{leaf_defined, leaf_suits, symbol_defined, symbol_suits}
 use Rattle.parse_tree.specs.declared.syntax.Leaf.{Leaf}
 use Rattle.parse_tree.specs.declared.syntax.Around.{Around}
 use Rattle.parse_tree.specs.declared.syntax.Over.{Over}
@@ -95,14 +95,14 @@ named-size w c a =
     let z : w ≡ length (le w a) = sym (length-le w a) in
     by_pick P (eqb c 32) (λ _. z) (λ _. by_pick P (eqb c 33) (λ _. z) (λ _. by_pick P (eqb c 34) (λ _. z) (λ _. by_pick P (eqb c 35) (λ _. z) (λ _. z))))
 
-bare_size : (w c : ℕ) → 0 ≡ length (leaf_operand w (bare_leaf c))
-unfolding bare_leaf leaf_operand
+bare_size : (w c : ℕ) → 0 ≡ length (leaf_operand w (word_leaf c))
+unfolding word_leaf leaf_operand
 bare_size w c =
     let P : Leaf → Type 0 = λ l. 0 ≡ length (leaf_operand w l) in
     by_pick P (eqb c 42) (λ _. refl) (λ _. by_pick P (eqb c 43) (λ _. refl) (λ _. refl))
 
-bare_passes : (n : ℕ) (s : List ℕ) (c : ℕ) (four : Bool) → true ≡ (leaf_defined n (bare_leaf c) && pick four (leaf_suits (atoms_of s n) (bare_leaf c)) true)
-unfolding bare_leaf leaf_defined leaf_suits
+bare_passes : (n : ℕ) (s : List ℕ) (c : ℕ) (four : Bool) → true ≡ (leaf_defined n (word_leaf c) && pick four (leaf_suits (atoms_of s n) (word_leaf c)) true)
+unfolding word_leaf leaf_defined leaf_suits
 bare_passes n s c four =
     let P : Leaf → Type 0 = λ l. true ≡ (leaf_defined n l && pick four (leaf_suits (atoms_of s n) l) true) in
     let z : true ≡ pick four true true = sym (pick_same four true) in
@@ -134,7 +134,7 @@ module _ (w : ℕ) (s : List ℕ) (c at : ℕ) (room : at + (10 + w) ≤ length 
   unfolding symbol_node_at pick
   at-group e = rw e (wholly s at 11 _ (omega arith))
 
-  pub at_bare : 37 ≤ c → (c ≡ 37 → ⊥) → (c ≡ 38 → ⊥) → (c ≡ 39 → ⊥) → (c ≡ 40 → ⊥) → (c ≡ 41 → ⊥) → symbol_node_at w c s at ≡ Some (Node.Symbol (span_in s (at + 1)) (SymbolKind.Leaf (bare_leaf c)))
+  pub at_bare : 37 ≤ c → (c ≡ 37 → ⊥) → (c ≡ 38 → ⊥) → (c ≡ 39 → ⊥) → (c ≡ 40 → ⊥) → (c ≡ 41 → ⊥) → symbol_node_at w c s at ≡ Some (Node.Symbol (span_in s (at + 1)) (SymbolKind.Leaf (word_leaf c)))
   unfolding symbol_node_at pick
   at_bare h f37 f38 f39 f40 f41 = simp (le-ltb c 37 h, ne_eqb c 37 f37, ne_eqb c 38 f38, ne_eqb c 39 f39, ne_eqb c 40 f40, ne_eqb c 41 f41) (wholly s at 9 _ (omega arith))
 
@@ -181,8 +181,8 @@ module _ (s : List ℕ) (m : Atoms) (c at : ℕ) (room : at + (10 + m.width.byte
   pub passes-bare : 37 ≤ c → (c ≡ 37 → ⊥) → (c ≡ 38 → ⊥) → (c ≡ 39 → ⊥) → (c ≡ 40 → ⊥) → (c ≡ 41 → ⊥) → Kinded s m c at 9
   unfolding symbol_defined symbol_suits pick
   passes-bare h f37 f38 f39 f40 f41 =
-      kinded s m c at (SymbolKind.Leaf (bare_leaf c)) (at_bare m.width.bytes s c at room m.width.narrow h f37 f38 f39 f40 f41) 9 (bare_passes m.texts.count s c m.four)
-      (leaf_size m.width.bytes _ (span_in s (at + 1)) _ refl (bare_leaf c) 0 refl (bare_size m.width.bytes c)) (omega arith)
+      kinded s m c at (SymbolKind.Leaf (word_leaf c)) (at_bare m.width.bytes s c at room m.width.narrow h f37 f38 f39 f40 f41) 9 (bare_passes m.texts.count s c m.four)
+      (leaf_size m.width.bytes _ (span_in s (at + 1)) _ refl (word_leaf c) 0 refl (bare_size m.width.bytes c)) (omega arith)
 
 pub ruleset passing = (rules, passes-named, passes-macro, passes-repeat, passes-choose, passes-name, passes-group, passes-bare)
 

@@ -15,7 +15,7 @@ use Rattle.parse_tree.specs.Working.Nodes.{node_at, node_by, symbol_node_at, spa
 use Rattle.parse_tree.specs.Working.Nested.{inside_by, inside_at}
 use Rattle.parse_tree.specs.Working.Places.{class_of, allowed_at, table, symbols_place}
 use Rattle.parse_tree.specs.Working.Questions.{defined, suits}
-use Rattle.parse_tree.specs.Working.Operands.{inside_of}
+use Rattle.parse_tree.specs.Working.Operands.{inside_of, inside_kind, inside}
 use Rattle.parse_tree.specs.Plain.Reading.{Reading, got, refused, then, times}
 use Rattle.parse_tree.specs.Working.Decode.{ask, read_sym}
 use Rattle.parse_tree.specs.declared.syntax.SymbolKind.{SymbolKind}
@@ -53,42 +53,30 @@ module _ (s : List ℕ) (m : Atoms) (left at c r : ℕ) (e : c ≡ get_or s at 0
 pub ruleset quickly = (rules, quick_fits, quick_yes)
 
 -- ---- what the code says of the symbols inside is what the command says
--- how many symbols stand inside one
-unfoldable held_in : SymbolKind → ℕ
-held_in (SymbolKind.Leaf l) = 0
-held_in (SymbolKind.Around a) = 1
-held_in (SymbolKind.Over o) = inside_of o
-
+-- how many symbols stand inside it, if there is one
 unfoldable held_of : Option Node → ℕ
 held_of None = 0
-held_of (Some (Node.Text n)) = 0
-held_of (Some (Node.Nonterminal d)) = 0
-held_of (Some (Node.Terminal t)) = 0
-held_of (Some (Node.Argument n)) = 0
-held_of (Some (Node.Alternative a)) = 0
-held_of (Some (Node.Attribute a)) = 0
-held_of (Some (Node.Condition c)) = 0
-held_of (Some (Node.Symbol s k)) = held_in k
+held_of (Some n) = inside n
 
 module _ (w : ℕ) (s : List ℕ) (c at : ℕ) (narrow : 2 ≤ w) (room : at + (10 + w) ≤ length s) where
   held-named : c < 37 → 0 ≡ held_of (symbol_node_at w c s at)
-  unfolding held_of held_in
+  unfolding held_of inside
   held-named h = rw (at_named w s c at room narrow h)
 
   held-bare : 41 < c → 0 ≡ held_of (symbol_node_at w c s at)
-  unfolding held_of held_in
+  unfolding held_of inside
   held-bare h = rw (at_bare w s c at room narrow (omega arith) (λ z. absurd (omega arith)) (λ z. absurd (omega arith)) (λ z. absurd (omega arith)) (λ z. absurd (omega arith)) (λ z. absurd (omega arith)))
 
   held-macro : c ≡ 37 → get_or s (at + 9 + w) 0 ≡ held_of (symbol_node_at w c s at)
-  unfolding held_of held_in inside_of
+  unfolding held_of inside inside_of
   held-macro h = rw (at-macro w s c at room narrow h)
 
   held-group : c ≡ 41 → le_at 2 s (at + 9) ≡ held_of (symbol_node_at w c s at)
-  unfolding held_of held_in inside_of
+  unfolding held_of inside inside_of
   held-group h = rw (at-group w s c at room narrow h)
 
   held-around : 38 ≤ c → c ≤ 40 → 1 ≡ held_of (symbol_node_at w c s at)
-  unfolding held_of held_in
+  unfolding held_of inside
   held-around h k = go (c - 38) refl
     where
       go : (j : ℕ) → c - 38 ≡ j → 1 ≡ held_of (symbol_node_at w c s at)
@@ -121,9 +109,9 @@ module _ (s : List ℕ) (m : Atoms) (left at f : ℕ) (p : QuickPassed s m left 
   unfolding asked_of
   asked = rw p.asked
 
-  inner : (k : SymbolKind) → p.kind ≡ k → (i : ℕ) → i ≡ held_in k → (y : Result ℕ Refusal) → y ≡ step_of (times (read_sym m.four m.width.bytes s (atoms_of s m.texts.count) (left - 1)) i f)
+  inner : (k : SymbolKind) → p.kind ≡ k → (i : ℕ) → i ≡ inside_kind k → (y : Result ℕ Refusal) → y ≡ step_of (times (read_sym m.four m.width.bytes s (atoms_of s m.texts.count) (left - 1)) i f)
       → y ≡ step_of (read_sym m.four m.width.bytes s (atoms_of s m.texts.count) left at)
-  unfolding held_in times step_of
+  unfolding times step_of
   inner (SymbolKind.Leaf l) v i e y o =
       (rw e at o) ∙ symbol_leaf m.four s m.width.bytes m.texts.count left at _ asked (Node.Symbol (span_in s (at + 1)) p.kind) f refl (span_in s (at + 1)) p.kind refl l v
   inner (SymbolKind.Around a) v i e y o =
@@ -144,7 +132,7 @@ module _ (s : List ℕ) (m : Atoms) (left at f : ℕ) (q : QuickPassed s m left 
 
   module _ (i : ℕ) (e : i ≡ inside_at m.width.bytes s at) where
     said : (y : Result ℕ Refusal) → y ≡ step_of (times (read_sym m.four m.width.bytes s (atoms_of s m.texts.count) (left - 1)) i f) → y ≡ step_of (read_sym m.four m.width.bytes s (atoms_of s m.texts.count) left at)
-    unfolding inside_at held_of
+    unfolding inside_at held_of inside
     said y o = inner s m left at f q q.kind refl i (e ∙ inside-held m.width.bytes s (get_or s at 0) at m.width.narrow q.room ∙ ap held_of q.is) y o
 
     -- k are to come from `at` on, and x is what all of them say

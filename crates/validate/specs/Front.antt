@@ -60,9 +60,9 @@ pub record More (s w : List ℕ) (m : Map) (at end n e : ℕ) : Type 0 where
   pub on : at < e
 
 -- what `enter_at` says, and of the table that it leaves
-unfoldable pub Nexts : List ℕ → Map → ℕ → ℕ → ℕ → Option (Map × ℕ) → List ℕ → Type 0
-Nexts s m at end n (Some (m', e)) w = More s w m' at end n e
-Nexts s m at end n None w = Again s n at
+unfoldable pub Nexts : List ℕ → ℕ → ℕ → ℕ → Option (Map × ℕ) → List ℕ → Type 0
+Nexts s at end n (Some (m', e)) w = More s w m' at end n e
+Nexts s at end n None w = Again s n at
 
 -- the table of all n atoms, from eight bytes for each byte behind them on; no text stands in work
 pub record All (s w : List ℕ) (m : Map) (end n : ℕ) : Type 0 where

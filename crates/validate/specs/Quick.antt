@@ -1,5 +1,5 @@
 -- What a look at the bytes of a command finds out. Assumes nothing: these are definitions.
-use Rattle.std.specs.Prelude.{◌≡◌, true, List, ℕ, ◌+◌, ◌-◌, ◌<◌, ◌≤◌, length, get_or}
+use Rattle.std.specs.Prelude.{◌≡◌, true, List, ℕ, ◌+◌, ◌-◌, ◌<◌, ◌≤◌, length, get_or, Some, Ok}
 use Rattle.octets.specs.Working.Choice.{pick}
 use Rattle.octets.specs.Plain.Numbers.{le_at}
 use Rattle.parse_tree.specs.Working.Nodes.{symbol_node_at, span_in, size_of, alternative_here, nonterminal_here}
@@ -15,7 +15,6 @@ use Rattle.parse_tree.specs.declared.syntax.Node.{Node}
 use Rattle.texts.specs.Atoms.{atoms_of}
 use Rattle.validate.specs.Steps.{step_of}
 use Rattle.validate.specs.declared.Atoms.{Atoms}
-use Rattle.std.specs.Prelude.{Some, Ok}
 
 -- c is the code at a place from which on n bytes are left, that byte among them
 pub record CodeAt (s : List ℕ) (at n c : ℕ) : Type 0 where

@@ -1,5 +1,5 @@
 -- What the pass knows of the atoms, and how it answers. Assumes nothing: these are definitions.
-use Rattle.std.specs.Prelude.{◌≡◌, true, List, ℕ, ◌+◌, ◌-◌, ◌*◌, ◌≤◌, ◌<◌, length, take}
+use Rattle.std.specs.Prelude.{◌≡◌, true, List, ℕ, ◌+◌, ◌-◌, ◌*◌, ◌≤◌, ◌<◌, length, take, Result, Ok, Err}
 use Rattle.octets.specs.Plain.Numbers.{le_at}
 use Rattle.parse_tree.specs.Plain.Tree.{Item}
 use Rattle.parse_tree.specs.Plain.Texts.{distinct}
@@ -15,7 +15,6 @@ use Rattle.texts.specs.Classes.{text_class}
 use Rattle.texts.specs.Fields.{class_at, cell_at}
 use Rattle.texts.specs.Table.{Table, Above, texts}
 use Rattle.validate.specs.declared.Atoms.{Atoms}
-use Rattle.std.specs.Prelude.{Result, Ok, Err}
 
 -- w holds the table of the first atoms of s with the classes of their texts and blank cells
 pub record Ready (s w : List ℕ) (m : Atoms) : Type 0 where

@@ -1,5 +1,5 @@
 // The atoms at the front of a tape, counted, then entered in the table, each new.
-ghost use Rattle.std.specs.Prelude.{◌≡◌, ◌<◌, length};
+ghost use Rattle.std.specs.Prelude.{◌<◌};
 ghost use Rattle.validate.specs.Front.{AtomEnds, Counted, Going, Nexts, Starts, Fronted};
 
 use crate::Count;
@@ -47,7 +47,7 @@ fn enter_at(
     count: usize,
 ) -> Option<(Map, usize)>
     requires { Going tape.now work.old m at end count × (at < end) }
-    ensures { Nexts tape.now m at end count result work.new }
+    ensures { Nexts tape.now at end count result work.new }
 {
     let t = atom(tape, at);
     let f = scan(t);

@@ -44,7 +44,6 @@ fn symbol_defined(k: SymbolKind, atoms: usize) -> bool
     }
 }
 
-// Apart from `attribute_defined`, which asks of other fields: one function for both would have to build a node.
 pub fn alternative_defined(a: Alternative, atoms: usize) -> bool
     ensures { result ≡ alternative_defined atoms a }
 {

@@ -1,5 +1,5 @@
 // The command of a symbol, an alternative, an item, an argument or an attribute, by its bytes: no node is built. What is not found out here is left to `command`.
-ghost use Rattle.std.specs.Prelude.{◌≡◌, true, ◌&&◌, [], ◌+◌, ◌≤◌, ◌<◌, ltb, length, get_or, IfSome};
+ghost use Rattle.std.specs.Prelude.{◌≡◌, true, ◌&&◌, [], ◌+◌, ◌≤◌, ltb, length, get_or, IfSome};
 ghost use Rattle.octets.specs.Working.Choice.{pick};
 ghost use Rattle.parse_tree.specs.Working.Nodes.{named_leaf};
 ghost use Rattle.parse_tree.specs.Working.Places.{row, arguments_place, attributes_place};
@@ -35,8 +35,8 @@ fn named(r: &Reader, c: u8, k: u32) -> bool
     }
 }
 
-// How long the command of a symbol is that passes 3 and 4; None where it doesn't. c is its code. Its length with it: asked again by the code it would be
-// a second jump for each command.
+// How long the command of a symbol is that passes 3 and 4; None where it doesn't. c is its code. The length is the answer since, asked for by the code
+// afterwards, it would be a second jump for each command.
 fn passes(r: &Reader, at: usize, c: u8) -> Option<usize>
     requires { at + (10 + r.now.atoms.width.bytes) ≤ length r.now.tape.now }
     ensures { IfSome result (Kinded r.now.tape.now r.now.atoms c at) }

@@ -10,7 +10,7 @@ pub struct Regions {
     pub records: usize,
 }
 
-// Before it 48 bytes are left to the call.
+// The 48 bytes before it hold nothing.
 pub const LIST: usize = 48;
 
 // n is the number of bytes that the tape's items have.

@@ -52,7 +52,6 @@ fn symbol_suits(r: &Reader, k: SymbolKind) -> bool
     }
 }
 
-// Apart from `attribute_suits`, which asks of other fields: one function for both would have to build a node.
 pub fn alternative_suits(r: &Reader, a: Alternative) -> bool
     ensures { result ≡ suits (atoms_of r.now.tape.now r.now.atoms.texts.count) (Node.Alternative a) }
 {

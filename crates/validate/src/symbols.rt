@@ -15,7 +15,7 @@ use parse_tree::refusal::Refusal;
 use parse_tree::syntax::{Node, Over, SymbolKind};
 
 // How many symbols stand inside; by the node, which is read here already, where `parse_tree::nested` goes by the code.
-pub fn inside(o: Over) -> usize
+fn inside(o: Over) -> usize
     ensures { result ≡ inside_of o }
 {
     match o {
@@ -26,7 +26,7 @@ pub fn inside(o: Over) -> usize
 
 // The symbol at a place, with `left` levels of nesting left.
 #[cycle(symbol_symbols)]
-pub fn symbol(r: &Reader, at: usize, left: usize) -> Result<usize, Refusal>
+fn symbol(r: &Reader, at: usize, left: usize) -> Result<usize, Refusal>
     ensures { result ≡ step_of (read_sym r.now.atoms.four r.now.atoms.width.bytes r.now.tape.now (atoms_of r.now.tape.now r.now.atoms.texts.count) left at) }
 {
     let (n, e) = command(r, Place::Symbols, left, at)?;

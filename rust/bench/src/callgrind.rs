@@ -105,7 +105,7 @@ fn lalrpop_passes(ready: Ready) -> Option<Ready> {
 }
 
 /// The instructions of a call by function, the most first. Those of `memset`, which clears work and tables, are left out: callgrind counts one
-/// for each byte where the processor is asked once for all.
+/// for each byte where the processor is asked once for all; and those of `clear_blocks`, which looks at long work before it is cleared.
 pub fn instructions(call: Call, word: &str) -> Vec<(u64, String)> {
     let program = std::env::current_exe().expect("the program's own path");
     let file = program.with_file_name(format!("callgrind.{}.{word}", call.word()));
@@ -119,7 +119,7 @@ pub fn instructions(call: Call, word: &str) -> Vec<(u64, String)> {
     assert!(status.success(), "valgrind ended with {status}");
     let mut all = by_function(&std::fs::read_to_string(file).expect("callgrind's file"));
     assert!(!all.is_empty(), "callgrind saw no call of {}", call.function());
-    all.retain(|(_, name)| !name.contains("memset"));
+    all.retain(|(_, name)| !name.contains("memset") && !name.contains("clear_blocks"));
     all.sort_by(|one, other| other.cmp(one));
     all
 }

@@ -3,14 +3,12 @@
 use crate::callgrind::{self, per_byte, Call};
 use crate::functions;
 use crate::grammars::SIZES;
-use crate::measure::{least_of, levelling, median, resolving, theirs, turns};
+use crate::measure::{least_of, levelling, median, resolving, theirs, turns, AIM};
 use crate::subject::Subject;
 use oracle::Ready;
 use reading::parse;
 use reading::tree::Stage;
 
-/// What is aimed at: LALRPOP's time, so many times ours.
-const AIM: f64 = 5.0;
 /// Alternatives of a long ladder.
 const RUNGS: usize = 4_096;
 /// Runs of a long ladder: LALRPOP takes a sixth of a second for some of them.
@@ -52,7 +50,7 @@ fn without(whole: &[f64], part: &[f64]) -> f64 {
 fn line(name: &str, subject: &Subject) -> Option<Ratios> {
     let (tape, tree) = (subject.tape.len(), subject.levelled_tree().len());
     let ready = subject.ready.clone().and_then(Ready::resolved);
-    let mut runs = vec![resolving(subject), levelling(subject)];
+    let mut runs = vec![resolving(subject, subject.work_of_resolving()), levelling(subject)];
     for pass in [Ready::resolved, Ready::levelled] {
         runs.extend(ready.as_ref().map(|ready| theirs(ready, tape, pass)));
     }
@@ -124,7 +122,7 @@ fn ladder_line(name: &str, stage: &Stage) {
     let (tape, tree) = (subject.tape.len(), subject.levelled_tree().len());
     let ready = subject.ready.clone().and_then(Ready::resolved);
     let least = |run, runs| least_of(run, runs) / tape as f64;
-    let (call, resolving) = (least(levelling(&subject), OUR_RUNS), least(resolving(&subject), OUR_RUNS));
+    let (call, resolving) = (least(levelling(&subject), OUR_RUNS), least(resolving(&subject, subject.work_of_resolving()), OUR_RUNS));
     let ours = call - resolving;
     let theirs = ready.as_ref().map(|ready| least(theirs(ready, tape, Ready::levelled), THEIR_RUNS));
     let theirs = theirs.map_or("– | –".into(), |theirs| format!("{theirs:.2} | {:.2}", theirs / ours));

@@ -1,12 +1,13 @@
 //! What the calls cost: beside LALRPOP's own passes on grammars like grammar files and on hostile ones, in instructions, and at sizes up to 4 MiB.
 //! `--macros`, `--whole` and `--sizes` print those tables alone.
-//! Ends with status 1 where a byte takes more than half as long again at 4 MiB as at 64 KiB, the clearing of work aside.
+//! Ends with status 1 where a byte takes more than half as long again at 4 MiB as at 64 KiB (large).
 #![deny(unsafe_code)]
 
 mod callgrind;
 mod clock;
 mod grammars;
 mod hostile;
+mod large;
 mod levels;
 mod macros;
 mod measure;
@@ -16,11 +17,12 @@ mod whole;
 
 use callgrind::Call;
 use grammars::SIZES;
-use measure::Least;
+use measure::{least_of, resolving, validating};
 use std::process::ExitCode;
 use subject::{Subject, SYMBOLS};
 
-const MOST_GROWTH: f64 = 1.5;
+/// Runs of the names.
+const RUNS: usize = 80;
 
 fn main() -> ExitCode {
     let arguments: Vec<String> = std::env::args().skip(1).collect();
@@ -28,7 +30,7 @@ fn main() -> ExitCode {
         Some("--once") => callgrind::once(&arguments[1..]),
         Some("--macros") => macros::tell(),
         Some("--whole") => whole::tell(),
-        Some("--sizes") => drop(sizes()),
+        Some("--sizes") => drop(large::tell()),
         _ => return all(),
     }
     ExitCode::SUCCESS
@@ -40,7 +42,7 @@ fn all() -> ExitCode {
     levels::tell();
     macros::tell();
     whole::tell();
-    let is_linear = sizes();
+    let is_linear = large::tell();
     sizes_on_huge_pages();
     names();
     if is_linear {
@@ -102,30 +104,6 @@ fn functions(call: Call, name: &str, word: &str) {
     }
 }
 
-/// Large tapes: whether a byte takes as long in those of 4 MiB.
-fn sizes() -> bool {
-    println!("\nNanoseconds for each byte of the tape, the least of several runs.\n");
-    println!(
-        "| tape | bytes | validating | of it clearing | resolving | of it clearing | copying and clearing |\n|---|---|---|---|---|---|---|"
-    );
-    let all = [4usize << 10, 64 << 10, 1 << 20, 4 << 20].map(|size| line("symbols", &tapes::symbols(size)));
-    line("65,536 atoms", &tapes::atoms(65_536));
-    line("60,000 items", &tapes::items(60_000, 0));
-    line("2,000 macros of 100 arguments", &tapes::items(2_000, 100));
-    let growth = |of: fn(&Least) -> f64| of(&all[3]) / of(&all[1]);
-    let [validating, resolving] =
-        [growth(|it| it.validating - it.clearing_of_validating), growth(|it| it.resolving - it.clearing_of_resolving)];
-    let is_linear = validating <= MOST_GROWTH && resolving <= MOST_GROWTH;
-    let end = if is_linear { "no more than" } else { "and that is more than" };
-    println!("\nA byte at 4 MiB, against 64 KiB, all but the clearing: validating {validating:.2}, resolving {resolving:.2}: {end} {MOST_GROWTH}.");
-    let [validating, resolving, clearing] = [growth(|it| it.validating), growth(|it| it.resolving), growth(|it| it.clearing_of_resolving)];
-    println!("With the clearing: validating {validating:.2}, resolving {resolving:.2}; the clearing alone {clearing:.2}.");
-    let copying = all[3].copying - all[1].copying;
-    let bound = (all[1].resolving + copying) / all[1].resolving;
-    println!("Copying and clearing take {copying:.2} ns more for each byte at 4 MiB; a call that is else as fast there as at 64 KiB has {bound:.2}.");
-    is_linear
-}
-
 /// The same once more with the buffers on huge pages, which the C library asks for by itself where it is told so.
 fn sizes_on_huge_pages() {
     println!("\nOn huge pages:");
@@ -136,22 +114,15 @@ fn sizes_on_huge_pages() {
     }
 }
 
-/// One line: nanoseconds for each byte.
-fn line(name: &str, tape: &[u8]) -> Least {
-    let it = measure::least(tape).over(tape.len());
-    let all = [it.validating, it.clearing_of_validating, it.resolving, it.clearing_of_resolving, it.copying]
-        .map(|figure| format!("{figure:.2}"))
-        .join(" | ");
-    println!("| {name} | {} | {all} |", tape.len());
-    it
-}
-
 /// Names that all fall into one bucket of the table of atoms.
 fn names() {
     println!("\nNanoseconds for each of {} names of {} letters.\n", tapes::NAMES, tapes::LENGTH);
     println!("| names | validating | resolving |\n|---|---|---|");
     for (name, tape) in [("ordinary", tapes::names_of_many()), ("all of one hash", tapes::names_of_one_hash())] {
-        let it = measure::least(&tape).over(tapes::NAMES);
-        println!("| {name} | {:.0} | {:.0} |", it.validating, it.resolving);
+        let subject = Subject::of_tape(tape);
+        let of = |run| least_of(run, RUNS) / tapes::NAMES as f64;
+        let (validating, resolving) =
+            (of(validating(&subject, subject.work_of_validating())), of(resolving(&subject, subject.work_of_resolving())));
+        println!("| {name} | {validating:.0} | {resolving:.0} |");
     }
 }

@@ -5,6 +5,8 @@ use oracle::Ready;
 use std::hint::black_box;
 use std::time::Duration;
 
+/// What is aimed at: LALRPOP's time, so many times ours.
+pub const AIM: f64 = 5.0;
 pub const TURNS: usize = 15;
 const TURN: Duration = Duration::from_millis(5);
 
@@ -22,7 +24,8 @@ pub struct Figures {
 
 /// The medians of the turns: validating, resolving, copying, LALRPOP's, and again. The tree is what the tape becomes.
 pub fn figures(subject: &Subject, tree: &[u8]) -> Figures {
-    let mut runs = vec![validating(subject), resolving(subject), copying(subject, tree)];
+    let mut runs =
+        vec![validating(subject, subject.work_of_validating()), resolving(subject, subject.work_of_resolving()), copying(subject, tree)];
     runs.extend(subject.ready.as_ref().map(|ready| theirs(ready, subject.tape.len(), Ready::resolved)));
     let turns = turns(runs, subject.tape.len());
     let ratios = |theirs: &Vec<f64>| theirs.iter().zip(&turns[1]).map(|(theirs, ours)| theirs / ours).collect();
@@ -63,17 +66,16 @@ pub fn median(mut figures: Vec<f64>) -> f64 {
     figures[figures.len() / 2]
 }
 
-fn timed(times: u32, mut once: impl FnMut()) -> Duration {
+pub fn timed(times: u32, mut once: impl FnMut()) -> Duration {
     took(|| (0..times).for_each(|_| once())).0
 }
 
-fn validating(subject: &Subject) -> Run<'_> {
-    let mut work = subject.work_of_validating();
+pub fn validating(subject: &Subject, mut work: Vec<u8>) -> Run<'_> {
     Box::new(move |times| timed(times, || subject.validate(&mut work)))
 }
 
-pub fn resolving(subject: &Subject) -> Run<'_> {
-    let (mut output, mut work) = (subject.output(), subject.work_of_resolving());
+pub fn resolving(subject: &Subject, mut work: Vec<u8>) -> Run<'_> {
+    let mut output = subject.output();
     Box::new(move |times| timed(times, || subject.resolve(&mut output, &mut work)))
 }
 
@@ -90,7 +92,7 @@ pub fn expanding(subject: &Subject, call: Expand) -> Run<'_> {
 }
 
 /// Copying the tape and the tree, and clearing as much work as resolving clears.
-fn copying<'a>(subject: &'a Subject, tree: &'a [u8]) -> Run<'a> {
+pub fn copying<'a>(subject: &'a Subject, tree: &'a [u8]) -> Run<'a> {
     let (mut copy, mut output, mut work) = (subject.output(), subject.output(), subject.work_of_resolving());
     Box::new(move |times| {
         timed(times, || {
@@ -121,49 +123,7 @@ pub fn theirs<'a>(ready: &'a Ready, tape: usize, pass: fn(Ready) -> Option<Ready
     })
 }
 
-/// Clearing as much as a call clears.
-fn clearing<'a>(mut work: Vec<u8>) -> Run<'a> {
-    Box::new(move |times| timed(times, || black_box(&mut work).fill(0)))
-}
-
-/// The least nanoseconds of several runs of both calls, each with buffers just long enough, of the clearing in them, and of copying the tape twice with
-/// resolving's clearing.
-pub struct Least {
-    pub validating: f64,
-    pub resolving: f64,
-    pub clearing_of_validating: f64,
-    pub clearing_of_resolving: f64,
-    pub copying: f64,
-}
-
-impl Least {
-    /// For each of so many.
-    pub fn over(self, count: usize) -> Least {
-        let of = |figure: f64| figure / count as f64;
-        Least {
-            validating: of(self.validating),
-            resolving: of(self.resolving),
-            clearing_of_validating: of(self.clearing_of_validating),
-            clearing_of_resolving: of(self.clearing_of_resolving),
-            copying: of(self.copying),
-        }
-    }
-}
-
 /// The least nanoseconds of so many runs.
 pub fn least_of(mut run: Run, runs: usize) -> f64 {
     (0..runs).map(|_| run(1).as_nanos() as f64).fold(f64::INFINITY, f64::min)
-}
-
-pub fn least(tape: &[u8]) -> Least {
-    let subject = Subject::of_tape(tape.to_vec());
-    let runs = (32_000_000 / tape.len()).clamp(25, 1_000);
-    let of = |run: Run| least_of(run, runs);
-    Least {
-        validating: of(validating(&subject)),
-        resolving: of(resolving(&subject)),
-        clearing_of_validating: of(clearing(subject.work_of_validating())),
-        clearing_of_resolving: of(clearing(subject.work_of_resolving())),
-        copying: of(copying(&subject, &subject.tape)),
-    }
 }

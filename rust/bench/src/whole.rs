@@ -4,12 +4,10 @@ use crate::callgrind::{self, sum, Call};
 use crate::functions;
 use crate::grammars::SIZES;
 use crate::hostile::ALL;
-use crate::measure::{expanding, median, so_many_turns, theirs, TURNS};
+use crate::measure::{expanding, median, so_many_turns, theirs, AIM, TURNS};
 use crate::subject::Subject;
 use oracle::Ready;
 
-/// What is aimed at: LALRPOP's time, so many times ours.
-const AIM: f64 = 5.0;
 /// Hostile grammars take long.
 const FEW_TURNS: usize = 5;
 

@@ -5,14 +5,14 @@ use crate::chosen::{LONGEST, USUAL_LIMIT};
 use crate::grammars::{MACRO_EXPAND, PRECEDENCE, RESOLVE};
 use crate::grow::Size;
 use crate::judge::expected;
-use crate::levels::{spelled, CASES, REFUSED};
+use crate::levels::{tape, CASES, REFUSED};
 use crate::rounds::{alike, calling, chain, counting};
 use crate::whole::LIMITS;
 use crate::{macros, whole};
 use oracle::chance::Chance;
 use oracle::Call;
 use reading::tree::Stage;
-use reading::{parse, write, Outcome};
+use reading::{write, Outcome};
 
 /// How much longer than the tape an output may be: some of the macros go on for ever.
 const MORE: usize = 1_000;
@@ -40,10 +40,6 @@ fn candidates(call: Call) -> Vec<Case> {
     let counted = [USUAL_LIMIT, USUAL_LIMIT + 1].map(|limit| Case::expanding(handed_on(USUAL_LIMIT), limit));
     let cramped = [-1, 1].map(|work| Case { tape: tape(thorough[0].1), limit: 2, room: Room { output: 400, work } });
     once.chain(in_each_room).chain(within_each).chain(deep).chain(counted).chain(cramped).collect()
-}
-
-fn tape(grammar: &str) -> Vec<u8> {
-    write(&parse(&spelled(grammar)))
 }
 
 /// Document 01's star, and what takes more rounds, each with the limit that it needs.

@@ -1,6 +1,7 @@
 //! The grammars of LALRPOP 0.19.8's unit tests of resolve, precedence and macro_expand, written anew.
 //! Left out, since the tape doesn't carry them: types, conditions with `~~` and `!~`, and the trees behind macro expansion, whose
 //! names (like `Comma<"Id">`) question 4 refuses.
+use crate::levels::unmarked;
 use reading::tree::Stage;
 use reading::{parse, write, Refusal};
 
@@ -14,7 +15,7 @@ pub struct Known {
 
 impl Known {
     pub fn stage(&self) -> Stage {
-        parse(&self.marked.replace("[[", "").replace("]]", ""))
+        parse(&unmarked(self.marked).0)
     }
 
     pub fn tape(&self) -> Vec<u8> {
@@ -23,8 +24,7 @@ impl Known {
 
     /// The refusal with the place that is marked.
     pub fn refused(&self) -> Option<Refusal> {
-        let (from, to) = (self.marked.find("[[")?, self.marked.find("]]")? - "[[".len());
-        Some(Refusal { number: self.number?, place: (from as u64, to as u64) })
+        Some(Refusal { number: self.number?, place: unmarked(self.marked).1? })
     }
 }
 

@@ -1,8 +1,7 @@
 //! Grammars for levels, with the answers that document 01 gives, written from it: those of its cases, and others on which readings part.
 //! `#"1"` is short for `#[precedence(level="1")]`, `#left` for `#[assoc(side="left")]`.
-use reading::parse;
 use reading::tree::*;
-use reading::Refusal;
+use reading::{parse, write, Refusal};
 
 /// A grammar, and the one that levels make of it. Document 01's second 5 to 13 aren't asked by the call for levels alone.
 pub struct Levelled {
@@ -46,14 +45,23 @@ impl Grammar {
 
 impl Refused {
     pub fn stage(&self) -> Stage {
-        parse(&spelled(self.marked).replace("[[", "").replace("]]", ""))
+        parse(&unmarked(&spelled(self.marked)).0)
     }
 
     pub fn refusal(&self) -> Refusal {
-        let text = spelled(self.marked);
-        let (from, to) = (text.find("[[").expect("a mark"), text.find("]]").expect("a mark") - "[[".len());
-        Refusal { number: self.number, place: (from as u64, to as u64) }
+        Refusal { number: self.number, place: unmarked(&spelled(self.marked)).1.expect("marks") }
     }
+}
+
+/// A text without its marks `[[` and `]]`, and the place between them, if it has any.
+pub fn unmarked(text: &str) -> (String, Option<(u64, u64)>) {
+    let place = text.find("[[").zip(text.find("]]")).map(|(from, to)| (from as u64, (to - "[[".len()) as u64));
+    (text.replace("[[", "").replace("]]", ""), place)
+}
+
+/// The tape of a grammar in short forms.
+pub fn tape(grammar: &str) -> Vec<u8> {
+    write(&parse(&spelled(grammar)))
 }
 
 /// A text with the short forms written out.
@@ -89,21 +97,8 @@ fn terminal(item: &Item) -> Option<String> {
 }
 
 /// Every span 0 0.
-pub fn without_spans(mut items: Vec<Item>) -> Vec<Item> {
-    each_symbol(&mut items, &mut |symbol| symbol.span = Span(0, 0));
-    for item in &mut items {
-        match item {
-            Item::Extern(span, _) | Item::Match(span, _) => *span = Span(0, 0),
-            Item::Nonterminal(data) => {
-                data.span = Span(0, 0);
-                for alternative in &mut data.alternatives {
-                    alternative.span = Span(0, 0);
-                    alternative.condition.iter_mut().for_each(|condition| condition.span = Span(0, 0));
-                }
-            }
-        }
-    }
-    items
+pub fn without_spans(items: Vec<Item>) -> Vec<Item> {
+    items.into_iter().map(Item::nowhere).collect()
 }
 
 fn each_symbol(items: &mut [Item], visit: &mut dyn FnMut(&mut Symbol)) {

@@ -16,6 +16,13 @@ fn tape(grammar: &str) -> Vec<u8> {
     write(&parse(grammar))
 }
 
+/// The grammar's tape with so many atoms that nothing names before its own, and these.
+pub fn with_atoms(grammar: &str, others: usize, more: &[&str]) -> Vec<u8> {
+    let others = (0..others).map(|index| format!("a{index:x}").into_bytes());
+    let atoms = others.chain(more.iter().map(|text| text.as_bytes().to_vec())).collect();
+    write(&Stage { atoms, ..parse(grammar) })
+}
+
 /// The grammar with another text for its literals.
 fn with_literal(grammar: &str, text: &str) -> Vec<u8> {
     let mut stage = parse(grammar);
@@ -62,11 +69,7 @@ fn doubling() -> Vec<Edge> {
 
 /// `n*` makes one text in its first stage, then two, one and three: the last one is the 65,536th atom, or some is one more.
 fn many_atoms() -> Vec<Edge> {
-    let stage = |others: usize, more: &[&str]| {
-        let others = (0..others).map(|index| format!("a{index:x}").into_bytes());
-        let atoms = others.chain(more.iter().map(|text| text.as_bytes().to_vec())).collect();
-        write(&Stage { atoms, ..parse(&format!("S = n*; {N}")) })
-    };
+    let stage = |others, more: &[&str]| with_atoms(&format!("S = n*; {N}"), others, more);
     let most = 65_536 - 2;
     let fewer = [0, 1, 3, 4, 7].map(|texts| stage(most - texts, &[]));
     let known = [stage(most - 7, &["n+"]), stage(most - 7, &["v", "v*"])];

@@ -1,4 +1,5 @@
-//! Cases of macros and of the whole whose answers are stated, with all their numbers, where the readings of document 01 are written down: 22 (what was
+//! Cases of macros and of the whole whose answers are stated with all their numbers. 22, 28 and 29 number readings of document 01 in a list that is no
+//! part of this repository (not docs/DECISIONS.md): 22 (what was
 //! pushed last, however long its printed form is), 28 (how many symbols can be pending), 29 (how long their names can be together).
 use crate::case::{round_lengths, Case, Room, Rounds};
 use crate::chosen::{has_rounds, line};

@@ -1,22 +1,19 @@
 //! Grammars for the whole call: chosen ones on which readings of document 01 part, random ones with levels and macros, and some at the limits.
 //! `#"1"` is short for `#[precedence(level="1")]`, `#left` for `#[assoc(side="left")]`.
 use crate::case::{at_every_length, every_room, round_lengths, Case, Rounds};
+use crate::grammars;
 use crate::grow::{tree, tree_so_wild, Size};
 use crate::ladders::{with_levels, Often};
-use crate::levels::{spelled, CASES, OTHERS, REFUSED};
+use crate::levels::{spelled, tape, CASES, OTHERS, REFUSED};
+use crate::macro_edges::{with_atoms, Edge};
 use crate::rounds::{alike, chain, counting, made_texts, with_calls};
-use crate::{grammars, macro_edges::Edge};
 use oracle::chance::Chance;
 use oracle::Call;
 use reading::tree::Stage;
 use reading::{parse, write};
 
-/// Rounds that are allowed.
+/// Limits of the stored cases and of the chosen grammars; random tapes take `macros::LIMITS`.
 pub const LIMITS: [u16; 6] = [0, 1, 2, 3, 64, 65_535];
-
-fn tape(grammar: &str) -> Vec<u8> {
-    write(&parse(&spelled(grammar)))
-}
 
 /// The grammars of LALRPOP's unit tests, those chosen for levels, and these, within each limit, with an output as long as each stage that is at most so
 /// many bytes longer than the tape, and one byte less.
@@ -106,9 +103,7 @@ fn operators(chance: &mut Chance) -> Stage {
     if chance.percent(12) {
         items.push(chance.one_of(&DECLARED).into());
     }
-    for index in (1..items.len()).rev() {
-        items.swap(index, chance.under(index + 1));
-    }
+    chance.shuffle(&mut items);
     let mut stage = parse(&spelled(&(items.join(" ") + "extern { enum T { n => N } }")));
     if chance.percent(30) {
         made_texts(chance, &mut stage, Call::Whole);
@@ -156,11 +151,8 @@ fn long_names() -> Vec<Edge> {
 
 /// As many atoms as there can be behind levels, behind the replacing stage, behind the appending one; and one more.
 fn many_atoms() -> Vec<Edge> {
-    let stage = |others: usize, more: &[&str]| {
-        let others = (0..others).map(|index| format!("a{index:x}").into_bytes());
-        let atoms = others.chain(more.iter().map(|text| text.as_bytes().to_vec())).collect();
-        write(&Stage { atoms, ..parse(&spelled(r#"E = { #"1" n, #"2" #none E? }; extern { enum T { n => N } }"#)) })
-    };
+    let grammar = spelled(r#"E = { #"1" n, #"2" #none E? }; extern { enum T { n => N } }"#);
+    let stage = |others, more: &[&str]| with_atoms(&grammar, others, more);
     // E, n, precedence, level, 1, 2, assoc, side, none; made: E1; `E1?`; `Some(<>)` and None
     let most = 65_536 - 9;
     let fewer = [0, 1, 2, 3, 4, 5].map(|texts| stage(most - texts, &[]));

@@ -1,4 +1,4 @@
-//! The cases of readings 22, 28 and 29, each answered by us and by the Rust as is stated, and their numbers.
+//! The cases of readings 22, 28 and 29 (rust/compare/src/stated.rs says which these are), each answered by us and by the Rust as is stated, and their numbers.
 use compare::judge::{judge, words, Ours, Verdict, MACROS, WHOLE};
 use compare::stated::{all, Stated};
 use compare::the_rust_is_there;

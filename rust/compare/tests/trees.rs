@@ -18,7 +18,7 @@ fn made(stage: &Stage, output: usize, call: impl Fn(&[u8], &mut [u8], &mut [u8])
 /// The chosen grammars of all three passes and of levels.
 fn grammars() -> impl Iterator<Item = Stage> {
     let of_levels = CASES.iter().chain(&OTHERS).map(|case| case.stage());
-    chosen().into_iter().filter_map(|tape| read(&tape).ok()).chain(of_levels).chain(REFUSED.iter().map(|case| case.stage()))
+    chosen().filter_map(|tape| read(&tape).ok()).chain(of_levels).chain(REFUSED.iter().map(|case| case.stage()))
 }
 
 #[test]

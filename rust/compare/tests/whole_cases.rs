@@ -1,6 +1,6 @@
 //! The whole call on document 01's cases and some more, each answered by us and by the Rust as the document says. The document's words are written out here:
 //! `#"1"` is short for `#[precedence(level="1")]`, `#left` for `#[assoc(side="left")]`. Trees are printed.
-use compare::levels::spelled;
+use compare::levels::{spelled, unmarked};
 use compare::the_rust_is_there;
 use compare::whole::chosen;
 use normalize::{whole, work_len};
@@ -138,9 +138,8 @@ fn trees_are_as_document_01_says() {
 fn refusals_are_as_document_01_says() {
     the_rust_is_there(REFUSED.len());
     for (about, number, limit, marked) in REFUSED {
-        let text = spelled(marked);
-        let (from, to) = (text.find("[[").expect("a mark"), text.find("]]").expect("a mark") - "[[".len());
-        let (stage, refusal) = (parse(&text.replace("[[", "").replace("]]", "")), Refusal { number, place: (from as u64, to as u64) });
+        let (text, place) = unmarked(&spelled(marked));
+        let (stage, refusal) = (parse(&text), Refusal { number, place: place.expect("marks") });
         assert_eq!(ours(&stage, limit), Err(refusal), "{about}");
         if let Some(theirs) = theirs(&stage, limit) {
             assert_eq!(theirs, Err(refusal), "the Rust: {about}");

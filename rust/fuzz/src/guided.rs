@@ -11,7 +11,7 @@ use oracle::damage::damaged;
 use std::path::Path;
 use std::sync::Mutex;
 
-/// The longest input, and the folder of the program's own where inputs are kept.
+/// The longest input, in bytes.
 const LONGEST: usize = 1_024;
 
 static SESSION: Mutex<Option<Session>> = Mutex::new(None);

@@ -1,4 +1,4 @@
-//! The boundary to the archive, and the only place of `unsafe`: which functions it exports, and how many words an answer has.
+//! The boundary to the archive, and this crate's only place of `unsafe`: which functions it exports, and how many words an answer has.
 #![allow(unsafe_code)]
 
 /// How many words an answer has.

@@ -67,6 +67,19 @@ fn work_too_short_stays_as_it_is() {
     assert_eq!(run(&ATOM_A, 5, need).0, Ok(4));
 }
 
+/// Long work is looked at before it is cleared, block by block.
+#[test]
+fn long_work_is_zero_wherever_it_was_not() {
+    for long in [(2 << 20) - 1, 2 << 20, (2 << 20) + 1, (2 << 20) + 4_097] {
+        for place in [0, 1, 4_095, 4_096, 1 << 20, long - 4_097, long - 4_096, long - 2, long - 1] {
+            let mut work = vec![0; long];
+            work[place] = 1;
+            assert_eq!(validate(&ATOM_A, &mut work), Ok(ATOM_A.len()));
+            assert!(work.iter().all(|&byte| byte == 0), "{long} bytes, {place}");
+        }
+    }
+}
+
 /// The answer of validating, and work, which held 0xaa before.
 fn check(tape: &[u8], work: usize) -> (Answer, Vec<u8>) {
     let mut work = vec![0xaa; work];

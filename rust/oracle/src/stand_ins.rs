@@ -1,4 +1,4 @@
-//! Stand-ins for what LALRPOP's files use and docs/src has not: only types, so that the passes compile.
+//! Stand-ins for what LALRPOP's files use and their folder has not: only types, so that the passes compile.
 use std::fmt::{self, Display};
 use std::sync::Arc;
 

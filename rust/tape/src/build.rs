@@ -262,3 +262,21 @@ impl Symbol {
         self
     }
 }
+
+impl Item {
+    /// The same at 0 to 0, with all that is inside.
+    pub fn nowhere(mut self) -> Item {
+        match &mut self {
+            Item::Extern(span, _) | Item::Match(span, _) => *span = Span::default(),
+            Item::Nonterminal(data) => {
+                data.span = Span::default();
+                for alternative in &mut data.alternatives {
+                    alternative.span = Span::default();
+                    alternative.condition.iter_mut().for_each(|condition| condition.span = Span::default());
+                    alternative.symbols.iter_mut().for_each(|symbol| *symbol = symbol.clone().nowhere());
+                }
+            }
+        }
+        self
+    }
+}

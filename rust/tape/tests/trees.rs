@@ -5,26 +5,8 @@ use tape::tree::*;
 
 /// The grammar's items are these, wherever they stand.
 fn same(grammar: &str, items: impl IntoIterator<Item = Item>) {
-    assert_eq!(without_spans(carried(grammar)).items, items.into_iter().collect::<Vec<_>>());
-}
-
-fn without_spans(mut stage: Stage) -> Stage {
-    for item in &mut stage.items {
-        match item {
-            Item::Extern(span, _) | Item::Match(span, _) => *span = Span(0, 0),
-            Item::Nonterminal(nonterminal) => {
-                nonterminal.span = Span(0, 0);
-                nonterminal.alternatives.iter_mut().for_each(forget);
-            }
-        }
-    }
-    stage
-}
-
-fn forget(alternative: &mut Alternative) {
-    alternative.span = Span(0, 0);
-    alternative.condition.iter_mut().for_each(|condition| condition.span = Span(0, 0));
-    alternative.symbols.iter_mut().for_each(|symbol| *symbol = symbol.clone().nowhere());
+    let carried: Vec<Item> = carried(grammar).items.into_iter().map(Item::nowhere).collect();
+    assert_eq!(carried, items.into_iter().collect::<Vec<_>>());
 }
 
 /// A nonterminal of one alternative.

@@ -6,20 +6,16 @@ use Prim.Native.Nat.{ℕ, zero, suc}
 use Rattle.parse_tree.specs.Plain.Tree.{Text, Item, Stage}
 use Rattle.parse_tree.specs.Plain.Texts.{has, distinct, with_new}
 use Rattle.parse_tree.specs.Plain.References.{texts_of_each, item_texts, stage_of}
-use Rattle.parse_tree.specs.Working.Within.{Each}
 use Rattle.parse_tree.proofs.TextLaws.{distinct_more}
 use Rattle.passes.specs.Outcome.{Tree, Outcome, yes, after}
 use Rattle.passes.proofs.Outcomes.{no≢yes, after-yes}
-use Rattle.passes.specs.Macros.{Pending, Expander, replace_items, drain}
+use Rattle.passes.specs.Macros.{Pending, MacroExpander, replace_items, drain}
 use Rattle.passes.specs.Sizes.{stage_fits}
 use Rattle.passes.specs.Stages.{last_stage, or_more, stage, rounds}
 use Rattle.passes.specs.Calls.{sizes}
 use Rattle.parse_tree.proofs.AmongLaws.{has_here, has-before, has-behind}
+use Rattle.parse_tree.proofs.NothingNew.{There}
 use Rattle.meaning.proofs.Calls.Staged.{admitted}
-
--- each of xs is among ts
-abbrev pub There : List Text → List Text → Type 0
-There ts xs = Each (λ (x : Text). has x ts ≡ true) xs
 
 -- ---- the new ones of xs behind ts
 pub with_new_keeps : (x : Text) (ts xs : List Text) → has x ts ≡ true → has x (with_new ts xs) ≡ true
@@ -82,12 +78,12 @@ rounds_stocked w cap G (suc limit) ts old fresh keys g d e =
     let q = replace_items fresh (record { keys = keys; pile = [] }) in
     go q q.1.pile (λ us new ks du z. rounds_stocked w cap G limit us (old ++ q.0) new ks g du z) e
   where
-    more : (q : List Item × Expander) → Outcome Stage
+    more : (q : List Item × MacroExpander) → Outcome Stage
     more q =
         after (stage (sizes w cap) ts (old ++ q.0)) (λ r. after (drain G q.1.pile) (λ new.
         after (stage (sizes w cap) r.atoms (old ++ q.0 ++ new)) (λ k. rounds (sizes w cap) G limit k.atoms (old ++ q.0) new q.1.keys)))
 
-    go : (q : List Item × Expander) (pile : List Pending)
+    go : (q : List Item × MacroExpander) (pile : List Pending)
         → ((us : List Text) (new : List Item) (ks : List Text) → distinct us ≡ true → rounds (sizes w cap) G limit us (old ++ q.0) new ks ≡ yes g → Stocked w g)
         → or_more pile (stage (sizes w cap) ts (old ++ q.0)) (more q) ≡ yes g → Stocked w g
     go q [] ih z = stage_stocked w cap ts (old ++ q.0) g d z

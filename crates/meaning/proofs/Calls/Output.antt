@@ -23,6 +23,8 @@ use Rattle.parse_tree.specs.Working.Within.{Each, SpanWithin, Uses, LeafWithin, 
 use Rattle.parse_tree.proofs.TextLaws.{number-below}
 use Rattle.parse_tree.proofs.Written.{written}
 use Rattle.parse_tree.proofs.ReadBack.{read_back}
+use Rattle.parse_tree.proofs.ReadingLaws.{each_all}
+use Rattle.parse_tree.proofs.NothingNew.{There}
 use Rattle.passes.specs.Outcome.{yes}
 use Rattle.passes.specs.Resolve.{resolve}
 use Rattle.passes.specs.Levels.{levels}
@@ -31,14 +33,11 @@ use Rattle.passes.specs.Sizes.{each, over_fits, sym_fits, syms_fit, alternative_
 use Rattle.passes.specs.Stages.{stage, resolve_stage, level_stage, macro_stages, all_stages}
 use Rattle.passes.specs.Calls.{sizes, validate_call, whole}
 use Rattle.passes.proofs.Outcomes.{after-yes}
+use Rattle.meaning.specs.Spans.{SymSpans, SymsSpans, ConditionSpans, AlternativeSpans, ItemSpans}
 use Rattle.meaning.proofs.Calls.Staged.{opened}
-use Rattle.meaning.proofs.Calls.Spans.{SymSpans, SymsSpans, ConditionSpans, AlternativeSpans, ItemSpans, resolve-spans, levels-spans}
+use Rattle.meaning.proofs.Calls.Spans.{resolve-spans, levels-spans}
 use Rattle.meaning.proofs.Calls.RoundSpans.{stage_spans, rounds_spans, without_macros-spans}
-use Rattle.meaning.proofs.Calls.Atoms.{There, Stocked, stage_stocked, rounds_stocked}
-
-each_map : {A : Type 0} (Q R : A → Type 0) → ((x : A) → Q x → R x) → (xs : List A) → Each Q xs → Each R xs
-each_map Q R f [] h = tt
-each_map Q R f (x ∷ xs) h = (f x h.0, each_map Q R f xs h.1)
+use Rattle.meaning.proofs.Calls.Atoms.{Stocked, stage_stocked, rounds_stocked}
 
 -- ---- the spans of what is within its limits
 module _ (four : Bool) (w : ℕ) (ts : List Text) where
@@ -62,7 +61,7 @@ module _ (four : Bool) (w : ℕ) (ts : List Text) where
   pub item_spans : (i : Item) → ItemWithin four w ts i → ItemSpans SpanWithin i
   item_spans (item d) h =
       let alternative : (a : Alternative) → AlternativeWithin four w ts a → AlternativeSpans SpanWithin a = λ a k. (k.span, condition_spans a.condition k.condition, syms_spans a.symbols 64 k.symbols) in
-      (h.span, each_map (AlternativeWithin four w ts) (AlternativeSpans SpanWithin) alternative d.alternatives h.alternatives)
+      (h.span, each_all (AlternativeWithin four w ts) (AlternativeSpans SpanWithin) alternative d.alternatives h.alternatives)
   item_spans (Item.terminal s o x) h = h.0
 
 under : {a b c : ℕ} → a < b → b ≤ c → a < c
@@ -185,7 +184,7 @@ module _ (w : ℕ) (ts : List Text) (few : length ts ≤ 256 ^ w) where
         span = p.0;
         name = uses is_name d.name h.0;
         few = ltb-true (length d.args) 256 f1;
-        args = each_map (λ (x : Text). has x ts ≡ true) (Uses false w ts is_name) (uses is_name) d.args h1;
+        args = each_all (λ (x : Text). has x ts ≡ true) (Uses false w ts is_name) (uses is_name) d.args h1;
         fewer = ltb-true (length d.alternatives) 65536 f2;
         alternatives = alternatives_within d.alternatives h2 f3 p.1;
       }
@@ -222,7 +221,7 @@ module _ (w : ℕ) where
   decoded_carried : (four : Bool) (tape : List ℕ) (u : Stage) (n : ℕ) → Bytes tape → decode_by four w tape ≡ got u n → Carried u
   decoded_carried four tape u n b e =
       let h = (written four w tape u n b e).within in
-      record { apart = h.apart; spans = each_map (ItemWithin four w u.atoms) (ItemSpans SpanWithin) (item_spans four w u.atoms) u.items h.items }
+      record { apart = h.apart; spans = each_all (ItemWithin four w u.atoms) (ItemSpans SpanWithin) (item_spans four w u.atoms) u.items h.items }
 
   stage_carried : (cap : ℕ) (ts : List Text) (items : List Item) (g : Stage) → distinct ts ≡ true → Each (ItemSpans SpanWithin) items → stage (sizes w cap) ts items ≡ yes g → Carried g
   stage_carried cap ts items g d p e = record { apart = (stage_stocked w cap ts items g d e).apart; spans = stage_spans SpanWithin w cap ts items g p e }

@@ -15,21 +15,21 @@ use Rattle.parse_tree.specs.declared.syntax.Span.{Span}
 use Rattle.parse_tree.proofs.ReadingLaws.{each_append}
 use Rattle.passes.specs.Outcome.{Tree, Outcome, yes, no, after, simple}
 use Rattle.passes.specs.Views.{Look, ahead, behind}
-use Rattle.passes.specs.Macros.{Pending, looking, repeating, listing, symbol_of, span_of, expand_lookaround_symbol, Expander, push, replace_around, replace_symbol, replace_symbols, replace_alternatives, replace_items, at, argument_of, or_name, macro_expand_symbol, macro_expand_symbols, macro_in, expand_macro_symbol, has_name, group_action, made, expand_expr_symbol, expand_repeat_symbol, expand_over, expand_symbol, drain, without_macros}
+use Rattle.passes.specs.Macros.{Pending, looking, repeating, listing, symbol_of, span_of, expand_lookaround_symbol, MacroExpander, push, replace_around, replace_symbol, replace_symbols, replace_alternatives, replace_items, at, argument_of, or_name, macro_expand_symbol, macro_expand_symbols, macro_in, expand_macro_symbol, has_name, group_action, made, expand_expr_symbol, expand_repeat_symbol, expand_over, expand_symbol, drain, without_macros}
 use Rattle.passes.specs.Stages.{last_stage, or_more, stage, rounds}
 use Rattle.passes.specs.Calls.{sizes}
 use Rattle.passes.proofs.Outcomes.{no≢yes, after-yes}
 use Rattle.passes.proofs.ResolveKeeps.{yes_as}
 use Rattle.passes.proofs.MacrosKeep.{Found, macro_found, call_keeps}
+use Rattle.meaning.specs.Spans.{SymSpans, SymsSpans, AlternativeSpans, ItemSpans}
 use Rattle.meaning.proofs.Calls.Staged.{admitted}
-use Rattle.meaning.proofs.Calls.Spans.{SymSpans, SymsSpans, AlternativeSpans, ItemSpans}
 
 module _ (P : Span → Type 0) where
   -- ---- replacing: what it gives, and the pile
-  abbrev pub PileSpans : Expander → Type 0
+  abbrev pub PileSpans : MacroExpander → Type 0
   PileSpans σ = Each (λ x. SymSpans P (symbol_of x)) σ.pile
 
-  push-spans : (x : Pending) (σ : Expander) → P (span_of x) → SymSpans P (symbol_of x) → PileSpans σ → SymSpans P (push x σ).0 × PileSpans (push x σ).1
+  push-spans : (x : Pending) (σ : MacroExpander) → P (span_of x) → SymSpans P (symbol_of x) → PileSpans σ → SymSpans P (push x σ).0 × PileSpans (push x σ).1
   unfolding push
   push-spans x σ h k p = (h, go (has (print (symbol_of x)) σ.keys))
     where
@@ -37,7 +37,7 @@ module _ (P : Span → Type 0) where
       go true = p
       go false = (k, p)
 
-  replace_leaf_spans : (s : Span) (l : Leaf) (σ : Expander) → P s → PileSpans σ → SymSpans P (replace_symbol (leaf s l) σ).0 × PileSpans (replace_symbol (leaf s l) σ).1
+  replace_leaf_spans : (s : Span) (l : Leaf) (σ : MacroExpander) → P s → PileSpans σ → SymSpans P (replace_symbol (leaf s l) σ).0 × PileSpans (replace_symbol (leaf s l) σ).1
   unfolding replace_symbol
   replace_leaf_spans s (ambiguous n) σ h p = (h, p)
   replace_leaf_spans s (bare n) σ h p = (h, p)
@@ -48,7 +48,7 @@ module _ (P : Span → Type 0) where
   replace_leaf_spans s lookbehind σ h p = push-spans (looking s behind) σ h h p
   replace_leaf_spans s error σ h p = (h, p)
 
-  replace_around-spans : (s : Span) (a : Around) (q : Sym × Expander) → P s → SymSpans P q.0 → PileSpans q.1
+  replace_around-spans : (s : Span) (a : Around) (q : Sym × MacroExpander) → P s → SymSpans P q.0 → PileSpans q.1
       → SymSpans P (replace_around s a q).0 × PileSpans (replace_around s a q).1
   replace_around-spans s (repeat o) q h k p = push-spans (repeating s o q.0) q.1 h (h, k) p
   replace_around-spans s choose q h k p = ((h, k), p)
@@ -57,7 +57,7 @@ module _ (P : Span → Type 0) where
   mutual
     unfolding replace_symbol replace_symbols
 
-    replace_symbol_spans : (x : Sym) (σ : Expander) → SymSpans P x → PileSpans σ → SymSpans P (replace_symbol x σ).0 × PileSpans (replace_symbol x σ).1
+    replace_symbol_spans : (x : Sym) (σ : MacroExpander) → SymSpans P x → PileSpans σ → SymSpans P (replace_symbol x σ).0 × PileSpans (replace_symbol x σ).1
     replace_symbol_spans (leaf s l) σ h p = replace_leaf_spans s l σ h p
     replace_symbol_spans (around s a x) σ h p =
         let (k, p1) = replace_symbol_spans x σ h.1 p in
@@ -66,14 +66,14 @@ module _ (P : Span → Type 0) where
         let (k, p1) = replace_symbols_spans xs σ h.1 p in
         push-spans (listing s o (replace_symbols xs σ).0) (replace_symbols xs σ).1 h.0 (h.0, k) p1
 
-    replace_symbols_spans : (xs : Syms) (σ : Expander) → SymsSpans P xs → PileSpans σ → SymsSpans P (replace_symbols xs σ).0 × PileSpans (replace_symbols xs σ).1
+    replace_symbols_spans : (xs : Syms) (σ : MacroExpander) → SymsSpans P xs → PileSpans σ → SymsSpans P (replace_symbols xs σ).0 × PileSpans (replace_symbols xs σ).1
     replace_symbols_spans nil σ h p = (tt, p)
     replace_symbols_spans (cons x xs) σ h p =
         let (k, p1) = replace_symbol_spans x σ h.0 p in
         let (ks, p2) = replace_symbols_spans xs (replace_symbol x σ).1 h.1 p1 in
         ((k, ks), p2)
 
-  replace_alternatives-spans : (as' : List Alternative) (σ : Expander) → Each (AlternativeSpans P) as' → PileSpans σ
+  replace_alternatives-spans : (as' : List Alternative) (σ : MacroExpander) → Each (AlternativeSpans P) as' → PileSpans σ
       → Each (AlternativeSpans P) (replace_alternatives as' σ).0 × PileSpans (replace_alternatives as' σ).1
   unfolding replace_alternatives
   replace_alternatives-spans [] σ h p = (tt, p)
@@ -82,7 +82,7 @@ module _ (P : Span → Type 0) where
       let (ks, p2) = replace_alternatives-spans rest (replace_symbols a.symbols σ).1 h.1 p1 in
       (((h.0.0, h.0.1, k), ks), p2)
 
-  pub replace_items-spans : (is' : List Item) (σ : Expander) → Each (ItemSpans P) is' → PileSpans σ → Each (ItemSpans P) (replace_items is' σ).0 × PileSpans (replace_items is' σ).1
+  pub replace_items-spans : (is' : List Item) (σ : MacroExpander) → Each (ItemSpans P) is' → PileSpans σ → Each (ItemSpans P) (replace_items is' σ).0 × PileSpans (replace_items is' σ).1
   unfolding replace_items
   replace_items-spans [] σ h p = (tt, p)
   replace_items-spans (item d ∷ rest) σ h p =
@@ -207,12 +207,12 @@ module _ (P : Span → Type 0) where
       let h = each_append (ItemSpans P) old q.0 ho k in
       go q q.1.pile h p (λ us new ks hn z. rounds_spans w cap G limit us (old ++ q.0) new ks g hG h hn z) e
     where
-      more : (q : List Item × Expander) → Outcome Stage
+      more : (q : List Item × MacroExpander) → Outcome Stage
       more q =
           after (stage (sizes w cap) ts (old ++ q.0)) (λ r. after (drain G q.1.pile) (λ new.
           after (stage (sizes w cap) r.atoms (old ++ q.0 ++ new)) (λ k. rounds (sizes w cap) G limit k.atoms (old ++ q.0) new q.1.keys)))
 
-      go : (q : List Item × Expander) (pile : List Pending) → Each (ItemSpans P) (old ++ q.0) → PileSpans q.1
+      go : (q : List Item × MacroExpander) (pile : List Pending) → Each (ItemSpans P) (old ++ q.0) → PileSpans q.1
           → ((us : List Text) (new : List Item) (ks : List Text) → Each (ItemSpans P) new → rounds (sizes w cap) G limit us (old ++ q.0) new ks ≡ yes g → Each (ItemSpans P) g.items)
           → or_more pile (stage (sizes w cap) ts (old ++ q.0)) (more q) ≡ yes g → Each (ItemSpans P) g.items
       go q [] h p ih z = stage_spans w cap ts (old ++ q.0) g h z

@@ -6,7 +6,7 @@ use mathlib.Core.List.{List, [], ◌∷◌, map}
 use mathlib.Core.Option.{Option, none, some}
 use Prim.Native.Nat.{ℕ, zero, suc, ◌+◌}
 use lib.Dec.{eqb}
-use Rattle.parse_tree.specs.Plain.Tree.{Text, Leaf, Sym, Syms, ambiguous, bare, quoted, regex, nonterminal, lookahead, lookbehind, error, leaf, around, over, nil, cons, count, Condition, Alternative, Nonterminal, Item, item}
+use Rattle.parse_tree.specs.Plain.Tree.{Text, Leaf, Sym, Syms, ambiguous, bare, quoted, regex, nonterminal, lookahead, lookbehind, error, leaf, around, over, nil, cons, count, Alternative, Nonterminal, Item, item}
 use Rattle.parse_tree.specs.Working.Within.{Each}
 use Rattle.parse_tree.specs.declared.syntax.Span.{Span}
 use Rattle.parse_tree.proofs.ReadingLaws.{each_append}
@@ -16,29 +16,7 @@ use Rattle.passes.specs.Grades.{Side, all, value_of, is_given, without_first, pr
 use Rattle.passes.specs.Levels.{level_name, levels_of, of_level, Group, groups_of, occurs, replace_occurrences, replace_occurrences_in, substitute, substituted, fall_through, with_fall_through, level_items, levelled, check_levels, levels}
 use Rattle.passes.proofs.Outcomes.{no≢yes, after-yes}
 use Rattle.passes.proofs.ResolveKeeps.{yes_as}
-
--- ---- every span satisfies P
-module _ (P : Span → Type 0) where
-  abbrev mutual
-    pub SymSpans : Sym → Type 0
-    SymSpans (leaf s l) = P s
-    SymSpans (around s a x) = P s × SymSpans x
-    SymSpans (over s o xs) = P s × SymsSpans xs
-
-    pub SymsSpans : Syms → Type 0
-    SymsSpans nil = Unit {0}
-    SymsSpans (cons x xs) = SymSpans x × SymsSpans xs
-
-  abbrev pub ConditionSpans : Option Condition → Type 0
-  ConditionSpans none = Unit {0}
-  ConditionSpans (some c) = P c.span
-
-  abbrev pub AlternativeSpans : Alternative → Type 0
-  AlternativeSpans a = P a.span × ConditionSpans a.condition × SymsSpans a.symbols
-
-  abbrev pub ItemSpans : Item → Type 0
-  ItemSpans (item d) = P d.span × Each AlternativeSpans d.alternatives
-  ItemSpans (Item.terminal s o t) = P s
+use Rattle.meaning.specs.Spans.{SymSpans, SymsSpans, AlternativeSpans, ItemSpans}
 
 -- ---- resolving: G is the tree, ps an item's arguments
 module _ (P : Span → Type 0) (G : Tree) (ps : List Text) where

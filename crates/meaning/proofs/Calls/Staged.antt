@@ -17,7 +17,7 @@ use Rattle.parse_tree.specs.Plain.References.{stage_of}
 use Rattle.passes.specs.Outcome.{Tree, Outcome, yes, no, after}
 use Rattle.passes.specs.Resolve.{resolve}
 use Rattle.passes.specs.Levels.{levels}
-use Rattle.passes.specs.Macros.{Pending, Expander, replace_items, drain, span_of, without_macros}
+use Rattle.passes.specs.Macros.{Pending, MacroExpander, replace_items, drain, span_of, without_macros}
 use Rattle.passes.specs.Sizes.{stage_fits}
 use Rattle.passes.specs.Stages.{last_stage, or_more, stage, resolve_stage, level_stage, rounds, macro_stages, all_stages}
 use Rattle.passes.specs.Calls.{nowhere, read_as, sizes, validate_call, whole}
@@ -48,17 +48,17 @@ unfolding sizes
 sizes-more w cap cap' l g h e = let a = admitted w cap g h e in cc (a.fits, le-leb (length (tape_of w g)) cap' (omega (arith, a.room)), a.same)
 
 -- what stands behind a replacing stage with symbols pending; q is what replacing gave
-abbrev on : (Stage → Outcome Stage) → Tree → ℕ → List Text → List Item → List Item × Expander → Outcome Stage
+abbrev on : (Stage → Outcome Stage) → Tree → ℕ → List Text → List Item → List Item × MacroExpander → Outcome Stage
 on admit G limit ts old q =
     after (stage admit ts (old ++ q.0)) (λ h. after (drain G q.1.pile) (λ new. after (stage admit h.atoms (old ++ q.0 ++ new)) (λ k. rounds admit G limit k.atoms (old ++ q.0) new q.1.keys)))
 
 module _ (low high : Stage → Outcome Stage) (more : Admits low high) where
   module _ (G : Tree) (g : Stage) where
     -- what the rounds behind give
-    abbrev Later : ℕ → ℕ → List Item → List Item × Expander → Type 0
+    abbrev Later : ℕ → ℕ → List Item → List Item × MacroExpander → Type 0
     Later l l' old q = (us : List Text) (new : List Item) (ks : List Text) → rounds low G l us (old ++ q.0) new ks ≡ yes g → rounds high G l' us (old ++ q.0) new ks ≡ yes g
 
-    on_more : (l l' : ℕ) (ts : List Text) (old : List Item) (q : List Item × Expander) → Later l l' old q → on low G l ts old q ≡ yes g → on high G l' ts old q ≡ yes g
+    on_more : (l l' : ℕ) (ts : List Text) (old : List Item) (q : List Item × MacroExpander) → Later l l' old q → on low G l ts old q ≡ yes g → on high G l' ts old q ≡ yes g
     on_more l l' ts old q ih h =
         let (r, er, h1) = after-yes (stage low ts (old ++ q.0)) _ g h in
         let (new, en, h2) = after-yes (drain G q.1.pile) _ g h1 in
@@ -68,12 +68,12 @@ module _ (low high : Stage → Outcome Stage) (more : Admits low high) where
         (after_is (stage high r.atoms (old ++ q.0 ++ new)) _ k g (more (stage_of r.atoms (old ++ q.0 ++ new)) k ek) (ih k.atoms new q.1.keys h3)))
 
     -- a limit of 0 is a yes only with nothing pending
-    last_more : (l' : ℕ) (ts : List Text) (old : List Item) (q : List Item × Expander) (p : List Pending) → last_stage p (stage low ts (old ++ q.0)) ≡ yes g
+    last_more : (l' : ℕ) (ts : List Text) (old : List Item) (q : List Item × MacroExpander) (p : List Pending) → last_stage p (stage low ts (old ++ q.0)) ≡ yes g
         → (last_stage p (stage high ts (old ++ q.0)) ≡ yes g) × (or_more p (stage high ts (old ++ q.0)) (on high G l' ts old q) ≡ yes g)
     last_more l' ts old q [] h = (more (stage_of ts (old ++ q.0)) g h, more (stage_of ts (old ++ q.0)) g h)
     last_more l' ts old q (x ∷ xs) h = absurd (no≢yes 18 (span_of x) g h)
 
-    or_more_lem : (l l' : ℕ) (ts : List Text) (old : List Item) (q : List Item × Expander) (p : List Pending) → Later l l' old q
+    or_more_lem : (l l' : ℕ) (ts : List Text) (old : List Item) (q : List Item × MacroExpander) (p : List Pending) → Later l l' old q
         → or_more p (stage low ts (old ++ q.0)) (on low G l ts old q) ≡ yes g → or_more p (stage high ts (old ++ q.0)) (on high G l' ts old q) ≡ yes g
     or_more_lem l l' ts old q [] ih h = more (stage_of ts (old ++ q.0)) g h
     or_more_lem l l' ts old q (x ∷ xs) ih h = on_more l l' ts old q ih h

@@ -15,7 +15,7 @@ use Rattle.passes.specs.Outcome.{Tree, yes, Outcome, no}
 use Rattle.meaning.specs.Phrases.{Phrase, Phrases, token, bare_token, reference}
 use Rattle.meaning.specs.Meaning.{is_terminal, named, mean_leaf, mean_around, mean_over, mean, means, argument, put, puts, of_quoted, holds}
 use Rattle.passes.specs.Views.{as_quoted}
-use Rattle.passes.specs.Macros.{quoted_in, expand_alternative, at, argument_of, or_name, macro_expand_symbol, macro_expand_symbols, evaluate_condition, expand_alternatives}
+use Rattle.passes.specs.Macros.{quoted_in, expand_alternative, at, argument_of, or_name, macro_expand_symbol, macro_expand_symbols, evaluate_cond, expand_alternatives}
 use Rattle.meaning.specs.Premises.{HasItem}
 use Rattle.meaning.proofs.Basics.{test}
 use Rattle.passes.proofs.Outcomes.{no≢yes, yes_inj, after-yes}
@@ -189,42 +189,42 @@ module _ (G : Tree) (Known : Text → Type 0) where
       go true q k = symbol_decides c b h q
       go false q k = k q
 
-  pub condition_decides : (c : Option Condition) (b : Bool) (ps : List Text) {xs : Syms} {ms : Phrases} → Srcs G Known xs ms → evaluate_condition ps xs c ≡ yes b → holds ps ms c ≡ b
+  pub condition_decides : (c : Option Condition) (b : Bool) (ps : List Text) {xs : Syms} {ms : Phrases} → Srcs G Known xs ms → evaluate_cond ps xs c ≡ yes b → holds ps ms c ≡ b
   condition_decides none b ps hs e = yes_inj _ _ e
   condition_decides (some c) b ps hs e = argument-decides c b c.lhs ps hs e
 
 -- ---- the alternatives of a call: those whose condition holds, with the arguments put in
 module _ (s : Span) (ps : List Text) (xs : Syms) where
   abbrev Chosen : Alternative → List Alternative → Type 0
-  Chosen b as' = (a : Alternative) × Memᴰ a as' × (evaluate_condition ps xs a.condition ≡ yes true) × (b ≡ expand_alternative s ps xs a)
+  Chosen b as' = (a : Alternative) × Memᴰ a as' × (evaluate_cond ps xs a.condition ≡ yes true) × (b ≡ expand_alternative s ps xs a)
 
   pub alternatives_out : (as' r : List Alternative) → expand_alternatives s ps xs as' ≡ yes r → (b : Alternative) → Memᴰ b r → Chosen b as'
   unfolding expand_alternatives
   alternatives_out [] r e b i = absurd (Memᴰ.not-nil (subst (λ (l : List Alternative). Memᴰ b l) (sym (yes_inj [] r e)) i))
   alternatives_out (a ∷ rest) r e b i =
-      let (t, et, e1) = after-yes (evaluate_condition ps xs a.condition) _ r e in
+      let (t, et, e1) = after-yes (evaluate_cond ps xs a.condition) _ r e in
       let (r', er, e2) = after-yes (expand_alternatives s ps xs rest) _ r e1 in
       go t et r' (subst (λ (l : List Alternative). Memᴰ b l) (sym (yes_inj _ _ e2)) i) (alternatives_out rest r' er b)
     where
       low : Chosen b rest → Chosen b (a ∷ rest)
       low (c, j, k, q) = (c, Memᴰ.tail j, k, q)
 
-      here : (r' : List Alternative) → evaluate_condition ps xs a.condition ≡ yes true → Memᴰ b (expand_alternative s ps xs a ∷ r') → (Memᴰ b r' → Chosen b rest) → Chosen b (a ∷ rest)
+      here : (r' : List Alternative) → evaluate_cond ps xs a.condition ≡ yes true → Memᴰ b (expand_alternative s ps xs a ∷ r') → (Memᴰ b r' → Chosen b rest) → Chosen b (a ∷ rest)
       here r' k (Memᴰ.head q) f = (a, Memᴰ.head refl, k, q)
       here r' k (Memᴰ.tail j) f = low (f j)
 
-      go : (t : Bool) → evaluate_condition ps xs a.condition ≡ yes t → (r' : List Alternative) → Memᴰ b (cond t (expand_alternative s ps xs a ∷ r') r') → (Memᴰ b r' → Chosen b rest) → Chosen b (a ∷ rest)
+      go : (t : Bool) → evaluate_cond ps xs a.condition ≡ yes t → (r' : List Alternative) → Memᴰ b (cond t (expand_alternative s ps xs a ∷ r') r') → (Memᴰ b r' → Chosen b rest) → Chosen b (a ∷ rest)
       go true k r' j f = here r' k j f
       go false k r' j f = low (f j)
 
   abbrev Decided : Alternative → List Alternative → Type 0
-  Decided a r = (t : Bool) × (evaluate_condition ps xs a.condition ≡ yes t) × (t ≡ true → Memᴰ (expand_alternative s ps xs a) r)
+  Decided a r = (t : Bool) × (evaluate_cond ps xs a.condition ≡ yes t) × (t ≡ true → Memᴰ (expand_alternative s ps xs a) r)
 
   pub alternatives_in_lem : (as' r : List Alternative) → expand_alternatives s ps xs as' ≡ yes r → (a : Alternative) → Memᴰ a as' → Decided a r
   unfolding expand_alternatives
   alternatives_in_lem [] r e a i = absurd (Memᴰ.not-nil i)
   alternatives_in_lem (x ∷ rest) r e a i =
-      let (t, et, e1) = after-yes (evaluate_condition ps xs x.condition) _ r e in
+      let (t, et, e1) = after-yes (evaluate_cond ps xs x.condition) _ r e in
       let (r', er, e2) = after-yes (expand_alternatives s ps xs rest) _ r e1 in
       subst (Decided a) (yes_inj _ _ e2) (go t et r' i (alternatives_in_lem rest r' er a))
     where
@@ -236,6 +236,6 @@ module _ (s : Span) (ps : List Text) (xs : Syms) where
       first true r' p h = Memᴰ.head (ap (expand_alternative s ps xs) p)
       first false r' p h = absurd (false≢true h)
 
-      go : (t : Bool) → evaluate_condition ps xs x.condition ≡ yes t → (r' : List Alternative) → Memᴰ a (x ∷ rest) → (Memᴰ a rest → Decided a r') → Decided a (cond t (expand_alternative s ps xs x ∷ r') r')
-      go t et r' (Memᴰ.head p) k = (t, subst (λ (z : Alternative). evaluate_condition ps xs z.condition ≡ yes t) (sym p) et, first t r' p)
+      go : (t : Bool) → evaluate_cond ps xs x.condition ≡ yes t → (r' : List Alternative) → Memᴰ a (x ∷ rest) → (Memᴰ a rest → Decided a r') → Decided a (cond t (expand_alternative s ps xs x ∷ r') r')
+      go t et r' (Memᴰ.head p) k = (t, subst (λ (z : Alternative). evaluate_cond ps xs z.condition ≡ yes t) (sym p) et, first t r' p)
       go t et r' (Memᴰ.tail j) k = let (u, eu, f) = k j in (u, eu, λ h. up t r' (f h))

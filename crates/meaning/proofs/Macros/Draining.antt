@@ -12,7 +12,7 @@ use Rattle.parse_tree.specs.declared.syntax.Span.{Span}
 use Rattle.passes.specs.Outcome.{Tree, Outcome, yes, no, simple}
 use Rattle.meaning.specs.Meaning.{is_terminal}
 use Rattle.passes.specs.Views.{Look, ahead, behind}
-use Rattle.passes.specs.Macros.{Pending, looking, repeating, listing, symbol_of, expand_lookaround_symbol, Expander, replace_items, expand_alternatives, macro_in, expand_macro_symbol, made, has_name, group_action, expand_repeat_symbol, expand_over, expand_symbol, drain, without_macros}
+use Rattle.passes.specs.Macros.{Pending, looking, repeating, listing, symbol_of, expand_lookaround_symbol, MacroExpander, replace_items, expand_alternatives, macro_in, expand_macro_symbol, made, has_name, group_action, expand_repeat_symbol, expand_over, expand_symbol, drain, without_macros}
 use Rattle.meaning.specs.Premises.{HasItem}
 use Rattle.meaning.proofs.Basics.{item_inj, item≢terminal}
 use Rattle.passes.proofs.Outcomes.{no≢yes, yes_inj, after-yes}
@@ -97,7 +97,7 @@ has_left a b n (d, i, e, p) = (d, Memᴰ.append_left b i, e, p)
 pub has_right : (a b : List Item) (n : Text) → HasItem b n → HasItem (a ++ b) n
 has_right a b n (d, i, e, p) = (d, Memᴰ.append_right a i, e, p)
 
-pub has-replaced : (a b : List Item) (σ : Expander) (n : Text) → HasItem (a ++ b) n → HasItem (a ++ (replace_items b σ).0) n
+pub has-replaced : (a b : List Item) (σ : MacroExpander) (n : Text) → HasItem (a ++ b) n → HasItem (a ++ (replace_items b σ).0) n
 has-replaced a b σ n (d, i, e, p) = go (Memᴰ.append_cases a i)
   where
     go : Memᴰ (item d) a ⊎ Memᴰ (item d) b → HasItem (a ++ (replace_items b σ).0) n

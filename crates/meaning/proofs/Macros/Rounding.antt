@@ -12,7 +12,7 @@ use Rattle.parse_tree.specs.Plain.Display.{print}
 use Rattle.passes.specs.Outcome.{Tree, Outcome, yes, after}
 use Rattle.meaning.specs.Phrases.{Token, Phrases, reference}
 use Rattle.meaning.specs.Meaning.{is_terminal, means, Step, s_plain, s_level, DerivesExpanded}
-use Rattle.passes.specs.Macros.{Pending, symbol_of, Expander, replace_items, drain, without_macros}
+use Rattle.passes.specs.Macros.{Pending, symbol_of, MacroExpander, replace_items, drain, without_macros}
 use Rattle.meaning.proofs.Macros.TreeRounds.{unless_done, at_limit, tree_rounds, expand_tree}
 use Rattle.meaning.specs.Premises.{HasItem, Flat}
 use Rattle.meaning.proofs.Basics.{terminal_append}
@@ -26,14 +26,14 @@ use Rattle.meaning.proofs.Macros.Expanding.{expanded_made}
 use Rattle.meaning.proofs.Macros.Draining.{bears, drain-in, drain-out, drain-terminals, has_left, has_right, has-replaced, plain_in, plain-has, plain-terminals}
 
 -- ---- one round
-abbrev begin : List Text → Expander
+abbrev begin : List Text → MacroExpander
 begin keys = record { keys = keys; pile = [] }
 
 -- the items of a round replaced, and the expander behind it
 abbrev items_of : List Item → List Text → List Item
 items_of fresh keys = (replace_items fresh (begin keys)).0
 
-abbrev behind : List Item → List Text → Expander
+abbrev behind : List Item → List Text → MacroExpander
 behind fresh keys = (replace_items fresh (begin keys)).1
 
 limit_yes : (items : List Item) (pile : List Pending) (X : List Item) → at_limit items pile ≡ yes X → (pile ≡ []) × (items ≡ X)
@@ -106,7 +106,7 @@ module _ (G X : Tree) where
     Good done d = Memᴰ (item d) done ⊎ Replaced G K d
 
     module _ (done fresh : List Item) (keys : List Text) (have : Borne keys (done ++ fresh)) (pre : (d : Nonterminal) → Memᴰ (item d) fresh → Sourced G K d) where
-      abbrev σ : Expander
+      abbrev σ : MacroExpander
       σ = behind fresh keys
 
       key_of : (k : Text) → has k σ.keys ≡ true → Key keys σ.pile k

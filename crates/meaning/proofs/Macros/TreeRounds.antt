@@ -7,7 +7,7 @@ use Rattle.parse_tree.specs.Plain.References.{stage_of}
 use Rattle.passes.specs.Outcome.{Tree, Outcome, yes, no, after}
 use Rattle.passes.specs.Resolve.{resolve}
 use Rattle.passes.specs.Levels.{levels}
-use Rattle.passes.specs.Macros.{Pending, Expander, replace_items, drain, span_of, without_macros}
+use Rattle.passes.specs.Macros.{Pending, MacroExpander, replace_items, drain, span_of, without_macros}
 use Rattle.passes.specs.Stages.{last_stage, or_more, stage, resolve_stage, level_stage, rounds, macro_stages, all_stages}
 use Rattle.passes.specs.Passes.{items_of, macros, passes}
 use Rattle.passes.proofs.Outcomes.{after_same}
@@ -48,7 +48,7 @@ rounds_tree G (suc limit) ts old fresh keys =
     let q = replace_items fresh (record { keys = keys; pile = [] }) in
     go q q.1.pile (drain G q.1.pile) (λ us new. rounds_tree G limit us (old ++ q.0) new q.1.keys)
   where
-    go : (q : List Item × Expander) (p : List Pending) (d : Outcome (List Item))
+    go : (q : List Item × MacroExpander) (p : List Pending) (d : Outcome (List Item))
         → ((us : List Text) (new : List Item) → items_of (rounds yes G limit us (old ++ q.0) new q.1.keys) ≡ tree_rounds G limit (old ++ q.0) new q.1.keys)
         → items_of (or_more p (stage yes ts (old ++ q.0)) (after (stage yes ts (old ++ q.0)) (λ g. after d (λ new. after (stage yes g.atoms (old ++ q.0 ++ new)) (λ h. rounds yes G limit h.atoms (old ++ q.0) new q.1.keys)))))
         ≡ unless_done (old ++ q.0) p (after d (λ new. tree_rounds G limit (old ++ q.0) new q.1.keys))

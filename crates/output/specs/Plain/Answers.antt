@@ -1,10 +1,9 @@
 -- How a call's definition is answered: the enum, the five words, the output and the work. Assumes nothing: these are definitions.
-use Rattle.std.specs.Prelude.{◌≡◌, List, ℕ, length}
+use Rattle.std.specs.Prelude.{◌≡◌, List, ℕ, length, Result, Ok, Err}
 use Rattle.parse_tree.specs.Plain.Tree.{Stage}
 use Rattle.parse_tree.specs.Plain.WriteTape.{tape_of}
 use Rattle.passes.specs.Outcome.{Outcome, yes, no}
 use Rattle.passes.specs.Calls.{answer_words, written, work_after}
-use Rattle.std.specs.Prelude.{Result, Ok, Err}
 use Rattle.parse_tree.specs.declared.refusal.Refusal.{Refusal}
 
 -- "A yes gives the length of the tree written. A no gives the number and a place of two 64-bit numbers"

@@ -1,5 +1,5 @@
 -- The last stage of macro expansion, as it stands before it is handed over. Assumes nothing: these are definitions.
-use Rattle.std.specs.Prelude.{◌≡◌, List, ◌++◌, ℕ, ◌+◌, ◌-◌, ◌≤◌, length, drop}
+use Rattle.std.specs.Prelude.{◌≡◌, List, ◌++◌, ℕ, ◌+◌, ◌-◌, ◌≤◌, length, drop, Ok}
 use Rattle.octets.specs.Plain.Runs.{part, Lies}
 use Rattle.parse_tree.specs.Plain.Tree.{Text, Stage}
 use Rattle.parse_tree.specs.Plain.WriteTape.{bytes_of_each}
@@ -8,7 +8,6 @@ use Rattle.texts.specs.declared.Map.{Map}
 use Rattle.texts.specs.Table.{Table, texts}
 use Rattle.passes.specs.Outcome.{yes}
 use Rattle.passes.specs.Calls.{sizes}
-use Rattle.std.specs.Prelude.{Ok}
 use Rattle.output.specs.Working.Handing.{Staged}
 
 -- the last stage g stands in work, its items from `from` up to `end`; n texts are the tape's, whose atoms stand before `at`

@@ -1,18 +1,18 @@
 -- A tree handed over to the output, what is answered to it, and an answer to its words. Assumes nothing: these are definitions.
-use Rattle.std.specs.Prelude.{◌≡◌, false, List, [], ◌∷◌, ◌++◌, ℕ, ◌+◌, ◌-◌, ◌≤◌, length, drop}
+use Rattle.std.specs.Prelude.{◌≡◌, false, List, [], ◌∷◌, ◌++◌, ℕ, ◌+◌, ◌-◌, ◌≤◌, length, drop, Result, Ok, Err}
 use Rattle.octets.specs.Plain.Runs.{part}
 use Rattle.parse_tree.specs.Plain.Tree.{Stage}
 use Rattle.parse_tree.specs.Plain.WriteTape.{bytes_of_each}
 use Rattle.parse_tree.specs.Working.Encode.{atom_bytes}
+use Rattle.texts.specs.Atoms.{some_long}
 use Rattle.texts.specs.declared.Map.{Map}
 use Rattle.passes.specs.Outcome.{Outcome}
 use Rattle.passes.specs.Calls.{written}
 use Rattle.precedence.specs.Names.{Naming}
 use Rattle.levels.specs.declared.Room.{Room}
 use Rattle.levels.specs.declared.Written.{Written}
-use Rattle.levels.specs.Fresh.{too_long, new_texts}
+use Rattle.levels.specs.Fresh.{new_texts}
 use Rattle.output.specs.Plain.Answers.{answer_of}
-use Rattle.std.specs.Prelude.{Result, Ok, Err}
 use Rattle.parse_tree.specs.declared.refusal.Refusal.{Refusal}
 
 -- the tape's bytes before `at`, then as many of work from a on as the tape has behind `at`, at the front of the output
@@ -33,7 +33,7 @@ pub record Staged (x : Outcome Stage) (o : List ℕ) (r : Result ℕ Refusal) (o
 pub record HandsLevels (s : List ℕ) (at : ℕ) (w : List ℕ) (m : Map) (room : Room) (v : Written) (cap : ℕ) : Type 0 where
   pub inside : at ≤ length s
   pub naming : Naming s w m v.count
-  pub short : too_long (new_texts s w m v.count) ≡ false
+  pub short : some_long (new_texts s w m v.count) ≡ false
   pub from : room.at ≤ v.to
   pub upto : v.to ≤ length w
   pub fits : at + length (bytes_of_each (atom_bytes 2) (new_texts s w m v.count)) + (v.to - room.at) ≤ cap

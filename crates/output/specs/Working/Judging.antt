@@ -1,10 +1,9 @@
 -- The sizes that are asked of a stage, and where levels are written. Assumes nothing: these are definitions.
-use Rattle.std.specs.Prelude.{ℕ, ◌+◌, ◌-◌, ◌*◌, ◌/◌, ltb}
+use Rattle.std.specs.Prelude.{ℕ, ◌+◌, ◌-◌, ◌*◌, ◌/◌, ltb, Option, Some, None, Result, Ok, Err}
 use Rattle.octets.specs.Working.Choice.{pick}
 use Rattle.parse_tree.specs.Working.Refusals.{refusal_at}
 use Rattle.levels.specs.declared.Room.{Room}
 use Rattle.levels.specs.declared.Written.{Written}
-use Rattle.std.specs.Prelude.{Option, Some, None, Result, Ok, Err}
 use Rattle.parse_tree.specs.declared.refusal.Refusal.{Refusal}
 
 -- 20 and 21 of a stage of so many atoms and n bytes

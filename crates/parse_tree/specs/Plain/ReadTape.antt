@@ -21,12 +21,13 @@ abbrev pub first_of : List Condition → Option Condition
 first_of [] = none
 first_of (c ∷ cs) = some c
 
--- what a symbol's command says: its size, whether its operands are defined and its texts suit, and what stands inside: nothing, one symbol, several
+-- what stands inside a symbol: nothing, one symbol, several
 pub data Inner : Type 0 where
   alone : Leaf → Inner
   one : Around → Inner
   several : Over → ℕ → Inner
 
+-- what a symbol's command says: its size, whether its operands are defined, whether its texts suit, what stands inside
 pub record Command : Type 0 where
   pub size : ℕ
   pub good : Bool

@@ -27,9 +27,9 @@ starts_name b = between 0x41 0x5a b || between 0x61 0x7a b || eqb b 0x5f
 unfoldable pub in_name : ℕ → Bool
 in_name b = starts_name b || between 0x30 0x39 b
 
-unfoldable pub name_bytes : Text → Bool
-name_bytes [] = false
-name_bytes (b ∷ bs) = starts_name b && every in_name bs
+unfoldable pub is_identifier : Text → Bool
+is_identifier [] = false
+is_identifier (b ∷ bs) = starts_name b && every in_name bs
 
 abbrev pub mut_text : Text
 mut_text = ascii "mut"
@@ -37,9 +37,9 @@ mut_text = ascii "mut"
 abbrev pub error_text : Text
 error_text = ascii "error"
 
--- "Names are nonempty: letter or `_`, then letters, digits, `_`; `mut` and `error` are refused"
+-- "Names .. are nonempty: letter or `_`, then letters, digits, `_`; `mut` and `error` are refused"
 unfoldable pub is_name : Text → Bool
-is_name t = name_bytes t && (not (same_as t mut_text) && not (same_as t error_text))
+is_name t = is_identifier t && (not (same_as t mut_text) && not (same_as t error_text))
 
 -- "Quoted and regex texts and rhs use bytes 20 to 7e"
 unfoldable pub is_literal : Text → Bool

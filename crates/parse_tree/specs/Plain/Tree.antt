@@ -37,6 +37,12 @@ mutual
     nil : Syms
     cons : Sym → Syms → Syms
 
+-- where a symbol stands in the grammar's text
+abbrev pub sym_span : Sym → Span
+sym_span (leaf s l) = s
+sym_span (around s a x) = s
+sym_span (over s o xs) = s
+
 -- how many symbols
 unfoldable pub count : Syms → ℕ
 count nil = 0

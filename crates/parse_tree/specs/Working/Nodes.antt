@@ -107,8 +107,8 @@ named_leaf c a =
     (Leaf.Nonterminal (record { 0 = a })))))
 
 -- 2a, 2b, 2c
-unfoldable pub bare_leaf : ℕ → Leaf
-bare_leaf c = pick (eqb c 42) Leaf.Lookahead (pick (eqb c 43) Leaf.Lookbehind Leaf.Error)
+unfoldable pub word_leaf : ℕ → Leaf
+word_leaf c = pick (eqb c 42) Leaf.Lookahead (pick (eqb c 43) Leaf.Lookbehind Leaf.Error)
 
 -- a symbol whose code is c, from 20 to 2c
 unfoldable pub symbol_node_at : ℕ → ℕ → List ℕ → ℕ → Option Node
@@ -119,7 +119,7 @@ symbol_node_at w c s at =
     (pick (eqb c 39) (if_whole s at 9 (Node.Symbol (span_in s (at + 1)) (SymbolKind.Around Around.Choose)))
     (pick (eqb c 40) (if_whole s at (10 + w) (Node.Symbol (span_in s (at + 1)) (SymbolKind.Around (Around.Name (get_or s (at + 9) 0) (record { 0 = le_at w s (at + 10) })))))
     (pick (eqb c 41) (if_whole s at 11 (Node.Symbol (span_in s (at + 1)) (SymbolKind.Over (Over.Group (le_at 2 s (at + 9))))))
-    (if_whole s at 9 (Node.Symbol (span_in s (at + 1)) (SymbolKind.Leaf (bare_leaf c)))))))))
+    (if_whole s at 9 (Node.Symbol (span_in s (at + 1)) (SymbolKind.Leaf (word_leaf c)))))))))
 
 -- 01 n16, whole with its n bytes
 unfoldable pub text_node : List ℕ → ℕ → Option Node

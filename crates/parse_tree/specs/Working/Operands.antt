@@ -11,6 +11,8 @@ use Rattle.parse_tree.specs.declared.syntax.TerminalData.{TerminalData}
 use Rattle.parse_tree.specs.declared.syntax.Alternative.{Alternative as AlternativeNode}
 use Rattle.parse_tree.specs.declared.syntax.Attribute.{Attribute as AttributeNode}
 use Rattle.parse_tree.specs.declared.syntax.Condition.{Condition as ConditionNode}
+use Rattle.parse_tree.specs.declared.syntax.SymbolKind.{SymbolKind}
+use Rattle.parse_tree.specs.declared.syntax.Node.{Node}
 
 -- "0 `*`, 1 `+`, 2 `?`"
 unfoldable pub op_from : ℕ → Op
@@ -20,6 +22,22 @@ op_from k = pick (eqb k 0) star (pick (eqb k 1) plus question)
 unfoldable pub inside_of : OverNode → ℕ
 inside_of (OverNode.Macro a k) = k
 inside_of (OverNode.Group k) = k
+
+-- and inside any symbol, and any command
+abbrev pub inside_kind : SymbolKind → ℕ
+inside_kind (SymbolKind.Leaf l) = 0
+inside_kind (SymbolKind.Around a) = 1
+inside_kind (SymbolKind.Over o) = inside_of o
+
+unfoldable pub inside : Node → ℕ
+inside (Node.Text n) = 0
+inside (Node.Nonterminal d) = 0
+inside (Node.Terminal t) = 0
+inside (Node.Argument n) = 0
+inside (Node.Alternative a) = 0
+inside (Node.Attribute a) = 0
+inside (Node.Condition c) = 0
+inside (Node.Symbol s k) = inside_kind k
 
 -- ts are the atoms
 module _ (ts : List Text) where

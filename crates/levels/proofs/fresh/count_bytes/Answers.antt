@@ -8,8 +8,8 @@ loop-k-init c = search counting
 pub loop-k-preserved : goal.loop-k-preserved
 loop-k-preserved c = elim c.if-l-gt65535.branch [ then-l-gt65535 w ↦ search counting | else-l-gt65535 w ↦ search counting ]
 
-pub returns-then-long : goal.returns-then-long
-returns-then-long c = search counting
+pub returns-then-too_long : goal.returns-then-too_long
+returns-then-too_long c = search counting
 
-pub returns-else-long : goal.returns-else-long
-returns-else-long c = search counting
+pub returns-else-too_long : goal.returns-else-too_long
+returns-else-too_long c = search counting

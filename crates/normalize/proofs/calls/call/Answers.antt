@@ -1,5 +1,3 @@
-use lib.ListN.{length, replicate}
-use Rattle.std.proofs.Common.{rules, ◌≡◌}
 use Rattle.std.proofs.lemmas.Result.{err_from_is_err_and}
 use Rattle.normalize.proofs.CallsCode.{calling}
 use Rattle.normalize.proofs.calls.call.Goals as goal
@@ -10,4 +8,4 @@ returns-in_err-room g c =
     rw (p.1, p.2) (search (calling, c.in_err-room.was, c.in_err-room.ensures))
 
 pub returns : goal.returns
-returns g c = let z : c.fill.new.self ≡ replicate (length c.run-r.new.work) 0 = search rules in search (calling, z, c.in_ok-room.was, c.in_ok-room.ensures)
+returns g c = search (calling, c.in_ok-room.was, c.in_ok-room.ensures)

@@ -1,8 +1,8 @@
 use Rattle.texts.proofs.ChainPutCode.{recording}
 use Rattle.texts.proofs.chain.put_record.Goals as goal
 
-pub link-requires : goal.link-requires
-link-requires c = search recording
+pub put_in_bucket-requires : goal.put_in_bucket-requires
+put_in_bucket-requires c = search recording
 
 pub returns-then-m-lt-LINKED : goal.returns-then-m-lt-LINKED
 returns-then-m-lt-LINKED c = search recording

@@ -1,5 +1,5 @@
 use Rattle.octets.proofs.StoreLaws.{putting_atom}
-use Rattle.octets.proofs.numbers.put_atom.Goals as goal
+use Rattle.octets.proofs.numbers.store_atom.Goals as goal
 
 pub returns-then-width-eq3 : goal.returns-then-width-eq3
 returns-then-width-eq3 c = search putting_atom

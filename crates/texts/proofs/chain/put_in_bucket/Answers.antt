@@ -1,5 +1,5 @@
 use Rattle.texts.proofs.ChainCode.{linking}
-use Rattle.texts.proofs.chain.link.Goals as goal
+use Rattle.texts.proofs.chain.put_in_bucket.Goals as goal
 
 pub head-before-requires : goal.head-before-requires
 head-before-requires c = search linking

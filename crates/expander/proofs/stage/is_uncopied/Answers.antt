@@ -1,5 +1,5 @@
 use Rattle.expander.proofs.StageRunCode.{leaving}
-use Rattle.expander.proofs.stage.is_left.Goals as goal
+use Rattle.expander.proofs.stage.is_uncopied.Goals as goal
 
 pub returns-then-is_expanded : goal.returns-then-is_expanded
 returns-then-is_expanded c = search leaving

@@ -1,5 +1,5 @@
 use Rattle.precedence.proofs.WriteCode.{storing}
-use Rattle.precedence.proofs.write.put_command.Goals as goal
+use Rattle.precedence.proofs.write.store_command.Goals as goal
 
 pub returns : goal.returns
 returns c = search storing

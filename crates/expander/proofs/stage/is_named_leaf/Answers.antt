@@ -1,5 +1,5 @@
 use Rattle.expander.proofs.StageRunCode.{naming}
-use Rattle.expander.proofs.stage.is_name.Goals as goal
+use Rattle.expander.proofs.stage.is_named_leaf.Goals as goal
 
 pub returns-in-32-to-36 : goal.returns-in-32-to-36
 returns-in-32-to-36 c = search naming
