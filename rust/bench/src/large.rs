@@ -27,14 +27,12 @@ pub fn tell() -> bool {
     let [small, large] = [SMALL, LARGE].map(|size| Subject::of_tape(tapes::symbols(size)));
     let both = [(validating as _, Subject::work_of_validating as _), (resolving as _, Subject::work_of_resolving as _)];
     let of = |measure: for<'a> fn(&'a Subject, &'a Subject, Call<'a>) -> f64| both.map(|call| measure(&small, &large, call));
-    let [validating, resolving] = of(whole);
-    let is_linear = validating <= MOST_GROWTH && resolving <= MOST_GROWTH;
+    let [calls, rests] = [of(whole), of(rest)];
+    let is_linear = calls.iter().chain(&rests).all(|growth| *growth <= MOST_GROWTH);
     let end = if is_linear { "no more than" } else { "and that is more than" };
-    println!(
-        "\nA byte at 4 MiB, against 64 KiB, with fresh work: validating {validating:.2}, resolving {resolving:.2}: {end} {MOST_GROWTH}."
-    );
-    let [[validating, resolving], [used_validating, used_resolving]] = [of(rest), of(rest_used)];
-    println!("All but the clearing: validating {validating:.2}, resolving {resolving:.2}; with used work {used_validating:.2}, {used_resolving:.2}.");
+    let told = |[validating, resolving]: [f64; 2]| format!("validating {validating:.2}, resolving {resolving:.2}");
+    println!("\nA byte at 4 MiB, against 64 KiB: {}; all but the clearing: {}: {end} {MOST_GROWTH}.", told(calls), told(rests));
+    println!("With used work, all but the clearing: {}.", told(of(rest_used)));
     is_linear
 }
 
@@ -74,22 +72,9 @@ fn used(mut work: Vec<u8>) -> Vec<u8> {
     work
 }
 
-/// Clearing as the calls do it: of long work a block that is zero already isn't written.
+/// Clearing alone: the call for validating, of an empty tape, clears all the work that it is lent.
 fn clearing<'a>(mut work: Vec<u8>) -> Run<'a> {
-    Box::new(move |times| timed(times, || clear(black_box(&mut work))))
-}
-
-fn clear(work: &mut [u8]) {
-    if work.len() < 2 << 20 {
-        work.fill(0);
-        return;
-    }
-    let (front, back) = work.split_at_mut(work.len() / 4);
-    for block in back.chunks_mut(4 << 10).chain(front.chunks_mut(4 << 10)) {
-        if block.iter().fold(0, |most: u8, byte| most.max(*byte)) > 0 {
-            block.fill(0);
-        }
-    }
+    Box::new(move |times| timed(times, || assert_eq!(normalize::validate(&[], &mut work), Ok(0))))
 }
 
 /// How many times as long a byte of the large tape takes, with fresh work: the median of interleaved turns.
