@@ -27,12 +27,12 @@ pub fn tell() -> bool {
     let [small, large] = [SMALL, LARGE].map(|size| Subject::of_tape(tapes::symbols(size)));
     let both = [(validating as _, Subject::work_of_validating as _), (resolving as _, Subject::work_of_resolving as _)];
     let of = |measure: for<'a> fn(&'a Subject, &'a Subject, Call<'a>) -> f64| both.map(|call| measure(&small, &large, call));
-    let [calls, rests] = [of(whole), of(rest)];
+    let [calls, rests] = [of(whole), of(|small, large, call| rest(small, large, call, fresh))];
     let is_linear = calls.iter().chain(&rests).all(|growth| *growth <= MOST_GROWTH);
     let end = if is_linear { "no more than" } else { "and that is more than" };
     let told = |[validating, resolving]: [f64; 2]| format!("validating {validating:.2}, resolving {resolving:.2}");
     println!("\nA byte at 4 MiB, against 64 KiB: {}; all but the clearing: {}: {end} {MOST_GROWTH}.", told(calls), told(rests));
-    println!("With used work, all but the clearing: {}.", told(of(rest_used)));
+    println!("With used work, all but the clearing: {}.", told(of(|small, large, call| rest(small, large, call, used))));
     is_linear
 }
 
@@ -82,15 +82,9 @@ fn whole<'a>(small: &'a Subject, large: &'a Subject, (call, work): Call<'a>) -> 
     growth([small, large], vec![call(small, fresh(work(small))), call(large, fresh(work(large)))], |turn| turn[1] / turn[0])
 }
 
-/// The same of all but the clearing.
-fn rest<'a>(small: &'a Subject, large: &'a Subject, (call, work): Call<'a>) -> f64 {
-    let runs = [small, large].into_iter().flat_map(|it| [call(it, fresh(work(it))), clearing(fresh(work(it)))]).collect();
-    growth([small, small, large, large], runs, |turn| (turn[2] - turn[3]) / (turn[0] - turn[1]))
-}
-
-/// And with used work.
-fn rest_used<'a>(small: &'a Subject, large: &'a Subject, (call, work): Call<'a>) -> f64 {
-    let runs = [small, large].into_iter().flat_map(|it| [call(it, used(work(it))), clearing(used(work(it)))]).collect();
+/// The same of all but the clearing, with work that is made so.
+fn rest<'a>(small: &'a Subject, large: &'a Subject, (call, work): Call<'a>, so: fn(Vec<u8>) -> Vec<u8>) -> f64 {
+    let runs = [small, large].into_iter().flat_map(|it| [call(it, so(work(it))), clearing(so(work(it)))]).collect();
     growth([small, small, large, large], runs, |turn| (turn[2] - turn[3]) / (turn[0] - turn[1]))
 }
 
