@@ -6,3 +6,4 @@ pub mod PartLaws
 pub mod LiesLaws
 pub mod SameLaws
 mod SinkCode
+pub mod RunsCopyCode

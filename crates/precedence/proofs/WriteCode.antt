@@ -1,4 +1,4 @@
--- The ways out of copy_long, put_run, put_attributes and fall_through. Assumes nothing.
+-- The ways out of put_run, put_attributes and fall_through. Assumes nothing.
 use mathlib.Core.Path.{◌≡◌, refl, sym, ap, ◌∙◌}
 use mathlib.Core.Logic.{◌⊎◌, inl, inr}
 use mathlib.Core.List.{List, [], ◌∷◌, ◌++◌, append_assoc}
@@ -9,34 +9,19 @@ use mathlib.Core.Bool.{Bool, true, false}
 use lib.Dec.{eqb}
 use Rattle.std.specs.Prelude.{Some}
 use Rattle.std.specs.Option.{option_eq}
-use lib.ListN.{length, set, take, drop, get_or, length-set, length-append}
-use Rattle.std.proofs.lemmas.List.{drop-take, take-take}
+use lib.ListN.{length, set, get_or, length-set, length-append}
 use Rattle.octets.specs.Working.Choice.{pick}
 use Rattle.octets.specs.Plain.Numbers.{le}
 use Rattle.octets.specs.Plain.Runs.{part}
 use Rattle.octets.specs.Working.Stores.{store}
 use Rattle.octets.proofs.NumbersLaws.{length-le}
 use Rattle.octets.proofs.PartLaws.{part_length}
-use Rattle.octets.proofs.StoreLaws.{store-append, store-copied, length_store}
+use Rattle.octets.proofs.StoreLaws.{store-append, length_store}
 use Rattle.texts.proofs.TableStays.{part-agree}
 use Rattle.resolve.proofs.CellsLaws.{store-past}
 use Rattle.grades.specs.declared.Indices.{Indices}
 use Rattle.precedence.specs.Write.{Puts, is_left_out, kept_one, kept_bytes, alternative_head, fall_bytes}
 use Rattle.precedence.proofs.WriteLaws.{fits_or_not, puts_beside, puts_on, puts_upto, puts_append, puts_none, puts_whole, puts_not}
-
--- ---- copy_long
--- a part of what stands before a place
-part_before : (w : List ℕ) (a e to : ℕ) → a ≤ e → e ≤ to → take (e - a) (drop a (take to w)) ≡ part a e w
-unfolding part
-part_before w a e to h k =
-    let z : to ≡ a + (to - a) = omega arith in
-    ap (λ (n : ℕ). take (e - a) (drop a (take n w))) z ∙ ap (take (e - a)) (drop-take a (to - a) w) ∙ take-take (e - a) (to - a) (drop a w) (omega arith)
-
-pub moved : (w before behind run : List ℕ) (a e to : ℕ) → a ≤ e → e ≤ to → to + (e - a) ≤ length w → before ≡ take to w → behind ≡ drop to w → run ≡ take (e - a) (drop a before)
-    → before ++ (run ++ drop (e - a) behind) ≡ store w to (part a e w)
-moved w before behind run a e to h k l p q r =
-    let z : run ≡ part a e w = r ∙ ap (λ (x : List ℕ). take (e - a) (drop a x)) p ∙ part_before w a e to h k in
-    rw (p, q) (store-copied w run (part a e w) to (e - a) z l (sym (part_length a e w (omega arith))))
 
 -- ---- put_run
 pub run_ends : (w : List ℕ) (a e lim to r : ℕ) (w1 : List ℕ) → a ≤ e → e ≤ to → lim ≤ length w → (to + (e - a) ≤ lim → (r ≡ to + (e - a)) × (w1 ≡ store w to (part a e w))) → (lim < to + (e - a) → (r ≡ lim + 1) × (w1 ≡ w))

@@ -1,4 +1,4 @@
--- The ways out of copy_down, put_slice, put_inside and escape. Assumes nothing.
+-- The ways out of put_slice, put_inside and escape. Assumes nothing.
 use mathlib.Core.Path.{◌≡◌, refl, sym, ap, ◌∙◌}
 use mathlib.Core.Logic.{◌⊎◌, inl, inr}
 use mathlib.Core.List.{List, [], ◌∷◌, ◌++◌}
@@ -6,12 +6,10 @@ use Prim.Native.Nat.{ℕ, ◌+◌, ◌-◌, ◌<◌, ◌≤◌}
 use native.Mathlib.Omega.{arith}
 use borrow.Author.Rules.{rules}
 use borrow.Author.Tests.{ne_eqb}
-use lib.ListN.{length, take, drop, get_or}
+use lib.ListN.{length, get_or}
 use lib.Seq.{take_all}
 use Rattle.octets.specs.Plain.Runs.{part}
-use Rattle.octets.specs.Working.Stores.{store}
-use Rattle.octets.proofs.PartLaws.{part_none, part-one, part_length}
-use Rattle.octets.proofs.StoreLaws.{store_is}
+use Rattle.octets.proofs.PartLaws.{part_none, part-one}
 use Rattle.parse_tree.specs.Plain.Tree.{Text}
 use Rattle.parse_tree.specs.Plain.Display.{escaped}
 use Rattle.display.proofs.StandsLaws.{escaped-one}
@@ -19,12 +17,6 @@ use Rattle.precedence.specs.Write.{Puts}
 use Rattle.settling.specs.Escape.{StaysFrom}
 use Rattle.precedence.proofs.WriteLaws.{puts_beside, puts_none}
 use Rattle.settling.proofs.PutLaws.{puts_stop, then, puts_as}
-
--- ---- copy_down
-pub pasted : (w : List ℕ) (a e to : ℕ) → to ≤ a → a ≤ e → e ≤ length w → take to w ++ part a e w ++ drop (to + (e - a)) w ≡ store w to (part a e w)
-pasted w a e to h k l =
-    let n : length (part a e w) ≡ e - a = part_length a e w l in
-    ap (λ (x : ℕ). take to w ++ part a e w ++ drop (to + x) w) (sym n) ∙ sym (store_is w to (part a e w) (omega (arith, n)))
 
 -- ---- put_slice
 pub part_all : (t : List ℕ) → part 0 (length t) t ≡ t

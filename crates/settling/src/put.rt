@@ -9,12 +9,14 @@ ghost use Rattle.settling.specs.Escape.{Tellable, Tells};
 use octets::runs::copy;
 use precedence::write::{put, put_byte};
 
-// The bytes from a up to e, to a place before them: there the slice's own method goes forward.
+// The bytes from a up to e, to a place before them. A loop, as octets' `copy` and for its reason.
 pub fn copy_down(work: &mut [u8], a: usize, e: usize, to: usize)
     requires { (to ≤ a) × (a ≤ e) × (e ≤ length work.old) }
     ensures { work.new ≡ store work.old to (part a e work.old) }
 {
-    work.copy_within(a..e, to);
+    for i in 0..e - a {
+        work[to + i] = work[a + i];
+    }
 }
 
 // All of another slice, such as a text of the code's own.

@@ -1,8 +1,11 @@
-use Rattle.std.proofs.Common.{◌∙◌}
-use Rattle.octets.specs.Plain.Runs.{part}
-use Rattle.settling.proofs.PutCode.{pasted}
+use Rattle.octets.proofs.RunsCopyCode.{copying_inside}
 use Rattle.settling.proofs.put.copy_down.Goals as goal
 
+pub loop-i-init : goal.loop-i-init
+loop-i-init c = search copying_inside
+
+pub loop-i-preserved : goal.loop-i-preserved
+loop-i-preserved c = search copying_inside
+
 pub returns : goal.returns
-unfolding part
-returns c = c.copy_within.ensures.after ∙ pasted c.args.work.now c.args.a c.args.e c.args.to c.requires.0 c.requires.1 c.requires.2
+returns c = search copying_inside

@@ -1,0 +1,5 @@
+use Rattle.octets.proofs.RunsCopyCode.{Copying}
+use Rattle.settling.proofs.put.copy_down.Given as goal
+
+abbrev pub invariant-loop-i : goal.invariant-loop-i
+invariant-loop-i l = Copying l.initial.work l.initial.work l.a l.to l.i l.work
