@@ -21,15 +21,14 @@ use Rattle.texts.proofs.TableFindCode.{find_is}
 use Rattle.display.specs.declared.form.Form.{Form}
 use Rattle.display.specs.Form.{text_form}
 use Rattle.display.specs.Standing.{SomeSym}
-use Rattle.display.specs.declared.Met.{Met}
-use Rattle.display.specs.Follow.{index_of, Follows}
 use Rattle.std.specs.Prelude.{Option, Some, None, MatchOption}
 use Rattle.display.proofs.MetLaws.{whole_met, met_is}
 use Rattle.display.specs.Window.{SamePrints}
 use Rattle.replacing.specs.Prints.{print_at}
 use Rattle.expander.specs.declared.Ground.{Ground}
+use Rattle.expander.specs.declared.meet.Compared.{Compared}
 use Rattle.expander.specs.Ground.{Grounded, Records, KeyAt, symbol_in, printed_at, key_at, pushed_text, size_in, top_of}
-use Rattle.expander.specs.Meet.{InnerNoted, SomeInner}
+use Rattle.expander.specs.Meet.{InnerNoted, SomeInner, Compares}
 use Rattle.expander.proofs.StageReads.{grounded_readable, read_room, key_stands, key_some, key_room}
 
 -- ---- the form of a text
@@ -103,27 +102,27 @@ module _ (s w : List ℕ) (g : Ground) (G : Grounded s w g) (b : (j : ℕ) → B
     noted = N;
   }
 
-  module _ (k : ℕ) (t : Text) (q : Option Met) (e : t ≡ get_or (texts s w g.m) k []) (f : Follows s w g.m g.width.bytes 64 t (record { at = g.from + p; i = 0 }) q) where
-    key_met : whole_met t (index_of q) ≡ same_as (get_or (texts s w g.m) k []) (printed_at s w g p)
+  module _ (k : ℕ) (t : Text) (q : Compared) (e : t ≡ get_or (texts s w g.m) k []) (f : Compares s w g 64 t (record { at = g.from + p; i = 0 }) q) where
+    key_met : whole_met t q.i ≡ same_as (get_or (texts s w g.m) k []) (printed_at s w g p)
     unfolding print_at
     key_met =
         ap (whole_met t) (f.met false _ _ (key_stands s w g (λ j. (b j).fits) G p y)) ∙ sym (met_is t 0 (printed_at s w g p) (omega arith))
         ∙ same_as-sym (printed_at s w g p) t ∙ ap (λ (u : Text). same_as u (printed_at s w g p)) e
 
-    key_same : (r : Met) → q ≡ Some r → eqb r.i (length t) ≡ same_as (get_or (texts s w g.m) k []) (printed_at s w g p)
-    unfolding whole_met index_of
-    key_same r z = ap (λ (v : Option Met). whole_met t (index_of v)) (sym z) ∙ key_met
+    key_same : (i : ℕ) → q.i ≡ Some i → eqb i (length t) ≡ same_as (get_or (texts s w g.m) k []) (printed_at s w g p)
+    unfolding whole_met
+    key_same i z = ap (whole_met t) (sym z) ∙ key_met
 
-    key_differs : q ≡ None → false ≡ same_as (get_or (texts s w g.m) k []) (printed_at s w g p)
-    unfolding whole_met index_of
-    key_differs z = ap (λ (v : Option Met). whole_met t (index_of v)) (sym z) ∙ key_met
+    key_differs : q.i ≡ None → false ≡ same_as (get_or (texts s w g.m) k []) (printed_at s w g p)
+    unfolding whole_met
+    key_differs z = ap (whole_met t) (sym z) ∙ key_met
 
     -- what a closure says of where the walk ends, and nothing after a difference
-    pub key_told : (A : Met → Type 0) (r : Bool) → MatchOption q (r ≡ false) A → ((m : Met) → A m → r ≡ eqb m.i (length t)) → r ≡ same_as (get_or (texts s w g.m) k []) (printed_at s w g p)
-    key_told A r y a = go q refl y
+    pub key_told : (A : ℕ → Type 0) (r : Bool) → MatchOption q.i (r ≡ false) A → ((i : ℕ) → A i → r ≡ eqb i (length t)) → r ≡ same_as (get_or (texts s w g.m) k []) (printed_at s w g p)
+    key_told A r y a = go q.i refl y
       where
-        go : (o : Option Met) → q ≡ o → MatchOption o (r ≡ false) A → r ≡ same_as (get_or (texts s w g.m) k []) (printed_at s w g p)
-        go (Some m) z h = a m h ∙ key_same m z
+        go : (o : Option ℕ) → q.i ≡ o → MatchOption o (r ≡ false) A → r ≡ same_as (get_or (texts s w g.m) k []) (printed_at s w g p)
+        go (Some i) z h = a i h ∙ key_same i z
         go None z h = h ∙ key_differs z
 
 pub ruleset texting = (rules, place_fits, key_inner)

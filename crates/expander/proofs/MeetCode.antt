@@ -1,4 +1,4 @@
--- The code that holds a symbol against a text: the loop of `symbol_end`, `known`, the two ways out of `meet_known`, the loop of `meet_symbol`. Assumes nothing.
+-- The code that holds a symbol against a text: the loop of `symbol_end`, `known`, the two ways out of `meet_known`, the loop of `meet_inner`, the two ways out of `meet_symbol`. Assumes nothing.
 use mathlib.Core.Path.{◌≡◌, refl, sym, ap, ◌∙◌, subst}
 use mathlib.Core.Bool.{Bool, true, false, not}
 use mathlib.Core.List.{List, append-nil}
@@ -22,7 +22,7 @@ use Rattle.grades.proofs.CodesMean.{first_codes}
 use Rattle.grades.proofs.SkipMean.{count-few}
 use Rattle.display.specs.declared.Met.{Met}
 use Rattle.display.specs.Standing.{SymStands, SomeSym}
-use Rattle.display.specs.Follow.{met_by, before_by, behind_by, between_by, Follows}
+use Rattle.display.specs.Follow.{met_by, before_by, behind_by, between_by, index_of, Follows}
 use Rattle.display.proofs.StandsLaws.{standing, first_stands}
 use Rattle.display.proofs.FollowCode.{some_room, some_within, some_high, some_fits, Going, start_lost, going_start, between_lost, inside_lost, going_next, behind_lost, going_done}
 use Rattle.std.specs.Prelude.{Option, Some, None}
@@ -30,11 +30,11 @@ use Rattle.expander.specs.declared.Ground.{Ground}
 use Rattle.expander.specs.declared.slots.Noted.{Noted}
 use Rattle.expander.specs.Ground.{size_in, slot_code, slot_at, Grounded}
 use Rattle.expander.specs.Replace.{expanded_code, keys_of, keys_of_all, StandAt}
-use Rattle.expander.specs.Meet.{SymbolLies, SomeEnd, EndsAt, SlotAt, table_text, text_known_at, NotedAt, SomeKnown, SomeInner}
+use Rattle.expander.specs.Meet.{SymbolLies, SomeEnd, EndsAt, SlotAt, table_text, text_known_at, NotedAt, SomeKnown, SomeInner, Compares}
 use Rattle.expander.proofs.StageReads.{grounded_readable}
 use Rattle.expander.proofs.NoteSlotCode.{place_room}
 use Rattle.expander.proofs.KeysLaws.{sym_length}
-use Rattle.expander.proofs.MeetLaws.{noted_parts, known_below, known_inner, known_lies, known_lost, known_follows}
+use Rattle.expander.proofs.MeetLaws.{stands_lies, noted_parts, known_below, known_inner, known_lies, known_lost, known_follows}
 
 -- ---- `symbol_end`
 module _ (w : List ℕ) (wd : ℕ) where
@@ -179,7 +179,7 @@ known_slot s w g left at G K =
 
 pub ruleset known_meeting = (rules, grounded_readable, known_below, known_slot, known_lies, known_inner, known_lost, known_follows)
 
--- ---- `meet_symbol`
+-- ---- `meet_inner`
 inner-stands : (s w : List ℕ) (g : Ground) (left at : ℕ) (S : SomeInner s w g left at) → SymStands s w g.m g.width.bytes S.four left at (g.from + S.end) S.symbol
 inner-stands s w g left at S = rw S.is S.stands
 
@@ -290,3 +290,21 @@ module _ (s w : List ℕ) (g : Ground) (left : ℕ) (t : Text) (p : Met) where
       meeting_done i v = going_done s w g.m g.width.bytes left t p c n q k M.going l o d i v
 
 pub ruleset symbol_meeting = (rules, grounded_readable, inner-some, some_room, some_within, some_high, some_fits, start_lost, meeting_start, meeting_known, meeting_behind, meeting_done)
+
+-- ---- `meet_symbol`
+pub inner_lies : (s w : List ℕ) (g : Ground) (left at : ℕ) → SomeInner s w g left at → SomeEnd w g.width.bytes at
+inner_lies s w g left at S = record { end = g.from + S.end; lies = stands_lies s w g.m g.width.bytes left at S.four (g.from + S.end) S.symbol (inner-stands s w g left at S) }
+
+module _ (s w : List ℕ) (g : Ground) (left : ℕ) (t : Text) (p : Met) (o : Option Met) (f : Follows s w g.m g.width.bytes left t p o) where
+  pub compares_met : (q : Met) → o ≡ Some q → Compares s w g left t p (record { at = q.at; i = Some q.i })
+  unfolding index_of
+  compares_met q e = record { place = f.place q e; met = λ four c y h. ap index_of (sym e) ∙ f.met four c y h }
+
+  pub compares_lost : (a : ℕ) → o ≡ None → EndsAt w g.width.bytes p.at a → Compares s w g left t p (record { at = a; i = None })
+  unfolding index_of EndsAt
+  compares_lost a e d = record {
+    place = λ four c y h. d c (stands_lies s w g.m g.width.bytes left p.at four c y h);
+    met = λ four c y h. ap index_of (sym e) ∙ f.met four c y h;
+  }
+
+pub ruleset comparing = (rules, grounded_readable, inner_lies, compares_met, compares_lost)

@@ -28,7 +28,7 @@ use Rattle.expander.specs.declared.Ground.{Ground}
 use Rattle.expander.specs.Ground.{slot_at, symbol_in, KeyAt, Grounded}
 use Rattle.expander.specs.Held.{ref_by, ref_in, followed, Held}
 use Rattle.expander.specs.Replace.{expanded_code}
-use Rattle.expander.specs.Meet.{SomeEnd, EndsAt, table_text, text_known_at, inner_keys, NotedAt, SomeKnown, SomeInner}
+use Rattle.expander.specs.Meet.{SymbolLies, SomeEnd, EndsAt, table_text, text_known_at, inner_keys, NotedAt, SomeKnown, SomeInner}
 use Rattle.expander.proofs.SlotsCode.{followed-even, ref_text}
 use Rattle.expander.proofs.KeysLaws.{own_keys, keys_parts, sym_any, stands_code, stands_symbol}
 
@@ -49,6 +49,10 @@ one_symbol s w m wd left at four e x other d y h k =
     let i = sym_reads false wd w (texts s w m) x left (sym_any four wd (texts s w m) x left h.within) at e h.lies in
     let j = sym_reads false wd w (texts s w m) y left (sym_any other wd (texts s w m) y left k.within) at d k.lies in
     got_as (λ z c. (e ≡ c) × (x ≡ z)) (sym i ∙ j) (refl, refl)
+
+-- what stands at a place lies there
+pub stands_lies : (s w : List ℕ) (m : Map) (wd left at : ℕ) (four : Bool) (e : ℕ) (x : Sym) → SymStands s w m wd four left at e x → SymbolLies w wd at e
+stands_lies s w m wd left at four e x h = record { texts = texts s w m; four = four; left = left; symbol = x; within = h.within; lies = h.lies }
 
 -- ---- a text that a slot tells of
 pub record Tells (w : List ℕ) (g : Ground) (at k : ℕ) : Type 0 where
@@ -101,7 +105,7 @@ module _ (s w : List ℕ) (g : Ground) (G : Grounded s w g) where
 
     -- and it lies there
     pub known_lies : SomeEnd w g.width.bytes at
-    known_lies = record { end = g.from + K.end; lies = record { texts = texts s w g.m; four = K.four; left = left; symbol = K.symbol; within = here.within; lies = here.lies } }
+    known_lies = record { end = g.from + K.end; lies = stands_lies s w g.m g.width.bytes left at K.four (g.from + K.end) K.symbol here }
 
     module _ (k : ℕ) (e : Some k ≡ text_known_at w g at) where
       told : Tells w g at k
@@ -137,6 +141,6 @@ module _ (s w : List ℕ) (g : Ground) (left : ℕ) (t : Text) (p : Met) (k : �
   pub known_follows : (a i : ℕ) → EndsAt w g.width.bytes p.at a → o ≡ Some i → Follows s w g.m g.width.bytes left t p (Some (record { at = a; i = i }))
   unfolding EndsAt index_of
   known_follows a i d z = record {
-    place = λ q u four c y h. let v : q ≡ record { at = a; i = i } = cc in rw v (d c (record { texts = texts s w g.m; four = four; left = left; symbol = y; within = h.within; lies = h.lies }));
+    place = λ q u four c y h. let v : q ≡ record { at = a; i = i } = cc in rw v (d c (stands_lies s w g.m g.width.bytes left p.at four c y h));
     met = λ four c y h. sym z ∙ text_met four c y h;
   }

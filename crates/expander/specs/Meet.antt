@@ -3,14 +3,19 @@ use Rattle.std.specs.Prelude.{◌≡◌, Bool, Option, Some, None, List, ℕ, �
 use Rattle.octets.specs.Working.Choice.{pick}
 use Rattle.octets.specs.Plain.Runs.{Lies}
 use Rattle.parse_tree.specs.Plain.Tree.{Text, Sym}
+use Rattle.parse_tree.specs.Plain.Display.{print}
 use Rattle.parse_tree.specs.Working.Nodes.{size_of}
 use Rattle.parse_tree.specs.Working.Encode.{sym_bytes}
 use Rattle.parse_tree.specs.Working.Within.{Each, SymWithin}
 use Rattle.laws.specs.Flat.{sym_node, children}
 use Rattle.texts.specs.Table.{texts}
+use Rattle.display.specs.declared.Met.{Met}
+use Rattle.display.specs.Standing.{SymStands}
+use Rattle.display.specs.Follow.{met_by}
 use Rattle.replacing.specs.Slots.{Slots}
 use Rattle.replacing.specs.Sound.{HasRef}
 use Rattle.expander.specs.declared.Ground.{Ground}
+use Rattle.expander.specs.declared.meet.Compared.{Compared}
 use Rattle.expander.specs.Ground.{size_in, slot_place, slot_at, symbol_in, KeyAt}
 use Rattle.expander.specs.Held.{Held, Off}
 use Rattle.expander.specs.Replace.{expanded_code, keys_of, keys_of_all, StandsAt}
@@ -99,3 +104,8 @@ module _ (s w : List ℕ) (g : Ground) where
     pub held : Held s w g n count slots
     pub off : Off p slots
     pub inner : Each (λ q. HasRef q slots) (inner_keys (symbol_in s w g p) p)
+
+  -- from p on, the printed form of each symbol that stands there was held against t: r has the place behind it, after a difference too, and the place in t
+  pub record Compares (left : ℕ) (t : Text) (p : Met) (r : Compared) : Type 0 where
+    pub place : (four : Bool) (e : ℕ) (x : Sym) → SymStands s w g.m g.width.bytes four left p.at e x → r.at ≡ e
+    pub met : (four : Bool) (e : ℕ) (x : Sym) → SymStands s w g.m g.width.bytes four left p.at e x → r.i ≡ met_by t (Some p.i) (print x)

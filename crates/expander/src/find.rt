@@ -53,7 +53,9 @@ fn is_text(tape: &[u8], work: &[u8], g: &Ground, k: usize, p: usize) -> bool
         at: g.from + p,
         i: 0,
     };
-    meet_symbol(tape, work, g, 64, t, start).is_some_and(|q| q.i == t.len())
+    meet_symbol(tape, work, g, 64, t, start)
+        .i
+        .is_some_and(|i| i == t.len())
 }
 
 // The number of the text that is the printed form of the symbol at p.

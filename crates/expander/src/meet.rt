@@ -2,7 +2,7 @@
 ghost use Rattle.std.specs.Prelude.{◌≡◌};
 ghost use Rattle.display.specs.Follow.{Follows};
 ghost use Rattle.expander.specs.Ground.{Grounded};
-ghost use Rattle.expander.specs.Meet.{SomeEnd, EndsAt, SlotAt, text_known_at, SomeKnown, SomeInner};
+ghost use Rattle.expander.specs.Meet.{SomeEnd, EndsAt, SlotAt, text_known_at, SomeKnown, SomeInner, Compares};
 
 use crate::Ground;
 use crate::replace::is_expanded;
@@ -14,6 +14,13 @@ use octets::numbers::Width;
 use parse_tree::nested::inside;
 use parse_tree::size::long;
 use texts::text::text;
+
+// Behind a symbol that was held against a text: the place, and how many bytes of the text were met; None after a difference.
+#[derive(Clone, Copy)]
+pub struct Compared {
+    pub at: usize,
+    pub i: Option<usize>,
+}
 
 // The place behind the symbol at a place: a flat run, k symbols are to come. (`grades::skip` asks for bytes behind the items, which need not be there.)
 pub fn symbol_end(work: &[u8], width: Width, at: usize) -> usize
@@ -45,7 +52,7 @@ fn known(work: &[u8], g: &Ground, at: usize) -> Option<usize>
 }
 
 // The symbol at a place, which was noted if it is one that is expanded; `left` levels of nesting are left. None after a difference.
-#[cycle(meet_known_meet_symbol)]
+#[cycle(meet_known_meet_inner)]
 fn meet_known(tape: &[u8], work: &[u8], g: &Ground, left: usize, t: &[u8], p: Met) -> Option<Met>
     requires { Grounded tape.now work.now g.now × SomeKnown tape.now work.now g.now left p.at }
     ensures { Follows tape.now work.now g.now.m g.now.width.bytes left t.now p result }
@@ -56,20 +63,13 @@ fn meet_known(tape: &[u8], work: &[u8], g: &Ground, left: usize, t: &[u8], p: Me
             let at = symbol_end(work, g.width, p.at);
             Some(Met { at, i })
         }
-        None => meet_symbol(tape, work, g, left, t, p),
+        None => meet_inner(tape, work, g, left, t, p),
     }
 }
 
 // The symbol at a place, inside which all that are expanded were noted.
-#[cycle(meet_known_meet_symbol)]
-pub fn meet_symbol(
-    tape: &[u8],
-    work: &[u8],
-    g: &Ground,
-    left: usize,
-    t: &[u8],
-    p: Met,
-) -> Option<Met>
+#[cycle(meet_known_meet_inner)]
+fn meet_inner(tape: &[u8], work: &[u8], g: &Ground, left: usize, t: &[u8], p: Met) -> Option<Met>
     requires { Grounded tape.now work.now g.now × SomeInner tape.now work.now g.now left p.at }
     ensures { Follows tape.now work.now g.now.m g.now.width.bytes left t.now p result }
 {
@@ -94,4 +94,22 @@ pub fn meet_symbol(
     behind(&mut held, work, g.width.bytes, at, c);
     let e = held.at?;
     Some(Met { at: q.at, i: e })
+}
+
+// The same, and the place behind the symbol after a difference too: only then is it looked for.
+#[tactic(auto, using(crate::proofs::MeetCode::comparing))]
+pub fn meet_symbol(tape: &[u8], work: &[u8], g: &Ground, left: usize, t: &[u8], p: Met) -> Compared
+    requires { Grounded tape.now work.now g.now × SomeInner tape.now work.now g.now left p.at }
+    ensures { Compares tape.now work.now g.now left t.now p result }
+{
+    match meet_inner(tape, work, g, left, t, p) {
+        Some(q) => Compared {
+            at: q.at,
+            i: Some(q.i),
+        },
+        None => Compared {
+            at: symbol_end(work, g.width, p.at),
+            i: None,
+        },
+    }
 }
