@@ -39,3 +39,14 @@ ones = map (map (λ (n : ℕ). eqb n 1)) table
 pub allowed_is : (i j : ℕ) → get_or (get_or ones i []) j false ≡ allowed_at i j
 unfolding allowed_at
 allowed_is i j = ap (λ (x : List Bool). get_or x j false) (get_or-map (map (λ (n : ℕ). eqb n 1)) table i []) ∙ get_or-map (λ (n : ℕ). eqb n 1) (get_or table i []) j 0
+
+-- no command stands anywhere
+pub none_allowed : (p : Place) → false ≡ allowed_at (row p) 8
+unfolding allowed_at table
+none_allowed Place.Atoms = refl
+none_allowed Place.Items = refl
+none_allowed Place.Arguments = refl
+none_allowed Place.Alternatives = refl
+none_allowed Place.Attributes = refl
+none_allowed Place.Conditions = refl
+none_allowed Place.Symbols = refl

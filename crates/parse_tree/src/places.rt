@@ -1,6 +1,6 @@
 // Which command may stand where: a table of places by classes of commands, as in specs/Places.
 ghost use Rattle.std.specs.Prelude.{◌≡◌};
-ghost use Rattle.parse_tree.specs.Working.Places.{row, column, class_of, allowed_at};
+ghost use Rattle.parse_tree.specs.Working.Places.{row, column, column_of, class_of, allowed_at};
 
 use crate::syntax::Node;
 
@@ -64,9 +64,12 @@ const ALLOWED: [[bool; 8]; 7] = [
     [false, false, false, false, false, false, false, true],
 ];
 
-// Whether a command of a class may stand at a place.
-pub fn allowed(place: Place, class: Class) -> bool
-    ensures { result ≡ allowed_at (row place) (column class) }
+// Whether a command of a class may stand at a place; where there is no command, none may.
+pub fn allowed(place: Place, class: Option<Class>) -> bool
+    ensures { result ≡ allowed_at (row place) (column_of class) }
 {
-    ALLOWED[place as usize][class as usize]
+    match class {
+        Some(class) => ALLOWED[place as usize][class as usize],
+        None => false,
+    }
 }

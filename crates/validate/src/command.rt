@@ -23,7 +23,7 @@ pub fn command(r: &Reader, place: Place, left: usize, at: usize) -> Result<(Node
     let Some(n) = node(r.tape, at, r.atoms.width) else {
         return Err(Question::Command.at(at));
     };
-    if !allowed(place, Class::from(n)) {
+    if !allowed(place, Some(Class::from(n))) {
         return Err(Question::Command.at(at));
     }
     if !is_defined(n, r.atoms.texts.count) || left < 1 {

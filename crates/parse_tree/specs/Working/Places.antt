@@ -1,5 +1,5 @@
 -- "Which command may stand where is a table of places by commands." Assumes nothing: these are definitions.
-use Rattle.std.specs.Prelude.{ℕ, Bool, List, [], ◌∷◌, get_or, eqb}
+use Rattle.std.specs.Prelude.{ℕ, Bool, Option, Some, None, List, [], ◌∷◌, get_or, eqb}
 use Rattle.parse_tree.specs.declared.syntax.Node.{Node}
 use Rattle.parse_tree.specs.declared.places.Place.{Place}
 use Rattle.parse_tree.specs.declared.places.Class.{Class}
@@ -54,6 +54,11 @@ column Class.Alternative = 4
 column Class.Attribute = 5
 column Class.Condition = 6
 column Class.Symbol = 7
+
+-- the same; where there is no command, the one behind the last, where nothing may stand
+abbrev pub column_of : Option Class → ℕ
+column_of (Some c) = column c
+column_of None = 8
 
 -- 1 where the command may stand. "All atoms come first": what is no atom ends them and is asked as an item
 unfoldable pub table : List (List ℕ)
