@@ -1,5 +1,5 @@
 -- The ways out of `next_level`: what it asks of the functions that it calls, and what it leaves. Assumes nothing.
-use mathlib.Core.Path.{◌≡◌, refl}
+use mathlib.Core.Path.{◌≡◌, refl, subst}
 use mathlib.Core.Bool.{Bool, false}
 use mathlib.Core.List.{List, [], ◌∷◌}
 use mathlib.Core.Option.{Option}
@@ -22,7 +22,7 @@ use Rattle.grades.specs.Sort.{GroupEnd}
 use Rattle.precedence.specs.declared.level.Level.{Level}
 use Rattle.precedence.specs.declared.names.LevelName.{LevelName}
 use Rattle.precedence.specs.Names.{Describing}
-use Rattle.precedence.specs.Level.{LevelInside, PutsLevel}
+use Rattle.precedence.specs.Level.{KeysInside, LevelInside, PutsLevel}
 use Rattle.levels.specs.declared.Room.{Room}
 use Rattle.levels.specs.declared.Written.{Written}
 use Rattle.levels.specs.Expand.{NamesLevel, Left, SomeLeft, Stepped, Steps}
@@ -58,25 +58,39 @@ module _ (s : List ℕ) (m : Map) (room : Room) (wd : ℕ) (ids : Ids) (p e plac
           abbrev level : Level
           level = record { first = i; last = j; name = x.name; below = below }
 
-          -- theorem: it can be written
-          pub next_inside : LevelInside wd w1 p places keys level room.lim v.to
-          next_inside =
+          -- where the level below is `under`
+          abbrev level_over : Maybe ℕ → Level
+          level_over under = record { first = i; last = j; name = x.name; below = under }
+
+          level_inside : LevelInside wd w1 p places keys level room.lim v.to
+          level_inside =
               with_level S.four S.nonterminal S.lower S.levels (LevelInside wd w1 p places keys level room.lim v.to) h S.left
               (λ v0 above z L.
               let k = step-known s m room wd ids p e places keys n i below v w S.four S.nonterminal S.lower v0 above L j g x w1 (rw (b, r, q, l) at f) in
               step-inside s m room wd ids p e places keys n i below v w S.four S.nonterminal S.lower v0 above L j g x w1 long k bytes)
 
-          -- theorem: and is written
-          pub next_steps : wd ≤ 3 → (to : ℕ) (w2 : List ℕ) → PutsLevel wd ids p places keys level room.lim w1 v.to to w2
+          -- theorem: it can be written, whatever stands below it
+          pub next_inside : (under : Maybe ℕ) → LevelInside wd w1 p places keys (level_over under) room.lim v.to
+          next_inside under =
+              let k = level_inside.level in
+              let keyed : KeysInside wd w1 places keys (level_over under) room.lim v.to = record { ordered = k.ordered; inside = k.inside; apart = k.apart; each = k.each } in
+              record { inside = level_inside.inside; head = level_inside.head; level = keyed; few = level_inside.few; stop = level_inside.stop; room = level_inside.room }
+
+          level_steps_so : wd ≤ 3 → (to : ℕ) (w2 : List ℕ) → PutsLevel wd ids p places keys level room.lim w1 v.to to w2
               → Steps s m room wd ids p e places keys n i below v w (record { last = j; name = x.name; count = x.count; to = to }) w2
           unfolding Steps
-          next_steps narrow to w2 t four d o vs L₀ =
+          level_steps_so narrow to w2 t four d o vs L₀ =
               let T : Type 0 = Stepped s m room wd ids p e places keys n i v w four d o vs (record { last = j; name = x.name; count = x.count; to = to }) w2 in
               with_level four d o vs T h L₀
               (λ v0 above z L.
               let k = step-known s m room wd ids p e places keys n i below v w four d o v0 above L j g x w1 (rw (b, r, q, l) at f) in
               let put = step-puts s m room wd ids p e places keys n i below v w four d o v0 above L j g x w1 long k bytes narrow to w2 t in
               rw z (level_steps s m room wd ids p e places keys n i below v w four d o v0 above L j g x w1 long k to w2 put))
+
+          -- theorem: and is written, if what stands below it is the level before
+          pub next_steps : wd ≤ 3 → (under : Maybe ℕ) → under ≡ below → (to : ℕ) (w2 : List ℕ) → PutsLevel wd ids p places keys (level_over under) room.lim w1 v.to to w2
+              → Steps s m room wd ids p e places keys n i below v w (record { last = j; name = x.name; count = x.count; to = to }) w2
+          next_steps narrow under z to w2 t = level_steps_so narrow to w2 (subst (λ (u : Maybe ℕ). PutsLevel wd ids p places keys (level_over u) room.lim w1 v.to to w2) z t)
 
 pub ruleset describing_next = (rules, next_describing)
 
