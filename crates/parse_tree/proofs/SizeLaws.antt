@@ -6,7 +6,8 @@ use native.Mathlib.Omega.{arith}
 use borrow.Author.Rules.{rules}
 use lib.ListN.{length, length-append}
 use Rattle.octets.proofs.NumbersLaws.{length-le}
-use Rattle.parse_tree.specs.Working.Nodes.{span_bytes, leaf_operand, symbol_bytes, node_bytes, size_of}
+use Rattle.parse_tree.specs.Working.Nodes.{span_bytes, leaf_operand, symbol_bytes, node_bytes, size_of, size_read}
+use Rattle.std.specs.Prelude.{Option, Some, None}
 use Rattle.parse_tree.specs.Working.Questions.{defined}
 use Rattle.parse_tree.specs.declared.syntax.Span.{Span}
 use Rattle.parse_tree.specs.declared.syntax.Atom.{Atom}
@@ -117,7 +118,15 @@ module _ (w : ℕ) (n : Node) (s : Span) (k : SymbolKind) (p : n ≡ Node.Symbol
   unfolding size_of node_bytes symbol_bytes
   group_size o m q e = rw (p, q, e) (simp (length-append, length-le, length_span) (omega arith))
 
-pub ruleset sizing = (rules, ambiguous_size, bare_size, quoted_size, regex_size, nonterminal_leaf_size, lookahead_size, lookbehind_size, error_size, text_size, nonterminal_size, terminal_size, argument-size, alternative_size, attribute_size, condition_size, leaf_size, repeat_size, choose_size, name_size, macro_size, group_size)
+-- ---- what was read
+module _ (w : ℕ) (y : Option Node) where
+  pub no_size : y ≡ None → 0 ≡ size_read w y
+  no_size e = rw e
+
+  pub some_size : (n : Node) → y ≡ Some n → (r : ℕ) → r ≡ size_of w n → r ≡ size_read w y
+  some_size n e r p = rw e p
+
+pub ruleset sizing = (rules, no_size, some_size, ambiguous_size, bare_size, quoted_size, regex_size, nonterminal_leaf_size, lookahead_size, lookbehind_size, error_size, text_size, nonterminal_size, terminal_size, argument-size, alternative_size, attribute_size, condition_size, leaf_size, repeat_size, choose_size, name_size, macro_size, group_size)
 
 -- a command that is known has a byte
 symbol_positive : (w : ℕ) (sp : Span) (k : SymbolKind) → 0 < length (symbol_bytes w sp k)

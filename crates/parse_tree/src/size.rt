@@ -1,6 +1,6 @@
 // How long a command is.
 ghost use Rattle.std.specs.Prelude.{◌≡◌, ◌≤◌, ◌<◌, length};
-ghost use Rattle.parse_tree.specs.Working.Nodes.{code_size, leaf_operand, long_of, size_of};
+ghost use Rattle.parse_tree.specs.Working.Nodes.{code_size, leaf_operand, long_of, size_read};
 
 use crate::syntax::{Around, Leaf, Node, Over, SymbolKind};
 use octets::numbers::Width;
@@ -19,10 +19,11 @@ fn leaf_size(l: Leaf, width: Width) -> usize
     }
 }
 
-// The bytes of a command; the text of an atom stands behind them and is not counted. By the node beside `size_by_code`: `ask` says its length so, that of an atom too.
-pub fn size(n: Node, width: Width) -> usize
-    ensures { (result ≡ size_of width.bytes n) × (result ≤ 20) }
+// The bytes of a command, none where there is none; the text of an atom stands behind them and is not counted. By the node beside `size_by_code`: `ask` says its length so, that of an atom too.
+pub fn size(n: Option<Node>, width: Width) -> usize
+    ensures { (result ≡ size_read width.bytes n) × (result ≤ 20) }
 {
+    let Some(n) = n else { return 0 };
     match n {
         Node::Text(_) => 3,
         Node::Nonterminal(_) => 13 + width.bytes,

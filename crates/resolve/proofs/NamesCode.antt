@@ -54,6 +54,24 @@ module _ (f : Option Definition) (d : Definition) (e : f ≡ Some d) where
     unfolding ambiguous_says
     ambiguous_argument = rw (e, h) refl
 
+  -- of what no cell has
+  module _ (h : d ≡ Definition.Unknown) where
+    pub condition_unknown : Err Question.ConditionName ≡ condition_says f
+    unfolding condition_says
+    condition_unknown = rw (e, h) refl
+
+    pub nonterminal_unknown : Err Question.Nonterminal ≡ nonterminal_says f
+    unfolding nonterminal_says
+    nonterminal_unknown = rw (e, h) refl
+
+    pub macro_unknown : (k : ℕ) → Err Question.Macro ≡ macro_says f k
+    unfolding macro_says
+    macro_unknown k = rw (e, h) refl
+
+    pub ambiguous_unknown : Err Question.AmbiguousId ≡ ambiguous_says f
+    unfolding ambiguous_says
+    ambiguous_unknown = rw (e, h) refl
+
   -- of one of two sorts
   pub condition_global : (d ≡ Definition.Terminal) ⊎ ((n : ℕ) × (d ≡ Definition.Nonterminal n)) → Err Question.ConditionName ≡ condition_says f
   unfolding condition_says
@@ -112,4 +130,4 @@ module _ (f : Option Definition) (d : Definition) (e : f ≡ Some d) where
         go zero z i = absurd (z refl)
         go (suc n) z i = rw (ne_eqb (suc n) k i) refl
 
-pub ruleset naming = (rules, condition_nothing, nonterminal_nothing, macro_nothing, ambiguous_nothing, nonterminal_terminal, ambiguous_terminal, condition_argument, nonterminal_argument, ambiguous_argument, condition_global, macro_none, nonterminal_plain, macro_plain, ambiguous_plain, nonterminal_macro, ambiguous_macro, macro_fine, macro_count)
+pub ruleset naming = (rules, condition_nothing, nonterminal_nothing, macro_nothing, ambiguous_nothing, nonterminal_terminal, ambiguous_terminal, condition_argument, nonterminal_argument, ambiguous_argument, condition_global, macro_none, nonterminal_plain, macro_plain, ambiguous_plain, nonterminal_macro, ambiguous_macro, macro_fine, macro_count, condition_unknown, nonterminal_unknown, macro_unknown, ambiguous_unknown)

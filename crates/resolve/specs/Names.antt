@@ -11,6 +11,7 @@ condition_says None = Err Question.Defined
 condition_says (Some Definition.Terminal) = Err Question.ConditionName
 condition_says (Some (Definition.Nonterminal n)) = Err Question.ConditionName
 condition_says (Some (Definition.Argument n)) = Ok tt
+condition_says (Some Definition.Unknown) = Err Question.ConditionName
 
 -- "Does 24 name a plain nonterminal or argument? 10"
 unfoldable pub nonterminal_says : Option Definition → Result (Unit {0}) Question
@@ -19,6 +20,7 @@ nonterminal_says (Some Definition.Terminal) = Err Question.Nonterminal
 nonterminal_says (Some (Definition.Nonterminal zero)) = Ok tt
 nonterminal_says (Some (Definition.Nonterminal (suc n))) = Err Question.Nonterminal
 nonterminal_says (Some (Definition.Argument n)) = Ok tt
+nonterminal_says (Some Definition.Unknown) = Err Question.Nonterminal
 
 -- "Does 25 name a macro? 11, with its count? 12"
 unfoldable pub macro_says : Option Definition → ℕ → Result (Unit {0}) Question
@@ -27,6 +29,7 @@ macro_says (Some Definition.Terminal) k = Err Question.Macro
 macro_says (Some (Definition.Nonterminal zero)) k = Err Question.Macro
 macro_says (Some (Definition.Nonterminal (suc n))) k = pick (eqb (suc n) k) (Ok tt) (Err Question.ArgumentCount)
 macro_says (Some (Definition.Argument n)) k = Err Question.Macro
+macro_says (Some Definition.Unknown) k = Err Question.Macro
 
 -- "Is 20 no macro? 13"
 unfoldable pub ambiguous_says : Option Definition → Result ℕ Question
@@ -35,3 +38,4 @@ ambiguous_says (Some Definition.Terminal) = Ok 33
 ambiguous_says (Some (Definition.Nonterminal zero)) = Ok 36
 ambiguous_says (Some (Definition.Nonterminal (suc n))) = Err Question.AmbiguousId
 ambiguous_says (Some (Definition.Argument n)) = Ok 36
+ambiguous_says (Some Definition.Unknown) = Err Question.AmbiguousId

@@ -32,10 +32,12 @@ pub struct Scope {
 }
 
 // What a scope says of a name that is defined: a terminal, a nonterminal or macro with so many arguments, or an argument of the item at
-// hand, which hides a global; the number is that global's cell. No code reads it: it is what `def` promises.
+// hand, which hides a global; the number is that global's cell. No code reads it: it is what `def` promises. `def` never says `Unknown`, a
+// definition that no cell has, and `names` refuses it.
 #[derive(Clone, Copy, PartialEq, Eq)]
 pub enum Definition {
     Terminal,
     Nonterminal(usize),
     Argument(usize),
+    Unknown,
 }

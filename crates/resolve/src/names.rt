@@ -15,6 +15,7 @@ pub fn validate_condition(f: Option<Definition>) -> Result<(), Question>
     match d {
         Definition::Argument(_) => Ok(()),
         Definition::Terminal | Definition::Nonterminal(_) => Err(Question::ConditionName),
+        Definition::Unknown => Err(Question::ConditionName),
     }
 }
 
@@ -33,6 +34,7 @@ pub fn validate_nonterminal(f: Option<Definition>) -> Result<(), Question>
             Err(Question::Nonterminal)
         },
         Definition::Argument(_) => Ok(()),
+        Definition::Unknown => Err(Question::Nonterminal),
     }
 }
 
@@ -54,6 +56,7 @@ pub fn validate_macro(f: Option<Definition>, k: usize) -> Result<(), Question>
                 Err(Question::ArgumentCount)
             }
         }
+        Definition::Unknown => Err(Question::Macro),
     }
 }
 
@@ -72,5 +75,6 @@ pub fn rewrite_ambiguous_id(f: Option<Definition>) -> Result<u8, Question>
             Err(Question::AmbiguousId)
         },
         Definition::Argument(_) => Ok(36),
+        Definition::Unknown => Err(Question::AmbiguousId),
     }
 }

@@ -5,8 +5,9 @@ use Prim.Native.Nat.{ℕ, ◌<◌, ◌≤◌}
 use borrow.Author.Rules.{rules}
 use borrow.Author.Tests.{lt-ltb, le-ltb, le-leb, lt-leb, ne_eqb}
 use lib.Dec.{leb, ltb, eqb}
+use Rattle.std.specs.Prelude.{Option, Some, None}
 use Rattle.octets.specs.Working.Choice.{pick}
-use Rattle.parse_tree.specs.Working.Questions.{leaf_defined, symbol_defined, alternative_defined, attribute_defined, defined}
+use Rattle.parse_tree.specs.Working.Questions.{leaf_defined, symbol_defined, alternative_defined, attribute_defined, defined, defined_read}
 use Rattle.parse_tree.specs.declared.syntax.Atom.{Atom}
 use Rattle.parse_tree.specs.declared.syntax.Span.{Span}
 use Rattle.parse_tree.specs.declared.syntax.NonterminalString.{NonterminalString}
@@ -211,4 +212,11 @@ module _ (n : ℕ) (x : Node) where
     unfolding defined
     node_symbol s k e p = rw e p
 
-pub ruleset nodes = (rules, node_text, no_name, node_nonterminal, node_terminal, node_argument, node_alternative, node_attribute, node_condition, node_symbol)
+module _ (n : ℕ) (y : Option Node) where
+  pub no_node : y ≡ None → false ≡ defined_read n y
+  no_node e = rw e
+
+  pub some_node : (x : Node) → y ≡ Some x → (r : Bool) → r ≡ defined n x → r ≡ defined_read n y
+  some_node x e r p = rw e p
+
+pub ruleset nodes = (rules, no_node, some_node, node_text, no_name, node_nonterminal, node_terminal, node_argument, node_alternative, node_attribute, node_condition, node_symbol)

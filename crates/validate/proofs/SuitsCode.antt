@@ -10,10 +10,12 @@ use Rattle.std.proofs.Common.{is_le}
 use Rattle.std.specs.Ordering.{is_some_and}
 use lib.Dec.{leb, eqb}
 use lib.ListN.{length, get_or}
+use Rattle.std.specs.Prelude.{Option, Some, None}
 use Rattle.octets.specs.Working.Choice.{pick}
+use Rattle.octets.proofs.ChoiceLaws.{pick_same}
 use Rattle.parse_tree.specs.Plain.Tree.{Text}
 use Rattle.parse_tree.specs.Plain.Texts.{is_name, is_literal, is_ascii}
-use Rattle.parse_tree.specs.Working.Questions.{leaf_suits, symbol_suits, suits}
+use Rattle.parse_tree.specs.Working.Questions.{leaf_suits, symbol_suits, suits, suits_read}
 use Rattle.parse_tree.specs.declared.syntax.Atom.{Atom}
 use Rattle.parse_tree.specs.declared.syntax.Span.{Span}
 use Rattle.parse_tree.specs.declared.syntax.NonterminalString.{NonterminalString}
@@ -215,13 +217,18 @@ module _ (ts : List Text) (x : Node) where
 
 pub ruleset nodes = (rules, node_text, node_nonterminal, node_terminal, node_argument, node_alternative, node_attribute, node_condition, node_symbol)
 
--- ---- `is_apt`: four says whether question 4 is asked
-pub apt_unasked : (four : Bool) (ts : List Text) (x : Node) → not four ≡ true → true ≡ pick four (suits ts x) true
-unfolding pick
-apt_unasked four ts x h = rw (not-true four h)
+-- ---- `is_apt`: four says whether question 4 is asked, y is what was read
+module _ (four : Bool) (ts : List Text) (y : Option Node) where
+  pub apt_none : y ≡ None → true ≡ pick four (suits_read ts y) true
+  apt_none e = rw e (sym (pick_same four true))
 
-pub apt_asked : (four : Bool) (ts : List Text) (x : Node) (r : Bool) → not four ≡ false → r ≡ suits ts x → r ≡ pick four (suits ts x) true
-unfolding pick
-apt_asked four ts x r h e = rw (not-false four h) e
+  module _ (x : Node) (e : y ≡ Some x) where
+    pub apt_unasked : not four ≡ true → true ≡ pick four (suits_read ts y) true
+    unfolding pick
+    apt_unasked h = rw (not-true four h)
 
-pub ruleset apt = (rules, apt_unasked, apt_asked)
+    pub apt_asked : (r : Bool) → not four ≡ false → r ≡ suits ts x → r ≡ pick four (suits_read ts y) true
+    unfolding pick
+    apt_asked r h p = rw (not-false four h, e) p
+
+pub ruleset apt = (rules, apt_none, apt_unasked, apt_asked)

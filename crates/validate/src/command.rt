@@ -26,13 +26,13 @@ pub fn command(r: &Reader, place: Place, left: usize, at: usize) -> Result<(Node
     if !allowed(place, Some(Class::from(n))) {
         return Err(Question::Command.at(at));
     }
-    if !is_defined(n, r.atoms.texts.count) || left < 1 {
+    if !is_defined(Some(n), r.atoms.texts.count) || left < 1 {
         return Err(Question::Operand.at(at));
     }
-    if !is_apt(r, n) {
+    if !is_apt(r, Some(n)) {
         return Err(Question::Text.at(at));
     }
-    Ok((n, at + size(n, r.atoms.width)))
+    Ok((n, at + size(Some(n), r.atoms.width)))
 }
 
 // n commands at a place, one behind another.
@@ -41,7 +41,7 @@ pub fn commands(r: &Reader, place: Place, n: usize, at: usize) -> Result<usize, 
 {
     let mut p = at;
     for _ in 0..n {
-        p = match quick_command(r, place, p) {
+        p = match quick_command(r, Some(place), p) {
             Some(f) => f,
             None => command(r, place, 1, p)?.1,
         };

@@ -1,6 +1,6 @@
 // Question 3 of one command: each operand defined and in its values.
 ghost use Rattle.std.specs.Prelude.{◌≡◌};
-ghost use Rattle.parse_tree.specs.Working.Questions.{defined, leaf_defined, symbol_defined, alternative_defined, attribute_defined};
+ghost use Rattle.parse_tree.specs.Working.Questions.{defined, defined_read, leaf_defined, symbol_defined, alternative_defined, attribute_defined};
 
 use parse_tree::syntax::{Alternative, Around, Attribute, Condition, Leaf, Node, Over, SymbolKind};
 
@@ -76,10 +76,11 @@ fn condition_defined(c: Condition, atoms: usize) -> bool
     (c.lhs.0 as usize) < atoms && c.op <= 1 && (c.rhs.0 as usize) < atoms
 }
 
-// Whether every operand of a command is defined, where there are so many atoms, and in its values.
-pub fn is_defined(n: Node, atoms: usize) -> bool
-    ensures { result ≡ defined atoms n }
+// Whether every operand of a command is defined, where there are so many atoms, and in its values; not where there is no command.
+pub fn is_defined(n: Option<Node>, atoms: usize) -> bool
+    ensures { result ≡ defined_read atoms n }
 {
+    let Some(n) = n else { return false };
     match n {
         Node::Text(_) => true,
         Node::Nonterminal(d) => (d.name.0 as usize) < atoms && d.flags <= 3,

@@ -2,7 +2,7 @@
 ghost use Rattle.std.specs.Prelude.{◌≡◌, true, ◌&&◌, [], ◌+◌, ◌≤◌, ltb, length, get_or, IfSome};
 ghost use Rattle.octets.specs.Working.Choice.{pick};
 ghost use Rattle.parse_tree.specs.Working.Nodes.{named_leaf};
-ghost use Rattle.parse_tree.specs.Working.Places.{row, arguments_place, attributes_place};
+ghost use Rattle.parse_tree.specs.Working.Places.{row_of, arguments_place, attributes_place};
 ghost use Rattle.parse_tree.specs.Working.Questions.{alternative_defined, attribute_defined, leaf_defined, leaf_suits, suits};
 ghost use Rattle.parse_tree.specs.declared.syntax.Node.{Node};
 ghost use Rattle.texts.specs.Atoms.{atoms_of};
@@ -172,13 +172,13 @@ fn quick_argument(r: &Reader, at: usize) -> Option<usize>
     is_used(r, atom_at(r.tape, at + 1, r.atoms.width), TextClass::Name).then_some(at + n)
 }
 
-// The same for a place where nothing stands inside a command.
-pub fn quick_command(r: &Reader, place: Place, at: usize) -> Option<usize>
-    ensures { IfSome result (PassedCommand r.now.tape.now r.now.atoms (row place) at) }
+// The same for a place where nothing stands inside a command; where there is no place, nothing passes.
+pub fn quick_command(r: &Reader, place: Option<Place>, at: usize) -> Option<usize>
+    ensures { IfSome result (PassedCommand r.now.tape.now r.now.atoms (row_of place) at) }
 {
     match place {
-        Place::Arguments => quick_argument(r, at),
-        Place::Attributes => quick_attribute(r, at),
+        Some(Place::Arguments) => quick_argument(r, at),
+        Some(Place::Attributes) => quick_attribute(r, at),
         _ => None,
     }
 }

@@ -1,7 +1,7 @@
 // Question 4 of one command: does each text suit its use?
 ghost use Rattle.std.specs.Prelude.{◌≡◌, true, [], get_or};
 ghost use Rattle.octets.specs.Working.Choice.{pick};
-ghost use Rattle.parse_tree.specs.Working.Questions.{suits, leaf_suits, symbol_suits};
+ghost use Rattle.parse_tree.specs.Working.Questions.{suits, suits_read, leaf_suits, symbol_suits};
 ghost use Rattle.texts.specs.Atoms.{atoms_of};
 ghost use Rattle.texts.specs.Classes.{text_class, class_number};
 ghost use Rattle.validate.specs.Uses.{fits};
@@ -92,9 +92,10 @@ fn is_suited(r: &Reader, n: Node) -> bool
     }
 }
 
-// The same where question 4 is asked; else all suits.
-pub fn is_apt(r: &Reader, n: Node) -> bool
-    ensures { result ≡ pick r.now.atoms.four (suits (atoms_of r.now.tape.now r.now.atoms.texts.count) n) true }
+// The same where question 4 is asked; else all suits, and so it does where there is no command.
+pub fn is_apt(r: &Reader, n: Option<Node>) -> bool
+    ensures { result ≡ pick r.now.atoms.four (suits_read (atoms_of r.now.tape.now r.now.atoms.texts.count) n) true }
 {
+    let Some(n) = n else { return true };
     !r.atoms.four || is_suited(r, n)
 }

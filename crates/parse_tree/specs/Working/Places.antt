@@ -44,6 +44,11 @@ row Place.Attributes = attributes_place
 row Place.Conditions = conditions_place
 row Place.Symbols = symbols_place
 
+-- the same; where there is no place, the one behind the last, where nothing may stand
+abbrev pub row_of : Option Place → ℕ
+row_of (Some p) = row p
+row_of None = 7
+
 -- the number of a column
 unfoldable pub column : Class → ℕ
 column Class.Text = 0

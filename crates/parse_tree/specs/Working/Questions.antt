@@ -1,5 +1,5 @@
 -- Questions 3 and 4 of one command. Assumes nothing: these are definitions.
-use Rattle.std.specs.Prelude.{ℕ, Bool, true, ◌&&◌, List, [], get_or, leb, ltb, eqb}
+use Rattle.std.specs.Prelude.{ℕ, Bool, true, false, ◌&&◌, List, [], get_or, leb, ltb, eqb, Option, Some, None}
 use Rattle.octets.specs.Working.Choice.{pick}
 use Rattle.parse_tree.specs.Plain.Tree.{Text}
 use Rattle.parse_tree.specs.Plain.Texts.{is_name, is_literal, is_ascii}
@@ -54,6 +54,11 @@ defined n (Node.Attribute a) = attribute_defined n a
 defined n (Node.Condition c) = ltb c.lhs.0 n && (leb c.op 1 && ltb c.rhs.0 n)
 defined n (Node.Symbol s k) = symbol_defined n k
 
+-- of what was read: not where there is no command
+abbrev pub defined_read : ℕ → Option Node → Bool
+defined_read n (Some x) = defined n x
+defined_read n None = false
+
 -- ---- "Does each text suit its use?"
 
 -- the text of atom k, of a class
@@ -87,3 +92,8 @@ suits ts (Node.Alternative a) = pick (has_text a.action) (of_class is_ascii ts a
 suits ts (Node.Attribute a) = of_class is_name ts a.id.0 && pick (eqb a.kind 1) (of_class is_ascii ts a.key.0 && of_class is_ascii ts a.value.0) true
 suits ts (Node.Condition c) = of_class is_name ts c.lhs.0 && of_class is_literal ts c.rhs.0
 suits ts (Node.Symbol s k) = symbol_suits ts k
+
+-- of what was read: where there is no command, no text is used
+abbrev pub suits_read : List Text → Option Node → Bool
+suits_read ts (Some x) = suits ts x
+suits_read ts None = true

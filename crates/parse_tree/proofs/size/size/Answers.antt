@@ -39,3 +39,6 @@ returns-in-Macro c = search sizing
 
 pub returns-in-Group : goal.returns-in-Group
 returns-in-Group c = search sizing
+
+pub returns-in_default : goal.returns-in_default
+returns-in_default c = search sizing

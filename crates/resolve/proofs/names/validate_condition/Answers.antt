@@ -9,3 +9,6 @@ returns-in-Argument c = search naming
 
 pub returns-in-Terminal : goal.returns-in-Terminal
 returns-in-Terminal c = search naming
+
+pub returns-in-Unknown : goal.returns-in-Unknown
+returns-in-Unknown c = search naming

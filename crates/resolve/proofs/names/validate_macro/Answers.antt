@@ -15,3 +15,6 @@ returns-then-n-k c = search naming
 
 pub returns-else-n-k : goal.returns-else-n-k
 returns-else-n-k c = search naming
+
+pub returns-in-Unknown : goal.returns-in-Unknown
+returns-in-Unknown c = search naming

@@ -15,3 +15,6 @@ returns-else-n-eq0 c = search naming
 
 pub returns-in-Argument : goal.returns-in-Argument
 returns-in-Argument c = search naming
+
+pub returns-in-Unknown : goal.returns-in-Unknown
+returns-in-Unknown c = search naming

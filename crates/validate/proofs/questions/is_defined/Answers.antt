@@ -26,3 +26,6 @@ returns-then-d-atoms c = search nodes
 pub returns-else-d-atoms : goal.returns-else-d-atoms
 unfolding defined
 returns-else-d-atoms c = search nodes
+
+pub returns-in_default : goal.returns-in_default
+returns-in_default c = search nodes

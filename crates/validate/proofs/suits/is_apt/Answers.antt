@@ -6,3 +6,6 @@ returns-then-not-r c = search apt
 
 pub returns-else-not-r : goal.returns-else-not-r
 returns-else-not-r c = search apt
+
+pub returns-in_default : goal.returns-in_default
+returns-in_default c = search apt
