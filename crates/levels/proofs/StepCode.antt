@@ -1,5 +1,5 @@
 -- The ways out of `next_level`: what it asks of the functions that it calls, and what it leaves. Assumes nothing.
-use mathlib.Core.Path.{◌≡◌, refl, subst}
+use mathlib.Core.Path.{◌≡◌, refl}
 use mathlib.Core.Bool.{Bool, false}
 use mathlib.Core.List.{List, [], ◌∷◌}
 use mathlib.Core.Option.{Option}
@@ -7,7 +7,7 @@ use Prim.Native.Nat.{ℕ, ◌+◌, ◌*◌, ◌≤◌, ◌<◌}
 use borrow.Author.Rules.{rules}
 use lib.Dec.{eqb}
 use lib.ListN.{length, get_or}
-use Rattle.std.specs.Prelude.{Option as Maybe}
+use Rattle.std.specs.Prelude.{Option as Maybe, unwrap_or}
 use mir.Syntax.{w8}
 use mir.Val as Bound
 use Rattle.octets.specs.Plain.Numbers.{le_at}
@@ -56,11 +56,11 @@ module _ (s : List ℕ) (m : Map) (room : Room) (wd : ℕ) (ids : Ids) (p e plac
 
         module _ (long : length w1 ≡ length w) (bytes : (k : ℕ) → Bound.Fits w8 (get_or w1 k 0)) where
           abbrev level : Level
-          level = record { first = i; last = j; name = x.name; below = below }
+          level = record { first = i; last = j; name = x.name; below = below; lower = unwrap_or below x.name }
 
-          -- where the level below is `under`
-          abbrev level_over : Maybe ℕ → Level
-          level_over under = record { first = i; last = j; name = x.name; below = under }
+          -- where the level below is `under`, and `low` stands for it
+          abbrev level_over : Maybe ℕ → ℕ → Level
+          level_over under low = record { first = i; last = j; name = x.name; below = under; lower = low }
 
           level_inside : LevelInside wd w1 p places keys level room.lim v.to
           level_inside =
@@ -70,10 +70,10 @@ module _ (s : List ℕ) (m : Map) (room : Room) (wd : ℕ) (ids : Ids) (p e plac
               step-inside s m room wd ids p e places keys n i below v w S.four S.nonterminal S.lower v0 above L j g x w1 long k bytes)
 
           -- theorem: it can be written, whatever stands below it
-          pub next_inside : (under : Maybe ℕ) → LevelInside wd w1 p places keys (level_over under) room.lim v.to
-          next_inside under =
+          pub next_inside : (under : Maybe ℕ) (low : ℕ) → LevelInside wd w1 p places keys (level_over under low) room.lim v.to
+          next_inside under low =
               let k = level_inside.level in
-              let keyed : KeysInside wd w1 places keys (level_over under) room.lim v.to = record { ordered = k.ordered; inside = k.inside; apart = k.apart; each = k.each } in
+              let keyed : KeysInside wd w1 places keys (level_over under low) room.lim v.to = record { ordered = k.ordered; inside = k.inside; apart = k.apart; each = k.each } in
               record { inside = level_inside.inside; head = level_inside.head; level = keyed; few = level_inside.few; stop = level_inside.stop; room = level_inside.room }
 
           level_steps_so : wd ≤ 3 → (to : ℕ) (w2 : List ℕ) → PutsLevel wd ids p places keys level room.lim w1 v.to to w2
@@ -87,10 +87,10 @@ module _ (s : List ℕ) (m : Map) (room : Room) (wd : ℕ) (ids : Ids) (p e plac
               let put = step-puts s m room wd ids p e places keys n i below v w four d o v0 above L j g x w1 long k bytes narrow to w2 t in
               rw z (level_steps s m room wd ids p e places keys n i below v w four d o v0 above L j g x w1 long k to w2 put))
 
-          -- theorem: and is written, if what stands below it is the level before
-          pub next_steps : wd ≤ 3 → (under : Maybe ℕ) → under ≡ below → (to : ℕ) (w2 : List ℕ) → PutsLevel wd ids p places keys (level_over under) room.lim w1 v.to to w2
+          -- theorem: and is written, if what stands below it is the level before, or its own name where there is none
+          pub next_steps : wd ≤ 3 → (under : Maybe ℕ) → under ≡ below → (low : ℕ) → low ≡ unwrap_or below x.name → (to : ℕ) (w2 : List ℕ) → PutsLevel wd ids p places keys (level_over under low) room.lim w1 v.to to w2
               → Steps s m room wd ids p e places keys n i below v w (record { last = j; name = x.name; count = x.count; to = to }) w2
-          next_steps narrow under z to w2 t = level_steps_so narrow to w2 (subst (λ (u : Maybe ℕ). PutsLevel wd ids p places keys (level_over u) room.lim w1 v.to to w2) z t)
+          next_steps narrow under z low y to w2 t = level_steps_so narrow to w2 (rw (z, y) at t)
 
 pub ruleset describing_next = (rules, next_describing)
 

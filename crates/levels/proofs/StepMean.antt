@@ -9,7 +9,7 @@ use native.Mathlib.Omega.{arith}
 use borrow.Author.Tests.{eqb-true, eqb-false}
 use lib.Dec.{eqb}
 use lib.ListN.{length, get_or}
-use Rattle.std.specs.Prelude.{Option as Maybe, Some}
+use Rattle.std.specs.Prelude.{Option as Maybe, Some, unwrap_or}
 use mir.Syntax.{w8}
 use mir.Val as Bound
 use Rattle.octets.specs.Plain.Numbers.{le_at}
@@ -40,7 +40,7 @@ use Rattle.precedence.specs.Level.{LevelInside, PutsLevel}
 use Rattle.precedence.proofs.GroupMean.{GroupSplit, group_split}
 use Rattle.precedence.proofs.LeadMean.{graded-many, keys_lead, keys_noted}
 use Rattle.precedence.proofs.LevelKeysMean.{KeysMean}
-use Rattle.precedence.proofs.LevelWholeMean.{LevelOf, ArraysOf, lower_number, level_inside, level_means}
+use Rattle.precedence.proofs.LevelWholeMean.{LevelOf, ArraysOf, lower_number, lower_or_own, level_inside, level_means}
 use Rattle.levels.specs.declared.Room.{Room}
 use Rattle.levels.specs.declared.Written.{Written}
 use Rattle.levels.specs.Expand.{NamesLevel, places_of, alternatives_at, LowerIs, level_item, Left}
@@ -179,14 +179,14 @@ module _ (s : List ℕ) (m : Map) (room : Room) (wd : ℕ) (ids : Ids) (p e plac
       group = record { name = level_name d.name v0 above; lower = o; alternatives = of_level v0 (graded d) }
 
       abbrev level : Level
-      level = record { first = i; last = j; name = x.name; below = below }
+      level = record { first = i; last = j; name = x.name; below = below; lower = unwrap_or below x.name }
 
       below-is : (q : Option Text) → LowerIs (named_texts s w m v.count) below q → below ≡ lower_number us q
       below-is none h = h
       below-is (some t) h = h.1 ∙ ap Some (sym (extends_number (named_texts s w m v.count) us t step-later h.0))
 
       level_of_lem : LevelOf us group level
-      level_of_lem = record { name = k.name; below = below-is o L.lower; many = group_is.end }
+      level_of_lem = record { name = k.name; below = below-is o L.lower; lower = lower_or_own us o (level_name d.name v0 above) below x.name (below-is o L.lower) k.name; many = group_is.end }
 
       arrays : ArraysOf w1 places keys n level room.lim v.to
       arrays =

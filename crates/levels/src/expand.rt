@@ -91,6 +91,7 @@ fn next_level(
         last: j,
         name,
         below,
+        lower: below.unwrap_or(name),
     };
     let t = Keyed {
         places: a.places,

@@ -6,7 +6,6 @@ use mathlib.Core.List.{List, [], ◌∷◌, map, append-nil}
 use Prim.Native.Nat.{ℕ, ◌+◌, ◌*◌, ◌/◌, ◌%◌, ◌<◌, ◌≤◌}
 use native.Mathlib.Omega.{arith}
 use lib.ListN.{length, get_or}
-use Rattle.std.specs.Prelude.{unwrap_or}
 use Rattle.octets.specs.Plain.Numbers.{le_at}
 use Rattle.octets.specs.Plain.Runs.{Lies}
 use Rattle.parse_tree.specs.Plain.Tree.{Text, Alternative}
@@ -103,7 +102,7 @@ module _ (four : Bool) (wd : ℕ) (ts : List Text) (places : ℕ) where
       let l = lies_agree w out (le_at 8 w (key_entry places k)) (le_at 8 w (key_entry places k + 8)) (alternative_bytes wd ts m.source) same (omega arith) (λ j a b. kept j (inl (omega arith))) m.lies in
       record { source = m.source; within = m.within; lies = rw (x, y) l; is = m.is; sided = m.sided }
 
-  module _ (narrow : wd ≤ 3) (keys : ℕ) (E : Text) (group : Group Graded) (known : has E ts ≡ true) (l : Level) (named : l.name ≡ number ts group.name) (lower : unwrap_or l.below l.name ≡ number ts (lower_name group)) (lim : ℕ) where
+  module _ (narrow : wd ≤ 3) (keys : ℕ) (E : Text) (group : Group Graded) (known : has E ts ≡ true) (l : Level) (named : l.name ≡ number ts group.name) (lower : l.lower ≡ number ts (lower_name group)) (lim : ℕ) where
     key_means : (w : List ℕ) (k to r : ℕ) (w1 : List ℕ) (g : Graded) → lim + 16 ≤ length w → KeyMeans w k g → PutsKey wd (ids_in ts) places (number ts E) l lim k w to r w1
         → Puts w lim to (alternative_bytes wd ts (substitute E group g)) r w1
     key_means w k to r w1 g room m q =

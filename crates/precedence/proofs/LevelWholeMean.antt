@@ -18,7 +18,7 @@ use Rattle.parse_tree.specs.Working.Encode.{item_bytes, nonterminal_node, argume
 use Rattle.parse_tree.specs.declared.syntax.Span.{Span}
 use Rattle.passes.specs.Outcome.{with_alternatives, with_name}
 use Rattle.passes.specs.Grades.{Graded}
-use Rattle.passes.specs.Levels.{Group, substitute, substituted, fall_through, with_fall_through}
+use Rattle.passes.specs.Levels.{Group, lower_name, substitute, substituted, fall_through, with_fall_through}
 use Rattle.resolve.specs.Whole.{Apart}
 use Rattle.resolve.proofs.GrammarLaws.{Headed}
 use Rattle.grades.specs.Ids.{ids_in}
@@ -37,7 +37,7 @@ lower_number ts none = None
 lower_number ts (some t) = Some (number ts t)
 
 -- what stands for it where there is none: the level's own
-lower_or_own : (ts : List Text) (o : Option Text) (v : Text) (b : Maybe ℕ) (n : ℕ) → b ≡ lower_number ts o → n ≡ number ts v → unwrap_or b n ≡ number ts (elim o [ none ↦ v | some t ↦ t ])
+pub lower_or_own : (ts : List Text) (o : Option Text) (v : Text) (b : Maybe ℕ) (n : ℕ) → b ≡ lower_number ts o → n ≡ number ts v → unwrap_or b n ≡ number ts (elim o [ none ↦ v | some t ↦ t ])
 lower_or_own ts none v b n z y = rw z y
 lower_or_own ts (some t) v b n z y = rw z
 
@@ -55,6 +55,7 @@ count-means ts as' s (some t) b n z y = rw z (omega (arith, y, length-append as'
 pub record LevelOf (ts : List Text) (group : Group Graded) (l : Level) : Type 0 where
   pub name : l.name ≡ number ts group.name
   pub below : l.below ≡ lower_number ts group.lower
+  pub lower : l.lower ≡ number ts (lower_name group)
   pub many : l.last ≡ l.first + length group.alternatives
 
 -- the two arrays, and of n places noted those of the level's keys
@@ -122,7 +123,7 @@ module _ (four : Bool) (wd : ℕ) (ts : List Text) (w : List ℕ) (p e : ℕ) (d
         let t = h.name in
         let k : PutsKeys wd (ids_in ts) places keys (number ts d.name) l lim (length group.alternatives) l.first q.headed q.behind q.last q.filled = rw (n, t) at q.alternatives.each in
         let y : Puts q.headed lim q.behind Y q.last q.filled
-        = keys_mean four wd ts places narrow keys d.name group known l of.name (lower_or_own ts group.lower group.name l.below l.name of.below of.name) lim w to inside.room inside.stop inside.level group.alternatives l.first q.headed q.behind q.last q.filled
+        = keys_mean four wd ts places narrow keys d.name group known l of.name of.lower lim w to inside.room inside.stop inside.level group.alternatives l.first q.headed q.behind q.last q.filled
         (omega arith) (omega (arith, of.many)) x.long
         (λ i o. puts_beside w q.headed lim to (Node ++ Args) q.behind x i (elim o [ inl u ↦ inl u | inr u ↦ inr (omega arith) ]))
         (puts_on w q.headed lim to (Node ++ Args) q.behind x inside.stop) (puts_upto w q.headed lim to (Node ++ Args) q.behind x) means k in

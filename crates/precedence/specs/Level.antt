@@ -1,5 +1,5 @@
 -- The nonterminal of one level, put behind what is written so far. wd is the width of an atom's number in bytes. Assumes nothing: these are definitions.
-use Rattle.std.specs.Prelude.{◌≡◌, ◌⊎◌, List, [], ◌++◌, ℕ, zero, suc, ◌+◌, ◌-◌, ◌*◌, ◌≤◌, ◌<◌, length, get_or, Option, Some, None, unwrap_or}
+use Rattle.std.specs.Prelude.{◌≡◌, ◌⊎◌, List, [], ◌++◌, ℕ, zero, suc, ◌+◌, ◌-◌, ◌*◌, ◌≤◌, ◌<◌, length, get_or, Option, Some, None}
 use Rattle.octets.specs.Plain.Numbers.{le_at, le}
 use Rattle.octets.specs.Plain.Runs.{part}
 use Rattle.grades.specs.declared.Ids.{Ids}
@@ -38,7 +38,7 @@ pub record PutsKey (wd : ℕ) (ids : Ids) (places target : ℕ) (l : Level) (lim
         precedence = first_with wd ids.precedence w (key_place w places k + (14 + wd)) (get_or w (key_place w places k + 9) 0);
         assoc = first_with wd ids.assoc w (key_place w places k + (14 + wd)) (get_or w (key_place w places k + 9) 0);
       })
-      (record { target = target; here = l.name; below = unwrap_or l.below l.name; side = key_side k }) lim to r w'
+      (record { target = target; here = l.name; below = l.lower; side = key_side k }) lim to r w'
 
 -- its alternative stands below `to`, its entry apart from what is written
 pub record KeyInside (wd : ℕ) (w : List ℕ) (places lim to k : ℕ) : Type 0 where

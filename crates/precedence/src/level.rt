@@ -23,13 +23,15 @@ pub struct Keyed {
     pub lim: usize,
 }
 
-// One level: its keys from first up to last, its name, and that of the next lower level, if there is one.
+// One level: its keys from first up to last, its name, that of the next lower level, if there is one, and the name that a nonterminal gets where the next
+// lower level is to stand; of the lowest, its own.
 #[derive(Clone, Copy)]
 pub struct Level {
     pub first: usize,
     pub last: usize,
     pub name: u32,
     pub below: Option<u32>,
+    pub lower: u32,
 }
 
 // A number of two or three bytes, if it ends at lim or before.
@@ -85,7 +87,7 @@ fn put_key(work: &mut [u8], t: Keyed, k: Key, target: u32, l: Level, to: usize) 
     let names = Renaming {
         target,
         here: l.name,
-        below: l.below.unwrap_or(l.name),
+        below: l.lower,
         side: k.side(),
     };
     put_alternative(work, p, e, f, t.width, names, t.lim, to)
