@@ -63,16 +63,17 @@ module _ (wd : ℕ) (w : List ℕ) (places lim to k : ℕ) (g : KeyInside wd w p
     key_upto = rw y g.upto
 
     pub key_put : (n : ℕ) (d : Alternative) → d ≡ alternative_here wd w p → n ≡ d.attributes → (ids : Ids) (f : Indices) → Annotates wd ids w (p + (14 + wd)) n f → (side : Assoc) → side ≡ key_side k
-        → (target : ℕ) (v : Level) (r : ℕ) (w1 : List ℕ) → PutsRenamed wd w p e f (record { target = target; here = v.name; below = v.lower; side = side }) lim to r w1
+        → (target : ℕ) (v : Level) (below r : ℕ) (w1 : List ℕ) → below ≡ v.lower
+        → PutsRenamed wd w p e f (record { target = target; here = v.name; below = below; side = side }) lim to r w1
         → PutsKey wd ids places target v lim k w to r w1
     unfolding key_place key_end
-    key_put n d here count ids f a side s target v r w1 q =
+    key_put n d here count ids f a side s target v below r w1 b q =
         let z : n ≡ get_or w (p + 9) 0 = cc in
         let i = a.precedence.index in
         let j = a.assoc.index in
         let x1 = from_entry in
         let y1 = y in
-        record { puts = rw (← s, ← x1, ← y1, ← z, ← i, ← j) q }
+        record { puts = rw (← b, ← s, ← x1, ← y1, ← z, ← i, ← j) q }
 
 pub ruleset keyed = (rules, key_symbols, key_upto, key_whole, key_attributes_fit, key_put)
 

@@ -24,7 +24,7 @@ pub struct Keyed {
 }
 
 // One level: its keys from first up to last, its name, that of the next lower level, if there is one, and the name that a nonterminal gets where the next
-// lower level is to stand; of the lowest, its own.
+// lower level is to stand, at the lowest too: levels hands in its own there.
 #[derive(Clone, Copy)]
 pub struct Level {
     pub first: usize,

@@ -2,7 +2,7 @@
 ghost use Rattle.std.specs.Prelude.{◌≡◌, ◌+◌, ◌*◌, ◌≤◌, ◌<◌, length};
 ghost use Rattle.resolve.specs.Cells.{Room};
 ghost use Rattle.resolve.specs.Commands.{Runs};
-ghost use Rattle.resolve.specs.Items.{Standing, item_place_in, Marks, marks_out, unmarks_out, item_out, items_out};
+ghost use Rattle.resolve.specs.Items.{Standing, item_place, item_place_in, Marks, marks_out, unmarks_out, item_out, items_out};
 
 use crate::cells::{define, known};
 use crate::commands::validate_commands;
@@ -11,17 +11,25 @@ use octets::numbers::{atom_at, u64_at};
 use parse_tree::node::whole_nonterminal;
 use parse_tree::refusal::{Question, Refusal};
 
+// The place of the i-th of n items that stand from `at` up to `end`, or the end for one behind the last; a place that is listed behind the end is the end, too.
+pub fn place(work: &[u8], list: usize, n: usize, at: usize, end: usize, i: usize) -> usize
+    requires { (list + 8 * n ≤ length work.now) × (at ≤ end) }
+    ensures { (result ≡ item_place list n at end work.now i) × (at ≤ result) × (result ≤ end) }
+{
+    if n <= i {
+        return end;
+    }
+    let v = u64_at(work, list + 8 * i) as usize;
+    at + v.min(end - at)
+}
+
 impl Grammar {
-    // The place of the i-th item, or the end for one behind the last; a place that is listed behind the end is the end, too.
+    // That of its i-th item.
     pub fn place(self, work: &[u8], i: usize) -> usize
         requires { (self.list + 8 * self.count ≤ length work.now) × (self.at ≤ self.end) }
         ensures { (result ≡ item_place_in self work.now i) × (self.at ≤ result) × (result ≤ self.end) }
     {
-        if self.count <= i {
-            return self.end;
-        }
-        let v = u64_at(work, self.list + 8 * i) as usize;
-        self.at + v.min(self.end - self.at)
+        place(work, self.list, self.count, self.at, self.end, i)
     }
 }
 
