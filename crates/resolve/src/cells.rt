@@ -1,7 +1,8 @@
 // What is known of a name, which stands in the cell of its text's record.
-ghost use Rattle.std.specs.Prelude.{◌≡◌, ◌+◌, ◌%◌, ◌<◌, eqb, leb, length};
+ghost use Rattle.std.specs.Prelude.{◌≡◌, ◌+◌, ◌%◌, ◌<◌, eqb, leb, length, Some};
 ghost use Rattle.resolve.specs.Cells.{Room, known_at, found_by, define_at};
 ghost use Rattle.resolve.specs.Globals.{describe};
+ghost use Rattle.resolve.specs.declared.Definition.{Definition};
 
 use crate::Definition;
 use texts::Map;
@@ -81,10 +82,11 @@ pub fn known(work: &[u8], m: Map, id: u32) -> Entry
     }
 }
 
-// The definition of a name, if it has one.
+// The definition of a name, if it has one, and never `Unknown`.
+#[tactic(auto, using(crate::proofs::CellsCode::found_known))]
 pub fn def(work: &[u8], m: Map, id: u32) -> Option<Definition>
     requires { Room m (length work.now) }
-    ensures { result ≡ found_by (known_at m work.now id) }
+    ensures { (result ≡ found_by (known_at m work.now id)) × ¬ (result ≡ Some Definition.Unknown) }
 {
     known(work, m, id).definition()
 }
@@ -96,5 +98,44 @@ pub fn define(work: &mut [u8], m: Map, id: u32, d: Entry)
     let k = id as usize;
     if k < m.count {
         put_cell(work, m.base, k, d.0);
+    }
+}
+
+#[cfg(test)]
+mod tests {
+    use super::*;
+
+    // The cell of the k-th of five names is the u32 at 24 * k + 20: 0, 1, 2, 4 and 514.
+    #[test]
+    fn def_says_what_the_cells_hold(rt: HostRuntime) {
+        let mut work = [0; 120];
+        work[44] = 1;
+        work[68] = 2;
+        work[92] = 4;
+        work[116] = 2;
+        work[117] = 2;
+        let m = Map {
+            base: 0,
+            count: 5,
+            buckets: 1,
+        };
+        assert!(rt; def(&work, m, 0).is_none(), "a name that nothing defines");
+        assert!(rt;
+            def(&work, m, 1) == Some(Definition::Terminal),
+            "a terminal"
+        );
+        assert!(rt;
+            def(&work, m, 2) == Some(Definition::Nonterminal(0)),
+            "a nonterminal"
+        );
+        assert!(rt;
+            def(&work, m, 3) == Some(Definition::Nonterminal(2)),
+            "a macro of two arguments"
+        );
+        assert!(rt;
+            def(&work, m, 4) == Some(Definition::Argument(2)),
+            "an argument of the item at hand"
+        );
+        assert!(rt; def(&work, m, 5).is_none(), "a name behind the last");
     }
 }
