@@ -1,17 +1,22 @@
 #!/usr/bin/env python3
 """tools/cost.py: for each crate the number of functions and the lines of code, specs, laws and what is written of each function's proof, as
-docs/ARCHITECTURE.md has them. Lines without blank ones; in code without comments and imports."""
+docs/ARCHITECTURE.md has them. Lines without blank ones; in code without comments, imports and tests, which stand last in a file."""
 import re
 from pathlib import Path
 
 TOP = Path(__file__).resolve().parent.parent
 IMPORT = re.compile(r"(ghost )?use ")
 OF_A_FUNCTION = ("Invariants.antt", "Answers.antt")
+TESTS = "\n#[cfg(test)]\n"
 
 
-def lines(paths, skipped=lambda line: False):
-    """How many lines of the files are neither blank nor skipped."""
-    texts = (path.read_text() for path in paths)
+def read(paths):
+    """What the files hold before their tests."""
+    return [path.read_text().split(TESTS)[0] for path in paths]
+
+
+def lines(texts, skipped=lambda line: False):
+    """How many lines are neither blank nor skipped."""
     return sum(1 for text in texts for line in text.splitlines() if line.strip() and not skipped(line.strip()))
 
 
@@ -21,11 +26,11 @@ def is_left_out(line):
 
 def row(crate):
     """A line of the table."""
-    sources = sorted(crate.glob("src/**/*.rt"))
+    sources = read(crate.glob("src/**/*.rt"))
     written = [path for path in crate.glob("proofs/**/*.antt") if path.name in OF_A_FUNCTION]
     laws = [path for path in crate.glob("proofs/**/*.antt") if path not in written]
-    functions = sum(len(re.findall(r"^\s*(?:pub )?(?:extern \"C\" )?fn ", path.read_text(), re.M)) for path in sources)
-    figures = [functions, lines(sources, is_left_out), lines(crate.glob("specs/**/*.antt")), lines(laws), lines(written)]
+    functions = sum(len(re.findall(r"^\s*(?:pub )?(?:extern \"C\" )?fn ", text, re.M)) for text in sources)
+    figures = [functions, lines(sources, is_left_out), lines(read(crate.glob("specs/**/*.antt"))), lines(read(laws)), lines(read(written))]
     return f"| {crate.name} | " + " | ".join(f"{figure:,}" if figure else "–" for figure in figures) + " |"
 
 
