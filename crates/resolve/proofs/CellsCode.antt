@@ -1,13 +1,11 @@
--- What is known of a name: the ways out of known, define and of an entry's definition. Assumes nothing.
+-- What is known of a name: the ways out of known, define, def and of an entry's definition. Assumes nothing.
 use mathlib.Core.Path.{◌≡◌, refl}
-use mathlib.Core.Bool.{Bool, true, false}
 use mathlib.Core.List.{List}
 use Prim.Native.Nat.{ℕ, ◌+◌, ◌-◌, ◌*◌, ◌≤◌, ◌<◌}
 use borrow.Author.Rules.{rules}
 use borrow.Author.Tests.{le-leb, lt-leb, ne_eqb}
-use lib.Dec.{leb, eqb}
 use lib.ListN.{length}
-use Rattle.std.specs.Prelude.{Some, None}
+use Rattle.std.specs.Prelude.{Option, Some, None}
 use Rattle.octets.specs.Working.Choice.{pick}
 use Rattle.octets.specs.Plain.Numbers.{le}
 use Rattle.octets.specs.Working.Stores.{store}
@@ -56,16 +54,18 @@ module _ (d : ℕ) where
     unfolding found_by pick
     def_argument j = cc (ne_eqb d 0 h, le-leb 512 d j)
 
--- theorem: no cell has a definition that is unknown
+-- theorem: what a cell has is never `Unknown`
 pub found_known : (d : ℕ) → ¬ (found_by d ≡ Some Definition.Unknown)
-unfolding found_by pick
-found_known d = go (eqb d 0) (leb 512 d) (eqb d 1)
+unfolding found_by
+found_known d =
+    by_pick (λ (f : Option Definition). ¬ (f ≡ Some Definition.Unknown)) _ (λ h z. cc)
+    (λ h. known (by_pick Known _ (λ i z. cc) (λ i. by_pick Known _ (λ j z. cc) (λ j z. cc))))
   where
-    go : (none argument terminal : Bool) → ¬ (pick none None (Some (pick argument (Definition.Argument (d - 512)) (pick terminal Definition.Terminal (Definition.Nonterminal (d - 2))))) ≡ Some Definition.Unknown)
-    go true b c h = cc
-    go false true c h = cc
-    go false false true h = cc
-    go false false false h = cc
+    Known : Definition → Type 0
+    Known x = ¬ (x ≡ Definition.Unknown)
+
+    known : {x : Definition} → Known x → ¬ (Some x ≡ Some Definition.Unknown)
+    known k z = k cc
 
 pub ruleset celling = (rules, known_none, known_is, define_is, define_none, def_nothing, def_terminal, def_nonterminal, def_argument)
 

@@ -119,23 +119,15 @@ mod tests {
             count: 5,
             buckets: 1,
         };
-        assert!(rt; def(&work, m, 0).is_none(), "a name that nothing defines");
-        assert!(rt;
-            def(&work, m, 1) == Some(Definition::Terminal),
-            "a terminal"
-        );
-        assert!(rt;
-            def(&work, m, 2) == Some(Definition::Nonterminal(0)),
-            "a nonterminal"
-        );
-        assert!(rt;
-            def(&work, m, 3) == Some(Definition::Nonterminal(2)),
-            "a macro of two arguments"
-        );
-        assert!(rt;
-            def(&work, m, 4) == Some(Definition::Argument(2)),
-            "an argument of the item at hand"
-        );
-        assert!(rt; def(&work, m, 5).is_none(), "a name behind the last");
+        for (id, want) in [
+            (0, None),
+            (1, Some(Definition::Terminal)),
+            (2, Some(Definition::Nonterminal(0))),
+            (3, Some(Definition::Nonterminal(2))),
+            (4, Some(Definition::Argument(2))),
+            (5, None),
+        ] {
+            assert!(rt; def(&work, m, id) == want, "name {id}");
+        }
     }
 }
