@@ -8,7 +8,7 @@ cargo = cargo $(1) --quiet --offline --manifest-path rust/Cargo.toml --target-di
 
 # rattle's lines, which rt run writes as errors, are shown where it fails
 run: need-rt
-	@echo "run: proves the calls (some 15 minutes the first time on four cores, seconds afterwards), then lists $(or $(TAPE),docs/examples/query.tape)" >&2
+	@echo "run: proves the calls (18 minutes the first time on four cores, seconds afterwards), then lists $(or $(TAPE),docs/examples/query.tape)" >&2
 	@mkdir -p target
 	@cd crates/list && rt run < "$(abspath $(or $(TAPE),docs/examples/query.tape))" 2> ../../target/run.log || { cat ../../target/run.log; exit 1; }
 
